@@ -1,6 +1,6 @@
 -- A function's words, with its calls filled in, are those of its code where it stands.
 use Rattle.std.proofs.Common.{◌≡◌, ℕ, zero, suc, ◌+◌, ◌-◌, ◌*◌, ◌%◌, ◌^◌, ◌<◌, ◌≤◌, Bool, true, false, List, [], ◌∷◌, ◌++◌, length, take, drop, append_assoc, Option, Some, None, refl, sym, ap, ◌∙◌, subst, arith}
-use Rattle.std.specs.Prelude.{map, slice_get}
+use Rattle.std.specs.Prelude.{if◌then◌else◌, map, slice_get}
 use Rattle.std.specs.List.{list_all}
 use Rattle.std.proofs.lemmas.Bool.{ltb-true}
 use Rattle.std.proofs.lemmas.List.{append-nil, length-append, length-map, map-append}
@@ -29,9 +29,14 @@ use Rattle.rv_select.specs.declared.pairs.Pair.{Pair}
 use Rattle.rv_select.specs.Compared.{compared, condition_of, left_of, operands_taken, right_of}
 use Rattle.rv_select.specs.Pairs.{pair_of, plain_of}
 use Rattle.rv_select.specs.Places.{Layout, frame_bytes}
-use Rattle.rv_select.specs.Shapes.{branch_bytes, chosen, distance, first_taken, held_after, jump, jump_offset, offset_of, shape_of, start_of, x10}
+use Rattle.rv_select.specs.declared.settings.Follows.{Follows}
+use Rattle.rv_select.specs.declared.settings.Follows.TheVariants.{Neither, First, Second}
+use Rattle.rv_select.specs.declared.settings.Setting.{Setting}
+use Rattle.rv_select.specs.Settings.{falls, follower, setting_of}
+use Rattle.rv_select.specs.Shapes.{branch_bytes, branch_offset, branched, branched_bytes, chosen, distance, first_taken, held_after, jump, jump_offset, negated, offset_of, shape_of, start_of, x10}
 use Rattle.rv_select.specs.Entering.{left}
-use Rattle.rv_select.specs.Calls.{block_code, block_starts, blocks_calls, blocks_code, body_code, call_begun, call_ended, call_jump, end_code, exit_code, function_calls, function_code, head_code, held_behind, instruction_calls, instruction_code, instructions_calls, instructions_code, last_address, pair_code, part_taken, starts_from}
+use Rattle.rv_select.specs.Calls.{block_code, block_starts, blocks_calls, blocks_code, body_code, call_begun, call_ended, call_jump, end_code, exit_code, function_calls, function_code, head_code, held_behind, instruction_calls, instruction_code, instructions_calls, instructions_code, jump_unless_last, last_address, pair_code, part_taken, starts_from}
+use Rattle.rv_select.proofs.Branched.{branched-few}
 use Rattle.rv_select.proofs.Homes.{first-few}
 use Rattle.rv_select.proofs.Lengths.{block-length, instruction-length, instructions-length}
 use Rattle.rv_select.proofs.Pairing.{pair-parts}
@@ -290,34 +295,53 @@ jump-moved short b f t h = jump-is short (b + f) (b + t) ∙ (ap (jump-by short)
 jump-from : (short : Bool) (b f t p q : ℕ) → p ≡ b + f → q ≡ b + t → b + f ≤ 2 ^ 32 → jump short p q ≡ jump short f t
 jump-from short b f t p q e g h = ap (λ z. jump short z q) e ∙ (ap (jump short (b + f)) g ∙ jump-moved short b f t h)
 
--- so are a branch and its two jumps
-bytes-few : (short : Bool) → branch_bytes short ≤ 12
-bytes-few true = omega arith
-bytes-few false = omega arith
+-- so is that to a block, which may stand behind
+edge-from : (behind short : Bool) (b f t p q : ℕ) → p ≡ b + f → q ≡ b + t → b + f ≤ 2 ^ 32 →
+    (if behind then [] else jump short p q) ≡ (if behind then [] else jump short f t)
+edge-from true short b f t p q e g h = refl
+edge-from false short b f t p q e g h = jump-from short b f t p q e g h
 
-chosen-moved : (short : Bool) (condition : BranchCondition) (x y : Register) (b at n first second to other : ℕ) → b + at + n + 12 ≤ 2 ^ 32 →
-    to ≡ b + first → other ≡ b + second →
-    chosen short condition x y (b + at + n) to other ≡ chosen short condition x y (at + n) first second
-chosen-moved short condition x y b at n first second to other near g h =
-    let over : ℕ = branch_bytes short in
-    let head : Instr = instrs.Branch condition x y (offset_of over) in
-    let few : branch_bytes short ≤ 12 = bytes-few short in
+-- so is that to the code that leaves a function
+last-from : (short : Bool) (next : Option ℕ) (b f t p q : ℕ) → p ≡ b + f → q ≡ b + t → b + f ≤ 2 ^ 32 →
+    jump_unless_last short next p q ≡ jump_unless_last short next f t
+last-from short None b f t p q e g h = refl
+last-from short (Some n) b f t p q e g h = jump-from short b f t p q e g h
+
+-- so are a branch and its jumps
+branched-moved : (near short : Bool) (condition : BranchCondition) (x y : Register) (b at n there to : ℕ) → b + at + n + 12 ≤ 2 ^ 32 →
+    to ≡ b + there → branched near short condition x y (b + at + n) to ≡ branched near short condition x y (at + n) there
+branched-moved true short condition x y b at n there to near g =
+    let one : b + at + n ≡ b + (at + n) = omega arith in
+    ap (λ z. instrs.Branch condition x y (branch_offset (distance z to)) ∷ []) one
+    ∙ (ap (λ z. instrs.Branch condition x y (branch_offset (distance (b + (at + n)) z)) ∷ []) g
+    ∙ ap (λ z. instrs.Branch condition x y (branch_offset z) ∷ []) (distance-moved b (at + n) there (omega (arith, near))))
+branched-moved false short condition x y b at n there to near g =
+    let head : Instr = instrs.Branch (negated condition) x y (offset_of (branch_bytes short)) in
     let one : b + at + n + 4 ≡ b + (at + n + 4) = omega arith in
+    ap (λ z. head ∷ z) (jump-from short b (at + n + 4) there (b + at + n + 4) to one g (omega (arith, near)))
+
+chosen-moved : (close short : Bool) (o : Follows) (condition : BranchCondition) (x y : Register) (b at n first second to other : ℕ) →
+    b + at + n + 12 ≤ 2 ^ 32 → to ≡ b + first → other ≡ b + second →
+    chosen close short o condition x y (b + at + n) to other ≡ chosen close short o condition x y (at + n) first second
+chosen-moved close short Neither condition x y b at n first second to other near g h =
+    let over : ℕ = branched_bytes close short in
+    let few : branched_bytes close short ≤ 12 = branched-few close short in
     let next : b + at + n + over ≡ b + (at + n + over) = omega arith in
-    ap (λ z. head ∷ (z ++ jump short (b + at + n + over) to))
-    (jump-from short b (at + n + 4) second (b + at + n + 4) other one h (omega (arith, near)))
-    ∙ ap (λ z. head ∷ (jump short (at + n + 4) second ++ z))
-    (jump-from short b (at + n + over) first (b + at + n + over) to next g (omega (arith, near, few)))
+    ap (λ z. z ++ jump short (b + at + n + over) other) (branched-moved close short condition x y b at n first to near g)
+    ∙ ap (λ z. branched close short condition x y (at + n) first ++ z)
+    (jump-from short b (at + n + over) second (b + at + n + over) other next h (omega (arith, near, few)))
+chosen-moved close short First condition x y b at n first second to other near g h = branched-moved close short (negated condition) x y b at n second other near h
+chosen-moved close short Second condition x y b at n first second to other near g h = branched-moved close short condition x y b at n first to near g
 
 -- an exit's code is the same where it, the blocks and the function's end are moved
-exit-moved : (code : Tac) (y : Layout) (short : Bool) (held : Option ℕ) (b at last : ℕ) (starts moved : ℕ → ℕ) (e : Exit) →
+exit-moved : (code : Tac) (y : Layout) (setting : Setting) (held : Option ℕ) (b at last : ℕ) (starts moved : ℕ → ℕ) (e : Exit) →
     ((k : ℕ) → k < length code.blocks → moved k ≡ b + starts k) → exit_there code e ≡ true → b + at + 64 ≤ 2 ^ 32 →
-    exit_code y short held (b + at) moved (b + last) e ≡ exit_code y short held at starts last e
-exit-moved code y short held b at last starts moved (Jump e) same fits near =
-    jump-from short b at (starts e.block) (b + at) (moved e.block) refl (same e.block (ltb-true e.block (length code.blocks) fits)) (omega (arith, near))
-exit-moved code y short held b at last starts moved (Branch a e f) same fits near =
+    exit_code y setting held (b + at) moved (b + last) e ≡ exit_code y setting held at starts last e
+exit-moved code y setting held b at last starts moved (Jump e) same fits near =
+    edge-from (falls setting.next e) setting.short b at (starts e.block) (b + at) (moved e.block) refl (same e.block (ltb-true e.block (length code.blocks) fits)) (omega (arith, near))
+exit-moved code y setting held b at last starts moved (Branch a e f) same fits near =
     ap (λ z. T ++ z)
-    (chosen-moved short Ne x5 x0 b at (4 * length T) (starts e.block) (starts f.block) (moved e.block) (moved f.block) (omega (arith, near, few))
+    (chosen-moved setting.near setting.short (follower setting.next e.block f.block) Ne x5 x0 b at (4 * length T) (starts e.block) (starts f.block) (moved e.block) (moved f.block) (omega (arith, near, few))
     (same e.block (ltb-true e.block (length code.blocks) parts.0)) (same f.block (ltb-true f.block (length code.blocks) parts.1)))
   where
     T : List Instr
@@ -328,25 +352,26 @@ exit-moved code y short held b at last starts moved (Branch a e f) same fits nea
 
     parts : (edge_there code e ≡ true) × (edge_there code f ≡ true)
     parts = both-true (edge_there code e) (edge_there code f) fits
-exit-moved code y short held b at last starts moved (Return v) same fits near =
+exit-moved code y setting held b at last starts moved (Return v) same fits near =
     let P : List Instr = part_taken y x10 v in
     let few : length P ≤ 8 = part-count y x10 v in
     let sum : b + at + 4 * length P ≡ b + (at + 4 * length P) = omega arith in
-    ap (λ z. P ++ z) (jump-from short b (at + 4 * length P) last (b + at + 4 * length P) (b + last) sum refl (omega (arith, near, few)))
-exit-moved code y short held b at last starts moved (Fail kind place) same fits near = refl
+    ap (λ z. P ++ z)
+    (last-from setting.short setting.next b (at + 4 * length P) last (b + at + 4 * length P) (b + last) sum refl (omega (arith, near, few)))
+exit-moved code y setting held b at last starts moved (Fail kind place) same fits near = refl
 
 -- and so is that of a comparison and its branch
-end-moved : (code : Tac) (y : Layout) (short : Bool) (held : Option ℕ) (b at last : ℕ) (starts moved : ℕ → ℕ) (k : Block) (o : Option Pair) →
+end-moved : (code : Tac) (y : Layout) (setting : Setting) (held : Option ℕ) (b at last : ℕ) (starts moved : ℕ → ℕ) (k : Block) (o : Option Pair) →
     pair_of y.reads k ≡ o →
     ((j : ℕ) → j < length code.blocks → moved j ≡ b + starts j) → block_there code k ≡ true →
-    b + at + 4 * length (end_code y short held at starts last o k.exit) + 64 ≤ 2 ^ 32 →
-    end_code y short held (b + at) moved (b + last) o k.exit ≡ end_code y short held at starts last o k.exit
+    b + at + 4 * length (end_code y setting held at starts last o k.exit) + 64 ≤ 2 ^ 32 →
+    end_code y setting held (b + at) moved (b + last) o k.exit ≡ end_code y setting held at starts last o k.exit
 unfolding pair_code
-end-moved code y short held b at last starts moved k None q same fits near =
-    exit-moved code y short held b at last starts moved k.exit same fits (omega (arith, near))
-end-moved code y short held b at last starts moved k (Some pair) q same fits near =
+end-moved code y setting held b at last starts moved k None q same fits near =
+    exit-moved code y setting held b at last starts moved k.exit same fits (omega (arith, near))
+end-moved code y setting held b at last starts moved k (Some pair) q same fits near =
     ap (λ z. T ++ z)
-    (chosen-moved short (condition_of pair.form.signed pair.operator) (left_of pair.operator) (right_of pair.operator) b at
+    (chosen-moved setting.near setting.short behind (condition_of pair.form.signed pair.operator) (left_of pair.operator) (right_of pair.operator) b at
     (4 * length T) (starts pair.first.block) (starts pair.second.block) (moved pair.first.block) (moved pair.second.block) room
     (same pair.first.block (ltb-true pair.first.block (length code.blocks) parts.0))
     (same pair.second.block (ltb-true pair.second.block (length code.blocks) parts.1)))
@@ -354,13 +379,16 @@ end-moved code y short held b at last starts moved k (Some pair) q same fits nea
     T : List Instr
     T = operands_taken y held pair.a pair.b
 
+    behind : Follows
+    behind = follower setting.next pair.first.block pair.second.block
+
     room : b + at + 4 * length (operands_taken y held pair.a pair.b) + 12 ≤ 2 ^ 32
     room =
-        let count : length (end_code y short held at starts last (Some pair) k.exit) ≡ length (operands_taken y held pair.a pair.b) + length
-        (compared short pair.form.signed pair.operator (at + 4 * length (operands_taken y held pair.a pair.b)) (starts pair.first.block)
+        let count : length (end_code y setting held at starts last (Some pair) k.exit) ≡ length (operands_taken y held pair.a pair.b) + length
+        (compared setting.near setting.short behind pair.form.signed pair.operator (at + 4 * length (operands_taken y held pair.a pair.b)) (starts pair.first.block)
         (starts pair.second.block)) =
         length-append (operands_taken y held pair.a pair.b)
-        (compared short pair.form.signed pair.operator (at + 4 * length (operands_taken y held pair.a pair.b)) (starts pair.first.block)
+        (compared setting.near setting.short behind pair.form.signed pair.operator (at + 4 * length (operands_taken y held pair.a pair.b)) (starts pair.first.block)
         (starts pair.second.block)) in
         omega (arith, near, count)
 
@@ -370,19 +398,20 @@ end-moved code y short held b at last starts moved k (Some pair) q same fits nea
         both-true (edge_there code pair.first) (edge_there code pair.second) (ap (exit_there code) (sym i.exit_is) ∙ fits)
 
 -- A block.
-fill-block : (code : Tac) (places others : FnId → ℕ) (agree : (f : FnId) → places f ≡ others f) (base : ℕ) (y : Layout) (sizes : List ℕ) (from end last : ℕ) (starts moved : ℕ → ℕ)
-    (cs : List Site) (k : Block) → ((j : ℕ) → j < length code.blocks → moved j ≡ base + starts j) → block_there code k ≡ true →
-    base + 4 * (from + length (block_code y sizes (λ f. 0) starts last (4 * from) k)) + 64 ≤ 2 ^ 32 →
-    AreIn (from + length (block_code y sizes (λ f. 0) starts last (4 * from) k)) end cs →
-    Filled places base y sizes from end cs (block_code y sizes (λ f. 0) starts last (4 * from) k)
-    (block_code y sizes others moved (base + last) (base + 4 * from) k) (instructions_calls y sizes from None (plain_of y.reads k))
-fill-block code places others agree base y sizes from end last starts moved cs k same fits near h =
+fill-block : (code : Tac) (places others : FnId → ℕ) (agree : (f : FnId) → places f ≡ others f) (base : ℕ) (y : Layout) (sizes : List ℕ) (from end last follow : ℕ)
+    (starts moved : ℕ → ℕ) (cs : List Site) (k : Block) → ((j : ℕ) → j < length code.blocks → moved j ≡ base + starts j) → block_there code k ≡ true →
+    base + 4 * (from + length (block_code y sizes (λ f. 0) starts last (4 * from) follow k)) + 64 ≤ 2 ^ 32 →
+    AreIn (from + length (block_code y sizes (λ f. 0) starts last (4 * from) follow k)) end cs →
+    Filled places base y sizes from end cs (block_code y sizes (λ f. 0) starts last (4 * from) follow k)
+    (block_code y sizes others moved (base + last) (base + 4 * from) follow k) (instructions_calls y sizes from None (plain_of y.reads k))
+fill-block code places others agree base y sizes from end last follow starts moved cs k same fits near h =
     let is : List Instruction = plain_of y.reads k in
     let o : Option Pair = pair_of y.reads k in
     let A : List Instr = instructions_code y sizes (λ f. 0) (4 * from) None is in
     let P : List Instr = instructions_code y sizes others (base + 4 * from) None is in
     let held : Option ℕ = held_behind None is in
-    let E : List Instr = end_code y y.short held (4 * from + 4 * length A) starts last o k.exit in
+    let setting : Setting = setting_of y.extent follow in
+    let E : List Instr = end_code y setting held (4 * from + 4 * length A) starts last o k.exit in
     let long : length P ≡ length A = instructions-length y sizes others (λ f. 0) (base + 4 * from) (4 * from) None is in
     let count : length (A ++ E) ≡ length A + length E = length-append A E in
     let index : from + length A + length (words E) ≡ from + length (A ++ E) = omega (arith, count, words-length E) in
@@ -390,9 +419,9 @@ fill-block code places others agree base y sizes from end last starts moved cs k
     let one = fill-instructions places others agree base y sizes from end cs None is
     (in-less (from + length (A ++ E)) (from + length A) end cs (omega (arith, count)) h) in
     let address : base + 4 * from + 4 * length P ≡ base + (4 * from + 4 * length A) = omega (arith, long) in
-    let exit : end_code y y.short held (base + 4 * from + 4 * length P) moved (base + last) o k.exit ≡ E =
-    ap (λ z. end_code y y.short held z moved (base + last) o k.exit) address
-    ∙ end-moved code y y.short held base (4 * from + 4 * length A) last starts moved k o refl same fits (omega (arith, near, count)) in
+    let exit : end_code y setting held (base + 4 * from + 4 * length P) moved (base + last) o k.exit ≡ E =
+    ap (λ z. end_code y setting held z moved (base + last) o k.exit) address
+    ∙ end-moved code y setting held base (4 * from + 4 * length A) last starts moved k o refl same fits (omega (arith, near, count)) in
     subst (λ z. Filled places base y sizes from end cs (A ++ E) (P ++ z) (instructions_calls y sizes from None (plain_of y.reads k)))
     (sym exit)
     (record {
@@ -419,13 +448,13 @@ fill-blocks code places others agree base y sizes from end last starts moved cs 
 }
 fill-blocks code places others agree base y sizes from end last starts moved cs (k ∷ ks) same fits near h =
     let both = both-true (block_there code k) (list_all (block_there code) ks) fits in
-    let A : List Instr = block_code y sizes (λ f. 0) starts last (4 * from) k in
-    let A0 : List Instr = block_code y sizes (λ f. 0) (λ c. 0) 0 0 k in
-    let P : List Instr = block_code y sizes others moved (base + last) (base + 4 * from) k in
+    let A : List Instr = block_code y sizes (λ f. 0) starts last (4 * from) (length ks) k in
+    let A0 : List Instr = block_code y sizes (λ f. 0) (λ c. 0) 0 0 (length ks) k in
+    let P : List Instr = block_code y sizes others moved (base + last) (base + 4 * from) (length ks) k in
     let n : ℕ = from + length A in
     let B : List Instr = blocks_code y sizes (λ f. 0) starts last (4 * n) ks in
-    let less : length A0 ≡ length A = block-length y sizes (λ f. 0) (λ f. 0) (λ c. 0) starts 0 last 0 (4 * from) k in
-    let long : length P ≡ length A = block-length y sizes others (λ f. 0) moved starts (base + last) last (base + 4 * from) (4 * from) k in
+    let less : length A0 ≡ length A = block-length y sizes (λ f. 0) (λ f. 0) (λ c. 0) starts 0 last 0 (4 * from) (length ks) k in
+    let long : length P ≡ length A = block-length y sizes others (λ f. 0) moved starts (base + last) last (base + 4 * from) (4 * from) (length ks) k in
     let four : 4 * from + 4 * length A ≡ 4 * n = omega arith in
     let whole : blocks_code y sizes (λ f. 0) starts last (4 * from) (k ∷ ks) ≡ A ++ B =
     ap (λ z. A ++ blocks_code y sizes (λ f. 0) starts last z ks) four in
@@ -439,7 +468,7 @@ fill-blocks code places others agree base y sizes from end last starts moved cs 
     let mine : List Site = instructions_calls y sizes from None (plain_of y.reads k) in
     let behind : List Site = blocks_calls y sizes n ks in
     let all : blocks_calls y sizes from (k ∷ ks) ≡ mine ++ behind = ap (λ z. mine ++ blocks_calls y sizes (from + z) ks) less in
-    let one = fill-block code places others agree base y sizes from end last starts moved (behind ++ cs) k same both.0
+    let one = fill-block code places others agree base y sizes from end last (length ks) starts moved (behind ++ cs) k same both.0
     (omega (arith, near2, count)) rest.calls in
     let target : base + 4 * from + 4 * length P ≡ base + 4 * n = omega (arith, long) in
     let Q : List Instr = blocks_code y sizes others moved (base + last) (base + 4 * n) ks in
@@ -466,7 +495,7 @@ starts-moved : (y : Layout) (sizes : List ℕ) (b at : ℕ) (ks : List Block) (j
 starts-moved y sizes b at [] j h = absurd (omega (arith, h))
 starts-moved y sizes b at (k ∷ ks) zero h = refl
 starts-moved y sizes b at (k ∷ ks) (suc j) h =
-    let n : ℕ = length (block_code y sizes (λ f. 0) (λ c. 0) 0 0 k) in
+    let n : ℕ = length (block_code y sizes (λ f. 0) (λ c. 0) 0 0 (length ks) k) in
     let sum : b + at + 4 * n ≡ b + (at + 4 * n) = omega arith in
     ap (λ z. start_of (starts_from y sizes z ks) j) sum ∙ starts-moved y sizes b (at + 4 * n) ks j (omega (arith, h))
 

@@ -32,7 +32,7 @@ use Rattle.rv_machine.specs.Machine as machine
 use Rattle.rv_machine.specs.declared.stops.Stop.TheVariants as stops
 use Rattle.rv_operators.specs.Runs.{Stands}
 use Rattle.rv_select.specs.Pairs.{pair_of, plain_of, reads_of}
-use Rattle.rv_select.specs.Places.{is_short, AreBytes, Holds, Housed, IsHeld, Layout, World, area_offset, frame_bytes, home_of, layout_of, private_word}
+use Rattle.rv_select.specs.Places.{AreBytes, Holds, Housed, IsHeld, Layout, World, area_offset, frame_bytes, home_of, layout_of, private_word}
 use Rattle.rv_select.specs.Shapes.{put_to}
 use Rattle.rv_select.specs.Steps.{Comes, world_of}
 use Rattle.rv_select.specs.Calls.{blocks_length, call_begun, call_ended, call_jump, head_code, last_address}
@@ -146,7 +146,7 @@ put-result : (p : Program) (image : Image) (program : List (Option Instr)) (most
     a.base + code.frame ≤ end_address s.region → length s.region.bytes ≡ size → HasRoom most (length cs) up →
     Waits p image most size cs (private_word n up) (up + frame_bytes (layout_of code (image a.function).homes)) (a.base + code.frame)
     (restored (layout_of code (image a.function).homes) up n) →
-    Arrives p image program most size (36 + more) [] (record s { here = record a { temps = temps; areas = areas }; callers = cs }) m
+    Arrives p image program most size (36 + more) s.left [] (record s { here = record a { temps = temps; areas = areas }; callers = cs }) m
 put-result p image program most size linked s a temps areas cs code up k more target held m n function way some few c five to-is held-is
     inside frame
     region room
@@ -154,7 +154,7 @@ put-result p image program most size linked s a temps areas cs code up k more ta
       steps = k + c.steps;
       after = c.after;
       base = up;
-      some = omega (arith, some);
+      enough = omega arith;
       few = omega (arith, few, c.few);
       runs = λ rest.
           let split : k + c.steps + rest ≡ k + (c.steps + rest) = omega arith in
@@ -251,7 +251,7 @@ pub to-caller : (p : Program) (image : Image) (program : List (Option Instr)) (m
     length s.region.bytes ≡ size → Way program k m n → 1 ≤ k → k ≤ 34 → IsBack s (length cs) up over link v M n →
     Puts program (layout_of W.code (image a.function).homes) W.code.areas (InUse (graph_of W.code) a.block a.at) to s a over (length cs) up
     v temps areas n →
-    Arrives p image program most size (36 + result_words to) []
+    Arrives p image program most size (36 + result_words to) s.left []
     (record s { here = record a { temps = temps; areas = areas }; callers = cs }) m
 to-caller p image program most size linked s a to v temps areas cs up over link k M m n W rest sized way some few b puts =
     let q : ℕ = behind_of p image most (record { waits = a; to = to }) (length cs) link up over M W in
@@ -273,7 +273,7 @@ to-caller p image program most size linked s a to v temps areas cs up over link 
         (place_in p image W.code (image a.function) a.block W.before) q → n.pc ≡ q →
         Resumes program (layout_of W.code (image a.function).homes) (UsedBut (InUse (graph_of W.code) a.block a.at) to)
         (outer s a over (length cs)) up v (result_put (layout_of W.code (image a.function).homes) W.code.areas to) n →
-        Arrives p image program most size (36 + result_words to) []
+        Arrives p image program most size (36 + result_words to) s.left []
         (record s { here = record a { temps = temps; areas = areas }; callers = cs }) m
     landed q bc here r =
         let yc : Layout = layout_of W.code (image a.function).homes in
@@ -538,12 +538,13 @@ return-steps p image program most size linked s base m x block v in-f in-b alone
         let here : AtExit p image program x.code (image s.here.function) held None (Return v) m.pc =
         subst (λ q. AtExit p image program x.code (image s.here.function) held None (Return v) q) (sym x.pc) at in
         goes-back program y (InUse (graph_of x.code) s.here.block s.here.at) (world_of s) base x.code.frame
-        (last_address y x.code (image s.here.function).at) link 0 v m (is_short x.code) x.holds
+        (last_address y x.code (image s.here.function).at) link 0 v m here.setting x.holds
         (housed x.code (image s.here.function).homes s.here.block s.here.at pl.right) reads here.near
         (last-small (last_address y x.code (image s.here.function).at) f.near)
         (last-even (image s.here.function).at (length (head_code y x.code) + blocks_length y x.code.areas x.code.blocks) pl.aligned)
         (λ short. last-reach (image s.here.function).at m.pc (last_address y x.code (image s.here.function).at) here.low here.high
-        (short-bytes p image program most x.code (image s.here.function) pl short))
+        (short-bytes p image program most x.code (image s.here.function) pl (sym here.short_is ∙ short)))
+        here.last_there
         (placed-small (s.here.base + x.code.frame) (length s.region.bytes) x.frame x.holds.lawful.sized.2) e even small here.stands f.leaves
 
     go : (cs : List Caller) → s.callers ≡ cs →

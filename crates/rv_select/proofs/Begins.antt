@@ -4,6 +4,7 @@ use Rattle.std.specs.Prelude.{if◌then◌else◌, nat_lt, slice_get, ◌⊎◌}
 use Rattle.std.proofs.lemmas.Bool.{cases_eq, cases_lt, le-leb, ltb-true, lt-ltb}
 use Rattle.std.proofs.lemmas.List.{length-append}
 use Rattle.tl_base.specs.declared.ids.FnId.{FnId}
+use Rattle.tl_base.specs.declared.place.Place.{Place}
 use Rattle.rv_isa.specs.declared.instr.Instr.{Instr}
 use Rattle.rv_isa.specs.declared.operand.Register.{Register}
 use Rattle.terra_memory.specs.Numbers.{low_bytes, number_of}
@@ -24,7 +25,7 @@ use Rattle.rv_select.specs.Pairs.{reads_of}
 use Rattle.rv_select.specs.Places.{AreBytes, frame_bytes, layout_of, private_word, uses}
 use Rattle.rv_select.specs.Shapes.{moved, place_number, x4, x8, x11}
 use Rattle.rv_select.specs.Calls.{blocks_length, head_code, last_address}
-use Rattle.rv_select.specs.Entering.{arguments_stored, begun, entered, kept_offset, received, stored_below, words_offset, receiving}
+use Rattle.rv_select.specs.Entering.{arguments_stored, begun, entered, kept_offset, place_given, received, receiving, stored_below, words_offset}
 use Rattle.rv_select.specs.Frames.{BeforeEntering, Enters, HasWords, Received, seen, without_words}
 use Rattle.rv_select.specs.Waiting.{Arrives, Image, IsLinked, IsPlaced, Stepped, entries_of, place_in, plain_in}
 use Rattle.rv_select.specs.Whole.{EntriesAreCarried, Starts, before_entry}
@@ -150,6 +151,40 @@ pc-begin : (p a b c x y : ℕ) → a ≡ low (p + 4) → b ≡ low (a + 4 * x) �
 unfolding low
 pc-begin p a b c x y e g h = omega arith
 
+-- The machine stands behind the code by which x11 gets the place of a function whose frame isn't empty.
+record Given (program : List (Option Instr)) (frame : ℕ) (at : Place) (m : State) : Type 0 where
+  after : State
+  way : Way program (length (place_given frame at)) m after
+  pc : after.pc ≡ low (m.pc + 4 * length (place_given frame at))
+  gives : 0 < frame → after.registers 11 ≡ place_number at
+  keeps : (r : ℕ) → r ≢ 11 → r ≢ 7 → after.registers r ≡ m.registers r
+  region : after.region ≡ m.region
+  private : after.private ≡ m.private
+
+gives-place : (program : List (Option Instr)) (frame : ℕ) (at : Place) (m : State) → m.pc < 2 ^ 64 → place_number at < 2 ^ 64 →
+    Stands program m.pc (place_given frame at) → Given program frame at m
+gives-place program zero at m p small there = record {
+  after = m;
+  way = way-none program m;
+  pc = pc-none m.pc p;
+  gives = λ some. absurd (omega (arith, some));
+  keeps = λ r eleven seven. refl;
+  region = refl;
+  private = refl;
+}
+gives-place program (suc n) at m p small there =
+    let E : List Instr = constant x11 (place_number at) in
+    let c : Loads 11 E m (place_number at) = constant-loads x11 m (place_number at) (λ z. omega (arith, z)) small in
+    record {
+      after = c.after;
+      way = straight-way program E m c.after there c.straight c.goes;
+      pc = c.behind;
+      gives = λ some. c.gives;
+      keeps = λ r eleven seven. c.keeps r eleven seven;
+      region = c.region;
+      private = c.private;
+    }
+
 -- The machine stands behind the code by which a function begins as the entry.
 record AtEntry (program : List (Option Instr)) (code : Tac) (place count : ℕ) (m : State) : Type 0 where
   after : State
@@ -157,7 +192,7 @@ record AtEntry (program : List (Option Instr)) (code : Tac) (place count : ℕ) 
   way : Way program steps m after
   few : steps ≤ length (begun code)
   pc : after.pc ≡ low (m.pc + 4 * length (begun code))
-  place_is : after.registers 11 ≡ place
+  place_is : 0 < code.frame → after.registers 11 ≡ place
   eight : after.registers 8 ≡ m.registers 4
   others : (r : ℕ) → r ≢ 5 → r ≢ 6 → r ≢ 7 → r ≢ 8 → r ≢ 11 → after.registers r ≡ m.registers r
   region : after.region ≡ m.region
@@ -177,7 +212,7 @@ comes-in program code m there p eight place two four small region room =
     let none : v + 0 ≡ v = omega arith in
     let to-t : act (moved x8 x4) m ≡ GoesOn t = ap (λ z. GoesOn (at_with m (low (m.pc + 4)) 8 z)) (ap low none ∙ low-small v four) in
     let A : List Instr = arguments_stored q 0 in
-    let E : List Instr = constant x11 (place_number code.place) in
+    let E : List Instr = place_given code.frame code.place in
     let is : begun code ≡ moved x8 x4 ∷ (A ++ E) = ap (λ b. moved x8 x4 ∷ (arguments_stored (if b then q else 0) 0 ++ E))
     (le-leb q 8 eight) in
     let all : Stands program m.pc (moved x8 x4 ∷ (A ++ E)) = subst (λ z. Stands program m.pc z) is there in
@@ -185,18 +220,18 @@ comes-in program code m there p eight place two four small region room =
     let l : Laid program q 0 (length m.private) E t =
     lays program q 0 (length m.private) E t all.1 (low-below (m.pc + 4)) (omega (arith, eight)) (same 2 (λ z. omega (arith, z)) ∙ two)
     (omega arith) small region (omega (arith, room)) in
-    let c : Loads 11 E l.after (place_number code.place) = constant-loads x11 l.after (place_number code.place) (λ z. omega (arith, z))
-    place in
+    let c : Given program code.frame code.place l.after =
+    gives-place program code.frame code.place l.after (subst (λ z. z < 2 ^ 64) (sym l.pc) (low-below (t.pc + 4 * length A))) place l.there in
     let whole : Way program (1 + l.steps + length E) m c.after =
     way-both program (1 + l.steps) (length E) m l.after c.after
     (way-both program 1 l.steps m t l.after (step-way program (moved x8 x4) m t all.0 to-t) l.way)
-    (straight-way program E l.after c.after l.there c.straight c.goes) in
+    c.way in
     record {
       after = c.after;
       steps = 1 + l.steps + length E;
       way = whole;
       few = subst (λ z. 1 + l.steps + length E ≤ length z) (sym is) (omega (arith, l.few, length-append A E));
-      pc = pc-begin m.pc t.pc l.after.pc c.after.pc (length A) (length E) refl l.pc c.behind
+      pc = pc-begin m.pc t.pc l.after.pc c.after.pc (length A) (length E) refl l.pc c.pc
           ∙ ap (λ z. low (m.pc + 4 * z)) (counted (length A) (length E) (length (A ++ E)) (length-append A E) ∙ sym (ap length is));
       place_is = c.gives;
       eight = c.keeps 8 (λ z. omega (arith, z)) (λ z. omega (arith, z)) ∙
@@ -285,9 +320,6 @@ steps-full k n q h = omega (arith, h)
 
 steps-in : (k a b n q : ℕ) → k ≤ n → a ≤ 36 → b ≤ q → k + a + b ≤ n + 36 + q
 steps-in k a b n q h g e = omega (arith, h, g, e)
-
-steps-some : (k a b : ℕ) → 1 ≤ a → 1 ≤ k + a + b
-steps-some k a b h = omega (arith, h)
 
 slice-below : {A : Type 0} (xs : List A) (k : ℕ) (x : A) → slice_get xs k ≡ Some x → k < length xs
 slice-below [] k x e = cc
@@ -415,13 +447,13 @@ module _ (p : Program) (image : Image) (program : List (Option Instr)) (most n :
       code.frame ≤ (end_address region) → target ≡ place_in p image code (image f) 0 0 →
       Received program (without_words (layout_of code (image f).homes)) (InUse (graph_of code) 0 0) (seen a region 0)
       ((length m.private) - (frame_bytes (layout_of code (image f).homes))) (receiving code.parameters) target en.after →
-      Arrives p image program most (length region.bytes) (length (begun code) + 36 + receiving code.parameters) []
+      Arrives p image program most (length region.bytes) (length (begun code) + 36 + receiving code.parameters) n []
       (record (before_entry f region n) { here = a }) m
   lands-in b en a target is enough to-is rc =
       subst
       (λ c. Received program (without_words (layout_of code (image f).homes)) (InUse (graph_of code) 0 0) (seen c region 0)
       ((length m.private) - (frame_bytes (layout_of code (image f).homes))) (receiving code.parameters) target en.after →
-      Arrives p image program most (length region.bytes) (length (begun code) + 36 + receiving code.parameters) []
+      Arrives p image program most (length region.bytes) (length (begun code) + 36 + receiving code.parameters) n []
       (record (before_entry f region n) { here = c }) m)
       (sym is) (made a.temps a.areas) rc
     where
@@ -429,7 +461,7 @@ module _ (p : Program) (image : Image) (program : List (Option Instr)) (most n :
           Received program (without_words (layout_of code (image f).homes)) (InUse (graph_of code) 0 0)
           (seen (record (fresh_call f code (before_entry f region n)) { temps = temps; areas = areas }) region 0)
           ((length m.private) - (frame_bytes (layout_of code (image f).homes))) (receiving code.parameters) target en.after →
-          Arrives p image program most (length region.bytes) (length (begun code) + 36 + receiving code.parameters) []
+          Arrives p image program most (length region.bytes) (length (begun code) + 36 + receiving code.parameters) n []
           (record (before_entry f region n)
           { here = record (fresh_call f code (before_entry f region n)) { temps = temps; areas = areas } }) m
       made temps areas r =
@@ -442,7 +474,7 @@ module _ (p : Program) (image : Image) (program : List (Option Instr)) (most n :
             steps = b.steps + en.steps + r.steps;
             after = r.after;
             base = (length m.private) - (frame_bytes (layout_of code (image f).homes));
-            some = steps-some b.steps en.steps r.steps en.some;
+            enough = omega arith;
             few = steps-in b.steps en.steps r.steps (length (begun code)) (receiving code.parameters) b.few en.few r.few;
             runs = λ more. (way-both program (b.steps + en.steps) r.steps m en.after r.after
                 (way-both program b.steps en.steps m b.after en.after b.way (record { runs = en.runs })) (record { runs = r.runs })).runs
@@ -497,7 +529,7 @@ module _ (p : Program) (image : Image) (program : List (Option Instr)) (most n :
       (low (b.after.pc + 4 * length (entered (layout_of code (image f).homes) (frame_bytes (layout_of code (image f).homes)) code.frame)))
       b.after) →
       heap_limit region + code.frame ≤ (end_address region) → accepts_all code code.parameters (map word arguments) ≡ true →
-      Arrives p image program most (length region.bytes) (length (begun code) + 36 + receiving code.parameters) []
+      Arrives p image program most (length region.bytes) (length (begun code) + 36 + receiving code.parameters) n []
       (record (before_entry f region n)
       { here = takes_all code.parameters (map word arguments) (fresh_call f code (before_entry f region n)) }) m
   goes-in b en fits accepts =

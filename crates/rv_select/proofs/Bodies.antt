@@ -18,7 +18,10 @@ use Rattle.rv_select.specs.declared.selected.Call.{Call as Site}
 use Rattle.rv_select.specs.declared.pairs.Pair.{Pair}
 use Rattle.rv_select.specs.declared.pairs.Reads.{Reads}
 use Rattle.rv_select.specs.Pairs.{but_pair, pair_of, plain_of, reads_of}
-use Rattle.rv_select.specs.Places.{Layout, frame_bytes, is_short, layout_of, with_homes, with_reads}
+use Rattle.rv_select.specs.declared.settings.Extent.{Extent}
+use Rattle.rv_select.specs.declared.settings.Setting.{Setting}
+use Rattle.rv_select.specs.Settings.{setting_of}
+use Rattle.rv_select.specs.Places.{Layout, extent_of, frame_bytes, layout_of, with_homes, with_reads}
 use Rattle.rv_select.specs.Shapes.{start_of}
 use Rattle.rv_select.specs.Entering.{begun, entered, left, received, words_offset}
 use Rattle.rv_select.specs.Calls.{block_code, block_has_code, block_starts, blocks_calls, blocks_code, body_code, call_begun, call_ended, call_jump, called, end_code, function_code, has_code, has_exit_code, head_code, held_behind, instruction_code, instructions_code, last_address, starts_from}
@@ -45,10 +48,13 @@ one-called r y sizes to at f arguments given i n held old new e g h =
     subst (λ z. OnOk r (new ≡ old ++ map word_of (instruction_code y sizes (λ g. 0) n held z))) (sym e)
     (subst (λ z. OnOk r (new ≡ old ++ map word_of (called y sizes (λ g. 0) n to at f z))) g h)
 
+abbrev of_nothing : Extent
+of_nothing = record { near = false; short = false; blocks = 0 }
+
 -- the code of blocks depends on how often temporaries are read, and that of their instructions doesn't
-pub plain-code : (h : List (Option Home)) (reads : List Reads) (short : Bool) (sizes : List ℕ) (at : ℕ) (is : List Instruction) →
-    instructions_code (with_homes h) sizes (λ f. 0) at None is ≡ instructions_code (with_reads h reads short) sizes (λ f. 0) at None is
-plain-code h reads short sizes at is = instructions-same h 0 0 0 0 [] reads false short sizes (λ f. 0) at None is
+pub plain-code : (h : List (Option Home)) (reads : List Reads) (extent : Extent) (sizes : List ℕ) (at : ℕ) (is : List Instruction) →
+    instructions_code (with_homes h) sizes (λ f. 0) at None is ≡ instructions_code (with_reads h reads extent) sizes (λ f. 0) at None is
+plain-code h reads extent sizes at is = instructions-same h 0 0 0 0 [] reads of_nothing extent sizes (λ f. 0) at None is
 
 pub plain-is : (reads : List Reads) (b : Block) (is plain : List Instruction) (pair : Option Pair) → is ≡ b.instructions →
     pair ≡ pair_of reads b →
@@ -63,25 +69,27 @@ plain-has b is plain pair w p h =
     ∙ (both-true (list_all has_code b.instructions) (has_exit_code b.exit) h).0 in
     ap (list_all has_code) p ∙ plain-all has_code pair is all
 
-pub block-turn : {A E : Type 0} (r : Result A E) (h : List (Option Home)) (reads : List Reads) (short : Bool) (sizes : List ℕ) (starts : ℕ → ℕ) (last : ℕ)
+pub block-turn : {A E : Type 0} (r : Result A E) (h : List (Option Home)) (reads : List Reads) (extent : Extent) (setting : Setting) (sizes : List ℕ)
+    (starts : ℕ → ℕ) (last rest : ℕ)
     (b : Block)
     (is plain : List Instruction) (pair : Option Pair) (held : Option ℕ) (old mid new : List ℕ) → is ≡ b.instructions →
     pair ≡ pair_of reads b →
     plain ≡ but_pair pair is → mid ≡ old ++ map word_of (instructions_code (with_homes h) sizes (λ f. 0) (4 * length old) None plain) →
-    held ≡ held_behind None plain →
-    OnOk r (new ≡ mid ++ map word_of (end_code (with_homes h) short held (4 * length mid) starts last pair b.exit)) →
-    OnOk r (new ≡ old ++ map word_of (block_code (with_reads h reads short) sizes (λ f. 0) starts last (4 * length old) b))
-block-turn r h reads short sizes starts last b is plain pair held old mid new w o p e k g =
-    let y : Layout = with_reads h reads short in
+    held ≡ held_behind None plain → setting ≡ setting_of extent rest →
+    OnOk r (new ≡ mid ++ map word_of (end_code (with_homes h) setting held (4 * length mid) starts last pair b.exit)) →
+    OnOk r (new ≡ old ++ map word_of (block_code (with_reads h reads extent) sizes (λ f. 0) starts last (4 * length old) rest b))
+block-turn r h reads extent setting sizes starts last rest b is plain pair held old mid new w o p e k u g =
+    let y : Layout = with_reads h reads extent in
     let same : plain ≡ plain_of reads b = plain-is reads b is plain pair w o p in
     placed-turn r old mid new (instructions_code y sizes (λ f. 0) (4 * length old) None (plain_of reads b))
-    (λ at. end_code y short (held_behind None (plain_of reads b)) at starts last (pair_of reads b) b.exit)
+    (λ at. end_code y (setting_of extent rest) (held_behind None (plain_of reads b)) at starts last (pair_of reads b) b.exit)
     (e ∙ (ap (λ z. old ++ map word_of (instructions_code (with_homes h) sizes (λ f. 0) (4 * length old) None z)) same
-    ∙ ap (λ z. old ++ map word_of z) (plain-code h reads short sizes (4 * length old) (plain_of reads b))))
+    ∙ ap (λ z. old ++ map word_of z) (plain-code h reads extent sizes (4 * length old) (plain_of reads b))))
     (subst (λ z. OnOk r (new ≡ mid ++ map word_of z))
-    (end-same h 0 0 0 0 [] reads false short short held (4 * length mid) starts last pair b.exit
-    ∙ (ap (λ q. end_code y short q (4 * length mid) starts last pair b.exit) (k ∙ ap (held_behind None) same)
-    ∙ ap (λ q. end_code y short (held_behind None (plain_of reads b)) (4 * length mid) starts last q b.exit) o)) g)
+    (end-same h 0 0 0 0 [] reads of_nothing extent setting held (4 * length mid) starts last pair b.exit
+    ∙ (ap (λ q. end_code y setting q (4 * length mid) starts last pair b.exit) (k ∙ ap (held_behind None) same)
+    ∙ (ap (λ q. end_code y setting (held_behind None (plain_of reads b)) (4 * length mid) starts last q b.exit) o
+    ∙ ap (λ q. end_code y q (held_behind None (plain_of reads b)) (4 * length mid) starts last (pair_of reads b) b.exit) u))) g)
 
 pub call-head : {A E : Type 0} (r : Result A E) (code : Tac) (h : List (Option Home)) (words bytes : ℕ) (sizes : List ℕ) (ds : List Destination) (old mid new : List ℕ) →
     sizes ≡ code.areas → ds ≡ code.parameters →
@@ -91,50 +99,50 @@ pub call-head : {A E : Type 0} (r : Result A E) (code : Tac) (h : List (Option H
 call-head r code h words bytes sizes ds old mid new w v e g =
     let same : received (with_homes h) sizes words ds ≡ received (layout_of code h) code.areas words code.parameters =
     ap (λ z. received (with_homes h) z words ds) w ∙ (ap (λ z. received (with_homes h) code.areas words z) v
-    ∙ received-same h 0 0 (length code.areas) (length code.parameters) [] (reads_of code) false (is_short code) code.areas words code.parameters) in
+    ∙ received-same h 0 0 (length code.areas) (length code.parameters) [] (reads_of code) of_nothing (extent_of code) code.areas words code.parameters) in
     turn r old mid new (entered (layout_of code h) bytes code.frame) (received (layout_of code h) code.areas words code.parameters)
     (entered (layout_of code h) bytes code.frame ++ received (layout_of code h) code.areas words code.parameters) refl e
     (subst (λ z. OnOk r (new ≡ mid ++ map word_of z)) same g)
 
-pub body-code : {A E : Type 0} (r : Result A E) (code : Tac) (h : List (Option Home)) (reads : List Reads) (short : Bool) (sizes : List ℕ)
+pub body-code : {A E : Type 0} (r : Result A E) (code : Tac) (h : List (Option Home)) (reads : List Reads) (extent : Extent) (sizes : List ℕ)
     (bs : List Block) (starts : ℕ → ℕ) (last at : ℕ) (old new : List ℕ) →
-    sizes ≡ code.areas → bs ≡ code.blocks → reads ≡ reads_of code → short ≡ is_short code →
-    OnOk r (new ≡ old ++ map word_of (blocks_code (with_reads h reads short) sizes (λ f. 0) starts last at bs)) →
+    sizes ≡ code.areas → bs ≡ code.blocks → reads ≡ reads_of code → extent ≡ extent_of code →
+    OnOk r (new ≡ old ++ map word_of (blocks_code (with_reads h reads extent) sizes (λ f. 0) starts last at bs)) →
     OnOk r (new ≡ old ++ map word_of (blocks_code (layout_of code h) code.areas (λ f. 0) starts last at code.blocks))
-body-code r code h reads short sizes bs starts last at old new w v u o g =
-    let same : blocks_code (with_reads h reads short) sizes (λ f. 0) starts last at bs ≡ blocks_code (layout_of code h) code.areas
+body-code r code h reads extent sizes bs starts last at old new w v u o g =
+    let same : blocks_code (with_reads h reads extent) sizes (λ f. 0) starts last at bs ≡ blocks_code (layout_of code h) code.areas
     (λ f. 0) starts last at code.blocks =
-    ap (λ z. blocks_code (with_reads h reads short) z (λ f. 0) starts last at bs) w
-    ∙ (ap (λ z. blocks_code (with_reads h reads short) code.areas (λ f. 0) starts last at z) v
-    ∙ (ap (λ z. blocks_code (with_reads h z short) code.areas (λ f. 0) starts last at code.blocks) u
+    ap (λ z. blocks_code (with_reads h reads extent) z (λ f. 0) starts last at bs) w
+    ∙ (ap (λ z. blocks_code (with_reads h reads extent) code.areas (λ f. 0) starts last at z) v
+    ∙ (ap (λ z. blocks_code (with_reads h z extent) code.areas (λ f. 0) starts last at code.blocks) u
     ∙ (ap (λ z. blocks_code (with_reads h (reads_of code) z) code.areas (λ f. 0) starts last at code.blocks) o
-    ∙ blocks-same h 0 0 (length code.areas) (length code.parameters) (reads_of code) (is_short code) code.areas (λ f. 0) starts last at code.blocks))) in
+    ∙ blocks-same h 0 0 (length code.areas) (length code.parameters) (reads_of code) (extent_of code) code.areas (λ f. 0) starts last at code.blocks))) in
     subst (λ z. OnOk r (new ≡ old ++ map word_of z)) same g
 
-pub body-calls : {A E : Type 0} (r : Result A E) (code : Tac) (h : List (Option Home)) (reads : List Reads) (short : Bool) (sizes : List ℕ)
+pub body-calls : {A E : Type 0} (r : Result A E) (code : Tac) (h : List (Option Home)) (reads : List Reads) (extent : Extent) (sizes : List ℕ)
     (bs : List Block) (at : ℕ) (old new : List Site) →
-    sizes ≡ code.areas → bs ≡ code.blocks → reads ≡ reads_of code → short ≡ is_short code →
-    OnOk r (new ≡ old ++ blocks_calls (with_reads h reads short) sizes at bs) →
+    sizes ≡ code.areas → bs ≡ code.blocks → reads ≡ reads_of code → extent ≡ extent_of code →
+    OnOk r (new ≡ old ++ blocks_calls (with_reads h reads extent) sizes at bs) →
     OnOk r (new ≡ old ++ blocks_calls (layout_of code h) code.areas at code.blocks)
-body-calls r code h reads short sizes bs at old new w v u o g =
-    let same : blocks_calls (with_reads h reads short) sizes at bs ≡ blocks_calls (layout_of code h) code.areas at code.blocks =
-    ap (λ z. blocks_calls (with_reads h reads short) z at bs) w ∙ (ap (λ z. blocks_calls (with_reads h reads short) code.areas at z) v
-    ∙ (ap (λ z. blocks_calls (with_reads h z short) code.areas at code.blocks) u
+body-calls r code h reads extent sizes bs at old new w v u o g =
+    let same : blocks_calls (with_reads h reads extent) sizes at bs ≡ blocks_calls (layout_of code h) code.areas at code.blocks =
+    ap (λ z. blocks_calls (with_reads h reads extent) z at bs) w ∙ (ap (λ z. blocks_calls (with_reads h reads extent) code.areas at z) v
+    ∙ (ap (λ z. blocks_calls (with_reads h z extent) code.areas at code.blocks) u
     ∙ (ap (λ z. blocks_calls (with_reads h (reads_of code) z) code.areas at code.blocks) o
-    ∙ blocks-calls-same h 0 0 (length code.areas) (length code.parameters) (reads_of code) (is_short code) code.areas at code.blocks))) in
+    ∙ blocks-calls-same h 0 0 (length code.areas) (length code.parameters) (reads_of code) (extent_of code) code.areas at code.blocks))) in
     subst (λ z. OnOk r (new ≡ old ++ z)) same g
 
-pub body-begins : {A E : Type 0} (r : Result A E) (code : Tac) (h : List (Option Home)) (reads : List Reads) (short : Bool) (sizes : List ℕ)
+pub body-begins : {A E : Type 0} (r : Result A E) (code : Tac) (h : List (Option Home)) (reads : List Reads) (extent : Extent) (sizes : List ℕ)
     (bs : List Block) (at : ℕ) (old new : List ℕ) →
-    sizes ≡ code.areas → bs ≡ code.blocks → reads ≡ reads_of code → short ≡ is_short code →
-    OnOk r (new ≡ old ++ starts_from (with_reads h reads short) sizes at bs) →
+    sizes ≡ code.areas → bs ≡ code.blocks → reads ≡ reads_of code → extent ≡ extent_of code →
+    OnOk r (new ≡ old ++ starts_from (with_reads h reads extent) sizes at bs) →
     OnOk r (new ≡ old ++ starts_from (layout_of code h) code.areas at code.blocks)
-body-begins r code h reads short sizes bs at old new w v u o g =
-    let same : starts_from (with_reads h reads short) sizes at bs ≡ starts_from (layout_of code h) code.areas at code.blocks =
-    ap (λ z. starts_from (with_reads h reads short) z at bs) w ∙ (ap (λ z. starts_from (with_reads h reads short) code.areas at z) v
-    ∙ (ap (λ z. starts_from (with_reads h z short) code.areas at code.blocks) u
+body-begins r code h reads extent sizes bs at old new w v u o g =
+    let same : starts_from (with_reads h reads extent) sizes at bs ≡ starts_from (layout_of code h) code.areas at code.blocks =
+    ap (λ z. starts_from (with_reads h reads extent) z at bs) w ∙ (ap (λ z. starts_from (with_reads h reads extent) code.areas at z) v
+    ∙ (ap (λ z. starts_from (with_reads h z extent) code.areas at code.blocks) u
     ∙ (ap (λ z. starts_from (with_reads h (reads_of code) z) code.areas at code.blocks) o
-    ∙ starts-same h 0 0 (length code.areas) (length code.parameters) (reads_of code) (is_short code) code.areas at code.blocks))) in
+    ∙ starts-same h 0 0 (length code.areas) (length code.parameters) (reads_of code) (extent_of code) code.areas at code.blocks))) in
     subst (λ z. OnOk r (new ≡ old ++ z)) same g
 
 -- how many words there are behind a function's first ones

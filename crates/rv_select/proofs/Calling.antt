@@ -2,7 +2,7 @@
 use Rattle.std.proofs.Common.{◌≡◌, ◌≢◌, ℕ, zero, suc, ◌+◌, ◌-◌, ◌*◌, ◌/◌, ◌%◌, ◌^◌, ◌<◌, ◌≤◌, true, false, ◌&&◌, List, [], ◌∷◌, ◌++◌, length, take, drop, Option, Some, None, refl, sym, ap, ◌∙◌, subst, ⊎_elim, inl, arith}
 use Rattle.std.specs.Prelude.{nat_le, nat_lt, slice_get}
 use Rattle.std.specs.List.{flat_map, list_all}
-use Rattle.std.proofs.lemmas.Bool.{cases_lt, eqb-true, le-leb, leb-true, lt-ltb, ltb-true}
+use Rattle.std.proofs.lemmas.Bool.{eqb-true, leb-true, ltb-true}
 use Rattle.std.proofs.lemmas.List.{length-append}
 use Rattle.tl_base.specs.declared.ids.FnId.{FnId}
 use Rattle.tl_base.specs.declared.place.Place.{Place}
@@ -36,6 +36,7 @@ use Rattle.rv_select.specs.Calls.{block_starts, blocks_length, call_begun, call_
 use Rattle.rv_select.specs.Entering.{begun, entered, received, receiving, words_offset}
 use Rattle.rv_select.specs.Frames.{BeforeEntering, Enters, IsPartRead, Received, part_value, seen, without_words}
 use Rattle.rv_select.specs.Waiting.{Arrives, HasRoom, Image, IsLinked, IsPlaced, StandsIn, Stepped, Waiting, Waits, entries_of, entry_of, held_in, place_in, plain_in, restored}
+use Rattle.rv_select.proofs.Amounts.{all-few, args-room, bytes-least, chain, deep-is, entry-facts, far, few-deep, frame-fits, goes, head-in, least, less-frame, link-facts, link-low, link-word, nearer, not-le, not-lt, shallow-is, shorter, some-steps, stack-less, stack-more, steps-few, still-below, top-is, word-high, word-near, word-of, words-under, zero-first}
 use Rattle.rv_select.proofs.Arrivals.{InFunction, areas-lie, begin-holds, enters-call, has-words, link-after, room-next, same-after}
 use Rattle.rv_select.proofs.Callings.{Begun, JumpedTo, begins, jumps-to, too-deep}
 use Rattle.rv_select.proofs.Carries.{by-test, has-left, has-right, nothing-written, operand-read, place-small}
@@ -200,7 +201,7 @@ pub lands : (p : Program) (image : Image) (program : List (Option Instr)) (most 
     Received program (without_words (layout_of callee (image f).homes)) (InUse (graph_of callee) 0 0)
     (seen a s.region (suc (length s.callers))) (base - (frame_bytes (layout_of callee (image f).homes))) (receiving callee.parameters)
     target n →
-    Arrives p image program most size bound [] (entered_state s to l a) m
+    Arrives p image program most size bound (suc l) [] (entered_state s to l a) m
 unfolding made-waiting
 lands p image program most size bound linked s base m x block to place f arguments in-f in-b callee e l k target a n a-is way some few fit
     room enough below within inside to-is rc =
@@ -208,7 +209,7 @@ lands p image program most size bound linked s base m x block to place f argumen
     (λ b. Received program (without_words (layout_of callee (image f).homes)) (InUse (graph_of callee) 0 0)
     (seen b s.region (suc (length s.callers))) (base - (frame_bytes (layout_of callee (image f).homes))) (receiving callee.parameters)
     target n →
-    Arrives p image program most size bound [] (entered_state s to l b) m)
+    Arrives p image program most size bound (suc l) [] (entered_state s to l b) m)
     (sym a-is) (made a.temps a.areas) rc
   where
     from-zero : (n : ℕ) → 0 ≤ n
@@ -229,8 +230,8 @@ lands p image program most size bound linked s base m x block to place f argumen
         (seen (record (fresh_call f callee s) { temps = temps; areas = areas }) s.region (suc (length s.callers)))
         (base - (frame_bytes (layout_of callee (image f).homes)))
         (receiving callee.parameters) target n →
-        Arrives p image program most size bound [] (entered_state s to l (record (fresh_call f callee s) { temps = temps; areas = areas }))
-        m
+        Arrives p image program most size bound (suc l) []
+        (entered_state s to l (record (fresh_call f callee s) { temps = temps; areas = areas })) m
     made temps areas r =
         let up : base - (frame_bytes (layout_of callee (image f).homes)) + (frame_bytes (layout_of callee (image f).homes)) ≡ base =
         back-up base (frame_bytes (layout_of callee (image f).homes)) fit in
@@ -281,7 +282,7 @@ lands p image program most size bound linked s base m x block to place f argumen
           steps = k + r.steps;
           after = r.after;
           base = base - (frame_bytes (layout_of callee (image f).homes));
-          some = omega (arith, some);
+          enough = omega (arith, some);
           few = omega (arith, few, r.few);
           runs = λ more.
               let split : k + r.steps + more ≡ k + (r.steps + more) = omega arith in
@@ -318,87 +319,6 @@ lands p image program most size bound linked s base m x block to place f argumen
                 (caller, others)));
           };
         }
-
-far : (a r at n : ℕ) → n ≡ a + r → 2 ≤ r → at + 4 * n + 256 ≤ 2 ^ 30 → at + 4 * a + 8 + 256 ≤ 2 ^ 30
-far a r at n e h g = omega (arith, e, h, g)
-
-stack-less : (top n frame : ℕ) → top < 2 ^ 30 + n - n / 4 + frame → top < 2 ^ 30 + n - n / 4 + frame
-stack-less top n frame h = h
-
-stack-more : (top n frame : ℕ) → 2 ^ 30 + n - n / 4 + frame ≤ top → 2 ^ 30 + n - n / 4 + frame ≤ top
-stack-more top n frame h = h
-
-steps-few : (k n r : ℕ) → k ≤ 11 + 11 * n → k + 2 + 36 ≤ 49 + 11 * n + r
-steps-few k n r h = omega (arith, h)
-
-link-facts : (n : ℕ) → n + 8 + 256 ≤ 2 ^ 30 → (n < 2 ^ 30) × (n ≤ 2 ^ 30)
-link-facts n h = (omega (arith, h), omega (arith, h))
-
-entry-facts : (at a n : ℕ) → at + 4 * a ≤ n → n + 256 ≤ 2 ^ 30 → at % 4 ≡ 0 → (at + 4 * a < 2 ^ 30) × ((at + 4 * a) % 2 ≡ 0)
-entry-facts at a n h g r = (omega (arith, h, g), omega (arith, r))
-
-chain : (a b c d l : ℕ) → a + b + c ≡ d → d ≤ l → a ≤ l
-chain a b c d l h g = omega (arith, h, g)
-
-head-in : (at h g : ℕ) → at + 4 * h ≤ at + 4 * (h + g)
-head-in at h g = omega arith
-
-least : (a n l : ℕ) → a + n ≤ l → a ≤ l
-least a n l h = omega (arith, h)
-
-word-near : (n k : ℕ) → n ≤ k → k + 256 ≤ 2 ^ 30 → n < 2 ^ 64
-word-near n k h g = omega (arith, h, g)
-
-bytes-least : (h a q : ℕ) → 88 ≤ 8 * 11 + 8 * h + 128 * a + 8 * q
-bytes-least h a q = omega arith
-
-nearer : (n k : ℕ) → n ≤ k → k + 256 ≤ 2 ^ 30 → n < 2 ^ 30
-nearer n k h g = omega (arith, h, g)
-
-shorter : (a b c : ℕ) → a + b ≡ c → c < 2 ^ 30 → a < 2 ^ 30
-shorter a b c h g = omega (arith, h, g)
-
-link-low : (n : ℕ) → n + 8 + 256 ≤ 2 ^ 30 → n + 8 < 2 ^ 30
-link-low n h = omega (arith, h)
-
-link-word : (n : ℕ) → n + 8 + 256 ≤ 2 ^ 30 → n + 8 < 2 ^ 64
-link-word n h = omega (arith, h)
-
-word-of : (n : ℕ) → n < 2 ^ 30 → n < 2 ^ 64
-word-of n h = omega (arith, h)
-
-goes : (a b l : ℕ) → b ≤ a → a ≤ l → a - b + b ≤ l
-goes a b l h g = omega (arith, h, g)
-
-less-frame : (h p n : ℕ) → h + n ≤ p → h ≤ p - n
-less-frame h p n g = omega (arith, g)
-
-frame-fits : (h p n : ℕ) → h + n ≤ p → n ≤ p
-frame-fits h p n g = omega (arith, g)
-
-still-below : (p n e : ℕ) → p ≤ e → p - n ≤ e
-still-below p n e h = omega (arith, h)
-
-top-is : (base h a q : ℕ) → 8 * 11 + 8 * h + 128 * a + 8 * q ≤ base →
-    base - (8 * 11 + 8 * h + 128 * a + 8 * q) + (8 * 11 + 8 * h + 128 * a + 8 * q) + 8 * 0 ≡ base
-top-is base h a q g = omega (arith, g)
-
-words-under : (base h a q : ℕ) → 8 * 11 + 8 * h + 128 * a + 8 * q ≤ base →
-    base - (8 * 11 + 8 * h + 128 * a + 8 * q) + (8 * 11 + 8 * h + 128 * a) ≤ base
-words-under base h a q g = omega (arith, g)
-
-word-high : (base h a q n k : ℕ) → 8 * 11 + 8 * h + 128 * a + 8 * q ≤ base → n ≡ q → k < n →
-    base - (8 * 11 + 8 * h + 128 * a + 8 * q) + 88 ≤ base - 8 * (0 + k + 1)
-word-high base h a q n k g e l = omega (arith, g, e, l)
-
-some-steps : (a b : ℕ) → 1 ≤ a + 2 + b
-some-steps a b = omega arith
-
-all-few : (a b n r : ℕ) → a ≤ 11 + 11 * n → b ≤ 36 → a + 2 + b + r ≤ 49 + 11 * n + r
-all-few a b n r h g = omega (arith, h, g)
-
-zero-first : (k : ℕ) → 0 + k + 1 ≡ k + 1
-zero-first k = omega arith
 
 slice-below : {A : Type 0} (xs : List A) (k : ℕ) (x : A) → slice_get xs k ≡ Some x → k < length xs
 slice-below [] k x e = cc
@@ -504,7 +424,7 @@ callee-step : (p : Program) (image : Image) (program : List (Option Instr)) (mos
     (layout_of x.code (image s.here.function).homes) x.code.areas to) m) →
     (s.here.base < heap_limit s.region + callee.frame → Ends program StackFull place (49 + 11 * length arguments + receiving callee.parameters) m) ×
     (heap_limit s.region + callee.frame ≤ s.here.base → accepts_all callee callee.parameters (values_of s arguments) ≡ true → (l : ℕ) →
-    Arrives p image program most size (49 + 11 * length arguments + receiving callee.parameters) []
+    Arrives p image program most size (49 + 11 * length arguments + receiving callee.parameters) (suc l) []
     (entered_state s to l (takes_all callee.parameters (values_of s arguments) (fresh_call f callee s))) m)
 callee-step p image program most size linked s base m x block to place f arguments in-f in-b callee e c count shallow b = (
   λ less. later-ends program StackFull place (b.steps + 2) 36 (49 + 11 * length arguments + receiving callee.parameters) m jump.after jumped
@@ -584,7 +504,7 @@ callee-step p image program most size linked s base m x block to place f argumen
           (λ q. omega (arith, q)) (λ q. omega (arith, q)) ∙ x.holds.limit;
       placed_is = same 8 (λ q. omega (arith, q)) (λ q. omega (arith, q)) (λ q. omega (arith, q)) (λ q. omega (arith, q))
           (λ q. omega (arith, q)) (λ q. omega (arith, q)) ∙ x.holds.placed;
-      place = jump.others 11 (λ q. omega (arith, q)) (λ q. omega (arith, q)) ∙ b.place;
+      place = λ some. jump.others 11 (λ q. omega (arith, q)) (λ q. omega (arith, q)) ∙ b.place;
       small = wi.frame;
       above = x.holds.above;
       below = x.holds.below;
@@ -611,7 +531,7 @@ callee-step p image program most size linked s base m x block to place f argumen
         (low (jump.after.pc + 4 * length
         (entered (layout_of callee (image f).homes) (frame_bytes (layout_of callee (image f).homes)) callee.frame))) jump.after →
         heap_limit s.region + callee.frame ≤ s.here.base → accepts_all callee callee.parameters (values_of s arguments) ≡ true → (l : ℕ) →
-        Arrives p image program most size (49 + 11 * length arguments + receiving callee.parameters) []
+        Arrives p image program most size (49 + 11 * length arguments + receiving callee.parameters) (suc l) []
         (entered_state s to l (takes_all callee.parameters (values_of s arguments) (fresh_call f callee s))) m
     arrived en fits accepts l =
         let inside : InFunction (layout_of callee (image f).homes) base (base - (frame_bytes (layout_of callee (image f).homes)))
@@ -723,24 +643,6 @@ callee-step p image program most size linked s base m x block to place f argumen
             ∙ (ap (λ z. number_of (take 8 (drop (base - 8 * (0 + k + 1)) z))) jump.private ∙
             (ap (λ n. private_word b.after (base - 8 * n)) (zero-first k) ∙ b.words k q g))
 
-args-room : (base h a q n : ℕ) → 8 * 11 + 8 * h + 128 * a + 8 * q ≤ base → n ≡ q → 8 * n ≤ base
-args-room base h a q n g e = omega (arith, g, e)
-
-not-le : (a b : ℕ) → nat_le a b ≡ false → b < a
-not-le a b e = ⊎_elim (λ l. l) (λ l. let t : nat_le a b ≡ true = le-leb a b l in let no : true ≡ false = sym t ∙ e in cc) (cases_lt b a)
-
-not-lt : (a b : ℕ) → nat_lt a b ≡ false → b ≤ a
-not-lt a b e = ⊎_elim (λ l. let t : nat_lt a b ≡ true = lt-ltb a b l in let no : true ≡ false = sym t ∙ e in cc) (λ l. l) (cases_lt a b)
-
-deep-is : (n : ℕ) → 512 ≤ suc n → 511 ≤ n
-deep-is n h = omega (arith, h)
-
-shallow-is : (n : ℕ) → suc n < 512 → n < 511
-shallow-is n h = omega (arith, h)
-
-few-deep : (n r : ℕ) → 13 ≤ 49 + 11 * n + r
-few-deep n r = omega arith
-
 -- the most steps in which the parameters of a function are taken
 abbrev pub taking : Option Tac → ℕ
 taking None = 0
@@ -774,12 +676,12 @@ call-step p image program most size linked s base m x block to place f arguments
         (room-next most (length s.callers) base (frame_bytes (layout_of callee (image f).homes)) x.room less (linked f callee e).frame).0
         (count callee e)
 
-    with-code : (l : ℕ) (o : Option Tac) → p.code f ≡ o →
+    with-code : (l : ℕ) → s.left ≡ suc l → (o : Option Tac) → p.code f ≡ o →
         Stepped p image program most size (49 + 11 * length arguments + taking o) s m
         (enter place f o (values_of s arguments) s.here.base (record { waits = record s.here { at = suc s.here.at }; to = to } ∷ s.callers)
         (record s { left = l }))
-    with-code l None e = tt
-    with-code l (Some callee) e =
+    with-code l q None e = tt
+    with-code l q (Some callee) e =
         by-test (Stepped p image program most size (49 + 11 * length arguments + receiving callee.parameters) s m) (nat_le most_calls (suc (length s.callers))) _ _
         (λ deep. (
           refl,
@@ -807,11 +709,18 @@ call-step p image program most size linked s base m x block to place f arguments
         (λ fits.
         by-test (Stepped p image program most size (49 + 11 * length arguments + receiving callee.parameters) s m)
         (accepts_all callee callee.parameters (values_of s arguments)) _ _
-        (λ taken. ([], nothing-written s.out, both.1 (not-lt s.here.base (heap_limit s.region + callee.frame) fits) taken l)) (λ no. tt)))
+        (λ taken. (
+          [],
+          nothing-written s.out,
+          subst
+              (λ z. Arrives p image program most size (49 + 11 * length arguments + receiving callee.parameters) z []
+              (entered_state s to l (takes_all callee.parameters (values_of s arguments) (fresh_call f callee s))) m)
+              (sym q) (both.1 (not-lt s.here.base (heap_limit s.region + callee.frame) fits) taken l),
+        )) (λ no. tt)))
 
     counts : (l : ℕ) → s.left ≡ l →
         Stepped p image program most size (49 + 11 * length arguments + taking (p.code f)) s m
         (tac.counted l s (λ z. enter place f (p.code f) (values_of s arguments) z.here.base
         (record { waits = (tac.ahead z).here; to = to } ∷ z.callers) z))
     counts zero q = (refl, q)
-    counts (suc l) q = with-code l (p.code f) refl
+    counts (suc l) q = with-code l q (p.code f) refl

@@ -31,7 +31,10 @@ use Rattle.tac_form.specs.Weights as weights
 use Rattle.tac_form.specs.Weights.{exit_words, words_of}
 use Rattle.rv_operators.specs.Codes.{is_comparison, x6}
 use Rattle.rv_operators.proofs.Values.{signed-less}
-use Rattle.rv_select.specs.Places.{Holds, Housed, IsRead, Layout, World, is_short, layout_of, value_in}
+use Rattle.rv_select.specs.Places.{Holds, Housed, IsRead, Layout, World, layout_of, value_in}
+use Rattle.rv_select.specs.declared.settings.Follows.{Follows}
+use Rattle.rv_select.specs.declared.settings.Follows.TheVariants.{First, Second}
+use Rattle.rv_select.specs.Settings.{follower}
 use Rattle.rv_select.specs.Shapes.{first_taken, taken}
 use Rattle.rv_select.specs.Compared.{ComparesAreCarried, ComparesKeepWithin, StandsAtCompare, below_condition, compared, compared_shape, condition_of, least_condition, left_of, operands_taken, right_of}
 use Rattle.rv_select.specs.Steps.{AreFewer, Comes, Left, with_temp, world_of}
@@ -42,8 +45,9 @@ use Rattle.rv_select.proofs.Numbers.{pushed_words}
 use Rattle.rv_select.proofs.Areas.{put-other}
 use Rattle.rv_select.proofs.Lives.{housed, read-live, step-in-graph, use-follows}
 use Rattle.rv_select.proofs.Carries.{both-true, by-test, has-left, has-right, operand-read}
-use Rattle.rv_select.proofs.Leaves.{chosen-comes, edge-reach, exit-in-graph, next-live, or-left, or-second, zero-or-more}
-use Rattle.rv_select.proofs.Jumps.{chosen-count, jump-few, jump_words}
+use Rattle.rv_select.proofs.Leaves.{chosen-comes, edge-near, edge-reach, exit-in-graph, next-live, or-left, or-second, zero-or-more}
+use Rattle.rv_select.proofs.Branched.{follower-first, follower-second}
+use Rattle.rv_select.proofs.Jumps.{chosen-count, chosen-few, chosen_words}
 
 -- the result of a comparison, as its branch sees it
 flag-is : (b : Bool) → not (nat_eq (flag b) 0) ≡ b
@@ -182,10 +186,18 @@ module _ (p : Program) (code : Tac) (homes : List (Option Home)) (held : Option 
       let count : length A ≤ weights.operand_words a + weights.operand_words b =
       omega (arith, length-append (first_taken y held a) (taken y x6 b), first-count y held a, operand-count y x6 b) in
       let few : length A ≤ 16 = omega (arith, length-append (first_taken y held a) (taken y x6 b), first-few y held a, taken-count y x6 b) in
-      chosen-comes y (without used d) (InUse (graph_of code) c 0) (world_of after_it) base (starts e.block) (starts f.block) (starts c) weight (is_short code)
+      let o : Follows = follower x.setting.next e.block f.block in
+      let C : List Instr = compared_shape y x.setting held m.pc starts op form a b e f in
+      let first-next : o ≡ First → starts e.block ≡ m.pc + 4 * length C =
+      λ g. x.next_there e.block (follower-first x.setting.next e.block f.block g) in
+      let second-next : o ≡ Second → starts f.block ≡ m.pc + 4 * length C =
+      λ g. x.next_there f.block (follower-second x.setting.next e.block f.block g) in
+      chosen-comes y (without used d) (InUse (graph_of code) c 0) (world_of after_it) base (starts e.block) (starts f.block) (starts c) weight x.setting.near x.setting.short o
       (condition_of form.signed op) (left_of op) (right_of op) taken_it A program m k.after
       both (unread-holds y used (world_of s) base d result m x.holds) (record { homes = λ t u. all-housed.homes t u.0; apart = λ t u i j g. all-housed.apart t u i.0 j.0 g }) (next-here c unread h)
-      (omega (arith, count)) few x.near (x.blocks e.block) (x.blocks f.block) (edge-reach code starts m.pc e x.reach fit-e) (edge-reach code starts m.pc f x.reach fit-f) x.stands
+      (omega (arith, count)) few x.near (x.blocks e.block) (x.blocks f.block) (edge-reach code starts m.pc x.setting.short e x.short_is x.reach fit-e)
+      (edge-reach code starts m.pc x.setting.short f x.short_is x.reach fit-f) (edge-near code starts m.pc x.setting.near e x.near_is x.reach fit-e)
+      (edge-near code starts m.pc x.setting.near f x.near_is x.reach fit-f) first-next second-next x.stands
       (compare-is (width_of form) op va vb x.compares (value-small used y (world_of s) base m a x.holds read-a) (value-small used y (world_of s) base m b x.holds read-b) k.after five k.gives ∙ is)
       (chosen-start taken_it c block)
     where
@@ -209,11 +221,11 @@ module _ (p : Program) (code : Tac) (homes : List (Option Home)) (held : Option 
       (λ z.
       let comes = second (eqb-true result 0 z) in
       by-test (λ moved. Left y (graph_of code) program base weight starts s m moved) f.counts _ _
-      (λ c. ⊎_elim (λ k. rw k tt) (λ k. let q = k.1 in rw q (refl, comes)) (zero-or-more s.left)) (λ c. (refl, comes)))
+      (λ c. ⊎_elim (λ k. rw k tt) (λ k. let q = k.1 in rw q (refl, inl comes)) (zero-or-more s.left)) (λ c. (refl, inl comes)))
       (λ z.
       let comes = first (λ o. let t : nat_eq result 0 ≡ true = eq-eqb result 0 o in let none : true ≡ false = sym t ∙ z in cc) in
       by-test (λ moved. Left y (graph_of code) program base weight starts s m moved) e.counts _ _
-      (λ c. ⊎_elim (λ k. rw k tt) (λ k. let q = k.1 in rw q (refl, comes)) (zero-or-more s.left)) (λ c. (refl, comes))))))
+      (λ c. ⊎_elim (λ k. rw k tt) (λ k. let q = k.1 in rw q (refl, inl comes)) (zero-or-more s.left)) (λ c. (refl, inl comes))))))
 
 pub compares : ComparesAreCarried
 compares p code homes held d op form a b e f starts s program base m x =
@@ -227,21 +239,22 @@ compares p code homes held d op form a b e f starts s program base m x =
     (by-test (λ moved. Left (layout_of code homes) (graph_of code) program base (words_of (Compute d op form a b) + exit_words (Branch (Temp d) e f)) starts s m (steps p 1 moved)) zero _ _ (λ h. tt) (λ h. leave))
 
 -- how many words there are
-compared-count : (y : Layout) (short : Bool) (held : Option ℕ) (signed : Bool) (op : BinaryOperator) (a b : Operand) (at first second : ℕ) →
-    length (operands_taken y held a b ++ compared short signed op at first second) ≡
-    length (operands_taken y held a b) + (1 + jump_words short + jump_words short)
-compared-count y short held signed op a b at first second =
-    length-append (operands_taken y held a b) (compared short signed op at first second)
-    ∙ ap (λ n. length (operands_taken y held a b) + n) (chosen-count short (condition_of signed op) (left_of op) (right_of op) at first second)
+compared-count : (y : Layout) (near short : Bool) (o : Follows) (held : Option ℕ) (signed : Bool) (op : BinaryOperator) (a b : Operand) (at first second : ℕ) →
+    length (operands_taken y held a b ++ compared near short o signed op at first second) ≡
+    length (operands_taken y held a b) + chosen_words near short o
+compared-count y near short o held signed op a b at first second =
+    length-append (operands_taken y held a b) (compared near short o signed op at first second)
+    ∙ ap (λ n. length (operands_taken y held a b) + n) (chosen-count near short o (condition_of signed op) (left_of op) (right_of op) at first second)
 
 pub compares-within : ComparesKeepWithin
-compares-within y short held d op form a b e f at other starts others =
-    let n : length (compared_shape y short held at starts op form a b e f) ≡ length (operands_taken y held a b) + (1 + jump_words short + jump_words short) =
-    compared-count y short held form.signed op a b (at + 4 * length (operands_taken y held a b)) (starts e.block) (starts f.block) in
-    let few : jump_words short ≤ 2 = (jump-few short).1 in (
+compares-within y setting held d op form a b e f at other starts others =
+    let o : Follows = follower setting.next e.block f.block in
+    let n : length (compared_shape y setting held at starts op form a b e f) ≡ length (operands_taken y held a b) + chosen_words setting.near setting.short o =
+    compared-count y setting.near setting.short o held form.signed op a b (at + 4 * length (operands_taken y held a b)) (starts e.block) (starts f.block) in
+    let few : chosen_words setting.near setting.short o ≤ 5 = chosen-few setting.near setting.short o in (
       omega (arith, n, few, length-append (first_taken y held a) (taken y x6 b), first-few y held a, taken-count y x6 b),
       omega (arith, n, few, length-append (first_taken y held a) (taken y x6 b), first-count y held a, operand-count y x6 b),
-      n ∙ sym (compared-count y short held form.signed op a b (other + 4 * length (operands_taken y held a b)) (others e.block) (others f.block)),
+      n ∙ sym (compared-count y setting.near setting.short o held form.signed op a b (other + 4 * length (operands_taken y held a b)) (others e.block) (others f.block)),
     )
 
 pub operand_words : (old : List ℕ) (y : Layout) (held : Option ℕ) (a b : Operand) →

@@ -1,5 +1,5 @@
 -- A comparison and the branch on its result: two steps at once.
-use Rattle.std.proofs.Common.{◌≡◌, ℕ, suc, ◌+◌, ◌-◌, ◌^◌, ◌≤◌, Bool, true, false, ◌&&◌, ◌||◌, List, length, take, Option, Some, None, refl, sym, ap, ◌∙◌, subst, arith}
+use Rattle.std.proofs.Common.{◌≡◌, ℕ, suc, ◌+◌, ◌-◌, ◌*◌, ◌^◌, ◌≤◌, Bool, true, false, ◌&&◌, ◌||◌, List, length, take, Option, Some, None, refl, sym, ap, ◌∙◌, subst, arith}
 use Rattle.std.specs.Prelude.{if◌then◌else◌, nat_eq, slice_get}
 use Rattle.std.proofs.lemmas.Bool.{eq-eqb}
 use Rattle.rv_isa.specs.declared.instr.Instr.{Instr}
@@ -19,8 +19,9 @@ use Rattle.tac_form.specs.Weights.{exit_words, words_of}
 use Rattle.rv_machine.specs.Machine.{State}
 use Rattle.rv_operators.specs.Runs.{Stands}
 use Rattle.rv_select.specs.declared.pairs.Pair.{Pair}
+use Rattle.rv_select.specs.declared.settings.Setting.{Setting}
 use Rattle.rv_select.specs.Pairs.{but_pair, pair_of, plain_of, reads_of}
-use Rattle.rv_select.specs.Places.{Layout, is_short, layout_of, value_in}
+use Rattle.rv_select.specs.Places.{Layout, layout_of, value_in}
 use Rattle.rv_select.specs.Shapes.{has_exit_shape, start_of}
 use Rattle.rv_select.specs.Compared.{StandsAtCompare, compared_shape}
 use Rattle.rv_select.specs.Calls.{block_starts, pair_code}
@@ -79,11 +80,11 @@ couple p code s block pair function in-f in-p within is k = record {
         (ap (λ z. slice_get z s.here.at) (sym plain) ∙ in-p)
 
 -- the code of both
-pair-stands : (program : List (Option Instr)) (y : Layout) (short : Bool) (held : Option ℕ) (at : ℕ) (starts : ℕ → ℕ) (pair : Pair) →
-    Stands program at (pair_code y short held at starts pair) →
-    Stands program at (compared_shape y short held at starts pair.operator pair.form pair.a pair.b pair.first pair.second)
+pair-is : (y : Layout) (setting : Setting) (held : Option ℕ) (at : ℕ) (starts : ℕ → ℕ) (pair : Pair) →
+    pair_code y setting held at starts pair
+    ≡ compared_shape y setting held at starts pair.operator pair.form pair.a pair.b pair.first pair.second
 unfolding pair_code
-pair-stands program y short held at starts pair h = h
+pair-is y setting held at starts pair = refl
 
 -- the machine carries out both
 pub pair-steps : (p : Program) (image : Image) (program : List (Option Instr)) (most size : ℕ) → IsLinked p image program most →
@@ -125,6 +126,17 @@ pair-steps p image program most size linked s base m x block pair in-f in-p is k
         (place_in p image x.code (image s.here.function) s.here.block s.here.at)) is
         (at-exit p image program most x.code (image s.here.function) s.here.block s.here.at block pl in-f in-p)
 
+    at : ℕ
+    at = place_in p image x.code (image s.here.function) s.here.block s.here.at
+
+    shape-at : ℕ → List Instr
+    shape-at q =
+        compared_shape (layout_of x.code (image s.here.function).homes) found.setting held q starts pair.operator pair.form pair.a pair.b
+        pair.first pair.second
+
+    code-is : pair_code (layout_of x.code (image s.here.function).homes) found.setting held at starts pair ≡ shape-at at
+    code-is = pair-is (layout_of x.code (image s.here.function).homes) found.setting held at starts pair
+
     unread : (c : ℕ) → IsLive (graph_of x.code) c 0 k.result → ⊥
     unread c =
         let g = step-in-graph x.code block (compare_of pair k.result) s.here.block s.here.at in-f both.here in
@@ -154,14 +166,12 @@ pair-steps p image program most size linked s base m x block pair in-f in-p is k
           (exit-within x.code s.here.block block (within-parts p image program most x.code (image s.here.function) pl).blocks in-f);
       reach = subst (λ q. IsReached x.code (start_of (block_starts (layout_of x.code (image s.here.function).homes) x.code (image s.here.function).at)) q)
           (sym x.pc) (exit-reaches p image program most x.code s.here.function _ pl found.low found.high);
-      stands = subst (λ q. Stands program q
-          (compared_shape (layout_of x.code (image s.here.function).homes) (is_short x.code) (held_in x.code s.here.block s.here.at) q
-          (start_of (block_starts (layout_of x.code (image s.here.function).homes) x.code (image s.here.function).at)) pair.operator
-          pair.form
-          pair.a pair.b pair.first pair.second)) (sym x.pc)
-          (pair-stands program (layout_of x.code (image s.here.function).homes) (is_short x.code) (held_in x.code s.here.block s.here.at)
-          (place_in p image x.code (image s.here.function) s.here.block s.here.at)
-          (start_of (block_starts (layout_of x.code (image s.here.function).homes) x.code (image s.here.function).at)) pair found.stands);
+      setting = found.setting;
+      near_is = found.near_is;
+      short_is = found.short_is;
+      stands = subst (λ q. Stands program q (shape-at q)) (sym x.pc) (subst (λ c. Stands program at c) code-is found.stands);
+      next_there = λ n g. subst (λ q. starts n ≡ q + 4 * length (shape-at q)) (sym x.pc)
+          (subst (λ c. starts n ≡ at + 4 * length c) code-is (found.next_there n g));
       holds = x.holds;
       five = x.five;
     }

@@ -271,14 +271,14 @@ takes-region program (suc n) size placed rest m p small four most eight placed-s
 -- The run fails where the data stack has no room for a frame, which is not empty then.
 pub region-refused : (program : List (Option Instr)) (frame size placed : ℕ) (rest : List Instr) (m : State) → m.pc < 2 ^ 64 → frame < 2 ^ 63 →
     m.registers 4 ≡ 2 ^ 30 + size → size ≤ 67108864 → m.registers 8 ≡ placed → placed < 2 ^ 63 → 2 ^ 30 + size - size / 4 ≤ placed →
-    Stands program m.pc (region_taken frame ++ rest) → (at : Place) → m.registers 11 ≡ place_number at →
+    Stands program m.pc (region_taken frame ++ rest) → (at : Place) → (0 < frame → m.registers 11 ≡ place_number at) →
     placed < 2 ^ 30 + size - size / 4 + frame → Ends program StackFull at 17 m
 region-refused program zero size placed rest m p small four most eight placed-small above there at e h = absurd (omega (arith, above, h))
 region-refused program (suc n) size placed rest m p small four most eight placed-small above there at e h =
     let A : List Instr = stack_tested (suc n) in
     let S : List Instr = RegisterRegister Sub x8 x8 x5 ∷ [] in
     refuses program m (suc n) size placed (S ++ rest) p small four most eight placed-small
-    (subst (λ z. Stands program m.pc z) (append_assoc A S rest) there) at e h
+    (subst (λ z. Stands program m.pc z) (append_assoc A S rest) there) at (e (omega arith)) h
 
 -- The frame in private memory is taken, and what callers rest on is kept.
 pub record Taken (program : List (Option Instr)) (y : Layout) (bytes base : ℕ) (rest : List Instr) (m : State) : Type 0 where

@@ -12,29 +12,27 @@ use Rattle.tac_form.specs.declared.tac.Tac.{Tac}
 use Rattle.tac_form.specs.Flow.{Activation, Program, accepts_all, enter, place_of, steps, takes_all}
 use Rattle.tac_form.specs.Weights.{block_words, code_words}
 use Rattle.rv_machine.specs.Machine.{fetch}
-use Rattle.rv_select.specs.Numbers.{constant}
-use Rattle.rv_select.specs.Shapes.{moved, place_number, x4, x8, x11}
-use Rattle.rv_select.specs.Entering.{arguments_stored, begun, receiving}
+use Rattle.rv_select.specs.Shapes.{moved, x4, x8}
+use Rattle.rv_select.specs.Entering.{arguments_stored, begun, place_given, receiving}
 use Rattle.rv_select.specs.Whole.{ProgramsAreCarried, before_entry, steps_left, words_behind}
 use Rattle.rv_select.proofs.Begins.{entries-carried}
 use Rattle.rv_select.proofs.Calling.{fresh_call, takes-is}
 use Rattle.rv_select.proofs.Carries.{by-test}
 use Rattle.rv_select.proofs.Falls.{behind-le}
 use Rattle.rv_select.proofs.Taken.{params-least}
-use Rattle.rv_select.proofs.Numbers.{constant-count}
 use Rattle.rv_select.proofs.Runs.{FallsTo, behind-step, runs-carried}
-use Rattle.rv_select.proofs.Within.{arguments-count}
+use Rattle.rv_select.proofs.Within.{arguments-count, place-count}
 
 -- the code by which a function begins has at most 17 words
 begun-count : (code : Tac) → length code.parameters ≤ 8 → length (begun code) ≤ 17
 begun-count code h =
     let A : List Instr = arguments_stored (length code.parameters) 0 in
-    let E : List Instr = constant x11 (place_number code.place) in
+    let E : List Instr = place_given code.frame code.place in
     let is : begun code ≡ moved x8 x4 ∷ (A ++ E) = ap
     (λ b. moved x8 x4 ∷ (arguments_stored (if b then length code.parameters else 0) 0 ++ E)) (le-leb (length code.parameters) 8 h) in
     subst (λ z. length z ≤ 17) (sym is)
     (few (length A) (length E) (length (A ++ E)) (arguments-count (length code.parameters) 0 (omega (arith, h)))
-    (constant-count x11 (place_number code.place)) (length-append A E))
+    (place-count code.frame code.place) (length-append A E))
   where
     few : (a e n : ℕ) → a ≤ length code.parameters → e ≤ 8 → n ≡ a + e → suc n ≤ 17
     few a e n g k q = omega (arith, h, g, k, q)

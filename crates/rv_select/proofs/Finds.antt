@@ -1,5 +1,5 @@
 -- Where the parts of a function's code stand.
-use Rattle.std.proofs.Common.{◌≡◌, ℕ, zero, suc, ◌+◌, ◌*◌, ◌%◌, ◌^◌, ◌<◌, ◌≤◌, List, [], ◌∷◌, ◌++◌, length, append_assoc, Option, Some, None, refl, ap, ◌∙◌, subst, arith}
+use Rattle.std.proofs.Common.{◌≡◌, ℕ, zero, suc, ◌+◌, ◌*◌, ◌%◌, ◌^◌, ◌<◌, ◌≤◌, List, [], ◌∷◌, ◌++◌, drop, length, append_assoc, Option, Some, None, refl, ap, ◌∙◌, subst, arith}
 use Rattle.std.specs.Prelude.{slice_get}
 use Rattle.std.proofs.lemmas.List.{length-append}
 use Rattle.tl_base.specs.declared.ids.FnId.{FnId}
@@ -94,38 +94,38 @@ find-exit program y sizes places held (j ∷ is) (suc k) at rest e near there =
     (found.0 ∙ all, subst (λ q. Stands program q rest) all found.1)
 
 -- A block's code stands where its number says.
-pub record FoundBlock (program : List (Option Instr)) (y : Layout) (sizes : List ℕ) (places : FnId → ℕ) (starts : ℕ → ℕ) (last top at : ℕ)
-    (b : Block) : Type 0 where
-  pub stands : Stands program at (block_code y sizes places starts last at b)
-  pub near : at + 4 * length (block_code y sizes places starts last at b) ≤ top
+pub record FoundBlock (program : List (Option Instr)) (y : Layout) (sizes : List ℕ) (places : FnId → ℕ) (starts : ℕ → ℕ)
+    (last top at rest : ℕ) (b : Block) : Type 0 where
+  pub stands : Stands program at (block_code y sizes places starts last at rest b)
+  pub near : at + 4 * length (block_code y sizes places starts last at rest b) ≤ top
   pub aligned : at % 4 ≡ 0
 
 pub find-block : (program : List (Option Instr)) (y : Layout) (sizes : List ℕ) (places : FnId → ℕ) (starts : ℕ → ℕ) (last top : ℕ)
     (bs : List Block) (k : ℕ) (b : Block) (at : ℕ) (rest : List Instr) →
     slice_get bs k ≡ Some b → at % 4 ≡ 0 → at + 4 * length (blocks_code y sizes places starts last at bs) ≤ top → top ≤ 2 ^ 30 →
     Stands program at (blocks_code y sizes places starts last at bs ++ rest) →
-    FoundBlock program y sizes places starts last top (start_of (starts_from y sizes at bs) k) b
+    FoundBlock program y sizes places starts last top (start_of (starts_from y sizes at bs) k) (length (drop (suc k) bs)) b
 find-block program y sizes places starts last top [] k b at rest e even near small there = cc
 find-block program y sizes places starts last top (j ∷ bs) zero b at rest e even near small there =
     let same : j ≡ b = cc in
-    let A = block_code y sizes places starts last at j in
+    let A = block_code y sizes places starts last at (length bs) j in
     let B = blocks_code y sizes places starts last (at + 4 * length A) bs in
-    let here : FoundBlock program y sizes places starts last top at j = record {
+    let here : FoundBlock program y sizes places starts last top at (length bs) j = record {
       stands = stands-front program at A (B ++ rest) (subst (λ z. Stands program at z) (append_assoc A B rest) there);
       near = omega (arith, near, length-append A B);
       aligned = even;
     } in
-    subst (λ x. FoundBlock program y sizes places starts last top at x) same here
+    subst (λ x. FoundBlock program y sizes places starts last top at (length bs) x) same here
 find-block program y sizes places starts last top (j ∷ bs) (suc k) b at rest e even near small there =
-    let A = block_code y sizes places starts last at j in
+    let A = block_code y sizes places starts last at (length bs) j in
     let B = blocks_code y sizes places starts last (at + 4 * length A) bs in
     let count : length (A ++ B) ≡ length A + length B = length-append A B in
     let found = find-block program y sizes places starts last top bs k b (at + 4 * length A) rest e (omega (arith, even))
     (omega (arith, near, count)) small
     (stands-next program at A (B ++ rest) (omega (arith, near, count, small))
     (subst (λ z. Stands program at z) (append_assoc A B rest) there)) in
-    subst (λ n. FoundBlock program y sizes places starts last top (start_of (starts_from y sizes (at + 4 * n) bs) k) b)
-    (block-length y sizes places (λ f. 0) starts (λ c. 0) last 0 at 0 j) found
+    subst (λ n. FoundBlock program y sizes places starts last top (start_of (starts_from y sizes (at + 4 * n) bs) k) (length (drop (suc k) bs)) b)
+    (block-length y sizes places (λ f. 0) starts (λ c. 0) last 0 at 0 (length bs) j) found
 
 -- where blocks begin
 pub starts-near : (y : Layout) (sizes : List ℕ) (places : FnId → ℕ) (starts : ℕ → ℕ) (last top : ℕ) (bs : List Block) (k at : ℕ) →
@@ -135,19 +135,59 @@ pub starts-near : (y : Layout) (sizes : List ℕ) (places : FnId → ℕ) (start
 starts-near y sizes places starts last top [] k at even near = (omega arith, refl)
 starts-near y sizes places starts last top (j ∷ bs) zero at even near = (omega (arith, near), even)
 starts-near y sizes places starts last top (j ∷ bs) (suc k) at even near =
-    let A = block_code y sizes places starts last at j in
+    let A = block_code y sizes places starts last at (length bs) j in
     let B = blocks_code y sizes places starts last (at + 4 * length A) bs in
     let count : length (A ++ B) ≡ length A + length B = length-append A B in
     let found = starts-near y sizes places starts last top bs k (at + 4 * length A) (omega (arith, even)) (omega (arith, near, count)) in
     subst (λ n. (start_of (starts_from y sizes (at + 4 * n) bs) k ≤ top) × (start_of (starts_from y sizes (at + 4 * n) bs) k % 4 ≡ 0))
-    (block-length y sizes places (λ f. 0) starts (λ c. 0) last 0 at 0 j) found
+    (block-length y sizes places (λ f. 0) starts (λ c. 0) last 0 at 0 (length bs) j) found
+
+-- behind a block the next begins, and behind the last the blocks end
+pub starts-next : (y : Layout) (sizes : List ℕ) (places : FnId → ℕ) (starts : ℕ → ℕ) (last from : ℕ) (bs : List Block) (k : ℕ) (b : Block)
+    (at : ℕ) → slice_get bs k ≡ Some b → suc k < length bs →
+    start_of (starts_from y sizes at bs) (suc k)
+    ≡ start_of (starts_from y sizes at bs) k + 4 * length (block_code y sizes places starts last from (length (drop (suc k) bs)) b)
+starts-next y sizes places starts last from [] k b at e h = cc
+starts-next y sizes places starts last from (j ∷ []) zero b at e h = absurd (omega (arith, h))
+starts-next y sizes places starts last from (j ∷ i ∷ bs) zero b at e h =
+    let same : j ≡ b = cc in
+    let n : ℕ = length (i ∷ bs) in
+    ap (λ z. at + 4 * z) (block-length y sizes (λ f. 0) places (λ c. 0) starts 0 last 0 from n j
+    ∙ ap (λ z. length (block_code y sizes places starts last from n z)) same)
+starts-next y sizes places starts last from (j ∷ bs) (suc k) b at e h =
+    starts-next y sizes places starts last from bs k b (at + 4 * length (block_code y sizes (λ f. 0) (λ c. 0) 0 0 (length bs) j)) e
+    (omega (arith, h))
+
+pub starts-last : (y : Layout) (sizes : List ℕ) (places : FnId → ℕ) (starts : ℕ → ℕ) (last from : ℕ) (bs : List Block) (k : ℕ) (b : Block)
+    (at : ℕ) → slice_get bs k ≡ Some b → suc k ≡ length bs →
+    at + 4 * blocks_length y sizes bs
+    ≡ start_of (starts_from y sizes at bs) k + 4 * length (block_code y sizes places starts last from (length (drop (suc k) bs)) b)
+starts-last y sizes places starts last from [] k b at e h = cc
+starts-last y sizes places starts last from (j ∷ []) zero b at e h =
+    let same : j ≡ b = cc in
+    let A : List Instr = block_code y sizes (λ f. 0) (λ c. 0) 0 0 0 j in
+    let none : length (A ++ []) ≡ length A + 0 = length-append A [] in
+    let here : length A ≡ length (block_code y sizes places starts last from 0 b) =
+    block-length y sizes (λ f. 0) places (λ c. 0) starts 0 last 0 from 0 j
+    ∙ ap (λ z. length (block_code y sizes places starts last from 0 z)) same in
+    omega (arith, none, here)
+starts-last y sizes places starts last from (j ∷ i ∷ bs) zero b at e h = absurd (omega (arith, h))
+starts-last y sizes places starts last from (j ∷ bs) (suc k) b at e h =
+    let A : List Instr = block_code y sizes (λ f. 0) (λ c. 0) 0 0 (length bs) j in
+    let B : List Instr = blocks_code y sizes (λ f. 0) (λ c. 0) 0 (0 + 4 * length A) bs in
+    let count : length (A ++ B) ≡ length A + length B = length-append A B in
+    let same : length B ≡ blocks_length y sizes bs =
+    blocks-length y sizes (λ f. 0) (λ f. 0) (λ c. 0) (λ c. 0) 0 0 (0 + 4 * length A) 0 bs in
+    let rest = starts-last y sizes places starts last from bs k b (at + 4 * length A) e (omega (arith, h)) in
+    let sum : at + 4 * length (A ++ B) ≡ at + 4 * length A + 4 * blocks_length y sizes bs = omega (arith, count, same) in
+    sum ∙ rest
 
 -- each begins behind what comes before the blocks
 pub starts-least : (y : Layout) (sizes : List ℕ) (bs : List Block) (k at : ℕ) → k < length bs → at ≤ start_of (starts_from y sizes at bs) k
 starts-least y sizes [] k at h = absurd (omega (arith, h))
 starts-least y sizes (j ∷ bs) zero at h = omega arith
 starts-least y sizes (j ∷ bs) (suc k) at h =
-    let n : ℕ = length (block_code y sizes (λ f. 0) (λ c. 0) 0 0 j) in
+    let n : ℕ = length (block_code y sizes (λ f. 0) (λ c. 0) 0 0 (length bs) j) in
     least (start_of (starts_from y sizes (at + 4 * n) bs) k) n (starts-least y sizes bs k (at + 4 * n) (omega (arith, h)))
   where
     least : (z n : ℕ) → at + 4 * n ≤ z → at ≤ z

@@ -1,5 +1,5 @@
 -- Jumps from block to block.
-use Rattle.std.proofs.Common.{◌≡◌, ℕ, suc, pos, negsuc, ◌+◌, ◌-◌, ◌*◌, ◌/◌, ◌%◌, ◌^◌, ◌<◌, ◌≤◌, Bool, true, false, List, length, Option, Some, None, refl, sym, ap, ◌∙◌, subst, ⊎_elim, arith}
+use Rattle.std.proofs.Common.{◌≡◌, ℕ, suc, pos, negsuc, ◌+◌, ◌-◌, ◌*◌, ◌/◌, ◌%◌, ◌^◌, ◌<◌, ◌≤◌, Bool, true, false, List, [], length, Option, Some, None, refl, sym, ap, ◌∙◌, subst, ⊎_elim, arith}
 use Rattle.std.specs.Prelude.{if◌then◌else◌, nat_eq, nat_le, nat_lt, slice_get}
 use Rattle.std.proofs.lemmas.Bool.{cases_lt, eq-eqb, eqb-true, le-leb, lt-leb}
 use Rattle.rv_isa.specs.declared.instr.Instr.{Instr}
@@ -12,11 +12,14 @@ use Rattle.terra_words.specs.Words.{wrapped}
 use Rattle.rv_operators.specs.Codes.{x0, x5}
 use Rattle.rv_operators.specs.Runs.{Stands}
 use Rattle.rv_operators.proofs.Values.{width, wrapped-32}
+use Rattle.rv_select.specs.declared.settings.Follows.{Follows}
+use Rattle.rv_select.specs.declared.settings.Follows.TheVariants.{Neither, First, Second}
+use Rattle.rv_select.specs.Calls.{jump_unless_last}
 use Rattle.rv_select.specs.Numbers.{below_zero, immediate_of, lower_of, upper_number, upper_of}
-use Rattle.rv_select.specs.Shapes.{ahead, ahead_if, back, back_if, chosen, distance, jump, jump_offset}
+use Rattle.rv_select.specs.Shapes.{ahead, ahead_if, back, back_if, before, before_if, branch_offset, branched, chosen, distance, jump, jump_offset, negated, offset_of}
 use Rattle.rv_select.proofs.Straight.{written-elsewhere}
 use Rattle.rv_select.proofs.Numbers.{below-is, immediate-is, parts, upper-is}
-use Rattle.rv_select.proofs.Ways.{Near, Way, step-way, way-both}
+use Rattle.rv_select.proofs.Ways.{Near, Way, offset-is, step-way, way-both}
 
 -- the upper part, extended by its sign
 low-upper : (u : ℕ) → u < 2 ^ 19 → wrapped (width true 32) (u * 2 ^ 12) ≡ u * 2 ^ 12
@@ -154,8 +157,41 @@ short-target from to h k even-from even behind before =
     ∙ (ap (λ z. low (from + z)) is ∙ ahead-there from to more k)))
     (cases_lt to from)
 
+-- and so does a branch, which leads less far
+before-if : (n : ℕ) (a b : Bool) (e : nat_le n 4095 ≡ a) (g : nat_eq (suc n % 2) 0 ≡ b) → a ≡ true → b ≡ true → (before_if n a b e g).bytes ≡ negsuc n
+before-if n true true e g h k = refl
+before-if n false b e g h k = cc
+before-if n true false e g h k = cc
+
+before-is : (n : ℕ) → n ≤ 4095 → suc n % 2 ≡ 0 → word (before n).bytes ≡ 2 ^ 64 - suc n
+before-is n h k = ap word (before-if n (nat_le n 4095) (nat_eq (suc n % 2) 0) refl refl (le-leb n 4095 h) (eq-eqb (suc n % 2) 0 k))
+
+pub near-target : (from to : ℕ) → from < 2 ^ 30 → to < 2 ^ 30 → from % 2 ≡ 0 → to % 2 ≡ 0 → from ≤ to + 4096 → to ≤ from + 4094 →
+    low (from + word (branch_offset (distance from to)).bytes) ≡ to
+near-target from to h k even-from even behind ahead-of =
+    ⊎_elim
+    (λ less.
+    let n : ℕ = 2 ^ 32 - (from - to) in
+    let d : distance from to ≡ n = omega (arith, less, h, k) in
+    let far : nat_le n 4094 ≡ false = lt-leb n 4094 (omega (arith, less, behind)) in
+    let b : 2 ^ 32 - 1 - n ≡ from - to - 1 = omega (arith, less, behind) in
+    let is : word (before (from - to - 1)).bytes ≡ 2 ^ 64 - suc (from - to - 1) =
+    before-is (from - to - 1) (omega (arith, less, behind)) (omega (arith, less, even-from, even)) in
+    ap (λ z. low (from + word (branch_offset z).bytes)) d
+    ∙ (ap (λ z. low (from + word (if z then offset_of n else before (2 ^ 32 - 1 - n)).bytes)) far
+    ∙ (ap (λ z. low (from + word (before z).bytes)) b
+    ∙ (ap (λ z. low (from + z)) is ∙ back-there from to less k h))))
+    (λ more.
+    let d : distance from to ≡ to - from = omega (arith, more, h, k) in
+    let close : nat_le (to - from) 4094 ≡ true = le-leb (to - from) 4094 (omega (arith, more, ahead-of)) in
+    let is : word (offset_of (to - from)).bytes ≡ to - from = offset-is (to - from) (omega (arith, more, ahead-of)) (omega (arith, more, even-from, even)) in
+    ap (λ z. low (from + word (branch_offset z).bytes)) d
+    ∙ (ap (λ z. low (from + word (if z then offset_of (to - from) else before (2 ^ 32 - 1 - (to - from))).bytes)) close
+    ∙ (ap (λ z. low (from + z)) is ∙ ahead-there from to more k)))
+    (cases_lt to from)
+
 -- instructions stand at even addresses
-fetched-even : (program : List (Option Instr)) (pc : ℕ) (i : Instr) → fetch program pc ≡ Some (Some i) → pc % 2 ≡ 0
+pub fetched-even : (program : List (Option Instr)) (pc : ℕ) (i : Instr) → fetch program pc ≡ Some (Some i) → pc % 2 ≡ 0
 unfolding fetch
 fetched-even program pc i there = even (nat_lt pc 0x10000) (nat_eq (pc % 4) 0) refl there
   where
@@ -178,10 +214,65 @@ pub jump-few : (short : Bool) → (1 ≤ jump_words short) × (jump_words short 
 jump-few true = (omega arith, omega arith)
 jump-few false = (omega arith, omega arith)
 
-pub chosen-count : (short : Bool) (condition : BranchCondition) (a b : Register) (at first second : ℕ) →
-    length (chosen short condition a b at first second) ≡ 1 + jump_words short + jump_words short
-chosen-count true condition a b at first second = refl
-chosen-count false condition a b at first second = refl
+abbrev pub branched_words : (near short : Bool) → ℕ
+branched_words true short = 1
+branched_words false short = 1 + jump_words short
+
+pub branched-count : (near short : Bool) (condition : BranchCondition) (a b : Register) (at to : ℕ) →
+    length (branched near short condition a b at to) ≡ branched_words near short
+branched-count true short condition a b at to = refl
+branched-count false true condition a b at to = refl
+branched-count false false condition a b at to = refl
+
+abbrev pub chosen_words : (near short : Bool) → Follows → ℕ
+chosen_words near short Neither = branched_words near short + jump_words short
+chosen_words near short First = branched_words near short
+chosen_words near short Second = branched_words near short
+
+pub chosen-count : (near short : Bool) (o : Follows) (condition : BranchCondition) (a b : Register) (at first second : ℕ) →
+    length (chosen near short o condition a b at first second) ≡ chosen_words near short o
+chosen-count true true Neither condition a b at first second = refl
+chosen-count true false Neither condition a b at first second = refl
+chosen-count false true Neither condition a b at first second = refl
+chosen-count false false Neither condition a b at first second = refl
+chosen-count near short First condition a b at first second = branched-count near short (negated condition) a b at second
+chosen-count near short Second condition a b at first second = branched-count near short condition a b at first
+
+pub chosen-few : (near short : Bool) (o : Follows) → chosen_words near short o ≤ 5
+chosen-few true true Neither = omega arith
+chosen-few true false Neither = omega arith
+chosen-few false true Neither = omega arith
+chosen-few false false Neither = omega arith
+chosen-few true short First = omega arith
+chosen-few false short First = omega (arith, (jump-few short).1)
+chosen-few true short Second = omega arith
+chosen-few false short Second = omega (arith, (jump-few short).1)
+
+-- to a block that may stand behind
+abbrev pub edge_words : (falls short : Bool) → ℕ
+edge_words true short = 0
+edge_words false short = jump_words short
+
+pub edge-count : (b short : Bool) (at to : ℕ) → length (if b then [] else jump short at to) ≡ edge_words b short
+edge-count true short at to = refl
+edge-count false short at to = jump-count short at to
+
+pub edge-few : (b short : Bool) → edge_words b short ≤ 2
+edge-few true short = omega arith
+edge-few false short = (jump-few short).1
+
+-- to the code that leaves a function
+abbrev pub last_words : (short : Bool) → Option ℕ → ℕ
+last_words short None = 0
+last_words short (Some n) = jump_words short
+
+pub last-count : (short : Bool) (next : Option ℕ) (at last : ℕ) → length (jump_unless_last short next at last) ≡ last_words short next
+last-count short None at last = refl
+last-count short (Some n) at last = jump-count short at last
+
+pub last-few : (short : Bool) (next : Option ℕ) → last_words short next ≤ 2
+last-few short None = omega arith
+last-few short (Some n) = (jump-few short).1
 
 -- a jump of one word leads so far
 abbrev pub Reaches : (short : Bool) → (from to : ℕ) → Type 0

@@ -17,16 +17,19 @@ use Rattle.rv_operators.specs.Codes.{x5}
 use Rattle.rv_select.specs.Numbers.{constant}
 use Rattle.rv_select.specs.declared.pairs.Pair.{Pair}
 use Rattle.rv_select.specs.declared.pairs.Reads.{Reads}
+use Rattle.rv_select.specs.declared.settings.Extent.{Extent}
+use Rattle.rv_select.specs.declared.settings.Setting.{Setting}
+use Rattle.rv_select.specs.Settings.{setting_of}
 use Rattle.rv_select.specs.Pairs.{pair_of, plain_of}
 use Rattle.rv_select.specs.Places.{Layout}
 use Rattle.rv_select.specs.Shapes.{held_after, place_number, x11}
 use Rattle.rv_select.specs.Entering.{received, received_one, stored_below}
 use Rattle.rv_select.specs.Calls.{block_code, blocks_calls, blocks_code, call_ended, call_jump, depth_tested, end_code, exit_code, held_behind, instruction_calls, instruction_code, instructions_calls, instructions_code, one_more, pair_code, part_taken, passed, starts_from}
 
-abbrev laid : List (Option Home) → (a p : ℕ) → List Reads → Bool → Layout
-laid h a p r v = record { homes = h; areas = a; parameters = p; reads = r; short = v }
+abbrev laid : List (Option Home) → (a p : ℕ) → List Reads → Extent → Layout
+laid h a p r v = record { homes = h; areas = a; parameters = p; reads = r; extent = v }
 
-pub received-same : (h : List (Option Home)) (a p b q : ℕ) (r t : List Reads) (v o : Bool) (sizes : List ℕ) (last : ℕ) (ds : List Destination) →
+pub received-same : (h : List (Option Home)) (a p b q : ℕ) (r t : List Reads) (v o : Extent) (sizes : List ℕ) (last : ℕ) (ds : List Destination) →
     received (laid h a p r v) sizes last ds ≡ received (laid h b q t o) sizes last ds
 received-same h a p b q r t v o sizes last [] = refl
 received-same h a p b q r t v o sizes last (destinations.Temp u ∷ ds) =
@@ -36,7 +39,7 @@ received-same h a p b q r t v o sizes last (destinations.Area n ∷ ds) =
     ap (λ z. received_one (laid h a p r v) sizes (destinations.Area n) (last + 8 * length ds) ++ z)
     (received-same h a p b q r t v o sizes last ds)
 
-passed-same : (h : List (Option Home)) (a p b q : ℕ) (r t : List Reads) (v o : Bool) (i : ℕ) (ps : List Part) → passed (laid h a p r v) i ps ≡ passed
+passed-same : (h : List (Option Home)) (a p b q : ℕ) (r t : List Reads) (v o : Extent) (i : ℕ) (ps : List Part) → passed (laid h a p r v) i ps ≡ passed
     (laid h b q t o) i ps
 passed-same h a p b q r t v o i [] = refl
 passed-same h a p b q r t v o i (parts.Word (operands.Temp u) ∷ ps) =
@@ -52,7 +55,7 @@ passed-same h a p b q r t v o i (parts.Area n ∷ ps) =
 abbrev begun-with : ℕ → List Instr → List Instr
 begun-with place passes = constant x11 place ++ (depth_tested ++ (passes ++ one_more))
 
-instruction-same : (h : List (Option Home)) (a p b q : ℕ) (r t : List Reads) (v o : Bool) (sizes : List ℕ) (places : FnId → ℕ) (at : ℕ)
+instruction-same : (h : List (Option Home)) (a p b q : ℕ) (r t : List Reads) (v o : Extent) (sizes : List ℕ) (places : FnId → ℕ) (at : ℕ)
     (held : Option ℕ) (i : Instruction) →
     instruction_code (laid h a p r v) sizes places at held i ≡ instruction_code (laid h b q t o) sizes places at held i
 instruction-same h a p b q r t v o sizes places at held (Call (destinations.Temp u) place f arguments) =
@@ -76,21 +79,21 @@ instruction-same h a p b q r t v o sizes places at held (PutByte x) = refl
 instruction-same h a p b q r t v o sizes places at held (Write place x y) = refl
 instruction-same h a p b q r t v o sizes places at held (Alloc d x) = refl
 
-exit-same : (h : List (Option Home)) (a p b q : ℕ) (r t : List Reads) (v o short : Bool) (held : Option ℕ) (at : ℕ) (starts : ℕ → ℕ) (last : ℕ) (e : Exit) →
-    exit_code (laid h a p r v) short held at starts last e ≡ exit_code (laid h b q t o) short held at starts last e
-exit-same h a p b q r t v o short held at starts last (Return x) = refl
-exit-same h a p b q r t v o short held at starts last (Jump e) = refl
-exit-same h a p b q r t v o short held at starts last (Branch x e f) = refl
-exit-same h a p b q r t v o short held at starts last (Fail kind place) = refl
+exit-same : (h : List (Option Home)) (a p b q : ℕ) (r t : List Reads) (v o : Extent) (setting : Setting) (held : Option ℕ) (at : ℕ) (starts : ℕ → ℕ) (last : ℕ) (e : Exit) →
+    exit_code (laid h a p r v) setting held at starts last e ≡ exit_code (laid h b q t o) setting held at starts last e
+exit-same h a p b q r t v o setting held at starts last (Return x) = refl
+exit-same h a p b q r t v o setting held at starts last (Jump e) = refl
+exit-same h a p b q r t v o setting held at starts last (Branch x e f) = refl
+exit-same h a p b q r t v o setting held at starts last (Fail kind place) = refl
 
-pub end-same : (h : List (Option Home)) (a p b q : ℕ) (r t : List Reads) (v o short : Bool) (held : Option ℕ) (at : ℕ) (starts : ℕ → ℕ) (last : ℕ)
+pub end-same : (h : List (Option Home)) (a p b q : ℕ) (r t : List Reads) (v o : Extent) (setting : Setting) (held : Option ℕ) (at : ℕ) (starts : ℕ → ℕ) (last : ℕ)
     (k : Option Pair) (e : Exit) →
-    end_code (laid h a p r v) short held at starts last k e ≡ end_code (laid h b q t o) short held at starts last k e
+    end_code (laid h a p r v) setting held at starts last k e ≡ end_code (laid h b q t o) setting held at starts last k e
 unfolding pair_code
-end-same h a p b q r t v o short held at starts last None e = exit-same h a p b q r t v o short held at starts last e
-end-same h a p b q r t v o short held at starts last (Some pair) e = refl
+end-same h a p b q r t v o setting held at starts last None e = exit-same h a p b q r t v o setting held at starts last e
+end-same h a p b q r t v o setting held at starts last (Some pair) e = refl
 
-pub instructions-same : (h : List (Option Home)) (a p b q : ℕ) (r t : List Reads) (v o : Bool) (sizes : List ℕ) (places : FnId → ℕ) (at : ℕ)
+pub instructions-same : (h : List (Option Home)) (a p b q : ℕ) (r t : List Reads) (v o : Extent) (sizes : List ℕ) (places : FnId → ℕ) (at : ℕ)
     (held : Option ℕ) (is : List Instruction) →
     instructions_code (laid h a p r v) sizes places at held is ≡ instructions_code (laid h b q t o) sizes places at held is
 instructions-same h a p b q r t v o sizes places at held [] = refl
@@ -100,29 +103,30 @@ instructions-same h a p b q r t v o sizes places at held (i ∷ is) =
     ∙ ap (λ z. z ++ instructions_code (laid h b q t o) sizes places (at + 4 * length z) (held_after i) is)
     (instruction-same h a p b q r t v o sizes places at held i)
 
-block-same : (h : List (Option Home)) (a p b q : ℕ) (r : List Reads) (v : Bool) (sizes : List ℕ) (places : FnId → ℕ) (starts : ℕ → ℕ) (last at : ℕ)
-    (k : Block) →
-    block_code (laid h a p r v) sizes places starts last at k ≡ block_code (laid h b q r v) sizes places starts last at k
-block-same h a p b q r v sizes places starts last at k =
+block-same : (h : List (Option Home)) (a p b q : ℕ) (r : List Reads) (v : Extent) (sizes : List ℕ) (places : FnId → ℕ) (starts : ℕ → ℕ)
+    (last at rest : ℕ) (k : Block) →
+    block_code (laid h a p r v) sizes places starts last at rest k ≡ block_code (laid h b q r v) sizes places starts last at rest k
+block-same h a p b q r v sizes places starts last at rest k =
     let is : List Instruction = plain_of r k in
     let o : Option Pair = pair_of r k in
     let A : List Instr = instructions_code (laid h a p r v) sizes places at None is in
     let held : Option ℕ = held_behind None is in
-    ap (λ z. A ++ z) (end-same h a p b q r r v v v held (at + 4 * length A) starts last o k.exit)
-    ∙ ap (λ z. z ++ end_code (laid h b q r v) v held (at + 4 * length z) starts last o k.exit)
+    let setting : Setting = setting_of v rest in
+    ap (λ z. A ++ z) (end-same h a p b q r r v v setting held (at + 4 * length A) starts last o k.exit)
+    ∙ ap (λ z. z ++ end_code (laid h b q r v) setting held (at + 4 * length z) starts last o k.exit)
     (instructions-same h a p b q r r v v sizes places at None is)
 
-pub blocks-same : (h : List (Option Home)) (a p b q : ℕ) (r : List Reads) (v : Bool) (sizes : List ℕ) (places : FnId → ℕ) (starts : ℕ → ℕ)
+pub blocks-same : (h : List (Option Home)) (a p b q : ℕ) (r : List Reads) (v : Extent) (sizes : List ℕ) (places : FnId → ℕ) (starts : ℕ → ℕ)
     (last at : ℕ) (ks : List Block) →
     blocks_code (laid h a p r v) sizes places starts last at ks ≡ blocks_code (laid h b q r v) sizes places starts last at ks
 blocks-same h a p b q r v sizes places starts last at [] = refl
 blocks-same h a p b q r v sizes places starts last at (k ∷ ks) =
-    let A : List Instr = block_code (laid h a p r v) sizes places starts last at k in
+    let A : List Instr = block_code (laid h a p r v) sizes places starts last at (length ks) k in
     ap (λ z. A ++ z) (blocks-same h a p b q r v sizes places starts last (at + 4 * length A) ks)
     ∙ ap (λ z. z ++ blocks_code (laid h b q r v) sizes places starts last (at + 4 * length z) ks)
-    (block-same h a p b q r v sizes places starts last at k)
+    (block-same h a p b q r v sizes places starts last at (length ks) k)
 
-call-same : (h : List (Option Home)) (a p b q : ℕ) (r t : List Reads) (v o : Bool) (at : ℕ) (i : Instruction) →
+call-same : (h : List (Option Home)) (a p b q : ℕ) (r t : List Reads) (v o : Extent) (at : ℕ) (i : Instruction) →
     instruction_calls (laid h a p r v) at i ≡ instruction_calls (laid h b q t o) at i
 call-same h a p b q r t v o at (Call to place f arguments) =
     ap (λ z. record { at = at + length (begun-with (place_number place) z); callee = f } ∷ []) (passed-same h a p b q r t v o 0 arguments)
@@ -139,7 +143,7 @@ call-same h a p b q r t v o at (PutByte x) = refl
 call-same h a p b q r t v o at (Write place x y) = refl
 call-same h a p b q r t v o at (Alloc d x) = refl
 
-instructions-calls-same : (h : List (Option Home)) (a p b q : ℕ) (r t : List Reads) (v o : Bool) (sizes : List ℕ) (at : ℕ) (held : Option ℕ)
+instructions-calls-same : (h : List (Option Home)) (a p b q : ℕ) (r t : List Reads) (v o : Extent) (sizes : List ℕ) (at : ℕ) (held : Option ℕ)
     (is : List Instruction) →
     instructions_calls (laid h a p r v) sizes at held is ≡ instructions_calls (laid h b q t o) sizes at held is
 instructions-calls-same h a p b q r t v o sizes at held [] = refl
@@ -150,21 +154,21 @@ instructions-calls-same h a p b q r t v o sizes at held (i ∷ is) =
     ∙ ap (λ z. instruction_calls (laid h b q t o) at i ++ instructions_calls (laid h b q t o) sizes (at + length z) (held_after i) is)
     (instruction-same h a p b q r t v o sizes (λ f. 0) 0 held i))
 
-pub blocks-calls-same : (h : List (Option Home)) (a p b q : ℕ) (r : List Reads) (v : Bool) (sizes : List ℕ) (at : ℕ) (ks : List Block) →
+pub blocks-calls-same : (h : List (Option Home)) (a p b q : ℕ) (r : List Reads) (v : Extent) (sizes : List ℕ) (at : ℕ) (ks : List Block) →
     blocks_calls (laid h a p r v) sizes at ks ≡ blocks_calls (laid h b q r v) sizes at ks
 blocks-calls-same h a p b q r v sizes at [] = refl
 blocks-calls-same h a p b q r v sizes at (k ∷ ks) =
-    let A : List Instr = block_code (laid h a p r v) sizes (λ f. 0) (λ c. 0) 0 0 k in
+    let A : List Instr = block_code (laid h a p r v) sizes (λ f. 0) (λ c. 0) 0 0 (length ks) k in
     ap (λ z. z ++ blocks_calls (laid h a p r v) sizes (at + length A) ks) (instructions-calls-same h a p b q r r v v sizes at None (plain_of r k))
     ∙ (ap (λ z. instructions_calls (laid h b q r v) sizes at None (plain_of r k) ++ z)
     (blocks-calls-same h a p b q r v sizes (at + length A) ks)
     ∙ ap (λ z. instructions_calls (laid h b q r v) sizes at None (plain_of r k) ++ blocks_calls (laid h b q r v) sizes (at + length z) ks)
-    (block-same h a p b q r v sizes (λ f. 0) (λ c. 0) 0 0 k))
+    (block-same h a p b q r v sizes (λ f. 0) (λ c. 0) 0 0 (length ks) k))
 
-pub starts-same : (h : List (Option Home)) (a p b q : ℕ) (r : List Reads) (v : Bool) (sizes : List ℕ) (at : ℕ) (ks : List Block) →
+pub starts-same : (h : List (Option Home)) (a p b q : ℕ) (r : List Reads) (v : Extent) (sizes : List ℕ) (at : ℕ) (ks : List Block) →
     starts_from (laid h a p r v) sizes at ks ≡ starts_from (laid h b q r v) sizes at ks
 starts-same h a p b q r v sizes at [] = refl
 starts-same h a p b q r v sizes at (k ∷ ks) =
-    let A : List Instr = block_code (laid h a p r v) sizes (λ f. 0) (λ c. 0) 0 0 k in
+    let A : List Instr = block_code (laid h a p r v) sizes (λ f. 0) (λ c. 0) 0 0 (length ks) k in
     ap (λ z. at ∷ z) (starts-same h a p b q r v sizes (at + 4 * length A) ks)
-    ∙ ap (λ z. at ∷ starts_from (laid h b q r v) sizes (at + 4 * length z) ks) (block-same h a p b q r v sizes (λ f. 0) (λ c. 0) 0 0 k)
+    ∙ ap (λ z. at ∷ starts_from (laid h b q r v) sizes (at + 4 * length z) ks) (block-same h a p b q r v sizes (λ f. 0) (λ c. 0) 0 0 (length ks) k)

@@ -2,7 +2,8 @@
 use Rattle.std.proofs.Common.{◌≡◌, ◌≢◌, ℕ, zero, suc, ◌+◌, ◌*◌, ◌%◌, ◌^◌, ◌<◌, ◌≤◌, Bool, true, false, not, ◌&&◌, ◌||◌, List, [], ◌++◌, length, option_map, Option, Some, None, refl, sym, ap, ◌∙◌, subst, ⊎_elim, inl, inr, arith}
 use Rattle.std.specs.Prelude.{if◌then◌else◌, nat_eq, nat_le, slice_get, ◌⊎◌}
 use Rattle.std.specs.List.{list_any}
-use Rattle.std.proofs.lemmas.Bool.{eq-eqb, ne_eqb, eqb-true, leb-true, ltb-true}
+use Rattle.std.proofs.lemmas.Bool.{cases_Bool, eq-eqb, ne_eqb, eqb-true, leb-true, ltb-true}
+use Rattle.std.proofs.lemmas.List.{length-append}
 use Rattle.std.proofs.lemmas.Option.{slice_get-map}
 use Rattle.tl_base.specs.declared.place.Place.{Place}
 use Rattle.rv_isa.specs.declared.instr.Instr.{Instr}
@@ -28,20 +29,25 @@ use Rattle.tac_form.specs.Flow.{Program, step}
 use Rattle.tac_form.specs.Graph.{block_of, exit_next, exit_reads, graph_of, step_of}
 use Rattle.tac_form.specs.Live.{InUse, IsLive, at_place, at_step, has, read_within}
 use Rattle.tac_form.specs.Fits.{edge_fits, operand_fits}
-use Rattle.tac_form.specs.Weights.{exit_words}
+use Rattle.tac_form.specs.Weights.{code_words, exit_words}
 use Rattle.rv_operators.specs.Codes.{x0, x5}
 use Rattle.rv_operators.specs.Runs.{Stands}
-use Rattle.rv_select.specs.Places.{Holds, Housed, Layout, World, is_short, layout_of, value_in}
-use Rattle.rv_select.specs.Shapes.{branch_bytes, chosen, first_taken, jump}
-use Rattle.rv_select.specs.Steps.{AreFewer, Comes, ExitsAreCarried, IsReached, Left, StandsAtExit, world_of}
+use Rattle.rv_select.specs.Places.{Holds, Housed, Layout, World, is_near, is_short, layout_of, value_in}
+use Rattle.rv_select.specs.declared.settings.Follows.{Follows}
+use Rattle.rv_select.specs.declared.settings.Follows.TheVariants.{First, Second}
+use Rattle.rv_select.specs.Settings.{falls, follower, is_next}
+use Rattle.rv_select.specs.Shapes.{branched_bytes, chosen, exit_shape, first_taken, jump}
+use Rattle.rv_select.specs.Steps.{AreFewer, Comes, ExitsAreCarried, IsReached, Left, Remains, StandsAtExit, world_of}
 use Rattle.rv_select.proofs.Straight.{Loads, Scratch, loads-five}
 use Rattle.rv_select.proofs.Ways.{Near, Way, at_pc, near-both, near-pc, near-same, scratch-near, stands-back, stands-front, straight-way, way-both, way-none}
 use Rattle.rv_select.proofs.Homes.{first-count, first-few, take-first}
 use Rattle.rv_select.proofs.Faults.{branch-way, fails}
 use Rattle.rv_select.proofs.Divisors.{stays}
+use Rattle.rv_select.proofs.Moves.{fewer-holds}
 use Rattle.rv_select.proofs.Lives.{housed}
 use Rattle.rv_select.proofs.Carries.{both-true, by-test, operand-read, place-small}
-use Rattle.rv_select.proofs.Jumps.{Jumped, Reaches, jump-count, jump-few, jump_words, jumps-there}
+use Rattle.rv_select.proofs.Branched.{IsNearby, Turned, branched-few, chosen-turns, follower-first, follower-second, is-next, low-near}
+use Rattle.rv_select.proofs.Jumps.{Jumped, Reaches, jump-few, jump_words, jumps-there}
 
 -- the exit of a block in the flow graph
 pub exit-in-graph : (code : Tac) (b : Block) (block at : ℕ) → slice_get code.blocks block ≡ Some b → slice_get b.instructions at ≡ None →
@@ -80,10 +86,6 @@ next-live graph block at t f c e g h u =
     (λ written. let none : false ≡ true = written in cc)
     u
 
-pub low-near : (n : ℕ) → n < 2 ^ 30 → low n ≡ n
-unfolding low
-low-near n h = omega arith
-
 -- a jump to a block, from anywhere near the exit
 pub jump-comes : (y : Layout) (Used Next : ℕ → Type 0) (w : World) (base k weight from to : ℕ) (short : Bool) (program : List (Option Instr))
     (m n : State) →
@@ -100,72 +102,55 @@ jump-comes y Used Next w base k weight from to short program m n p h f way near 
 abbrev pub InReach : (short : Bool) → (from to : ℕ) → Type 0
 InReach short from to = short ≡ true → (from ≤ to + 2 ^ 19) × (to ≤ from + 2 ^ 19)
 
+abbrev pub InNear : (near : Bool) → (from to : ℕ) → Type 0
+InNear near from to = near ≡ true → (from ≤ to + 4000) × (to ≤ from + 4000)
+
 pub reach-behind : (short : Bool) (from to n : ℕ) → n ≤ 256 → InReach short from to → Reaches short (from + n) to
 reach-behind short from to n h r e = (omega (arith, h, (r e).0), omega (arith, h, (r e).1))
 
-pub bytes-are : (short : Bool) → branch_bytes short ≡ 4 + 4 * jump_words short
-bytes-are true = refl
-bytes-are false = refl
-
--- a branch on two registers, and the jump that it comes to
-pub chosen-comes : (y : Layout) (Used Next : ℕ → Type 0) (w : World) (base first second to weight : ℕ) (short : Bool) (condition : BranchCondition)
+-- a branch on two registers, and where it comes to
+pub chosen-comes : (y : Layout) (Used Next : ℕ → Type 0) (w : World) (base first second to weight : ℕ) (near-by short : Bool) (o : Follows)
+    (condition : BranchCondition)
     (a b : Register) (taken_it : Bool) (A : List Instr) (program : List (Option Instr)) (m k : State) →
     Scratch A m k → Holds y Used w base m → Housed y Used → AreFewer Used Next → length A + 3 ≤ weight → length A ≤ 16 → m.pc + 256 ≤ 2 ^ 30 →
     (first < 2 ^ 30) × (first % 2 ≡ 0) → (second < 2 ^ 30) × (second % 2 ≡ 0) → InReach short m.pc first → InReach short m.pc second →
-    Stands program m.pc (A ++ chosen short condition a b (m.pc + 4 * length A) first second) →
+    InNear near-by m.pc first → InNear near-by m.pc second →
+    (o ≡ First → first ≡ m.pc + 4 * length (A ++ chosen near-by short o condition a b (m.pc + 4 * length A) first second)) →
+    (o ≡ Second → second ≡ m.pc + 4 * length (A ++ chosen near-by short o condition a b (m.pc + 4 * length A) first second)) →
+    Stands program m.pc (A ++ chosen near-by short o condition a b (m.pc + 4 * length A) first second) →
     is_taken condition (value_at k a) (value_at k b) ≡ taken_it → (if taken_it then first else second) ≡ to → Comes y program Next w base weight to [] m
-chosen-comes y Used Next w base first second to weight short condition a b taken_it A program m k l p h f enough few near first-near second-near first-reach
-    second-reach there e is =
+chosen-comes y Used Next w base first second to weight near-by short o condition a b taken_it A program m k l p h f enough few near first-near second-near first-reach
+    second-reach first-close second-close first-next second-next there e is =
     let at : ℕ = m.pc + 4 * length A in
-    let over : ℕ = branch_bytes short in
-    let c : (1 ≤ jump_words short) × (jump_words short ≤ 2) = jump-few short in
-    let over-is : over ≡ 4 + 4 * jump_words short = bytes-are short in
+    let over : ℕ = branched_bytes near-by short in
+    let over-few : over ≤ 12 = branched-few near-by short in
     let at-is : k.pc ≡ at = l.behind ∙ low-near at (omega (arith, few, near)) in
-    let B : List Instr = chosen short condition a b at first second in
-    let F : List Instr = jump short (at + over) first in
-    let S : List Instr = jump short (at + 4) second in
-    let rest : Stands program k.pc B = subst (λ q. Stands program q B) (sym l.behind) (stands-back program m.pc A B p.pc there) in
+    let B : List Instr = chosen near-by short o condition a b at first second in
+    let count : length (A ++ B) ≡ length A + length B = length-append A B in
+    let rest : Stands program at B =
+    subst (λ q. Stands program q B) (low-near at (omega (arith, few, near))) (stands-back program m.pc A B p.pc there) in
     let one : Way program (length A) m k = straight-way program A m k (stands-front program m.pc A B there) l.straight l.goes in
-    let t : ℕ = if taken_it then low (k.pc + over) else low (k.pc + 4) in
-    let n : State = at_pc k t in
-    let two : Way program 1 k n = branch-way program condition a b over k taken_it (omega (arith, over-is, c.1)) (omega (arith, over-is)) rest.0 e in
-    let way : Way program (length A + 1) m n = way-both program (length A) 1 m k n one two in
-    let around : Near m n = near-both m k n (scratch-near A m k l) (near-pc k t) in
-    let next : low (k.pc + 4) ≡ at + 4 = ap (λ q. low (q + 4)) at-is ∙ low-near (at + 4) (omega (arith, few, near)) in
-    let both : Stands program (at + 4) (S ++ F) = subst (λ q. Stands program q (S ++ F)) next rest.1 in
-    let third : low (at + 4 + 4 * length S) ≡ at + over =
-    ap (λ z. low (at + 4 + 4 * z)) (jump-count short (at + 4) second)
-    ∙ (low-near (at + 4 + 4 * jump_words short) (omega (arith, few, near, c.1)) ∙ omega (arith, over-is)) in
-    let last : Stands program (at + over) F =
-    subst (λ q. Stands program q F) third (stands-back program (at + 4) S F (omega (arith, few, near)) both) in
-    let nearer : Stands program (at + 4) S = stands-front program (at + 4) S F both in
-    let far-is : low (k.pc + over) ≡ at + over = ap (λ q. low (q + over)) at-is ∙ low-near (at + over) (omega (arith, few, near, over-is, c.1)) in
-    choose taken_it n around way next far-is nearer last is refl
+    let t : Turned program 3 (if taken_it then first else second) k =
+    chosen-turns program k near-by short condition a b at first second at-is (omega (arith, few, near)) first-near.0 first-near.1 second-near.0 second-near.1
+    (later first (4 * length A + 4) (at + 4) (omega arith) (omega (arith, few)) first-reach)
+    (later second (4 * length A + 4) (at + 4) (omega arith) (omega (arith, few)) second-reach)
+    (later second (4 * length A + over) (at + over) (omega arith) (omega (arith, few, over-few)) second-reach)
+    (closer first (4 * length A) at refl (omega (arith, few)) first-close) (closer second (4 * length A) at refl (omega (arith, few)) second-close)
+    o taken_it e
+    (λ q. omega (arith, first-next q, count)) (λ q. omega (arith, second-next q, count)) rest in
+    stays y Used Next w base (length A + t.steps) weight to program m t.after p h f (way-both program (length A) t.steps m k t.after one t.way)
+    (near-both m k t.after (scratch-near A m k l) t.near) (subst (λ q. q < 2 ^ 64) (sym t.pc) (small taken_it)) (omega (arith, t.some))
+    (omega (arith, t.few, enough)) (t.pc ∙ is)
   where
-    over-few : (short : Bool) → branch_bytes short ≤ 12
-    over-few true = omega arith
-    over-few false = omega arith
+    later : (to n from : ℕ) → m.pc + n ≡ from → n ≤ 256 → InReach short m.pc to → Reaches short from to
+    later to n from e few r = subst (λ q. Reaches short q to) e (reach-behind short m.pc to n few r)
 
-    choose : (t : Bool) (n : State) → Near m n → Way program (length A + 1) m n → low (k.pc + 4) ≡ m.pc + 4 * length A + 4 →
-        low (k.pc + branch_bytes short) ≡ m.pc + 4 * length A + branch_bytes short →
-        Stands program (m.pc + 4 * length A + 4) (jump short (m.pc + 4 * length A + 4) second) →
-        Stands program (m.pc + 4 * length A + branch_bytes short) (jump short (m.pc + 4 * length A + branch_bytes short) first) →
-        (if t then first else second) ≡ to → n.pc ≡ (if t then low (k.pc + branch_bytes short) else low (k.pc + 4)) → Comes y program Next w base weight to [] m
-    choose true n around way i j c d is pc =
-        let small : branch_bytes short ≤ 12 = over-few short in
-        let sum : m.pc + (4 * length A + branch_bytes short) ≡ m.pc + 4 * length A + branch_bytes short = omega arith in
-        subst (λ q. Comes y program Next w base weight q [] m) is
-        (jump-comes y Used Next w base (length A + 1) weight (m.pc + 4 * length A + branch_bytes short) first short program m n p h f way around (pc ∙ j)
-        (omega (arith, few, near, small)) first-near.0 first-near.1
-        (subst (λ q. Reaches short q first) sum (reach-behind short m.pc first (4 * length A + branch_bytes short) (omega (arith, few, small)) first-reach)) d
-        (omega (arith, enough)))
-    choose false n around way i j c d is pc =
-        let sum : m.pc + (4 * length A + 4) ≡ m.pc + 4 * length A + 4 = omega arith in
-        subst (λ q. Comes y program Next w base weight q [] m) is
-        (jump-comes y Used Next w base (length A + 1) weight (m.pc + 4 * length A + 4) second short program m n p h f way around (pc ∙ i)
-        (omega (arith, few, near)) second-near.0 second-near.1
-        (subst (λ q. Reaches short q second) sum (reach-behind short m.pc second (4 * length A + 4) (omega (arith, few)) second-reach)) c
-        (omega (arith, enough)))
+    closer : (to n from : ℕ) → m.pc + n ≡ from → n ≤ 64 → InNear near-by m.pc to → IsNearby near-by from to
+    closer to n from e few r q = (omega (arith, e, few, (r q).0), omega (arith, e, few, (r q).1))
+
+    small : (t : Bool) → (if t then first else second) < 2 ^ 64
+    small true = omega (arith, first-near.0)
+    small false = omega (arith, second-near.0)
 
 pub zero-or-more : (n : ℕ) → (n ≡ 0) ⊎ ((k : ℕ) × (n ≡ suc k))
 zero-or-more zero = inl refl
@@ -194,31 +179,75 @@ module _ (p : Program) (code : Tac) (homes : List (Option Home)) (held : Option 
   where-housed : Housed (layout_of code homes) here
   where-housed = housed code homes s.here.block s.here.at x.right
 
-pub edge-reach : (code : Tac) (starts : ℕ → ℕ) (from : ℕ) (e : Edge) → IsReached code starts from → edge_fits code e ≡ true →
-    InReach (is_short code) from (starts e.block)
-edge-reach code starts from e reach fits short = reach short e.block (ltb-true e.block (length code.blocks) fits)
+short-words : (code : Tac) → is_short code ≡ true → code_words code < 2 ^ 17
+unfolding is_short
+short-words code e = ltb-true (code_words code) (2 ^ 17) e
+
+near-words : (code : Tac) → is_near code ≡ true → code_words code < 1000
+unfolding is_near
+near-words code e = ltb-true (code_words code) 1000 e
+
+pub edge-reach : (code : Tac) (starts : ℕ → ℕ) (from : ℕ) (short : Bool) (e : Edge) → short ≡ is_short code → IsReached code starts from →
+    edge_fits code e ≡ true → InReach short from (starts e.block)
+edge-reach code starts from short e is reach fits q =
+    let r = reach e.block (ltb-true e.block (length code.blocks) fits) in
+    let few : code_words code < 2 ^ 17 = short-words code (sym is ∙ q) in
+    (omega (arith, r.0, few), omega (arith, r.1, few))
+
+pub edge-near : (code : Tac) (starts : ℕ → ℕ) (from : ℕ) (near : Bool) (e : Edge) → near ≡ is_near code → IsReached code starts from →
+    edge_fits code e ≡ true → InNear near from (starts e.block)
+edge-near code starts from near e is reach fits q =
+    let r = reach e.block (ltb-true e.block (length code.blocks) fits) in
+    let few : code_words code < 1000 = near-words code (sym is ∙ q) in
+    (omega (arith, r.0, few), omega (arith, r.1, few))
 
 reach-here : (short : Bool) (from to : ℕ) → InReach short from to → Reaches short from to
 reach-here short from to r e = (omega (arith, (r e).0), omega (arith, (r e).1))
 
+-- a jump to a block that doesn't stand behind, or takes a count
+jump-goes : (p : Program) (code : Tac) (homes : List (Option Home)) (held : Option ℕ) (e : Edge) (starts : ℕ → ℕ) (s : tac.State) (program : List (Option Instr)) (base : ℕ) (m : State) →
+    (x : StandsAtExit p code homes held (Jump e) starts s program base m) → falls x.setting.next e ≡ false →
+    Comes (layout_of code homes) program (InUse (graph_of code) e.block 0) (world_of s) base 2 (starts e.block) [] m
+jump-goes p code homes held e starts s program base m x apart =
+    let there : Stands program m.pc (jump x.setting.short m.pc (starts e.block)) =
+    subst (λ b. Stands program m.pc (if b then [] else jump x.setting.short m.pc (starts e.block))) apart x.stands in
+    jump-comes (layout_of code homes) (InUse (graph_of code) s.here.block s.here.at) (InUse (graph_of code) e.block 0) (world_of s) base 0 2 m.pc (starts e.block)
+    x.setting.short program m m x.holds
+    (where-housed p code homes held (Jump e) starts s program base m x)
+    (next-here p code homes held (Jump e) starts s program base m x e.block (λ q h. or-left (q e.block) false h)) (way-none program m) (near-same m) refl (omega (arith, x.near))
+    (x.blocks e.block).0 (x.blocks e.block).1
+    (reach-here x.setting.short m.pc (starts e.block) (edge-reach code starts m.pc x.setting.short e x.short_is x.reach x.fits)) there (omega arith)
+
+-- one to the block that stands behind
+jump-remains : (p : Program) (code : Tac) (homes : List (Option Home)) (held : Option ℕ) (e : Edge) (starts : ℕ → ℕ) (s : tac.State) (program : List (Option Instr)) (base : ℕ) (m : State) →
+    (x : StandsAtExit p code homes held (Jump e) starts s program base m) → falls x.setting.next e ≡ true →
+    Remains (layout_of code homes) (InUse (graph_of code) e.block 0) (world_of s) base (starts e.block) m
+jump-remains p code homes held e starts s program base m x behind =
+    let next : x.setting.next ≡ Some e.block =
+    is-next x.setting.next e.block (both-true (not e.counts) (is_next x.setting.next e.block) behind).1 in
+    let there : starts e.block ≡ m.pc + 4 * 0 =
+    subst (λ b. starts e.block ≡ m.pc + 4 * length (if b then [] else jump x.setting.short m.pc (starts e.block))) behind (x.next_there e.block next) in
+    record {
+      at = omega (arith, there);
+      holds = fewer-holds (layout_of code homes) (InUse (graph_of code) s.here.block s.here.at) (InUse (graph_of code) e.block 0) (world_of s) base m
+          (next-here p code homes held (Jump e) starts s program base m x e.block (λ q h. or-left (q e.block) false h)) x.holds;
+    }
+
 carry-jump : (p : Program) (code : Tac) (homes : List (Option Home)) (held : Option ℕ) (e : Edge) (starts : ℕ → ℕ) (s : tac.State) (program : List (Option Instr)) (base : ℕ) (m : State) →
     StandsAtExit p code homes held (Jump e) starts s program base m → Left (layout_of code homes) (graph_of code) program base 2 starts s m (step p s)
 carry-jump p code homes held e starts s program base m x =
-    let y : Layout = layout_of code homes in
-    let comes : Comes y program (InUse (graph_of code) e.block 0) (world_of s) base 2 (starts e.block) [] m =
-    jump-comes y (InUse (graph_of code) s.here.block s.here.at) (InUse (graph_of code) e.block 0) (world_of s) base 0 2 m.pc (starts e.block) (is_short code)
-    program m m x.holds
-    (where-housed p code homes held (Jump e) starts s program base m x)
-    (next-here p code homes held (Jump e) starts s program base m x e.block (λ q h. or-left (q e.block) false h)) (way-none program m) (near-same m) refl (omega (arith, x.near))
-    (x.blocks e.block).0 (x.blocks e.block).1 (reach-here (is_short code) m.pc (starts e.block) (edge-reach code starts m.pc e x.reach x.fits)) x.stands
-    (omega arith) in
+    let goes = jump-goes p code homes held e starts s program base m x in
+    let remains = jump-remains p code homes held e starts s program base m x in
     let e1 = x.function in
     let e2 = x.in_function in
     let e3 = x.in_block in
     let e4 = x.is in
     rw (e1, e2, e3) (rw e4
     (by-test (λ moved. Left (layout_of code homes) (graph_of code) program base 2 starts s m moved) e.counts _ _
-    (λ h. ⊎_elim (λ z. rw z tt) (λ z. let q = z.1 in rw q (refl, comes)) (zero-or-more s.left)) (λ h. (refl, comes))))
+    (λ h.
+    let comes = goes (ap (λ b. not b && is_next x.setting.next e.block) h) in
+    ⊎_elim (λ z. rw z tt) (λ z. let q = z.1 in rw q (refl, inl comes)) (zero-or-more s.left))
+    (λ h. (refl, ⊎_elim (λ f. inr (refl, remains f)) (λ f. inl (goes f)) (cases_Bool (falls x.setting.next e))))))
 
 carry-fail : (p : Program) (code : Tac) (homes : List (Option Home)) (held : Option ℕ) (kind : FaultKind) (at : Place) (starts : ℕ → ℕ) (s : tac.State) (program : List (Option Instr)) (base : ℕ) (m : State) →
     nat_le (fault_number kind) 5 ≡ true → StandsAtExit p code homes held (Fail kind at) starts s program base m →
@@ -250,21 +279,31 @@ carry-branch p code homes held a e f starts s program base m x =
     let fit-a = both-true (operand_fits code a) (edge_fits code e) fit.0 in
     let h : Housed y used = where-housed p code homes held (Branch a e f) starts s program base m x in
     let short : length (first_taken y held a) ≤ 16 = omega (arith, first-few y held a) in
-    let reach-e : InReach (is_short code) m.pc (starts e.block) = edge-reach code starts m.pc e x.reach fit-a.1 in
-    let reach-f : InReach (is_short code) m.pc (starts f.block) = edge-reach code starts m.pc f x.reach fit.1 in
+    let reach-e : InReach x.setting.short m.pc (starts e.block) =
+    edge-reach code starts m.pc x.setting.short e x.short_is x.reach fit-a.1 in
+    let reach-f : InReach x.setting.short m.pc (starts f.block) =
+    edge-reach code starts m.pc x.setting.short f x.short_is x.reach fit.1 in
+    let near-e = edge-near code starts m.pc x.setting.near e x.near_is x.reach fit-a.1 in
+    let near-f = edge-near code starts m.pc x.setting.near f x.near_is x.reach fit.1 in
     let l : Loads 5 (first_taken y held a) m v =
     take-first y held used (world_of s) base m a x.five x.holds h (operand-read code used a fit-a.0 (reads-here p code homes held (Branch a e f) starts s program base m x)) in
+    let o : Follows = follower x.setting.next e.block f.block in
+    let C : List Instr = exit_shape y x.setting held m.pc starts (Branch a e f) in
+    let first-next : o ≡ First → starts e.block ≡ m.pc + 4 * length C =
+    λ q. x.next_there e.block (follower-first x.setting.next e.block f.block q) in
+    let second-next : o ≡ Second → starts f.block ≡ m.pc + 4 * length C =
+    λ q. x.next_there f.block (follower-second x.setting.next e.block f.block q) in
     let first : v ≢ 0 → Comes y program (InUse (graph_of code) e.block 0) (world_of s) base (exit_words (Branch a e f)) (starts e.block) [] m =
     λ n. chosen-comes y used (InUse (graph_of code) e.block 0) (world_of s) base (starts e.block) (starts f.block) (starts e.block) (exit_words (Branch a e f))
-    (is_short code) Ne x5 x0 true (first_taken y held a) program m l.after (loads-five (first_taken y held a) m v l) x.holds h
+    x.setting.near x.setting.short o Ne x5 x0 true (first_taken y held a) program m l.after (loads-five (first_taken y held a) m v l) x.holds h
     (next-here p code homes held (Branch a e f) starts s program base m x e.block (λ q g. or-left (q e.block) (q f.block || false) g)) few short
-    x.near (x.blocks e.block) (x.blocks f.block) reach-e reach-f x.stands
+    x.near (x.blocks e.block) (x.blocks f.block) reach-e reach-f near-e near-f first-next second-next x.stands
     (ap (λ q. not (nat_eq q 0)) l.gives ∙ ap not (ne_eqb v 0 n)) refl in
     let second : v ≡ 0 → Comes y program (InUse (graph_of code) f.block 0) (world_of s) base (exit_words (Branch a e f)) (starts f.block) [] m =
     λ z. chosen-comes y used (InUse (graph_of code) f.block 0) (world_of s) base (starts e.block) (starts f.block) (starts f.block) (exit_words (Branch a e f))
-    (is_short code) Ne x5 x0 false (first_taken y held a) program m l.after (loads-five (first_taken y held a) m v l) x.holds h
+    x.setting.near x.setting.short o Ne x5 x0 false (first_taken y held a) program m l.after (loads-five (first_taken y held a) m v l) x.holds h
     (next-here p code homes held (Branch a e f) starts s program base m x f.block (λ q g. or-second (q e.block) (q f.block || false) (or-left (q f.block) false g))) few short
-    x.near (x.blocks e.block) (x.blocks f.block) reach-e reach-f x.stands
+    x.near (x.blocks e.block) (x.blocks f.block) reach-e reach-f near-e near-f first-next second-next x.stands
     (ap (λ q. not (nat_eq q 0)) l.gives ∙ ap not (eq-eqb v 0 z)) refl in
     let e1 = x.function in
     let e2 = x.in_function in
@@ -275,11 +314,11 @@ carry-branch p code homes held a e f starts s program base m x =
     (λ z.
     let comes = second (eqb-true (value_in s.here.temps a) 0 z) in
     by-test (λ moved. Left (layout_of code homes) (graph_of code) program base (exit_words (Branch a e f)) starts s m moved) f.counts _ _
-    (λ c. ⊎_elim (λ k. rw k tt) (λ k. let q = k.1 in rw q (refl, comes)) (zero-or-more s.left)) (λ c. (refl, comes)))
+    (λ c. ⊎_elim (λ k. rw k tt) (λ k. let q = k.1 in rw q (refl, inl comes)) (zero-or-more s.left)) (λ c. (refl, inl comes)))
     (λ z.
     let comes = first (λ o. let t : nat_eq (value_in s.here.temps a) 0 ≡ true = eq-eqb (value_in s.here.temps a) 0 o in let none : true ≡ false = sym t ∙ z in cc) in
     by-test (λ moved. Left (layout_of code homes) (graph_of code) program base (exit_words (Branch a e f)) starts s m moved) e.counts _ _
-    (λ c. ⊎_elim (λ k. rw k tt) (λ k. let q = k.1 in rw q (refl, comes)) (zero-or-more s.left)) (λ c. (refl, comes)))))
+    (λ c. ⊎_elim (λ k. rw k tt) (λ k. let q = k.1 in rw q (refl, inl comes)) (zero-or-more s.left)) (λ c. (refl, inl comes)))))
 
 pub exits : ExitsAreCarried
 exits p code homes held (Jump e) starts s program base m h x = carry-jump p code homes held e starts s program base m x

@@ -9,6 +9,8 @@ use Rattle.tac_form.specs.declared.tac.Exit.{Exit}
 use Rattle.tac_form.specs.declared.tac.Exit.TheVariants.{Branch, Fail, Jump, Return}
 use Rattle.tac_form.specs.declared.tac.Block.{Block}
 use Rattle.rv_select.specs.declared.pairs.Pair.{Pair}
+use Rattle.rv_select.specs.declared.settings.Setting.{Setting}
+use Rattle.rv_select.specs.Settings.{falls, follower, setting_of}
 use Rattle.rv_isa.specs.declared.operation.BranchCondition.TheVariants.{Ne}
 use Rattle.rv_operators.specs.Codes.{x0, x5}
 use Rattle.rv_select.specs.Compared.{condition_of, left_of, operands_taken, right_of}
@@ -16,7 +18,7 @@ use Rattle.rv_select.specs.Pairs.{pair_of, plain_of}
 use Rattle.rv_select.specs.Places.{Layout}
 use Rattle.rv_select.specs.Shapes.{first_taken, held_after, x10}
 use Rattle.rv_select.specs.Calls.{block_code, blocks_code, call_begun, call_ended, call_jump, end_code, exit_code, held_behind, instruction_code, instructions_code, pair_code, part_taken}
-use Rattle.rv_select.proofs.Jumps.{chosen-count, jump-count}
+use Rattle.rv_select.proofs.Jumps.{chosen-count, edge-count, last-count}
 
 -- the code of an instruction is as long wherever it and functions stand
 pub instruction-length : (y : Layout) (sizes : List ℕ) (places others : FnId → ℕ) (at other : ℕ) (held : Option ℕ) (i : Instruction) →
@@ -42,28 +44,33 @@ instruction-length y sizes places others at other held (Alloc d a) = refl
 same-behind : (A B C : List Instr) → length B ≡ length C → length (A ++ B) ≡ length (A ++ C)
 same-behind A B C e = length-append A B ∙ (ap (λ n. length A + n) e ∙ sym (length-append A C))
 
-pub exit-length : (y : Layout) (short : Bool) (held : Option ℕ) (at other last final : ℕ) (starts others : ℕ → ℕ) (e : Exit) →
-    length (exit_code y short held at starts last e) ≡ length (exit_code y short held other others final e)
-exit-length y short held at other last final starts others (Return v) =
+pub exit-length : (y : Layout) (setting : Setting) (held : Option ℕ) (at other last final : ℕ) (starts others : ℕ → ℕ) (e : Exit) →
+    length (exit_code y setting held at starts last e) ≡ length (exit_code y setting held other others final e)
+exit-length y setting held at other last final starts others (Return v) =
     same-behind (part_taken y x10 v) _ _
-    (jump-count short (at + 4 * length (part_taken y x10 v)) last ∙ sym (jump-count short (other + 4 * length (part_taken y x10 v)) final))
-exit-length y short held at other last final starts others (Jump e) = jump-count short at (starts e.block) ∙ sym (jump-count short other (others e.block))
-exit-length y short held at other last final starts others (Branch a e f) =
+    (last-count setting.short setting.next (at + 4 * length (part_taken y x10 v)) last
+    ∙ sym (last-count setting.short setting.next (other + 4 * length (part_taken y x10 v)) final))
+exit-length y setting held at other last final starts others (Jump e) =
+    let b = falls setting.next e in
+    edge-count b setting.short at (starts e.block) ∙ sym (edge-count b setting.short other (others e.block))
+exit-length y setting held at other last final starts others (Branch a e f) =
+    let o = follower setting.next e.block f.block in
     same-behind (first_taken y held a) _ _
-    (chosen-count short Ne x5 x0 (at + 4 * length (first_taken y held a)) (starts e.block) (starts f.block)
-    ∙ sym (chosen-count short Ne x5 x0 (other + 4 * length (first_taken y held a)) (others e.block) (others f.block)))
-exit-length y short held at other last final starts others (Fail kind place) = refl
+    (chosen-count setting.near setting.short o Ne x5 x0 (at + 4 * length (first_taken y held a)) (starts e.block) (starts f.block)
+    ∙ sym (chosen-count setting.near setting.short o Ne x5 x0 (other + 4 * length (first_taken y held a)) (others e.block) (others f.block)))
+exit-length y setting held at other last final starts others (Fail kind place) = refl
 
-pub end-length : (y : Layout) (short : Bool) (held : Option ℕ) (at other last final : ℕ) (starts others : ℕ → ℕ) (o : Option Pair) (e : Exit) →
-    length (end_code y short held at starts last o e) ≡ length (end_code y short held other others final o e)
+pub end-length : (y : Layout) (setting : Setting) (held : Option ℕ) (at other last final : ℕ) (starts others : ℕ → ℕ) (o : Option Pair) (e : Exit) →
+    length (end_code y setting held at starts last o e) ≡ length (end_code y setting held other others final o e)
 unfolding pair_code
-end-length y short held at other last final starts others None e = exit-length y short held at other last final starts others e
-end-length y short held at other last final starts others (Some pair) e =
+end-length y setting held at other last final starts others None e = exit-length y setting held at other last final starts others e
+end-length y setting held at other last final starts others (Some pair) e =
     let T = operands_taken y held pair.a pair.b in
     let c = condition_of pair.form.signed pair.operator in
+    let o = follower setting.next pair.first.block pair.second.block in
     same-behind T _ _
-    (chosen-count short c (left_of pair.operator) (right_of pair.operator) (at + 4 * length T) (starts pair.first.block) (starts pair.second.block)
-    ∙ sym (chosen-count short c (left_of pair.operator) (right_of pair.operator) (other + 4 * length T) (others pair.first.block)
+    (chosen-count setting.near setting.short o c (left_of pair.operator) (right_of pair.operator) (at + 4 * length T) (starts pair.first.block) (starts pair.second.block)
+    ∙ sym (chosen-count setting.near setting.short o c (left_of pair.operator) (right_of pair.operator) (other + 4 * length T) (others pair.first.block)
     (others pair.second.block)))
 
 pub instructions-length : (y : Layout) (sizes : List ℕ) (places others : FnId → ℕ) (at other : ℕ) (held : Option ℕ) (is : List Instruction) →
@@ -81,17 +88,18 @@ instructions-length y sizes places others at other held (i ∷ is) =
     sums : (a b c d : ℕ) → a ≡ b → c ≡ d → a + c ≡ b + d
     sums a b c d e f = omega arith
 
-pub block-length : (y : Layout) (sizes : List ℕ) (places others : FnId → ℕ) (starts ends : ℕ → ℕ) (last final at other : ℕ) (b : Block) →
-    length (block_code y sizes places starts last at b) ≡ length (block_code y sizes others ends final other b)
-block-length y sizes places others starts ends last final at other b =
+pub block-length : (y : Layout) (sizes : List ℕ) (places others : FnId → ℕ) (starts ends : ℕ → ℕ) (last final at other rest : ℕ) (b : Block) →
+    length (block_code y sizes places starts last at rest b) ≡ length (block_code y sizes others ends final other rest b)
+block-length y sizes places others starts ends last final at other rest b =
     let is : List Instruction = plain_of y.reads b in
     let o : Option Pair = pair_of y.reads b in
+    let setting : Setting = setting_of y.extent rest in
     let A = instructions_code y sizes places at None is in
     let B = instructions_code y sizes others other None is in
-    let C = end_code y y.short (held_behind None is) (at + 4 * length A) starts last o b.exit in
-    let D = end_code y y.short (held_behind None is) (other + 4 * length B) ends final o b.exit in
+    let C = end_code y setting (held_behind None is) (at + 4 * length A) starts last o b.exit in
+    let D = end_code y setting (held_behind None is) (other + 4 * length B) ends final o b.exit in
     let a : length A ≡ length B = instructions-length y sizes places others at other None is in
-    let c : length C ≡ length D = end-length y y.short (held_behind None is) (at + 4 * length A) (other + 4 * length B) last final starts ends o
+    let c : length C ≡ length D = end-length y setting (held_behind None is) (at + 4 * length A) (other + 4 * length B) last final starts ends o
     b.exit in
     length-append A C ∙ (sums (length A) (length B) (length C) (length D) a c ∙ sym (length-append B D))
   where
@@ -102,11 +110,11 @@ pub blocks-length : (y : Layout) (sizes : List ℕ) (places others : FnId → �
     length (blocks_code y sizes places starts last at bs) ≡ length (blocks_code y sizes others ends final other bs)
 blocks-length y sizes places others starts ends last final at other [] = refl
 blocks-length y sizes places others starts ends last final at other (b ∷ bs) =
-    let A = block_code y sizes places starts last at b in
-    let B = block_code y sizes others ends final other b in
+    let A = block_code y sizes places starts last at (length bs) b in
+    let B = block_code y sizes others ends final other (length bs) b in
     let C = blocks_code y sizes places starts last (at + 4 * length A) bs in
     let D = blocks_code y sizes others ends final (other + 4 * length B) bs in
-    let a : length A ≡ length B = block-length y sizes places others starts ends last final at other b in
+    let a : length A ≡ length B = block-length y sizes places others starts ends last final at other (length bs) b in
     let c : length C ≡ length D = blocks-length y sizes places others starts ends last final (at + 4 * length A) (other + 4 * length B) bs in
     length-append A C ∙ (sums (length A) (length B) (length C) (length D) a c ∙ sym (length-append B D))
   where

@@ -30,6 +30,7 @@ pub mod Counting
 pub mod Carries
 pub mod Weights
 pub mod Jumps
+pub mod Branched
 pub mod Leaves
 pub mod Pushed
 pub mod Lengths
@@ -56,6 +57,7 @@ pub mod Backs
 pub mod Inner
 pub mod Through
 pub mod Arrivals
+pub mod Amounts
 pub mod Calling
 pub mod Taken
 pub mod Falls

@@ -1,8 +1,8 @@
 -- Code that a loop puts, an item at a time, with what is still to come.
-use Rattle.std.proofs.Common.{◌≡◌, ℕ, ◌+◌, ◌*◌, ◌<◌, ◌≤◌, true, List, [], ◌∷◌, ◌++◌, length, get_or, drop, append_assoc, Option, None, refl, sym, ap, ◌∙◌, subst, arith}
+use Rattle.std.proofs.Common.{◌≡◌, ℕ, ◌+◌, ◌-◌, ◌*◌, ◌<◌, ◌≤◌, true, List, [], ◌∷◌, ◌++◌, length, get_or, drop, append_assoc, Option, None, refl, sym, ap, ◌∙◌, subst, arith}
 use Rattle.std.specs.Prelude.{map}
 use Rattle.std.specs.List.{list_all}
-use Rattle.std.proofs.lemmas.List.{append-nil, drop_all, drop_more}
+use Rattle.std.proofs.lemmas.List.{append-nil, drop_all, drop_more, length-drop}
 use Rattle.rv_isa.specs.declared.instr.Instr.{Instr}
 use Rattle.rv_isa.specs.Table.{word_of}
 use Rattle.tac_form.specs.declared.tac.Instruction.{Instruction}
@@ -23,12 +23,12 @@ list-turn : {S : Type 0} (before between after : List S) (a : List S) (f : ℕ �
 list-turn before between after a f n k e g h = h ∙ (ap (λ z. z ++ f n) g ∙ (append_assoc before a (f n) ∙ ap (λ m. before ++ (a ++ f m)) e))
 
 -- how many words there are behind a block
-block-end : (y : Layout) (sizes : List ℕ) (starts : ℕ → ℕ) (last : ℕ) (b : Block) (old mid : List ℕ) →
-    mid ≡ old ++ map word_of (block_code y sizes (λ f. 0) starts last (4 * length old) b) →
-    length mid ≡ length old + length (block_code y sizes (λ f. 0) (λ c. 0) 0 0 b)
-block-end y sizes starts last b old mid e =
-    ap length e ∙ (pushed_words old (block_code y sizes (λ f. 0) starts last (4 * length old) b)
-    ∙ ap (λ n. length old + n) (block-length y sizes (λ f. 0) (λ f. 0) starts (λ c. 0) last 0 (4 * length old) 0 b))
+block-end : (y : Layout) (sizes : List ℕ) (starts : ℕ → ℕ) (last rest : ℕ) (b : Block) (old mid : List ℕ) →
+    mid ≡ old ++ map word_of (block_code y sizes (λ f. 0) starts last (4 * length old) rest b) →
+    length mid ≡ length old + length (block_code y sizes (λ f. 0) (λ c. 0) 0 0 rest b)
+block-end y sizes starts last rest b old mid e =
+    ap length e ∙ (pushed_words old (block_code y sizes (λ f. 0) starts last (4 * length old) rest b)
+    ∙ ap (λ n. length old + n) (block-length y sizes (λ f. 0) (λ f. 0) starts (λ c. 0) last 0 (4 * length old) 0 rest b))
 
 -- the item at which a loop stands
 pub drop-item : {X : Type 0} (xs : List X) (i : ℕ) (x : X) → x ≡ get_or xs i x → i < length xs → drop i xs ≡ x ∷ drop (i + 1) xs
@@ -105,11 +105,11 @@ has-turn i xs x e h k =
 -- Blocks.
 pub blocks-turn : (y : Layout) (sizes : List ℕ) (starts : ℕ → ℕ) (last i : ℕ) (xs : List Block) (x : Block) (old new total : List ℕ) →
     x ≡ get_or xs i x → i < length xs →
-    new ≡ old ++ map word_of (block_code y sizes (λ f. 0) starts last (4 * length old) x) →
+    new ≡ old ++ map word_of (block_code y sizes (λ f. 0) starts last (4 * length old) (length (drop (i + 1) xs)) x) →
     old ++ map word_of (blocks_code y sizes (λ f. 0) starts last (4 * length old) (drop i xs)) ≡ total →
     new ++ map word_of (blocks_code y sizes (λ f. 0) starts last (4 * length new) (drop (i + 1) xs)) ≡ total
 blocks-turn y sizes starts last i xs x old new total e h put before =
-    words-turn old new (block_code y sizes (λ f. 0) starts last (4 * length old) x)
+    words-turn old new (block_code y sizes (λ f. 0) starts last (4 * length old) (length (drop (i + 1) xs)) x)
     (λ n. blocks_code y sizes (λ f. 0) starts last n (drop (i + 1) xs)) (blocks_code y sizes (λ f. 0) starts last (4 * length old) (drop i xs))
     total put before (ap (blocks_code y sizes (λ f. 0) starts last (4 * length old)) (drop-item xs i x e h))
 
@@ -119,28 +119,28 @@ blocks-end y sizes starts last at i xs h = ap (λ z. map word_of (blocks_code y 
 
 pub blocks-calls-turn : (y : Layout) (sizes : List ℕ) (starts : ℕ → ℕ) (last i : ℕ) (xs : List Block) (x : Block) (old new : List ℕ)
     (before between total : List Site) → x ≡ get_or xs i x → i < length xs →
-    new ≡ old ++ map word_of (block_code y sizes (λ f. 0) starts last (4 * length old) x) →
+    new ≡ old ++ map word_of (block_code y sizes (λ f. 0) starts last (4 * length old) (length (drop (i + 1) xs)) x) →
     between ≡ before ++ instructions_calls y sizes (length old) None (plain_of y.reads x) →
     before ++ blocks_calls y sizes (length old) (drop i xs) ≡ total →
     between ++ blocks_calls y sizes (length new) (drop (i + 1) xs) ≡ total
 blocks-calls-turn y sizes starts last i xs x old new before between total e h put calls b =
     items-turn before between (instructions_calls y sizes (length old) None (plain_of y.reads x))
     (λ k. blocks_calls y sizes k (drop (i + 1) xs)) (length new)
-    (length old + length (block_code y sizes (λ f. 0) (λ c. 0) 0 0 x)) (blocks_calls y sizes (length old) (drop i xs)) total
-    (block-end y sizes starts last x old new put) calls b (ap (blocks_calls y sizes (length old)) (drop-item xs i x e h))
+    (length old + length (block_code y sizes (λ f. 0) (λ c. 0) 0 0 (length (drop (i + 1) xs)) x)) (blocks_calls y sizes (length old) (drop i xs)) total
+    (block-end y sizes starts last (length (drop (i + 1) xs)) x old new put) calls b (ap (blocks_calls y sizes (length old)) (drop-item xs i x e h))
 
 pub blocks-calls-end : (y : Layout) (sizes : List ℕ) (at i : ℕ) (xs : List Block) → length xs ≤ i → blocks_calls y sizes at (drop i xs) ≡ []
 blocks-calls-end y sizes at i xs h = ap (blocks_calls y sizes at) (drop-end xs i h)
 
 pub begins-turn : (y : Layout) (sizes : List ℕ) (starts : ℕ → ℕ) (last i : ℕ) (xs : List Block) (x : Block) (old new : List ℕ) (at : ℕ)
     (before between total : List ℕ) → x ≡ get_or xs i x → i < length xs →
-    new ≡ old ++ map word_of (block_code y sizes (λ f. 0) starts last (4 * length old) x) →
+    new ≡ old ++ map word_of (block_code y sizes (λ f. 0) starts last (4 * length old) (length (drop (i + 1) xs)) x) →
     at ≡ 4 * length old → between ≡ before ++ at ∷ [] →
     before ++ starts_from y sizes (4 * length old) (drop i xs) ≡ total →
     between ++ starts_from y sizes (4 * length new) (drop (i + 1) xs) ≡ total
 begins-turn y sizes starts last i xs x old new at before between total e h put p begins b =
-    let n : ℕ = length (block_code y sizes (λ f. 0) (λ c. 0) 0 0 x) in
-    let count : length new ≡ length old + n = block-end y sizes starts last x old new put in
+    let n : ℕ = length (block_code y sizes (λ f. 0) (λ c. 0) 0 0 (length (drop (i + 1) xs)) x) in
+    let count : length new ≡ length old + n = block-end y sizes starts last (length (drop (i + 1) xs)) x old new put in
     let place : 4 * length new ≡ 4 * length old + 4 * n = omega (arith, count) in
     items-turn before between (4 * length old ∷ []) (λ k. starts_from y sizes k (drop (i + 1) xs)) (4 * length new)
     (4 * length old + 4 * n) (starts_from y sizes (4 * length old) (drop i xs)) total
@@ -148,6 +148,18 @@ begins-turn y sizes starts last i xs x old new at before between total e h put p
 
 pub begins-end : (y : Layout) (sizes : List ℕ) (at i : ℕ) (xs : List Block) → length xs ≤ i → starts_from y sizes at (drop i xs) ≡ []
 begins-end y sizes at i xs h = ap (starts_from y sizes at) (drop-end xs i h)
+
+-- how many blocks follow
+pub rest-turn : (i : ℕ) (xs : List Block) (rest less : ℕ) → rest ≡ length (drop i xs) → i < length xs → less ≡ rest - 1 →
+    less ≡ length (drop (i + 1) xs)
+rest-turn i xs rest less e h is = omega (arith, e, h, is, length-drop i xs, length-drop (i + 1) xs)
+
+-- the code of a block that so many follow
+pub rest-put : (y : Layout) (sizes : List ℕ) (starts : ℕ → ℕ) (last : ℕ) (x : Block) (old new : List ℕ) (rest n : ℕ) → rest ≡ n →
+    new ≡ old ++ map word_of (block_code y sizes (λ f. 0) starts last (4 * length old) rest x) →
+    new ≡ old ++ map word_of (block_code y sizes (λ f. 0) starts last (4 * length old) n x)
+rest-put y sizes starts last x old new rest n e put =
+    put ∙ ap (λ k. old ++ map word_of (block_code y sizes (λ f. 0) starts last (4 * length old) k x)) e
 
 pub blocks-have-turn : (i : ℕ) (xs : List Block) (x : Block) → x ≡ get_or xs i x → i < length xs → list_all block_has_code (drop i xs) ≡ true →
     (block_has_code x ≡ true) × (list_all block_has_code (drop (i + 1) xs) ≡ true)

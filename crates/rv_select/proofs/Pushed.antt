@@ -2,6 +2,7 @@
 use Rattle.std.proofs.Common.{◌≡◌, ◌≢◌, ℕ, zero, suc, ◌+◌, ◌-◌, ◌*◌, List, [], ◌∷◌, ◌++◌, length, append_assoc, refl, sym, ap, subst, ◌∙◌, arith}
 use Rattle.std.specs.Prelude.{map, Result, Ok, Err, OnOk}
 use Rattle.std.proofs.lemmas.List.{map-append}
+use Rattle.tl_base.specs.declared.place.Place.{Place}
 use Rattle.rv_isa.specs.declared.instr.Instr.{Instr}
 use Rattle.rv_isa.specs.declared.instr.Instr.TheVariants.{RegisterRegister}
 use Rattle.rv_isa.specs.declared.operation.RegisterOp.TheVariants.{Add, Sub}
@@ -10,9 +11,9 @@ use Rattle.rv_isa.proofs.Operands.{register_same}
 use Rattle.rv_isa.specs.Table.{word_of}
 use Rattle.rv_operators.specs.Codes.{x5}
 use Rattle.rv_select.specs.Places.{Layout}
-use Rattle.rv_select.specs.Entering.{arguments_stored, put_back, put_back_one, region_given, region_taken, saved, saved_one, stack_tested, stored_below}
+use Rattle.rv_select.specs.Entering.{arguments_stored, place_given, put_back, put_back_one, region_given, region_taken, saved, saved_one, stack_tested, stored_below}
 use Rattle.rv_select.specs.Numbers.{constant, register_of}
-use Rattle.rv_select.specs.Shapes.{x8}
+use Rattle.rv_select.specs.Shapes.{place_number, x8, x11}
 use Rattle.rv_select.proofs.Numbers.{pushed_words}
 
 -- two parts, where the second depends on where it stands
@@ -46,6 +47,10 @@ saved-more y (suc n) x h = let e : n ≡ suc n - 1 = omega arith in ap (λ k. sa
 pub region-taken-more : (n : ℕ) → n ≢ 0 → region_taken n ≡ stack_tested n ++ RegisterRegister Sub x8 x8 x5 ∷ []
 region-taken-more zero h = absurd (h refl)
 region-taken-more (suc n) h = refl
+
+pub place-given-more : (n : ℕ) (at : Place) → n ≢ 0 → place_given n at ≡ constant x11 (place_number at)
+place-given-more zero at h = absurd (h refl)
+place-given-more (suc n) at h = refl
 
 pub region-given-more : (n : ℕ) → n ≢ 0 → region_given n ≡ constant x5 n ++ RegisterRegister Add x8 x8 x5 ∷ []
 region-given-more zero h = absurd (h refl)

@@ -43,11 +43,10 @@ starts-small p image program most code f pl b =
     (aligned-first at (length (head_code y code)) pl.aligned) (most-is _ _ found.whole) in
     (small (start_of (block_starts y code at) b) (last_address y code at) n.0 found.near, even (start_of (block_starts y code at) b) n.1)
 
--- the code of a short function has few bytes
-pub short-bytes : (p : Program) (image : Image) (program : List (Option Instr)) (most : ℕ) (code : Tac) (x : Placed) →
-    IsPlaced p image program most code x → is_short code ≡ true → last_address (layout_of code x.homes) code x.at ≤ x.at + 2 ^ 19
-unfolding is_short
-short-bytes p image program most code x pl short =
+-- how many bytes a function's code has
+function-bytes : (p : Program) (image : Image) (program : List (Option Instr)) (most : ℕ) (code : Tac) (x : Placed) →
+    IsPlaced p image program most code x → last_address (layout_of code x.homes) code x.at ≤ x.at + 4 * code_words code
+function-bytes p image program most code x pl =
     let y : Layout = layout_of code x.homes in
     let places = entries_of p image in
     let H : List Instr = head_code y code in
@@ -57,16 +56,22 @@ short-bytes p image program most code x pl short =
     sums (length H) (length D) (length L) (length (D ++ L)) (length (H ++ (D ++ L))) (last_address y code x.at) (code_words code)
     (length-append H (D ++ L)) (length-append D L) found.whole
     (function-weight y code places x.at pl.has_code (within-parts p image program most code x pl).areas)
-    (ltb-true (code_words code) (2 ^ 17) short)
   where
-    sums : (h d l dl n e c : ℕ) → n ≡ h + dl → dl ≡ d + l → x.at + 4 * h + 4 * d ≡ e → n ≤ c → c < 2 ^ 17 → e ≤ x.at + 2 ^ 19
-    sums h d l dl n e c a b f g k = omega (arith, a, b, f, g, k)
+    sums : (h d l dl n e c : ℕ) → n ≡ h + dl → dl ≡ d + l → x.at + 4 * h + 4 * d ≡ e → n ≤ c → e ≤ x.at + 4 * c
+    sums h d l dl n e c a b f g = omega (arith, a, b, f, g)
 
--- so each block of it is within reach of each exit
+pub short-bytes : (p : Program) (image : Image) (program : List (Option Instr)) (most : ℕ) (code : Tac) (x : Placed) →
+    IsPlaced p image program most code x → is_short code ≡ true → last_address (layout_of code x.homes) code x.at ≤ x.at + 2 ^ 19
+unfolding is_short
+short-bytes p image program most code x pl short =
+    let few : code_words code < 2 ^ 17 = ltb-true (code_words code) (2 ^ 17) short in
+    omega (arith, function-bytes p image program most code x pl, few)
+
+-- so each block of it is no further from each exit
 pub exit-reaches : (p : Program) (image : Image) (program : List (Option Instr)) (most : ℕ) (code : Tac) (f : FnId) (at : ℕ) →
     IsPlaced p image program most code (image f) → (image f).at ≤ at → at ≤ last_address (layout_of code (image f).homes) code (image f).at →
     IsReached code (start_of (block_starts (layout_of code (image f).homes) code (image f).at)) at
-exit-reaches p image program most code f at pl low high short b h =
+exit-reaches p image program most code f at pl low high b h =
     let y : Layout = layout_of code (image f).homes in
     let a : ℕ = (image f).at in
     let found : FoundFunction program y code (entries_of p image) a = the-function p image program most code (image f) pl in
@@ -74,7 +79,8 @@ exit-reaches p image program most code f at pl low high short b h =
     (last_address y code a) code.blocks b (a + 4 * length (head_code y code))
     (aligned-first a (length (head_code y code)) pl.aligned) (most-is _ _ found.whole) in
     reach (start_of (block_starts y code a) b) (last_address y code a) (length (head_code y code)) high
-    (starts-least y code.areas code.blocks b (a + 4 * length (head_code y code)) h) n.0 (short-bytes p image program most code (image f) pl short)
+    (starts-least y code.areas code.blocks b (a + 4 * length (head_code y code)) h) n.0
+    (code_words code) (function-bytes p image program most code (image f) pl)
   where
-    reach : (s e n : ℕ) → at ≤ e → (image f).at + 4 * n ≤ s → s ≤ e → e ≤ (image f).at + 2 ^ 19 → (at ≤ s + 2 ^ 19) × (s ≤ at + 2 ^ 19)
-    reach s e n q g k r = (omega (arith, q, g, r), omega (arith, k, r, low))
+    reach : (s e n : ℕ) → at ≤ e → (image f).at + 4 * n ≤ s → s ≤ e → (c : ℕ) → e ≤ (image f).at + 4 * c → (at ≤ s + 4 * c) × (s ≤ at + 4 * c)
+    reach s e n q g k c r = (omega (arith, q, g, r), omega (arith, k, r, low))

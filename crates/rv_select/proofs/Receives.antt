@@ -22,7 +22,8 @@ use Rattle.rv_operators.specs.Codes.{x5}
 use Rattle.rv_operators.specs.Runs.{Stands}
 use Rattle.rv_select.specs.declared.pairs.Reads.{Reads}
 use Rattle.rv_select.specs.Pairs.{reads_of}
-use Rattle.rv_select.specs.Places.{Holds, Housed, Keeps, Layout, World, area_offset, frame_bytes, home_of, is_short, layout_of, private_word, with_homes}
+use Rattle.rv_select.specs.declared.settings.Extent.{Extent}
+use Rattle.rv_select.specs.Places.{Holds, Housed, Keeps, Layout, World, area_offset, extent_of, frame_bytes, home_of, layout_of, private_word, with_homes}
 use Rattle.rv_select.specs.Shapes.{framed, put_to, to_area}
 use Rattle.rv_select.specs.Steps.{Comes, behind, with_temp}
 use Rattle.rv_select.specs.Entering.{received, received_one, receiving, size_in, words_offset}
@@ -234,16 +235,16 @@ receives program y code U Used Fin base last depth region (Temp d ∷ ds) (word 
     }
 
 -- the code of parameters depends on homes alone
-received-same : (homes : List (Option Home)) (reads : List Reads) (short : Bool) (a b p q last : ℕ) (sizes : List ℕ) (ds : List Destination) →
-    received (record { homes = homes; areas = a; parameters = p; reads = reads; short = short }) sizes last ds
-    ≡ received (record { homes = homes; areas = b; parameters = q; reads = reads; short = short }) sizes last ds
-received-same homes reads short a b p q last sizes [] = refl
-received-same homes reads short a b p q last sizes (Temp d ∷ ds) =
+received-same : (homes : List (Option Home)) (reads : List Reads) (extent : Extent) (a b p q last : ℕ) (sizes : List ℕ) (ds : List Destination) →
+    received (record { homes = homes; areas = a; parameters = p; reads = reads; extent = extent }) sizes last ds
+    ≡ received (record { homes = homes; areas = b; parameters = q; reads = reads; extent = extent }) sizes last ds
+received-same homes reads extent a b p q last sizes [] = refl
+received-same homes reads extent a b p q last sizes (Temp d ∷ ds) =
     ap (λ z. (framed (λ r far. Load Ld x5 r far) (last + 8 * length ds) ++ put_to (home_of (with_homes homes) d)) ++ z)
-    (received-same homes reads short a b p q last sizes ds)
-received-same homes reads short a b p q last sizes (Area n ∷ ds) =
+    (received-same homes reads extent a b p q last sizes ds)
+received-same homes reads extent a b p q last sizes (Area n ∷ ds) =
     ap (λ z. (framed (λ r far. Load Ld x5 r far) (last + 8 * length ds) ++ to_area (with_homes homes) n 0 (size_in sizes n)) ++ z)
-    (received-same homes reads short a b p q last sizes ds)
+    (received-same homes reads extent a b p q last sizes ds)
 
 pub parameters-received : ParametersAreReceived
 parameters-received code homes program values a region depth base m fits right accepts there p words room =
@@ -252,7 +253,7 @@ parameters-received code homes program values a region depth base m fits right a
     let U : ℕ → Type 0 = InUse (graph_of code) 0 0 in
     let parts = fits-parts code fits in
     let same : received z code.areas (words_offset y) code.parameters ≡ received y code.areas (words_offset y) code.parameters =
-    received-same homes (reads_of code) (is_short code) (length code.areas) (length code.areas) 0 (length code.parameters)
+    received-same homes (reads_of code) (extent_of code) (length code.areas) (length code.areas) 0 (length code.parameters)
     (words_offset y) code.areas code.parameters in
     let all : Stands program m.pc (received z code.areas (words_offset y) code.parameters ++ []) =
     subst (λ c. Stands program m.pc c) (sym (append-nil (received z code.areas (words_offset y) code.parameters) ∙ same)) there in

@@ -1,6 +1,7 @@
 -- Returns.
-use Rattle.std.proofs.Common.{◌≡◌, ◌≢◌, ℕ, suc, ◌+◌, ◌-◌, ◌*◌, ◌%◌, ◌^◌, ◌<◌, ◌≤◌, Bool, true, false, ◌||◌, List, ◌∷◌, length, take, drop, Option, Some, refl, sym, ap, ◌∙◌, subst, ⊎_elim, inl, inr, arith}
+use Rattle.std.proofs.Common.{◌≡◌, ◌≢◌, ℕ, suc, ◌+◌, ◌-◌, ◌*◌, ◌%◌, ◌^◌, ◌<◌, ◌≤◌, Bool, true, false, ◌||◌, List, ◌∷◌, ◌++◌, length, take, drop, Option, Some, None, refl, sym, ap, ◌∙◌, subst, ⊎_elim, inl, inr, arith}
 use Rattle.std.specs.Prelude.{if◌then◌else◌, nat_eq, ◌⊎◌}
+use Rattle.std.proofs.lemmas.List.{length-append}
 use Rattle.rv_isa.specs.declared.instr.Instr.{Instr}
 use Rattle.rv_isa.specs.declared.instr.Instr.TheVariants.{RegisterImmediate}
 use Rattle.rv_isa.specs.declared.operation.ImmediateOp.TheVariants.{Addi}
@@ -17,11 +18,12 @@ use Rattle.rv_operators.specs.Codes.{x5}
 use Rattle.rv_operators.specs.Runs.{Stands}
 use Rattle.rv_select.specs.Numbers.{below_zero}
 use Rattle.rv_select.specs.Places.{AreBytes, Holds, Housed, Layout, World, area_offset, frame_bytes, home_of, layout_of, private_word, uses}
-use Rattle.rv_select.specs.Shapes.{jump, moved, x10}
+use Rattle.rv_select.specs.Shapes.{moved, x10}
 use Rattle.rv_select.specs.Entering.{kept_offset, left, x28}
-use Rattle.rv_select.specs.Calls.{part_taken, returned}
+use Rattle.rv_select.specs.declared.settings.Setting.{Setting}
+use Rattle.rv_select.specs.Calls.{jump_unless_last, part_taken, returned}
 use Rattle.rv_select.specs.Waiting.{Image, IsLinked, Waiting, restored}
-use Rattle.rv_select.proofs.Jumps.{Jumped, Reaches, jump-few, jump_words, jumps-there}
+use Rattle.rv_select.proofs.Jumps.{Jumped, Reaches, jumps-there, last-few, last_words}
 use Rattle.rv_select.proofs.Lives.{housed}
 use Rattle.rv_select.proofs.Homes.{region-small}
 use Rattle.rv_select.proofs.Numbers.{below-is}
@@ -29,7 +31,7 @@ use Rattle.rv_select.proofs.Passes.{IsPartRead, part-count, part_value, take-par
 use Rattle.rv_select.proofs.Quits.{Quit, quits}
 use Rattle.rv_select.proofs.Straight.{Loads, low-small, written-elsewhere, written-there}
 use Rattle.rv_select.proofs.Waits.{SameAbove, same-home}
-use Rattle.rv_select.proofs.Ways.{Way, stands-back, stands-front, step-way, straight-way, way-both}
+use Rattle.rv_select.proofs.Ways.{Way, near-same, stands-back, stands-front, step-way, straight-way, way-both, way-none}
 
 -- The result is in x10, and the machine goes on where the return address says, with the caller's frames and registers.
 pub record BackIn (program : List (Option Instr)) (y : Layout) (bytes base over link v : ℕ) (m : State) : Type 0 where
@@ -68,29 +70,46 @@ not-r r n o f e =
 below-r : (r : ℕ) → (r ≡ 3) ⊎ ((r ≡ 4) ⊎ (r ≡ 28)) → (r < 18) ⊎ (28 ≤ r)
 below-r r o = ⊎_elim (λ z. inl (omega (arith, z))) (λ k. ⊎_elim (λ z. inl (omega (arith, z))) (λ z. inr (omega (arith, z))) k) o
 
+-- a jump to the code that leaves a function, and none where that code stands there
+comes-there : (program : List (Option Instr)) (m : State) (short : Bool) (next : Option ℕ) (from to : ℕ) → m.pc ≡ from → from < 2 ^ 30 →
+    to < 2 ^ 30 → to % 2 ≡ 0 → Reaches short from to → (next ≡ None → to ≡ from) → Stands program from (jump_unless_last short next from to) →
+    Jumped program (last_words short next) to m
+comes-there program m short None from to e small to-small even reach is there =
+    record { after = m; way = way-none program m; near = near-same m; pc = e ∙ sym (is refl) }
+comes-there program m short (Some n) from to e small to-small even reach is there =
+    jumps-there program m short from to e small to-small even reach there
+
+last-none : (short : Bool) (next : Option ℕ) (at last : ℕ) → next ≡ None → length (jump_unless_last short next at last) ≡ 0
+last-none short None at last e = refl
+last-none short (Some n) at last e = cc
+
 -- the code of a return, from where its part is to be taken
 pub goes-back : (program : List (Option Instr)) (y : Layout) (Used : ℕ → Type 0) (w : World) (base frame last link from : ℕ) (v : Part)
-    (m : State) (short : Bool) → Holds y Used w base m → Housed y Used → IsPartRead y Used v →
-    m.pc + 256 ≤ 2 ^ 30 → last < 2 ^ 30 → last % 2 ≡ 0 → (short ≡ true → (m.pc ≤ last) × (last ≤ m.pc + 2 ^ 19)) → w.placed + frame < 2 ^ 63 → private_word m base ≡ link → link % 2 ≡ 0 →
+    (m : State) (setting : Setting) → Holds y Used w base m → Housed y Used → IsPartRead y Used v →
+    m.pc + 256 ≤ 2 ^ 30 → last < 2 ^ 30 → last % 2 ≡ 0 → (setting.short ≡ true → (m.pc ≤ last) × (last ≤ m.pc + 2 ^ 19)) →
+    (setting.next ≡ None → last ≡ m.pc + 4 * length (returned y setting m.pc last v)) → w.placed + frame < 2 ^ 63 → private_word m base ≡ link → link % 2 ≡ 0 →
     link < 2 ^ 64 →
-    Stands program m.pc (returned y short m.pc last v) → Stands program last (left y (frame_bytes y) frame) →
+    Stands program m.pc (returned y setting m.pc last v) → Stands program last (left y (frame_bytes y) frame) →
     BackIn program y (frame_bytes y) base (w.placed + frame) link (part_value y base w v) m
-goes-back program y Used w base frame last link from v m short p h reads near last-small last-even reach fits link-is even link-small there leaves =
+goes-back program y Used w base frame last link from v m setting p h reads near last-small last-even reach behind fits link-is even link-small there leaves =
     let A : List Instr = part_taken y x10 v in
     let at : ℕ = m.pc + 4 * length A in
+    let J : List Instr = jump_unless_last setting.short setting.next at last in
     let few : length A ≤ 8 = part-count y x10 v in
     let l : Loads 10 A m (part_value y base w v) = take-part y x10 Used w base m v (λ z. omega (arith, z)) p h reads in
     let t1 : State = l.after in
     let at-is : t1.pc ≡ at = l.behind ∙ low-small (m.pc + 4 * length A) (omega (arith, near, few)) in
-    let one : Way program (length A) m t1 = straight-way program A m t1 (stands-front program m.pc A (jump short at last) there) l.straight
+    let one : Way program (length A) m t1 = straight-way program A m t1 (stands-front program m.pc A J there) l.straight
     l.goes in
-    let after-1 : Stands program at (jump short at last) =
-    subst (λ q. Stands program q (jump short at last)) (low-small (m.pc + 4 * length A) (omega (arith, near, few)))
-    (stands-back program m.pc A (jump short at last) p.pc there) in
-    let c : (1 ≤ jump_words short) × (jump_words short ≤ 2) = jump-few short in
-    let reaches : Reaches short at last = λ q. (omega (arith, few, (reach q).0), omega (arith, (reach q).1)) in
-    let j : Jumped program (jump_words short) last t1 =
-    jumps-there program t1 short at last at-is (omega (arith, near, few)) last-small last-even reaches after-1 in
+    let after-1 : Stands program at J =
+    subst (λ q. Stands program q J) (low-small (m.pc + 4 * length A) (omega (arith, near, few)))
+    (stands-back program m.pc A J p.pc there) in
+    let words : ℕ = last_words setting.short setting.next in
+    let c : words ≤ 2 = last-few setting.short setting.next in
+    let reaches : Reaches setting.short at last = λ q. (omega (arith, few, (reach q).0), omega (arith, (reach q).1)) in
+    let j : Jumped program words last t1 =
+    comes-there program t1 setting.short setting.next at last at-is (omega (arith, near, few)) last-small last-even reaches
+    (λ q. omega (arith, behind q, length-append A J, last-none setting.short setting.next at last q)) after-1 in
     let t2 : State = j.after in
     let same-2 : (r : ℕ) → r ≢ 5 → r ≢ 6 → r ≢ 7 → r ≢ 10 →
     t2.registers r ≡ m.registers r = λ r five six seven ten. j.near.keeps r five six seven ∙ l.keeps r ten seven in
@@ -119,10 +138,10 @@ goes-back program y Used w base frame last link from v m short p h reads near la
     (λ z. omega (arith, z, lo))) in
     record {
       after = q.after;
-      steps = length A + jump_words short + q.steps;
-      way = way-both program (length A + jump_words short) q.steps m t2 q.after (way-both program (length A) (jump_words short) m t1 t2 one j.way) q.way;
-      few = omega (arith, few, c.1, q.few);
-      some = omega (arith, c.0);
+      steps = length A + words + q.steps;
+      way = way-both program (length A + words) q.steps m t2 q.after (way-both program (length A) words m t1 t2 one j.way) q.way;
+      few = omega (arith, few, c, q.few);
+      some = omega (arith, q.some);
       pc = q.pc;
       ten = q.others 10 (λ z. omega (arith, z)) (λ z. omega (arith, z)) (λ z. omega (arith, z)) (λ z. omega (arith, z))
           (λ z. omega (arith, z)) (λ z. omega (arith, z)) (λ z. omega (arith, z)) (inl (omega arith))

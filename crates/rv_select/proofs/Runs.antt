@@ -54,8 +54,8 @@ start-least : (y : Layout) (sizes : List ℕ) (at : ℕ) (bs : List Block) (b : 
 start-least y sizes at [] b block e = cc
 start-least y sizes at (x ∷ bs) zero block e = omega arith
 start-least y sizes at (x ∷ bs) (suc b) block e =
-    more (length (block_code y sizes (λ f. 0) (λ c. 0) 0 0 x)) _
-    (start-least y sizes (at + 4 * length (block_code y sizes (λ f. 0) (λ c. 0) 0 0 x)) bs b block e)
+    more (length (block_code y sizes (λ f. 0) (λ c. 0) 0 0 (length bs) x)) _
+    (start-least y sizes (at + 4 * length (block_code y sizes (λ f. 0) (λ c. 0) 0 0 (length bs) x)) bs b block e)
   where
     more : (n z : ℕ) → at + 4 * n ≤ z → at ≤ z
     more n z h = omega (arith, h)
@@ -312,9 +312,9 @@ falls-to p words bound s (Stops (More out)) h = tt
 -- some steps, and a run from there
 then-ended : (p : Program) (image : Image) (program : List (Option Instr)) (most size words bound top : ℕ) (out : List ℕ) (s t : tac.State)
     (m : State) (r : Run) → t.out ≡ s.out ++ out →
-    (a : Arrives p image program most size bound out t m) → bound + steps_left p words t ≤ top → s.left ≤ suc t.left →
+    (a : Arrives p image program most size bound s.left out t m) → bound + steps_left p words t ≤ top →
     Ended program (steps_left p words t) t a.after r → Ended program top s m r
-then-ended p image program most size words bound top out s t m (Over (Returned v) all) e a falls counts (rest, o, d) = (
+then-ended p image program most size words bound top out s t m (Over (Returned v) all) e a falls (rest, o, d) = (
   out ++ rest,
   outs-both s.out t.out all out rest e o,
   record {
@@ -330,7 +330,7 @@ then-ended p image program most size words bound top out s t m (Over (Returned v
   where
     sum : (l n k c : ℕ) → bound + l ≤ n → k ≤ bound → c ≤ l → k + c ≤ n
     sum l n k c f g h = omega (arith, f, g, h)
-then-ended p image program most size words bound top out s t m (Over (Fault kind at) all) e a falls counts (rest, o, d) = (
+then-ended p image program most size words bound top out s t m (Over (Fault kind at) all) e a falls (rest, o, d) = (
   out ++ rest,
   outs-both s.out t.out all out rest e o,
   record {
@@ -345,15 +345,15 @@ then-ended p image program most size words bound top out s t m (Over (Fault kind
   where
     sum : (l n k c : ℕ) → bound + l ≤ n → k ≤ bound → c ≤ l → k + c ≤ n
     sum l n k c f g h = omega (arith, f, g, h)
-then-ended p image program most size words bound top out s t m (Over Stuck all) e a falls counts d = tt
-then-ended p image program most size words bound top out s t m (More all) e a falls counts (rest, o, d) = (
+then-ended p image program most size words bound top out s t m (Over Stuck all) e a falls d = tt
+then-ended p image program most size words bound top out s t m (More all) e a falls (rest, o, d) = (
   out ++ rest,
   outs-both s.out t.out all out rest e o,
   record {
     count = a.steps + d.count;
     after = d.after;
     there = d.there;
-    enough = least s.left t.left a.steps d.count counts a.some d.enough;
+    enough = least s.left t.left a.steps d.count a.enough d.enough;
     few = sum (steps_left p words t) top a.steps d.count falls a.few d.few;
     runs = λ more.
         let split : a.steps + d.count + more ≡ a.steps + (d.count + more) = omega arith in
@@ -364,8 +364,8 @@ then-ended p image program most size words bound top out s t m (More all) e a fa
     sum : (l n k c : ℕ) → bound + l ≤ n → k ≤ bound → c ≤ l → k + c ≤ n
     sum l n k c f g h = omega (arith, f, g, h)
 
-    least : (l n k c : ℕ) → l ≤ suc n → 1 ≤ k → n ≤ c → l ≤ k + c
-    least l n k c f g h = omega (arith, f, g, h)
+    least : (l n k c : ℕ) → l ≤ n + k → n ≤ c → l ≤ k + c
+    least l n k c f g = omega (arith, f, g)
 
 -- the step by which the run is over
 at-end : (p : Program) (image : Image) (program : List (Option Instr)) (most size words bound top : ℕ) (s : tac.State) (m : State)
@@ -422,7 +422,7 @@ pub behind-step : (p : Program) (image : Image) (program : List (Option Instr)) 
     Stepped p image program most size bound s m moved → FallsTo p words top bound s moved → steps p k moved ≡ Stops r →
     Ended program top s m r
 behind-step p image program most size words k bound top r s m more (Goes t) live (out, e, a) falls ends =
-    then-ended p image program most size words bound top out s t m r e a falls.0 falls.1 (more t a.base a.after a.stands ends)
+    then-ended p image program most size words bound top out s t m r e a falls.0 (more t a.base a.after a.stands ends)
 behind-step p image program most size words k bound top r s m more (Stops q) live d falls ends =
     let same : q ≡ r = same-run q r (sym (steps-stopped p k q) ∙ ends) in
     subst (λ z. Ended program top s m z) same (at-end p image program most size words bound top s m q live d falls)

@@ -1,9 +1,9 @@
 -- Where the machine stands in a program of several functions.
-use Rattle.std.proofs.Common.{◌≡◌, ℕ, zero, suc, ◌+◌, ◌*◌, ◌%◌, ◌^◌, ◌<◌, ◌≤◌, Bool, true, false, ◌&&◌, List, [], ◌∷◌, ◌++◌, length, Option, Some, None, refl, sym, ap, ◌∙◌, subst, arith}
+use Rattle.std.proofs.Common.{◌≡◌, ℕ, zero, suc, ◌+◌, ◌-◌, ◌*◌, ◌%◌, ◌^◌, ◌<◌, ◌≤◌, Bool, true, false, ◌&&◌, List, [], ◌∷◌, ◌++◌, drop, length, Option, Some, None, refl, sym, ap, ◌∙◌, subst, arith}
 use Rattle.std.specs.Prelude.{nat_lt, slice_get}
 use Rattle.std.specs.List.{list_all}
 use Rattle.std.proofs.lemmas.Bool.{ltb-true}
-use Rattle.std.proofs.lemmas.List.{length-append}
+use Rattle.std.proofs.lemmas.List.{length-append, length-drop}
 use Rattle.std.proofs.lemmas.Option.{slice_get_within}
 use Rattle.rv_isa.specs.declared.instr.Instr.{Instr}
 use Rattle.tac_form.specs.declared.tac.Instruction.{Instruction}
@@ -14,13 +14,15 @@ use Rattle.tac_form.specs.Flow.{Program}
 use Rattle.tac_form.specs.Fits.{area_fits, block_fits, destination_fits, exit_fits, instruction_fits, place_fits}
 use Rattle.rv_operators.specs.Runs.{Stands}
 use Rattle.rv_select.specs.declared.pairs.Pair.{Pair}
+use Rattle.rv_select.specs.declared.settings.Setting.{Setting}
+use Rattle.rv_select.specs.Settings.{next_of, setting_of}
 use Rattle.rv_select.specs.Pairs.{but_pair, pair_of, plain_of, reads_of}
-use Rattle.rv_select.specs.Places.{Layout, frame_bytes, is_short, layout_of}
+use Rattle.rv_select.specs.Places.{Layout, frame_bytes, is_near, is_short, layout_of}
 use Rattle.rv_select.specs.Shapes.{start_of}
 use Rattle.rv_select.specs.Entering.{left}
-use Rattle.rv_select.specs.Calls.{block_starts, end_code, head_code, held_behind, instruction_code, instructions_code, last_address}
+use Rattle.rv_select.specs.Calls.{block_starts, blocks_length, end_code, head_code, held_behind, instruction_code, instructions_code, last_address}
 use Rattle.rv_select.specs.Waiting.{Image, IsPlaced, Placed, entries_of, held_at, held_in, instruction_at, place_in, plain_in}
-use Rattle.rv_select.proofs.Finds.{Found, FoundBlock, FoundFunction, find-block, find-exit, find-function, find-instruction, held-last, instruction-aligned, starts-least}
+use Rattle.rv_select.proofs.Finds.{Found, FoundBlock, FoundFunction, find-block, find-exit, find-function, find-instruction, held-last, instruction-aligned, starts-last, starts-least, starts-next}
 
 pub both-true : (a b : Bool) → (a && b) ≡ true → (a ≡ true) × (b ≡ true)
 both-true true b e = (refl, e)
@@ -70,6 +72,15 @@ exit-within code b block h e =
     (both-true (list_all (instruction_fits code) block.instructions) (exit_fits code block.exit)
     (list-all-get (block_fits code) code.blocks b block h e)).1
 
+-- which block stands behind another
+next-some : (blocks rest n : ℕ) → next_of blocks rest ≡ Some n → (0 < rest) × (n ≡ blocks - rest)
+next-some blocks zero n e = cc
+next-some blocks (suc r) n e = let same : blocks - suc r ≡ n = cc in (omega arith, sym same)
+
+next-none : (blocks rest : ℕ) → next_of blocks rest ≡ None → rest ≡ 0
+next-none blocks zero e = refl
+next-none blocks (suc r) e = cc
+
 -- An instruction's code stands at its place in a function.
 pub record AtPlace (p : Program) (image : Image) (program : List (Option Instr)) (code : Tac) (x : Placed) (b k : ℕ) (i : Instruction)
     (at : ℕ) : Type 0 where
@@ -79,11 +90,20 @@ pub record AtPlace (p : Program) (image : Image) (program : List (Option Instr))
   pub near : at + 4 * length (instruction_code (layout_of code x.homes) code.areas (entries_of p image) at (held_in code b k) i) + 256 ≤ 2 ^ 30
   pub aligned : at % 4 ≡ 0
 
--- and so does that of an exit, or of a comparison and an exit
+-- And so does that of an exit, or of a comparison and an exit. Behind it stands the next block, or the code that leaves the function.
 pub record AtExit (p : Program) (image : Image) (program : List (Option Instr)) (code : Tac) (x : Placed) (held : Option ℕ)
     (o : Option Pair) (e : Exit) (at : ℕ) : Type 0 where
+  pub setting : Setting
+  pub near_is : setting.near ≡ is_near code
+  pub short_is : setting.short ≡ is_short code
   pub stands : Stands program at
-      (end_code (layout_of code x.homes) (is_short code) held at (start_of (block_starts (layout_of code x.homes) code x.at))
+      (end_code (layout_of code x.homes) setting held at (start_of (block_starts (layout_of code x.homes) code x.at))
+      (last_address (layout_of code x.homes) code x.at) o e)
+  pub next_there : (n : ℕ) → setting.next ≡ Some n → start_of (block_starts (layout_of code x.homes) code x.at) n ≡ at + 4 * length
+      (end_code (layout_of code x.homes) setting held at (start_of (block_starts (layout_of code x.homes) code x.at))
+      (last_address (layout_of code x.homes) code x.at) o e)
+  pub last_there : setting.next ≡ None → last_address (layout_of code x.homes) code x.at ≡ at + 4 * length
+      (end_code (layout_of code x.homes) setting held at (start_of (block_starts (layout_of code x.homes) code x.at))
       (last_address (layout_of code x.homes) code x.at) o e)
   pub near : at + 256 ≤ 2 ^ 30
   pub aligned : at % 4 ≡ 0
@@ -99,7 +119,8 @@ pub the-block : (p : Program) (image : Image) (program : List (Option Instr)) (m
     → IsPlaced p image program most code x → slice_get code.blocks b ≡ Some block →
     FoundBlock program (layout_of code x.homes) code.areas (entries_of p image)
     (start_of (block_starts (layout_of code x.homes) code x.at)) (last_address (layout_of code x.homes) code x.at)
-    (last_address (layout_of code x.homes) code x.at) (start_of (block_starts (layout_of code x.homes) code x.at) b) block
+    (last_address (layout_of code x.homes) code x.at) (start_of (block_starts (layout_of code x.homes) code x.at) b)
+    (length (drop (suc b) code.blocks)) block
 the-block p image program most code x b block h e =
     let y : Layout = layout_of code x.homes in
     let f : FoundFunction program y code (entries_of p image) x.at = the-function p image program most code x h in
@@ -119,7 +140,7 @@ at-instruction p image program most code x b k block i h e g =
     let f : FoundFunction program y code places x.at = the-function p image program most code x h in
     let fb = the-block p image program most code x b block h e in
     let A = instructions_code y code.areas places S None is in
-    let E = end_code y y.short (held_behind None is) (S + 4 * length A) (start_of (block_starts y code x.at)) (last_address y code x.at)
+    let E = end_code y (setting_of y.extent (length (drop (suc b) code.blocks))) (held_behind None is) (S + 4 * length A) (start_of (block_starts y code x.at)) (last_address y code x.at)
     (pair_of (reads_of code) block) block.exit in
     let count : length (A ++ E) ≡ length A + length E = length-append A E in
     let fi : Found program y code.areas places (held_at None is k) i (S + 4 * length A)
@@ -154,7 +175,7 @@ at-exit p image program most code x b k block h e g =
     let f : FoundFunction program y code places x.at = the-function p image program most code x h in
     let fb = the-block p image program most code x b block h e in
     let A = instructions_code y code.areas places S None is in
-    let E = end_code y y.short (held_behind None is) (S + 4 * length A) (start_of (block_starts y code x.at)) (last_address y code x.at)
+    let E = end_code y (setting_of y.extent (length (drop (suc b) code.blocks))) (held_behind None is) (S + 4 * length A) (start_of (block_starts y code x.at)) (last_address y code x.at)
     (pair_of (reads_of code) block) block.exit in
     let count : length (A ++ E) ≡ length A + length E = length-append A E in
     let fe = find-exit program y code.areas places None is k S E g (omega (arith, fb.near, f.near, count)) fb.stands in
@@ -166,7 +187,17 @@ at-exit p image program most code x b k block h e g =
     subst (λ at. AtExit p image program code x (held_in code b k) (pair_of (reads_of code) block) block.exit at) (sym here)
     (subst (λ o. AtExit p image program code x o (pair_of (reads_of code) block) block.exit (S + 4 * length A)) (sym held)
     (record {
+      setting = setting_of y.extent (length (drop (suc b) code.blocks));
+      near_is = refl;
+      short_is = refl;
       stands = fe.1;
+      next_there = λ n g.
+          let i = next-some (length code.blocks) (length (drop (suc b) code.blocks)) n g in
+          next-is S (length A) (length E) (length (A ++ E)) n count i.0 i.1
+          (starts-next y code.areas places (start_of (block_starts y code x.at)) (last_address y code x.at) S code.blocks b block first e);
+      last_there = λ g.
+          last-is S (length A) (length E) (length (A ++ E)) count (next-none (length code.blocks) (length (drop (suc b) code.blocks)) g)
+          (starts-last y code.areas places (start_of (block_starts y code x.at)) (last_address y code x.at) S code.blocks b block first e);
       near = omega (arith, fb.near, f.near, count);
       aligned = omega (arith, fb.aligned);
       low = from-first x.at S (length (head_code y code)) (length A)
@@ -176,6 +207,34 @@ at-exit p image program most code x b k block h e g =
   where
     from-first : (a s n k : ℕ) → a + 4 * n ≤ s → a ≤ s + 4 * k
     from-first a s n k h = omega (arith, h)
+
+    first : ℕ
+    first = x.at + 4 * length (head_code (layout_of code x.homes) code)
+
+    begins : ℕ → ℕ
+    begins = start_of (block_starts (layout_of code x.homes) code x.at)
+
+    within : b < length code.blocks
+    within = slice_get_within code.blocks b block e
+
+    follow : length (drop (suc b) code.blocks) ≡ length code.blocks - suc b
+    follow = length-drop (suc b) code.blocks
+
+    next-is : (s a c d n : ℕ) → d ≡ a + c → 0 < length (drop (suc b) code.blocks) →
+        n ≡ length code.blocks - length (drop (suc b) code.blocks) → (suc b < length code.blocks → begins (suc b) ≡ s + 4 * d) →
+        begins n ≡ s + 4 * a + 4 * c
+    next-is s a c d n count some is there =
+        let number : n ≡ suc b = omega (arith, is, follow, within) in
+        let all : s + 4 * d ≡ s + 4 * a + 4 * c = omega (arith, count) in
+        ap begins number ∙ (there (omega (arith, some, follow)) ∙ all)
+
+    last-is : (s a c d : ℕ) → d ≡ a + c → length (drop (suc b) code.blocks) ≡ 0 →
+        (suc b ≡ length code.blocks → first + 4 * blocks_length (layout_of code x.homes) code.areas code.blocks ≡ s + 4 * d) →
+        last_address (layout_of code x.homes) code x.at ≡ s + 4 * a + 4 * c
+    last-is s a c d count none there =
+        let all : first + 4 * blocks_length (layout_of code x.homes) code.areas code.blocks ≡ s + 4 * d =
+        there (omega (arith, none, follow, within)) in
+        omega (arith, count, all)
 
 -- the end of a block whose exit has code of its own
 pub at-plain-exit : (p : Program) (image : Image) (program : List (Option Instr)) (most : ℕ) (code : Tac) (x : Placed) (b k : ℕ)

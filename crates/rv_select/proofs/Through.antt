@@ -1,6 +1,7 @@
 -- Steps that stay within a function, in a program of several functions.
-use Rattle.std.proofs.Common.{◌≡◌, ℕ, suc, ◌+◌, ◌*◌, ◌^◌, ◌≤◌, Bool, true, List, [], ◌++◌, length, Option, Some, None, refl, sym, ap, ◌∙◌, subst, arith}
+use Rattle.std.proofs.Common.{◌≡◌, ℕ, suc, ◌+◌, ◌*◌, ◌^◌, ◌≤◌, Bool, true, List, [], ◌++◌, length, Option, Some, None, refl, sym, ap, ◌∙◌, subst, ⊎_elim, arith}
 use Rattle.std.specs.Prelude.{slice_get}
+use Rattle.std.proofs.lemmas.Bool.{cases_Bool}
 use Rattle.tl_base.specs.declared.ids.FnId.{FnId}
 use Rattle.rv_isa.specs.declared.instr.Instr.{Instr}
 use Rattle.terra_words.specs.Runs.{Fault, More, Over, Returned, Stuck}
@@ -15,12 +16,13 @@ use Rattle.tac_form.specs.Graph.{graph_of}
 use Rattle.tac_form.specs.Live.{InUse}
 use Rattle.tac_form.specs.Weights.{exit_words, words_of}
 use Rattle.rv_machine.specs.Word.{low}
-use Rattle.rv_machine.specs.Machine.{State}
+use Rattle.rv_machine.specs.Machine.{State, after_output, run_of}
 use Rattle.rv_operators.specs.Runs.{Stands}
 use Rattle.rv_select.specs.Pairs.{pair_of, plain_of, reads_of}
-use Rattle.rv_select.specs.Places.{IsHeld, Layout, is_short, layout_of}
+use Rattle.rv_select.specs.declared.settings.Setting.{Setting}
+use Rattle.rv_select.specs.Places.{Holds, IsHeld, Keeps, Layout, World, layout_of}
 use Rattle.rv_select.specs.Shapes.{exit_shape, has_exit_shape, has_shape, held_after, shape_of, start_of}
-use Rattle.rv_select.specs.Steps.{Carried, Comes, IsReached, Left, StandsAtExit, StandsBefore, behind, world_of}
+use Rattle.rv_select.specs.Steps.{Carried, Comes, IsReached, Left, Remains, StandsAtExit, StandsBefore, behind, world_of}
 use Rattle.rv_select.specs.Calls.{block_starts, exit_code, instruction_code, last_address}
 use Rattle.rv_select.specs.Waiting.{Arrives, Image, IsLinked, IsPlaced, StandsIn, Stepped, entries_of, held_at, held_in, place_in, plain_in}
 use Rattle.rv_select.proofs.Carries.{instructions, nothing-written}
@@ -31,6 +33,8 @@ use Rattle.rv_select.proofs.Pairing.{before-next, plain-get}
 use Rattle.rv_select.proofs.Stands.{AtExit, AtPlace, at-plain-exit, at-instruction, exit-within, instruction-within, within-parts}
 use Rattle.rv_select.proofs.Reached.{exit-reaches, starts-small}
 use Rattle.rv_select.proofs.Waits.{waits-keeps}
+use Rattle.rv_select.proofs.Moves.{near-keeps}
+use Rattle.rv_select.proofs.Ways.{near-same, way-none}
 
 pub code-is : (y : Layout) (sizes : List ℕ) (places : FnId → ℕ) (at : ℕ) (held : Option ℕ) (i : Instruction) → has_shape i ≡ true →
     instruction_code y sizes places at held i ≡ shape_of y held i
@@ -48,12 +52,12 @@ code-is y sizes places at held (PutByte a) h = refl
 code-is y sizes places at held (Write place a b) h = refl
 code-is y sizes places at held (Alloc d a) h = refl
 
-exit-is : (y : Layout) (short : Bool) (held : Option ℕ) (at last : ℕ) (starts : ℕ → ℕ) (e : Exit) → has_exit_shape e ≡ true →
-    exit_code y short held at starts last e ≡ exit_shape y short held at starts e
-exit-is y short held at last starts (Return v) h = cc
-exit-is y short held at last starts (Jump e) h = refl
-exit-is y short held at last starts (Branch a e f) h = refl
-exit-is y short held at last starts (Fail kind place) h = refl
+exit-is : (y : Layout) (setting : Setting) (held : Option ℕ) (at last : ℕ) (starts : ℕ → ℕ) (e : Exit) → has_exit_shape e ≡ true →
+    exit_code y setting held at starts last e ≡ exit_shape y setting held at starts e
+exit-is y setting held at last starts (Return v) h = cc
+exit-is y setting held at last starts (Jump e) h = refl
+exit-is y setting held at last starts (Branch a e f) h = refl
+exit-is y setting held at last starts (Fail kind place) h = refl
 
 near-low : (n : ℕ) → n + 256 ≤ 2 ^ 30 → low n ≡ n
 unfolding low
@@ -68,13 +72,16 @@ arrives : (p : Program) (image : Image) (program : List (Option Instr)) (most si
     suc s.here.at ≤ length (plain_in (reads_of x.code) (slice_get x.code.blocks s.here.block)) →
     (c : Comes (layout_of x.code (image s.here.function).homes) program (InUse (graph_of x.code) t.here.block t.here.at) (world_of t) base
     weight target out m) → IsHeld held t.here.temps c.after →
-    Arrives p image program most size weight out t m
+    Arrives p image program most size weight s.left out t m
 arrives p image program most size weight linked s t base m x out target held st to behind-it inside c five =
     subst
     (λ z. (d : Comes (layout_of x.code (image s.here.function).homes) program (InUse (graph_of x.code) z.here.block z.here.at) (world_of z)
-    base weight target out m) → IsHeld held z.here.temps d.after → Arrives p image program most size weight out z m)
+    base weight target out m) → IsHeld held z.here.temps d.after → Arrives p image program most size weight s.left out z m)
     (sym st.is) made c five
   where
+    counted : (l n : ℕ) → l ≤ l + n
+    counted l n = omega arith
+
     made : (d : Comes (layout_of x.code (image s.here.function).homes) program (InUse (graph_of x.code) s.here.block (suc s.here.at))
         (world_of (record s {
           here = record s.here { at = suc s.here.at; temps = st.temps; areas = st.areas };
@@ -82,7 +89,7 @@ arrives p image program most size weight linked s t base m x out target held st 
           out =
               st.out;
         })) base weight target out m) → IsHeld held st.temps d.after →
-        Arrives p image program most size weight out
+        Arrives p image program most size weight s.left out
         (record s {
           here = record s.here { at = suc s.here.at; temps = st.temps; areas = st.areas };
           region = st.region;
@@ -92,7 +99,7 @@ arrives p image program most size weight linked s t base m x out target held st 
       steps = d.steps;
       after = d.after;
       base = base;
-      some = d.some;
+      enough = counted s.left d.steps;
       few = d.few;
       runs = d.runs;
       stands = record {
@@ -189,36 +196,74 @@ inner-step p image program most size linked s base m x block i in-f in-p h =
       five = x.five;
     }
 
+-- The machine comes to where a block begins, or stands there.
+record Standing (y : Layout) (program : List (Option Instr)) (Next : ℕ → Type 0) (w : World) (base weight target : ℕ) (m : State) : Type 0 where
+  steps : ℕ
+  after : State
+  few : steps ≤ weight
+  runs : (more : ℕ) → run_of program m (steps + more) ≡ after_output [] (run_of program after more)
+  at : after.pc ≡ target
+  holds : Holds y Next w base after
+  keeps : Keeps y base m after
+
+abbrev begins-by : (y : Layout) (program : List (Option Instr)) (Next : ℕ → Type 0) (w : World) (base weight target : ℕ) (m : State)
+    (c : Comes y program Next w base weight target [] m) → Standing y program Next w base weight target m
+begins-by y program Next w base weight target m c = record {
+  steps = c.steps;
+  after = c.after;
+  few = c.few;
+  runs = c.runs;
+  at = c.at;
+  holds = c.holds;
+  keeps = c.keeps;
+}
+
+abbrev begins-there : (y : Layout) (program : List (Option Instr)) (Next : ℕ → Type 0) (w : World) (base weight target : ℕ) (m : State) →
+    Remains y Next w base target m → Standing y program Next w base weight target m
+begins-there y program Next w base weight target m r = record {
+  steps = 0;
+  after = m;
+  few = omega arith;
+  runs = λ more. (way-none program m).runs more;
+  at = r.at;
+  holds = r.holds;
+  keeps = near-keeps y base m m (near-same m);
+}
+
 -- The machine stands where a block begins. Three-address code may have gone on from the state in which the machine stood before, by
 -- instructions that have no code of their own.
 comes-to : (p : Program) (image : Image) (program : List (Option Instr)) (most size weight : ℕ) → IsLinked p image program most →
     (s : tac.State) (at : ℕ) (temps : Temps) (t : tac.State) (base : ℕ) (m : State)
     (x : StandsIn p image program most size s base m) (exit : Exit) →
     LeavesTo exit (record s { here = record s.here { at = at; temps = temps } }) t →
-    Comes (layout_of x.code (image s.here.function).homes) program (InUse (graph_of x.code) t.here.block t.here.at) (world_of t) base weight
-    (start_of (block_starts (layout_of x.code (image s.here.function).homes) x.code (image s.here.function).at) t.here.block) [] m →
-    Arrives p image program most size weight [] t m
-comes-to p image program most size weight linked s at temps t base m x exit l c =
-    subst
-    (λ z. Comes (layout_of x.code (image s.here.function).homes) program (InUse (graph_of x.code) z.here.block z.here.at) (world_of z) base
+    (b : Standing (layout_of x.code (image s.here.function).homes) program (InUse (graph_of x.code) t.here.block t.here.at) (world_of t) base
     weight
-    (start_of (block_starts (layout_of x.code (image s.here.function).homes) x.code (image s.here.function).at) z.here.block) [] m →
-    Arrives p image program most size weight [] z m)
-    (sym l.is) made c
+    (start_of (block_starts (layout_of x.code (image s.here.function).homes) x.code (image s.here.function).at) t.here.block) m) →
+    s.left ≤ t.left + b.steps →
+    Arrives p image program most size weight s.left [] t m
+comes-to p image program most size weight linked s at temps t base m x exit l b counts =
+    subst
+    (λ z. (d : Standing (layout_of x.code (image s.here.function).homes) program (InUse (graph_of x.code) z.here.block z.here.at) (world_of z)
+    base weight
+    (start_of (block_starts (layout_of x.code (image s.here.function).homes) x.code (image s.here.function).at) z.here.block) m) →
+    s.left ≤ z.left + d.steps →
+    Arrives p image program most size weight s.left [] z m)
+    (sym l.is) made b counts
   where
     from-zero : (n : ℕ) → 0 ≤ n
     from-zero n = omega arith
 
-    made : Comes (layout_of x.code (image s.here.function).homes) program (InUse (graph_of x.code) l.edge.block 0)
+    made : (d : Standing (layout_of x.code (image s.here.function).homes) program (InUse (graph_of x.code) l.edge.block 0)
         (world_of (record s { here = record s.here { at = at; temps = temps } })) base weight
-        (start_of (block_starts (layout_of x.code (image s.here.function).homes) x.code (image s.here.function).at) l.edge.block) [] m →
-        Arrives p image program most size weight []
+        (start_of (block_starts (layout_of x.code (image s.here.function).homes) x.code (image s.here.function).at) l.edge.block) m) →
+        s.left ≤ l.left + d.steps →
+        Arrives p image program most size weight s.left []
         (record s { here = record s.here { block = l.edge.block; at = 0; temps = temps }; left = l.left }) m
-    made d = record {
+    made d h = record {
       steps = d.steps;
       after = d.after;
       base = base;
-      some = d.some;
+      enough = h;
       few = d.few;
       runs = d.runs;
       stands = record {
@@ -236,6 +281,12 @@ comes-to p image program most size weight linked s at temps t base m x exit l c 
       };
     }
 
+-- an exit takes at most one count
+one-count : (exit : Exit) (s t : tac.State) → LeavesTo exit s t → (n : ℕ) → 1 ≤ n → s.left ≤ t.left + n
+one-count exit s t l n some =
+    subst (λ z. s.left ≤ z.left + n) (sym l.is)
+    (⊎_elim (λ c. omega (arith, l.counts c, some)) (λ c. omega (arith, l.free c)) (cases_Bool l.edge.counts))
+
 pub left-joined : (p : Program) (image : Image) (program : List (Option Instr)) (most size weight : ℕ) → IsLinked p image program most →
     (s : tac.State) (at : ℕ) (temps : Temps) (base : ℕ) (m : State)
     (x : StandsIn p image program most size s base m) (exit : Exit) (moved : tac.Moved) →
@@ -243,9 +294,24 @@ pub left-joined : (p : Program) (image : Image) (program : List (Option Instr)) 
     Left (layout_of x.code (image s.here.function).homes) (graph_of x.code) program base weight
     (start_of (block_starts (layout_of x.code (image s.here.function).homes) x.code (image s.here.function).at)) s m moved →
     Stepped p image program most size weight s m moved
-left-joined p image program most size weight linked s at temps base m x exit (Goes t) l c =
-    ([], outs s t c.0, comes-to p image program most size weight linked s at temps t base m x exit l c.1)
+left-joined p image program most size weight linked s at temps base m x exit (Goes t) l c = (
+  [],
+  outs s t c.0,
+  ⊎_elim
+      (λ d. comes-to p image program most size weight linked s at temps t base m x exit l
+      (begins-by y program (InUse (graph_of x.code) t.here.block t.here.at) (world_of t) base weight (starts t.here.block) m d)
+      (one-count exit (record s { here = record s.here { at = at; temps = temps } }) t l d.steps d.some))
+      (λ r. comes-to p image program most size weight linked s at temps t base m x exit l
+      (begins-there y program (InUse (graph_of x.code) t.here.block t.here.at) (world_of t) base weight (starts t.here.block) m r.1)
+      (omega (arith, r.0))) c.1,
+)
   where
+    y : Layout
+    y = layout_of x.code (image s.here.function).homes
+
+    starts : ℕ → ℕ
+    starts = start_of (block_starts y x.code (image s.here.function).at)
+
     outs : (s t : tac.State) → t.out ≡ s.out → t.out ≡ s.out ++ []
     outs s t e = e ∙ nothing-written s.out
 left-joined p image program most size weight linked s at temps base m x exit (Stops (Over (Fault kind place) out)) l c = c
@@ -278,6 +344,19 @@ exit-step p image program most size linked s base m x block in-f in-b alone h =
     leaves : LeavesIf block.exit s (step p s)
     leaves = let e1 = x.function in rw (e1, in-f, in-b) (leave-to p block.exit s h)
 
+    y : Layout
+    y = layout_of x.code (image s.here.function).homes
+
+    at : ℕ
+    at = place_in p image x.code (image s.here.function) s.here.block s.here.at
+
+    starts : ℕ → ℕ
+    starts = start_of (block_starts y x.code (image s.here.function).at)
+
+    code-is : exit_code y found.setting held at starts (last_address y x.code (image s.here.function).at) block.exit
+        ≡ exit_shape y found.setting held at starts block.exit
+    code-is = exit-is y found.setting held at (last_address y x.code (image s.here.function).at) starts block.exit h
+
     before : StandsAtExit p x.code (image s.here.function).homes held block.exit
         (start_of (block_starts (layout_of x.code (image s.here.function).homes) x.code (image s.here.function).at)) s program base m
     before = record {
@@ -292,14 +371,13 @@ exit-step p image program most size linked s base m x block in-f in-b alone h =
       blocks = starts-small p image program most x.code s.here.function pl;
       reach = subst (λ q. IsReached x.code (start_of (block_starts (layout_of x.code (image s.here.function).homes) x.code (image s.here.function).at)) q)
           (sym x.pc) (exit-reaches p image program most x.code s.here.function _ pl found.low found.high);
-      stands = subst (λ q. Stands program q (exit_shape (layout_of x.code (image s.here.function).homes) (is_short x.code) held q
-          (start_of (block_starts (layout_of x.code (image s.here.function).homes) x.code (image s.here.function).at)) block.exit))
-          (sym x.pc)
-          (subst (λ c. Stands program (place_in p image x.code (image s.here.function) s.here.block s.here.at) c)
-          (exit-is (layout_of x.code (image s.here.function).homes) (is_short x.code) held (place_in p image x.code (image s.here.function) s.here.block s.here.at)
-          (last_address (layout_of x.code (image s.here.function).homes) x.code (image s.here.function).at)
-          (start_of (block_starts (layout_of x.code (image s.here.function).homes) x.code (image s.here.function).at)) block.exit h)
-          found.stands);
+      setting = found.setting;
+      near_is = found.near_is;
+      short_is = found.short_is;
+      stands = subst (λ q. Stands program q (exit_shape y found.setting held q starts block.exit)) (sym x.pc)
+          (subst (λ c. Stands program at c) code-is found.stands);
+      next_there = λ n g. subst (λ q. starts n ≡ q + 4 * length (exit_shape y found.setting held q starts block.exit)) (sym x.pc)
+          (subst (λ c. starts n ≡ at + 4 * length c) code-is (found.next_there n g));
       holds = x.holds;
       five = x.five;
     }

@@ -20,6 +20,8 @@ use Rattle.tac_form.specs.Fits.{area_fits}
 use Rattle.tac_form.specs.Weights.{block_words, code_words, exit_words, private_bytes, words_of}
 use Rattle.rv_select.specs.declared.selected.Code.{Code}
 use Rattle.rv_select.specs.declared.pairs.Pair.{Pair}
+use Rattle.rv_select.specs.declared.settings.Setting.{Setting}
+use Rattle.rv_select.specs.Settings.{setting_of}
 use Rattle.rv_select.specs.Pairs.{but_pair, pair_of}
 use Rattle.rv_select.specs.Places.{Layout, frame_bytes, layout_of}
 use Rattle.rv_select.specs.Shapes.{held_after, start_of}
@@ -63,23 +65,26 @@ instructions-weight y sizes places at held (i ∷ is) small h =
     (both A (instructions_code y sizes places (at + 4 * length A) (held_after i) is) (words_of i) (sum_by words_of is)
     (instruction-weight y sizes places at held i small e.0) (instructions-weight y sizes places (at + 4 * length A) (held_after i) is small e.1))
 
-exit-weight : (code : Tac) (y : Layout) (short : Bool) (held : Option ℕ) (at : ℕ) (starts : ℕ → ℕ) (last : ℕ) (e : Exit) → has_exit_code e ≡ true →
-    length (exit_code y short held at starts last e) ≤ exit_words e
-exit-weight code y short held at starts last (Return v) h = (frames-within code y short 0 at last v).1
-exit-weight code y short held at starts last (Jump e) h = (exits-within y short held (Jump e) at at starts starts h).0
-exit-weight code y short held at starts last (Branch a e f) h = (exits-within y short held (Branch a e f) at at starts starts h).0
-exit-weight code y short held at starts last (Fail kind place) h = (exits-within y short held (Fail kind place) at at starts starts h).0
+exit-weight : (code : Tac) (y : Layout) (setting : Setting) (held : Option ℕ) (at : ℕ) (starts : ℕ → ℕ) (last : ℕ) (e : Exit) → has_exit_code e ≡ true →
+    length (exit_code y setting held at starts last e) ≤ exit_words e
+exit-weight code y setting held at starts last (Return v) h = (frames-within code y setting 0 at last v).1
+exit-weight code y setting held at starts last (Jump e) h = (exits-within y setting held (Jump e) at at starts starts h).0
+exit-weight code y setting held at starts last (Branch a e f) h = (exits-within y setting held (Branch a e f) at at starts starts h).0
+exit-weight code y setting held at starts last (Fail kind place) h = (exits-within y setting held (Fail kind place) at at starts starts h).0
 
-pair-weight : (y : Layout) (short : Bool) (starts : ℕ → ℕ) (held : Option ℕ) (at d : ℕ) (pair : Pair) →
-    length (pair_code y short held at starts pair) < words_of (compare_of pair d) + exit_words (Branch (Temp d) pair.first pair.second)
+pair-weight : (y : Layout) (setting : Setting) (starts : ℕ → ℕ) (held : Option ℕ) (at d : ℕ) (pair : Pair) →
+    length (pair_code y setting held at starts pair) < words_of (compare_of pair d) + exit_words (Branch (Temp d) pair.first pair.second)
 unfolding pair_code
-pair-weight y short starts held at d pair =
-    (compares-within y short held d pair.operator pair.form pair.a pair.b pair.first pair.second at 0 starts starts).1
+pair-weight y setting starts held at d pair =
+    (compares-within y setting held d pair.operator pair.form pair.a pair.b pair.first pair.second at 0 starts starts).1
 
-block-weight : (code : Tac) (y : Layout) (sizes : List ℕ) (places : FnId → ℕ) (starts : ℕ → ℕ) (last at : ℕ) (b : Block) →
-    list_all area_fits sizes ≡ true → block_has_code b ≡ true → length (block_code y sizes places starts last at b) ≤ block_words b
-block-weight code y sizes places starts last at b small h = go (pair_of y.reads b) refl
+block-weight : (code : Tac) (y : Layout) (sizes : List ℕ) (places : FnId → ℕ) (starts : ℕ → ℕ) (last at rest : ℕ) (b : Block) →
+    list_all area_fits sizes ≡ true → block_has_code b ≡ true → length (block_code y sizes places starts last at rest b) ≤ block_words b
+block-weight code y sizes places starts last at rest b small h = go (pair_of y.reads b) refl
   where
+    setting : Setting
+    setting = setting_of y.extent rest
+
     parts : (list_all has_code b.instructions ≡ true) × (has_exit_code b.exit ≡ true)
     parts = both-true (list_all has_code b.instructions) (has_exit_code b.exit) h
 
@@ -88,25 +93,25 @@ block-weight code y sizes places starts last at b small h = go (pair_of y.reads 
 
     go : (o : Option Pair) → pair_of y.reads b ≡ o →
         length (instructions_code y sizes places at None (but_pair o b.instructions)
-        ++ end_code y y.short (held_behind None (but_pair o b.instructions))
+        ++ end_code y setting (held_behind None (but_pair o b.instructions))
         (at + 4 * length (instructions_code y sizes places at None (but_pair o b.instructions))) starts last o b.exit)
         ≤ block_words b
     go None q =
         let A = instructions_code y sizes places at None b.instructions in
         let held : Option ℕ = held_behind None b.instructions in
-        both A (exit_code y y.short held (at + 4 * length A) starts last b.exit) (sum_by words_of b.instructions) (exit_words b.exit)
+        both A (exit_code y setting held (at + 4 * length A) starts last b.exit) (sum_by words_of b.instructions) (exit_words b.exit)
         (instructions-weight y sizes places at None b.instructions small parts.0)
-        (exit-weight code y y.short held (at + 4 * length A) starts last b.exit parts.1)
+        (exit-weight code y setting held (at + 4 * length A) starts last b.exit parts.1)
     go (Some pair) q =
         let k : IsPair y.reads (slice_get b.instructions (length b.instructions - 1)) b.exit pair =
         pair-parts y.reads (slice_get b.instructions (length b.instructions - 1)) b.exit pair q in
         let is : List Instruction = but_pair (Some pair) b.instructions in
         let A = instructions_code y sizes places at None is in
         let held : Option ℕ = held_behind None is in
-        let C = pair_code y y.short held (at + 4 * length A) starts pair in
+        let C = pair_code y setting held (at + 4 * length A) starts pair in
         let i : Instruction = compare_of pair k.result in
         let first : length C < words_of i + exit_words b.exit =
-        subst (λ z. length C < words_of i + exit_words z) (sym k.exit_is) (pair-weight y y.short starts held (at + 4 * length A) k.result pair) in
+        subst (λ z. length C < words_of i + exit_words z) (sym k.exit_is) (pair-weight y setting starts held (at + 4 * length A) k.result pair) in
         let count : length (A ++ C) ≡ length A + length C = length-append A C in
         subst (λ n. n ≤ sum_by words_of b.instructions + exit_words b.exit) (sym count)
         (less (length A) (length C) (words_of i) (sum_by words_of is) (sum_by words_of b.instructions) (exit_words b.exit)
@@ -119,10 +124,10 @@ blocks-weight : (code : Tac) (y : Layout) (sizes : List ℕ) (places : FnId → 
 blocks-weight code y sizes places starts last at [] small h = omega arith
 blocks-weight code y sizes places starts last at (b ∷ bs) small h =
     let e = both-true (block_has_code b) (list_all block_has_code bs) h in
-    let A = block_code y sizes places starts last at b in
+    let A = block_code y sizes places starts last at (length bs) b in
     subst (λ n. length (A ++ blocks_code y sizes places starts last (at + 4 * length A) bs) ≤ n) (sym (sum_by-cons block_words b bs))
     (both A (blocks_code y sizes places starts last (at + 4 * length A) bs) (block_words b) (sum_by block_words bs)
-    (block-weight code y sizes places starts last at b small e.0)
+    (block-weight code y sizes places starts last at (length bs) b small e.0)
     (blocks-weight code y sizes places starts last (at + 4 * length A) bs small e.1))
 
 -- a function's code
@@ -136,7 +141,7 @@ function-weight y code places at h small =
     let D = body_code y code places at in
     sums (length B) (length E) (length L) (length R) (length D) (length (B ++ (E ++ R))) (length (E ++ R))
     (length (D ++ L)) (length (function_code y code places at)) (receiving code.parameters) (sum_by block_words code.blocks) (code_words code)
-    (frames-within code y false (frame_bytes y) 0 0 (Word (Constant 0))).0
+    (frames-within code y (setting_of y.extent 0) (frame_bytes y) 0 0 (Word (Constant 0))).0
     (parameters-within y code.areas (words_offset y) code.parameters small)
     (blocks-weight code y code.areas places (start_of (block_starts y code at)) (last_address y code at) (at + 4 * length (head_code y code))
     code.blocks small h)

@@ -20,7 +20,7 @@ use Rattle.tac_form.specs.Flow.{bytes_of, width_of}
 use Rattle.tac_form.specs.Weights.{operand_words, operator_words, words_of}
 use Rattle.rv_operators.specs.Codes.{x0, x5, x6, zero_immediate}
 use Rattle.rv_select.specs.Places.{Layout, area_offset, home_of}
-use Rattle.rv_select.specs.Shapes.{all_carried, applied_to, area_reached, bounds_tested, chosen, byte_taken, bytes_given, failed, first_taken, framed, from_area, heap_aligned, is_turned, jump, limit_found, load_of, located, operated, over, put_to, range_tested, reached, store_of, taken, to_area, write_call, x11, x12, zeros}
+use Rattle.rv_select.specs.Shapes.{all_carried, applied_to, area_reached, bounds_tested, byte_taken, bytes_given, chosen, exit_shape, failed, first_taken, framed, from_area, heap_aligned, is_turned, limit_found, load_of, located, operated, over, put_to, range_tested, reached, store_of, taken, to_area, write_call, x11, x12, zeros}
 use Rattle.rv_select.specs.Steps.{ExitsKeepWithin, ShapesKeepWithin}
 use Rattle.rv_select.proofs.Frames.{framed-count}
 use Rattle.rv_select.proofs.Homes.{first-count, operand-count, put-count}
@@ -30,7 +30,9 @@ use Rattle.rv_select.proofs.Divisors.{located-count}
 use Rattle.rv_select.proofs.Clears.{zeros-count}
 use Rattle.rv_select.proofs.Transports.{area-count, carried-count, moved-count}
 use Rattle.rv_select.proofs.Printed.{byte-count}
-use Rattle.rv_select.proofs.Jumps.{chosen-count, jump-count, jump-few, jump_words}
+use Rattle.rv_select.specs.declared.settings.Follows.{Follows}
+use Rattle.rv_select.specs.Settings.{falls, follower}
+use Rattle.rv_select.proofs.Jumps.{chosen-count, chosen-few, chosen_words, edge-count, edge-few, edge_words}
 
 -- most words of two pieces of code
 both : (a b : List Instr) (n k : ℕ) → length a ≤ n → length b ≤ k → length (a ++ b) ≤ n + k
@@ -146,22 +148,24 @@ within y held (Alloc d a) h =
     (both (first_taken y held a) (heap_aligned ++ (limit_found ++ (bytes_given ++ put_to (home_of y d)))) (operand_words a) 16 (first-count y held a) (omega (arith, put-count (home_of y d))))
 
 -- exits
-branch-count : (y : Layout) (short : Bool) (held : Option ℕ) (a : Operand) (at first second : ℕ) →
-    length (first_taken y held a ++ chosen short Ne x5 x0 at first second) ≡ length (first_taken y held a) + (1 + jump_words short + jump_words short)
-branch-count y short held a at first second =
-    length-append (first_taken y held a) (chosen short Ne x5 x0 at first second)
-    ∙ ap (λ n. length (first_taken y held a) + n) (chosen-count short Ne x5 x0 at first second)
+branch-count : (y : Layout) (near short : Bool) (o : Follows) (held : Option ℕ) (a : Operand) (at first second : ℕ) →
+    length (first_taken y held a ++ chosen near short o Ne x5 x0 at first second) ≡ length (first_taken y held a) + chosen_words near short o
+branch-count y near short o held a at first second =
+    length-append (first_taken y held a) (chosen near short o Ne x5 x0 at first second)
+    ∙ ap (λ n. length (first_taken y held a) + n) (chosen-count near short o Ne x5 x0 at first second)
 
 pub exits-within : ExitsKeepWithin
-exits-within y short held (Jump e) at other starts others h =
-    let n : length (jump short at (starts e.block)) ≡ jump_words short = jump-count short at (starts e.block) in (
-      omega (arith, n, (jump-few short).1),
-      n ∙ sym (jump-count short other (others e.block)),
+exits-within y setting held (Jump e) at other starts others h =
+    let b : Bool = falls setting.next e in
+    let n : length (exit_shape y setting held at starts (Jump e)) ≡ edge_words b setting.short = edge-count b setting.short at (starts e.block) in (
+      omega (arith, n, edge-few b setting.short),
+      n ∙ sym (edge-count b setting.short other (others e.block)),
     )
-exits-within y short held (Branch a e f) at other starts others h =
-    let n = branch-count y short held a (at + 4 * length (first_taken y held a)) (starts e.block) (starts f.block) in (
-      omega (arith, n, (jump-few short).1, first-count y held a),
-      n ∙ sym (branch-count y short held a (other + 4 * length (first_taken y held a)) (others e.block) (others f.block)),
+exits-within y setting held (Branch a e f) at other starts others h =
+    let o : Follows = follower setting.next e.block f.block in
+    let n = branch-count y setting.near setting.short o held a (at + 4 * length (first_taken y held a)) (starts e.block) (starts f.block) in (
+      omega (arith, n, chosen-few setting.near setting.short o, first-count y held a),
+      n ∙ sym (branch-count y setting.near setting.short o held a (other + 4 * length (first_taken y held a)) (others e.block) (others f.block)),
     )
-exits-within y short held (Return v) at other starts others h = cc
-exits-within y short held (Fail kind place) at other starts others h = (failed-count kind place, refl)
+exits-within y setting held (Return v) at other starts others h = cc
+exits-within y setting held (Fail kind place) at other starts others h = (failed-count kind place, refl)

@@ -20,9 +20,9 @@ use Rattle.tac_form.specs.declared.tac.Part.{Part}
 use Rattle.rv_operators.specs.Codes.{x0, x5, x6, zero_immediate}
 use Rattle.rv_select.specs.Numbers.{below_zero, constant, lower_of, register_of, short_constant}
 use Rattle.rv_select.specs.Places.{Layout, home_of}
-use Rattle.rv_select.specs.Shapes.{far_part, framed, jump, limit_found, place_number, x2, x7, x8, x10, x11}
-use Rattle.rv_select.specs.Entering.{arguments_stored, entered, frame_taken, frames_given, region_given, region_taken, stack_tested, x1, most_arguments, put_back, received, receiving, result_put, result_words, saved, size_in, stack_branch, stored_below}
-use Rattle.rv_select.specs.Calls.{call_begun, call_ended, called, call_jump, depth_tested, one_more, part_taken, passed}
+use Rattle.rv_select.specs.Shapes.{far_part, framed, limit_found, place_number, x2, x7, x8, x10, x11}
+use Rattle.rv_select.specs.Entering.{arguments_stored, entered, frame_taken, frames_given, region_given, region_taken, stack_tested, x1, most_arguments, place_given, put_back, received, receiving, result_put, result_words, saved, size_in, stack_branch, stored_below}
+use Rattle.rv_select.specs.Calls.{call_begun, call_ended, called, call_jump, depth_tested, jump_unless_last, one_more, part_taken, passed}
 use Rattle.rv_select.specs.Frames.{CallsKeepWithin, FramesKeepWithin, ParametersKeepWithin}
 use Rattle.rv_select.proofs.Copies.{size-small}
 use Rattle.rv_select.proofs.Enters.{saved-count}
@@ -32,7 +32,7 @@ use Rattle.rv_select.proofs.Numbers.{constant-count, short-count}
 use Rattle.rv_select.proofs.Passes.{below-count, part-count}
 use Rattle.rv_select.proofs.Quits.{put-back-count}
 use Rattle.rv_select.proofs.Weights.{to-count}
-use Rattle.rv_select.proofs.Jumps.{jump-count, jump-few}
+use Rattle.rv_select.proofs.Jumps.{last-count, last-few}
 
 -- most words of two pieces of code
 both : (a b : List Instr) (n k : ℕ) → length a ≤ n → length b ≤ k → length (a ++ b) ≤ n + k
@@ -82,14 +82,18 @@ region-given-count : (n : ℕ) → length (region_given n) ≤ 9
 region-given-count zero = omega arith
 region-given-count (suc n) = both (constant x5 (suc n)) (RegisterRegister Add x8 x8 x5 ∷ []) 8 1 (constant-count x5 (suc n)) (omega arith)
 
+pub place-count : (frame : ℕ) (at : Place) → length (place_given frame at) ≤ 8
+place-count zero at = omega arith
+place-count (suc n) at = constant-count x11 (place_number at)
+
 pub frames-within : FramesKeepWithin
-frames-within code y short bytes at last v =
+frames-within code y setting bytes at last v =
     let n : ℕ = most_arguments (length code.parameters) in
     let args : length (arguments_stored n 0) ≤ n = arguments-count n 0 (omega (arith, most-eight (length code.parameters))) in
     let eight : length (arguments_stored n 0) ≤ 8 = omega (arith, args, most-eight (length code.parameters)) in
-    let place : length (constant x11 (place_number code.place)) ≤ 8 = constant-count x11 (place_number code.place) in
-    let begins : length (arguments_stored n 0 ++ constant x11 (place_number code.place)) ≤ 8 + 8 =
-    both (arguments_stored n 0) (constant x11 (place_number code.place)) 8 8 eight place in
+    let place : length (place_given code.frame code.place) ≤ 8 = place-count code.frame code.place in
+    let begins : length (arguments_stored n 0 ++ place_given code.frame code.place) ≤ 8 + 8 =
+    both (arguments_stored n 0) (place_given code.frame code.place) 8 8 eight place in
     let sized : length (short_constant x6 bytes) ≤ 2 = short-count x6 bytes in
     let keeps : length (saved y 10 18) ≤ 10 = saved-count y 10 18 in
     let taken : length (short_constant x6 bytes) + (2 + length (saved y 10 18)) ≤ 14 = omega (arith, sized, keeps) in
@@ -100,8 +104,8 @@ frames-within code y short bytes at last v =
     both (region_given code.frame) (short_constant x6 bytes ++ (RegisterRegister Add x2 x2 x6 ∷ Jalr x0 x1 zero_immediate ∷ [])) 9 4 (region-given-count code.frame) (omega (arith, length-append (short_constant x6 bytes) (RegisterRegister Add x2 x2 x6 ∷ Jalr x0 x1 zero_immediate ∷ []), sized)) in
     let leaves : length (put_back y 10 18 ++ frames_given bytes code.frame) ≤ 10 + 13 = both (put_back y 10 18) (frames_given bytes code.frame) 10 13 backs gives in (
       omega (arith, begins, enters, leaves),
-      both (part_taken y x10 v) (jump short (at + 4 * length (part_taken y x10 v)) last) 8 2 (part-count y x10 v)
-          (omega (arith, jump-count short (at + 4 * length (part_taken y x10 v)) last, (jump-few short).1)),
+      both (part_taken y x10 v) (jump_unless_last setting.short setting.next (at + 4 * length (part_taken y x10 v)) last) 8 2 (part-count y x10 v)
+          (omega (arith, last-count setting.short setting.next (at + 4 * length (part_taken y x10 v)) last, last-few setting.short setting.next)),
     )
 
 -- a word goes to its home, and bytes to their area

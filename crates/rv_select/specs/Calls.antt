@@ -26,6 +26,8 @@ use Rattle.rv_operators.specs.Codes.{x5}
 use Rattle.rv_select.specs.declared.selected.Code.{Code}
 use Rattle.rv_select.specs.declared.selected.Call.{Call as Site}
 use Rattle.rv_select.specs.declared.pairs.Pair.{Pair}
+use Rattle.rv_select.specs.declared.settings.Setting.{Setting}
+use Rattle.rv_select.specs.Settings.{setting_of}
 use Rattle.rv_select.specs.Compared.{compared_shape}
 use Rattle.rv_select.specs.Pairs.{pair_of, plain_of}
 use Rattle.rv_select.specs.Numbers.{below_zero, constant, immediate_of, lower_of, upper_of}
@@ -76,13 +78,19 @@ abbrev pub instruction_code : Layout → (sizes : List ℕ) → (places : FnId �
 instruction_code y sizes places at held (Call to place f arguments) = called y sizes places at to place f arguments
 instruction_code y sizes places at held i = shape_of y held i
 
--- that of an exit, by the addresses of blocks and of the code that leaves the function: it gives back a part
-abbrev pub returned : Layout → (short : Bool) → (at last : ℕ) → Part → List Instr
-returned y short at last v = part_taken y x10 v ++ jump short (at + 4 * length (part_taken y x10 v)) last
+-- That of an exit, by the addresses of blocks and of the code that leaves the function: it gives back a part. Behind the last block that
+-- code needs no jump.
+abbrev pub jump_unless_last : (short : Bool) → (next : Option ℕ) → (at last : ℕ) → List Instr
+jump_unless_last short None at last = []
+jump_unless_last short (Some n) at last = jump short at last
 
-abbrev pub exit_code : Layout → (short : Bool) → (held : Option ℕ) → (at : ℕ) → (starts : ℕ → ℕ) → (last : ℕ) → Exit → List Instr
-exit_code y short held at starts last (Return v) = returned y short at last v
-exit_code y short held at starts last e = exit_shape y short held at starts e
+abbrev pub returned : Layout → Setting → (at last : ℕ) → Part → List Instr
+returned y setting at last v =
+    part_taken y x10 v ++ jump_unless_last setting.short setting.next (at + 4 * length (part_taken y x10 v)) last
+
+abbrev pub exit_code : Layout → Setting → (held : Option ℕ) → (at : ℕ) → (starts : ℕ → ℕ) → (last : ℕ) → Exit → List Instr
+exit_code y setting held at starts last (Return v) = returned y setting at last v
+exit_code y setting held at starts last e = exit_shape y setting held at starts e
 
 abbrev pub instructions_code : Layout → (sizes : List ℕ) → (places : FnId → ℕ) → (at : ℕ) → (held : Option ℕ) → List Instruction → List Instr
 instructions_code y sizes places at held [] = []
@@ -96,27 +104,28 @@ held_behind held [] = held
 held_behind held (i ∷ is) = held_behind (held_after i) is
 
 -- what follows the instructions with code of their own: the code of a comparison and the exit, or that of the exit
-unfoldable pub pair_code : Layout → (short : Bool) → (held : Option ℕ) → (at : ℕ) → (starts : ℕ → ℕ) → Pair → List Instr
-pair_code y short held at starts pair =
-    compared_shape y short held at starts pair.operator pair.form pair.a pair.b pair.first pair.second
+unfoldable pub pair_code : Layout → Setting → (held : Option ℕ) → (at : ℕ) → (starts : ℕ → ℕ) → Pair → List Instr
+pair_code y setting held at starts pair =
+    compared_shape y setting held at starts pair.operator pair.form pair.a pair.b pair.first pair.second
 
-abbrev pub end_code : Layout → (short : Bool) → (held : Option ℕ) → (at : ℕ) → (starts : ℕ → ℕ) → (last : ℕ) → Option Pair → Exit →
+abbrev pub end_code : Layout → Setting → (held : Option ℕ) → (at : ℕ) → (starts : ℕ → ℕ) → (last : ℕ) → Option Pair → Exit →
     List Instr
-end_code y short held at starts last None e = exit_code y short held at starts last e
-end_code y short held at starts last (Some pair) e = pair_code y short held at starts pair
+end_code y setting held at starts last None e = exit_code y setting held at starts last e
+end_code y setting held at starts last (Some pair) e = pair_code y setting held at starts pair
 
-abbrev pub block_code : Layout → (sizes : List ℕ) → (places : FnId → ℕ) (starts : ℕ → ℕ) → (last at : ℕ) → Block → List Instr
-block_code y sizes places starts last at b =
+-- the code of a block that so many follow
+abbrev pub block_code : Layout → (sizes : List ℕ) → (places : FnId → ℕ) (starts : ℕ → ℕ) → (last at rest : ℕ) → Block → List Instr
+block_code y sizes places starts last at rest b =
     instructions_code y sizes places at None (plain_of y.reads b)
-    ++ end_code y y.short (held_behind None (plain_of y.reads b))
+    ++ end_code y (setting_of y.extent rest) (held_behind None (plain_of y.reads b))
     (at + 4 * length (instructions_code y sizes places at None (plain_of y.reads b)))
     starts last (pair_of y.reads b) b.exit
 
 abbrev pub blocks_code : Layout → (sizes : List ℕ) → (places : FnId → ℕ) (starts : ℕ → ℕ) → (last at : ℕ) → List Block → List Instr
 blocks_code y sizes places starts last at [] = []
 blocks_code y sizes places starts last at (b ∷ bs) =
-    block_code y sizes places starts last at b
-    ++ blocks_code y sizes places starts last (at + 4 * length (block_code y sizes places starts last at b)) bs
+    block_code y sizes places starts last at (length bs) b
+    ++ blocks_code y sizes places starts last (at + 4 * length (block_code y sizes places starts last at (length bs) b)) bs
 
 -- where calls of functions stand in code: the number of the first word of a jump, and the function
 abbrev pub instruction_calls : Layout → (at : ℕ) → Instruction → List Site
@@ -134,7 +143,7 @@ abbrev pub blocks_calls : Layout → (sizes : List ℕ) → (at : ℕ) → List 
 blocks_calls y sizes at [] = []
 blocks_calls y sizes at (b ∷ bs) =
     instructions_calls y sizes at None (plain_of y.reads b)
-    ++ blocks_calls y sizes (at + length (block_code y sizes (λ f. 0) (λ c. 0) 0 0 b)) bs
+    ++ blocks_calls y sizes (at + length (block_code y sizes (λ f. 0) (λ c. 0) 0 0 (length bs) b)) bs
 
 -- how many words the blocks take, and where each begins
 abbrev pub blocks_length : Layout → (sizes : List ℕ) → List Block → ℕ
@@ -143,7 +152,7 @@ blocks_length y sizes bs = length (blocks_code y sizes (λ f. 0) (λ b. 0) 0 0 b
 abbrev pub starts_from : Layout → (sizes : List ℕ) → (at : ℕ) → List Block → List ℕ
 starts_from y sizes at [] = []
 starts_from y sizes at (b ∷ bs) =
-    at ∷ starts_from y sizes (at + 4 * length (block_code y sizes (λ f. 0) (λ c. 0) 0 0 b)) bs
+    at ∷ starts_from y sizes (at + 4 * length (block_code y sizes (λ f. 0) (λ c. 0) 0 0 (length bs) b)) bs
 
 -- the code that comes before the blocks, by the layout and the bytes of the frame
 abbrev pub head_code : Layout → Tac → List Instr

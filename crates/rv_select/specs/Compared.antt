@@ -25,7 +25,10 @@ use Rattle.tac_form.specs.Live.{InUse, IsLive}
 use Rattle.tac_form.specs.Weights.{exit_words, words_of}
 use Rattle.rv_operators.specs.Codes.{is_comparison, x5, x6}
 use Rattle.rv_operators.specs.Runs.{Stands}
-use Rattle.rv_select.specs.Places.{IsHeld, Layout, Holds, is_short, layout_of}
+use Rattle.rv_select.specs.declared.settings.Follows.{Follows}
+use Rattle.rv_select.specs.declared.settings.Setting.{Setting}
+use Rattle.rv_select.specs.Settings.{follower}
+use Rattle.rv_select.specs.Places.{IsHeld, Layout, Holds, is_near, is_short, layout_of}
 use Rattle.rv_select.specs.Shapes.{chosen, first_taken, taken}
 use Rattle.rv_select.specs.Steps.{IsReached, Left, world_of}
 
@@ -57,20 +60,21 @@ right_of Greater = x5
 right_of LessEqual = x5
 right_of _ = x6
 
-abbrev pub compared : (short signed : Bool) → BinaryOperator → (at first second : ℕ) → List Instr
-compared short signed op at first second = chosen short (condition_of signed op) (left_of op) (right_of op) at first second
+abbrev pub compared : (near short : Bool) → Follows → (signed : Bool) → BinaryOperator → (at first second : ℕ) → List Instr
+compared near short behind signed op at first second = chosen near short behind (condition_of signed op) (left_of op) (right_of op) at first second
 
 abbrev pub operands_taken : Layout → (held : Option ℕ) → (a b : Operand) → List Instr
 operands_taken y held a b = first_taken y held a ++ taken y x6 b
 
-abbrev pub compared_shape : Layout → (short : Bool) → (held : Option ℕ) → (at : ℕ) → (starts : ℕ → ℕ) → BinaryOperator → Number →
+abbrev pub compared_shape : Layout → Setting → (held : Option ℕ) → (at : ℕ) → (starts : ℕ → ℕ) → BinaryOperator → Number →
     (a b : Operand) → (e f : Edge) → List Instr
-compared_shape y short held at starts op form a b e f =
+compared_shape y setting held at starts op form a b e f =
     operands_taken y held a b
-    ++ compared short form.signed op (at + 4 * length (operands_taken y held a b)) (starts e.block) (starts f.block)
+    ++ compared setting.near setting.short (follower setting.next e.block f.block) form.signed op (at + 4 * length (operands_taken y held a b))
+    (starts e.block) (starts f.block)
 
 -- Where a function's code stands at the last instruction of a block, a comparison, whose result the block's branch tests and nothing
--- reads after that: its temporary is live at the begin of neither block. So no home gets it.
+-- reads after that: its temporary is live at the begin of neither block. So no home gets it. Behind this code stands the next block.
 pub record StandsAtCompare (p : Program) (code : Tac) (homes : List (Option Home)) (held : Option ℕ) (d : ℕ) (op : BinaryOperator) (form : Number) (a b : Operand) (e f : Edge)
     (starts : ℕ → ℕ) (s : tac.State) (program : List (Option Instr)) (base : ℕ) (m : State) : Type 0 where
   pub block : Block
@@ -88,7 +92,12 @@ pub record StandsAtCompare (p : Program) (code : Tac) (homes : List (Option Home
   pub blocks : (b : ℕ) → (starts b < 2 ^ 30) × (starts b % 2 ≡ 0)
   pub there : IsTrue (exit_fits code (Branch (Temp d) e f))
   pub reach : IsReached code starts m.pc
-  pub stands : Stands program m.pc (compared_shape (layout_of code homes) (is_short code) held m.pc starts op form a b e f)
+  pub setting : Setting
+  pub near_is : setting.near ≡ is_near code
+  pub short_is : setting.short ≡ is_short code
+  pub stands : Stands program m.pc (compared_shape (layout_of code homes) setting held m.pc starts op form a b e f)
+  pub next_there : (n : ℕ) → setting.next ≡ Some n →
+      starts n ≡ m.pc + 4 * length (compared_shape (layout_of code homes) setting held m.pc starts op form a b e f)
   pub holds : Holds (layout_of code homes) (InUse (graph_of code) s.here.block s.here.at) (world_of s) base m
   pub five : IsHeld held s.here.temps m
 
@@ -104,8 +113,8 @@ ComparesAreCarried =
 -- It has at most 21 words, fewer than the two weigh, and as many wherever it and the blocks stand.
 abbrev pub ComparesKeepWithin : Type 0
 ComparesKeepWithin =
-    (y : Layout) (short : Bool) (held : Option ℕ) (d : ℕ) (op : BinaryOperator) (form : Number) (a b : Operand) (e f : Edge)
+    (y : Layout) (setting : Setting) (held : Option ℕ) (d : ℕ) (op : BinaryOperator) (form : Number) (a b : Operand) (e f : Edge)
     (at other : ℕ) (starts others : ℕ → ℕ) →
-    (length (compared_shape y short held at starts op form a b e f) ≤ 21)
-    × (length (compared_shape y short held at starts op form a b e f) < words_of (Compute d op form a b) + exit_words (Branch (Temp d) e f))
-    × (length (compared_shape y short held at starts op form a b e f) ≡ length (compared_shape y short held other others op form a b e f))
+    (length (compared_shape y setting held at starts op form a b e f) ≤ 21)
+    × (length (compared_shape y setting held at starts op form a b e f) < words_of (Compute d op form a b) + exit_words (Branch (Temp d) e f))
+    × (length (compared_shape y setting held at starts op form a b e f) ≡ length (compared_shape y setting held other others op form a b e f))

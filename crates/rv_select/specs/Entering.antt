@@ -1,6 +1,7 @@
 -- How a function is entered and left.
 use Rattle.std.specs.Prelude.{ℕ, zero, suc, ◌+◌, ◌-◌, ◌*◌, ◌^◌, slice_get, unwrap_or, Bool, true, false, nat_le, if◌then◌else◌, List, [], ◌∷◌, ◌++◌, length}
 use Rattle.std.proofs.Common.{lit≤}
+use Rattle.tl_base.specs.declared.place.Place.{Place}
 use Rattle.rv_isa.specs.declared.instr.Instr.{Instr}
 use Rattle.rv_isa.specs.declared.instr.Instr.TheVariants.{Jalr, Branch, Load, Store, RegisterRegister}
 use Rattle.rv_isa.specs.declared.operation.BranchCondition.TheVariants.{Geu}
@@ -127,7 +128,12 @@ arguments_stored (suc n) i = stored_below (register_of (10 + i)) (8 * (i + 1)) +
 abbrev pub most_arguments : ℕ → ℕ
 most_arguments n = if nat_le n 8 then n else 0
 
+-- x11 gets the place at which the run fails where the data stack has no room for a frame. An empty one always has.
+abbrev pub place_given : (frame : ℕ) → Place → List Instr
+place_given zero at = []
+place_given (suc n) at = constant x11 (place_number at)
+
 -- A function as the entry: its frame in the region lies below the region's end, and no call waits. The code that enters it by a
 -- call follows.
 abbrev pub begun : Tac → List Instr
-begun code = moved x8 x4 ∷ (arguments_stored (most_arguments (length code.parameters)) 0 ++ constant x11 (place_number code.place))
+begun code = moved x8 x4 ∷ (arguments_stored (most_arguments (length code.parameters)) 0 ++ place_given code.frame code.place)

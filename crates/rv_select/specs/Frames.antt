@@ -1,5 +1,5 @@
 -- What the code that enters and leaves functions promises.
-use Rattle.std.specs.Prelude.{◌≡◌, Bool, ◌≢◌, ℕ, IsTrue, ◌∷◌, suc, ◌+◌, ◌-◌, ◌*◌, ◌/◌, ◌%◌, ◌^◌, ◌<◌, ◌≤◌, true, List, length, take, drop, Option, Some, slice_get, if◌then◌else◌}
+use Rattle.std.specs.Prelude.{◌≡◌, Bool, ◌≢◌, ℕ, IsTrue, ◌∷◌, suc, ◌+◌, ◌-◌, ◌*◌, ◌/◌, ◌%◌, ◌^◌, ◌<◌, ◌≤◌, true, List, length, take, drop, Option, Some, None, slice_get, if◌then◌else◌}
 use Rattle.std.specs.List.{list_all}
 use Rattle.tl_base.specs.declared.ids.FnId.{FnId}
 use Rattle.tl_base.specs.declared.place.Place.{Place}
@@ -23,6 +23,7 @@ use Rattle.tac_form.specs.Live.{InUse}
 use Rattle.tac_form.specs.declared.tac.Part.{Part}
 use Rattle.tac_form.specs.declared.tac.Part.TheVariants as parts
 use Rattle.rv_operators.specs.Runs.{Stands}
+use Rattle.rv_select.specs.declared.settings.Setting.{Setting}
 use Rattle.rv_select.specs.Places.{AreBytes, Holds, IsRead, Keeps, Layout, World, area_offset, frame_bytes, layout_of, private_word, uses, value_in}
 use Rattle.rv_select.specs.Shapes.{place_number}
 use Rattle.rv_select.specs.Steps.{Ends}
@@ -58,7 +59,7 @@ pub record Enters (program : List (Option Instr)) (y : Layout) (base under targe
   pub kept : (r : ℕ) → 18 ≤ r → r < 28 → uses y r ≡ true → private_word after (base + kept_offset r) ≡ low (m.registers r)
 
 -- Where the code of entering a function stands: x2 is the end of the caller's frame, x4 that of the region, x8 the caller's frame
--- in the region, which lies in the data stack's quarter, and x11 the place of the call.
+-- in the region, which lies in the data stack's quarter, and x11 the place of the call, where the frame isn't empty.
 pub record BeforeEntering (program : List (Option Instr)) (y : Layout) (bytes frame top placed size : ℕ) (at : Place)
     (m : State) : Type 0 where
   pub stands : Stands program m.pc (entered y bytes frame)
@@ -66,7 +67,7 @@ pub record BeforeEntering (program : List (Option Instr)) (y : Layout) (bytes fr
   pub pointer : m.registers 2 ≡ 2 ^ 32 + top
   pub limit : m.registers 4 ≡ 2 ^ 30 + size
   pub placed_is : m.registers 8 ≡ placed
-  pub place : m.registers 11 ≡ place_number at
+  pub place : 0 < frame → m.registers 11 ≡ place_number at
   pub small : frame < 2 ^ 63
   pub above : 2 ^ 30 + size - size / 4 ≤ placed
   pub below : placed ≤ 2 ^ 30 + size
@@ -141,13 +142,14 @@ pub record Returns (program : List (Option Instr)) (y : Layout) (base over link 
 abbrev pub FunctionsAreLeft : Type 0
 FunctionsAreLeft =
     (code : Tac) (homes : List (Option Home)) (block step : ℕ) (program : List (Option Instr)) (w : World) (base frame last link : ℕ)
-    (v : Part) (m : State) (short : Bool) →
+    (v : Part) (m : State) (setting : Setting) →
     let y : Layout = layout_of code homes in
     let Used : ℕ → Type 0 = InUse (graph_of code) block step in
     IsRight code homes → Holds y Used w base m → IsPartRead y Used v → m.pc + 256 ≤ 2 ^ 30 → last < 2 ^ 30 → last % 2 ≡ 0 →
-    (IsTrue short → (m.pc ≤ last) × (last ≤ m.pc + 2 ^ 19)) →
+    (IsTrue setting.short → (m.pc ≤ last) × (last ≤ m.pc + 2 ^ 19)) →
+    (setting.next ≡ None → last ≡ m.pc + 4 * length (returned y setting m.pc last v)) →
     w.placed + frame < 2 ^ 63 →
-    private_word m base ≡ link → link % 2 ≡ 0 → link < 2 ^ 64 → Stands program m.pc (returned y short m.pc last v) →
+    private_word m base ≡ link → link % 2 ≡ 0 → link < 2 ^ 64 → Stands program m.pc (returned y setting m.pc last v) →
     Stands program last (left y (frame_bytes y) frame) →
     Returns program y base (w.placed + frame) link (part_value y base w v) m
 
@@ -211,9 +213,9 @@ ParametersAreReceived =
 -- return.
 abbrev pub FramesKeepWithin : Type 0
 FramesKeepWithin =
-    (code : Tac) (y : Layout) (short : Bool) (bytes at last : ℕ) (v : Part) →
+    (code : Tac) (y : Layout) (setting : Setting) (bytes at last : ℕ) (v : Part) →
     (length (begun code) + (length (entered y bytes code.frame) + length (left y bytes code.frame)) ≤ entered_words) ×
-    (length (returned y short at last v) ≤ exit_words (Return v))
+    (length (returned y setting at last v) ≤ exit_words (Return v))
 
 -- The code of a call has no more words than its weight, where no area has more than 128 bytes.
 abbrev pub CallsKeepWithin : Type 0

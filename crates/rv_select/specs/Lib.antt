@@ -1,5 +1,7 @@
 -- Which comparisons have one code with their branch.
 pub mod Pairs
+-- What stands behind the end of a block.
+pub mod Settings
 -- Where an activation's words stand in the machine.
 pub mod Places
 -- Numbers as operands of instructions, and code that loads them.

@@ -21,20 +21,29 @@ use Rattle.tac_form.specs.declared.tac.Tac.{Tac}
 use Rattle.tac_form.specs.Flow.{Temps, Areas}
 use Rattle.tac_form.specs.Weights.{code_words, kept_bytes, most_moved}
 use Rattle.rv_select.specs.declared.pairs.Reads.{Reads}
+use Rattle.rv_select.specs.declared.settings.Extent.{Extent}
 use Rattle.rv_select.specs.Pairs.{reads_of}
 
 -- A function whose code has, by its weight, fewer words than this is short: a jump of one word leads from each word of it to each other.
 unfoldable pub is_short : Tac → Bool
 is_short code = nat_lt (code_words code) (2 ^ 17)
 
--- A function's layout: the homes of its temporaries, how many areas and parameters it has, how often each temporary is read, and whether
--- it is short.
+-- One of still fewer words is near: a branch leads from each word of it to each block.
+unfoldable pub is_near : Tac → Bool
+is_near code = nat_lt (code_words code) 1000
+
+-- how long a function is, and how many blocks it has
+abbrev pub extent_of : Tac → Extent
+extent_of code = record { near = is_near code; short = is_short code; blocks = length code.blocks }
+
+-- A function's layout: the homes of its temporaries, how many areas and parameters it has, how often each temporary is read, and its
+-- extent.
 pub record Layout : Type 0 where
   pub homes : List (Option Home)
   pub areas : ℕ
   pub parameters : ℕ
   pub reads : List Reads
-  pub short : Bool
+  pub extent : Extent
 
 abbrev pub layout_of : Tac → List (Option Home) → Layout
 layout_of code homes = record {
@@ -42,15 +51,15 @@ layout_of code homes = record {
   areas = length code.areas;
   parameters = length code.parameters;
   reads = reads_of code;
-  short = is_short code;
+  extent = extent_of code;
 }
 
--- code of one instruction depends on the homes alone, and that of blocks on how often temporaries are read and on the length besides
+-- code of one instruction depends on the homes alone, and that of blocks on how often temporaries are read and on the extent besides
 abbrev pub with_homes : List (Option Home) → Layout
-with_homes homes = record { homes = homes; areas = 0; parameters = 0; reads = []; short = false }
+with_homes homes = record { homes = homes; areas = 0; parameters = 0; reads = []; extent = record { near = false; short = false; blocks = 0 } }
 
-abbrev pub with_reads : List (Option Home) → List Reads → (short : Bool) → Layout
-with_reads homes reads short = record { homes = homes; areas = 0; parameters = 0; reads = reads; short = short }
+abbrev pub with_reads : List (Option Home) → List Reads → Extent → Layout
+with_reads homes reads extent = record { homes = homes; areas = 0; parameters = 0; reads = reads; extent = extent }
 
 -- where slots and areas lie in the frame, and its bytes
 abbrev pub slot_offset : ℕ → ℕ

@@ -6,7 +6,7 @@ use Rattle.tl_base.specs.declared.place.Place.{Place}
 use Rattle.rv_isa.specs.declared.instr.Instr.{Instr}
 use Rattle.rv_isa.specs.declared.instr.Instr.TheVariants.{Lui, Auipc, Jal, Jalr, Branch, Load, Store, RegisterImmediate, Shift, RegisterRegister, Ecall}
 use Rattle.rv_isa.specs.declared.operation.BranchCondition.{BranchCondition}
-use Rattle.rv_isa.specs.declared.operation.BranchCondition.TheVariants.{Eq, Ne, Ltu, Geu}
+use Rattle.rv_isa.specs.declared.operation.BranchCondition.TheVariants.{Eq, Ne, Lt, Ge, Ltu, Geu}
 use Rattle.rv_isa.specs.declared.operation.ImmediateOp.TheVariants.{Addi}
 use Rattle.rv_isa.specs.declared.operation.ShiftOp.TheVariants.{Slli, Srli}
 use Rattle.rv_isa.specs.declared.operation.RegisterOp.TheVariants.{Add, Sub}
@@ -44,6 +44,10 @@ use Rattle.tac_form.specs.Flow.{bytes_of, width_of}
 use Rattle.tac_form.specs.Graph.{destination_write}
 use Rattle.tac_form.specs.Weights.{most_moved}
 use Rattle.rv_operators.specs.Codes.{x0, x5, x6, code_of, zero_immediate}
+use Rattle.rv_select.specs.declared.settings.Follows.{Follows}
+use Rattle.rv_select.specs.declared.settings.Follows.TheVariants.{Neither, First, Second}
+use Rattle.rv_select.specs.declared.settings.Setting.{Setting}
+use Rattle.rv_select.specs.Settings.{falls, follower}
 use Rattle.rv_select.specs.Folded.{folded, is_folded}
 use Rattle.rv_select.specs.Numbers.{constant, immediate_of, below_zero, lower_of, register_of, upper_of}
 use Rattle.rv_select.specs.Places.{Layout, area_offset, home_of, slot_offset}
@@ -456,23 +460,62 @@ abbrev pub branch_bytes : (short : Bool) → ℕ
 branch_bytes true = 8
 branch_bytes false = 12
 
--- a branch over a jump to the second block, to a jump to the first
-abbrev pub chosen : (short : Bool) → BranchCondition → (a b : Register) → (at first second : ℕ) → List Instr
-chosen short condition a b at first second =
-    Branch condition a b (offset_of (branch_bytes short)) ∷ (jump short (at + 4) second ++ jump short (at + branch_bytes short) first)
+abbrev pub negated : BranchCondition → BranchCondition
+negated Eq = Ne
+negated Ne = Eq
+negated Lt = Ge
+negated Ge = Lt
+negated Ltu = Geu
+negated Geu = Ltu
+
+-- the offset of a branch by so many bytes and one more back
+abbrev pub before_if : (n : ℕ) (fits even : Bool) → nat_le n 4095 ≡ fits → nat_eq (suc n % 2) 0 ≡ even → BranchOffset
+before_if n true true e g =
+    record {
+      bytes = negsuc n;
+      lowest = record { le = subst T (sym e) tt };
+      highest = record { le = tt };
+      even = eqb→eq (suc n % 2) 0 (subst T (sym g) tt);
+    }
+before_if n _ _ e g = record { bytes = pos 0; lowest = record { le = tt }; highest = record { le = tt }; even = refl }
+
+abbrev pub before : ℕ → BranchOffset
+before n = before_if n (nat_le n 4095) (nat_eq (suc n % 2) 0) refl refl
+
+-- that of a branch by a distance in 32 bits
+abbrev pub branch_offset : ℕ → BranchOffset
+branch_offset n = if nat_le n 4094 then offset_of n else before (2 ^ 32 - 1 - n)
+
+-- A branch to a block, where a condition holds: in a function that isn't near a branch passes a jump where it doesn't hold.
+abbrev pub branched : (near short : Bool) → BranchCondition → (a b : Register) → (at to : ℕ) → List Instr
+branched true short condition a b at to = Branch condition a b (branch_offset (distance at to)) ∷ []
+branched false short condition a b at to = Branch (negated condition) a b (offset_of (branch_bytes short)) ∷ jump short (at + 4) to
+
+abbrev pub branched_bytes : (near short : Bool) → ℕ
+branched_bytes true short = 4
+branched_bytes false short = branch_bytes short
+
+-- A branch to two blocks, of which one may stand behind it: that one needs no jump.
+abbrev pub chosen : (near short : Bool) → Follows → BranchCondition → (a b : Register) → (at first second : ℕ) → List Instr
+chosen near short Neither condition a b at first second =
+    branched near short condition a b at first ++ jump short (at + branched_bytes near short) second
+chosen near short First condition a b at first second = branched near short (negated condition) a b at second
+chosen near short Second condition a b at first second = branched near short condition a b at first
 
 -- where a block begins, by a list of all
 abbrev pub start_of : List ℕ → ℕ → ℕ
 start_of starts block = unwrap_or (slice_get starts block) 0
 
 -- the code of an exit that stands at an address, by the addresses of the blocks
-abbrev pub exit_shape : Layout → (short : Bool) → (held : Option ℕ) → (at : ℕ) → (starts : ℕ → ℕ) → Exit → List Instr
-exit_shape y short held at starts (exits.Jump e) = jump short at (starts e.block)
-exit_shape y short held at starts (exits.Branch a e f) =
+abbrev pub exit_shape : Layout → Setting → (held : Option ℕ) → (at : ℕ) → (starts : ℕ → ℕ) → Exit → List Instr
+exit_shape y setting held at starts (exits.Jump e) =
+    if falls setting.next e then [] else jump setting.short at (starts e.block)
+exit_shape y setting held at starts (exits.Branch a e f) =
     first_taken y held a
-    ++ chosen short Ne x5 x0 (at + 4 * length (first_taken y held a)) (starts e.block) (starts f.block)
-exit_shape y short held at starts (exits.Return v) = []
-exit_shape y short held at starts (exits.Fail kind at_place) = failed kind at_place
+    ++ chosen setting.near setting.short (follower setting.next e.block f.block) Ne x5 x0 (at + 4 * length (first_taken y held a))
+    (starts e.block) (starts f.block)
+exit_shape y setting held at starts (exits.Return v) = []
+exit_shape y setting held at starts (exits.Fail kind at_place) = failed kind at_place
 
 -- which exits have a code so far
 abbrev pub has_exit_shape : Exit → Bool

@@ -23,9 +23,10 @@ use Rattle.tac_form.specs.Flow.{Program, Goes, Stops, put, step}
 use Rattle.tac_form.specs.Graph.{graph_of}
 use Rattle.tac_form.specs.Live.{InUse}
 use Rattle.tac_form.specs.Fits.{area_fits, exit_fits, instruction_fits}
-use Rattle.tac_form.specs.Weights.{exit_words, words_of}
+use Rattle.tac_form.specs.Weights.{code_words, exit_words, words_of}
 use Rattle.rv_operators.specs.Runs.{Stands}
-use Rattle.rv_select.specs.Places.{IsHeld, Layout, World, Holds, Keeps, is_short, layout_of}
+use Rattle.rv_select.specs.declared.settings.Setting.{Setting}
+use Rattle.rv_select.specs.Places.{IsHeld, Layout, World, Holds, Keeps, is_near, is_short, layout_of}
 use Rattle.rv_select.specs.Shapes.{exit_shape, has_exit_shape, has_shape, held_after, place_number, shape_of}
 
 -- what is in use after an instruction was in use before it, or is what it writes
@@ -115,22 +116,30 @@ InstructionsAreCarried =
 abbrev pub ShapesKeepWithin : Type 0
 ShapesKeepWithin = (y : Layout) (held : Option ℕ) (i : Instruction) → IsTrue (has_shape i) → length (shape_of y held i) ≤ words_of i
 
+-- The machine stands already at this address, where it holds this.
+pub record Remains (y : Layout) (Next : ℕ → Type 0) (w : World) (base target : ℕ) (m : State) : Type 0 where
+  pub at : m.pc ≡ target
+  pub holds : Holds y Next w base m
+
 -- The machine does from a state what an exit does that stays in its function: it comes to the address of the block at which
--- three-address code stands then. Where three-address code needs one more count, nothing is promised.
+-- three-address code stands then, or stands there already, where that takes no count. Where three-address code needs one more count,
+-- nothing is promised.
 abbrev pub Left : Layout → List FlowBlock → List (Option Instr) → (base weight : ℕ) → (starts : ℕ → ℕ) → tac.State → State → tac.Moved → Type 0
 Left y graph program base weight starts s m (Goes t) =
-    (t.out ≡ s.out) × Comes y program (InUse graph t.here.block t.here.at) (world_of t) base weight (starts t.here.block) [] m
+    (t.out ≡ s.out) ×
+    (Comes y program (InUse graph t.here.block t.here.at) (world_of t) base weight (starts t.here.block) [] m
+    ⊎ ((s.left ≡ t.left) × Remains y (InUse graph t.here.block t.here.at) (world_of t) base (starts t.here.block) m))
 Left y graph program base weight starts s m (Stops (Over (Fault kind at) out)) = (out ≡ s.out) × Ends program kind at weight m
 Left y graph program base weight starts s m (Stops (Over (Returned v) out)) = ⊥
 Left y graph program base weight starts s m (Stops (Over Stuck out)) = Unit {0}
 Left y graph program base weight starts s m (Stops (More out)) = Unit {0}
 
--- In a short function each block begins at most so many bytes from an address.
+-- Each block begins at most as far from an address as a function's code is long by its weight.
 abbrev pub IsReached : Tac → (starts : ℕ → ℕ) → (from : ℕ) → Type 0
 IsReached code starts from =
-    IsTrue (is_short code) → (b : ℕ) → b < length code.blocks → (from ≤ starts b + 2 ^ 19) × (starts b ≤ from + 2 ^ 19)
+    (b : ℕ) → b < length code.blocks → (from ≤ starts b + 4 * code_words code) × (starts b ≤ from + 4 * code_words code)
 
--- Where a function's code stands at a block's exit. Code and blocks stand at addresses below 2 ^ 30.
+-- Where a function's code stands at a block's exit. Code and blocks stand at addresses below 2 ^ 30, and behind this code the next block.
 pub record StandsAtExit (p : Program) (code : Tac) (homes : List (Option Home)) (held : Option ℕ) (exit : Exit) (starts : ℕ → ℕ) (s : tac.State) (program : List (Option Instr)) (base : ℕ) (m : State) : Type 0 where
   pub block : Block
   pub function : p.code s.here.function ≡ Some code
@@ -142,7 +151,12 @@ pub record StandsAtExit (p : Program) (code : Tac) (homes : List (Option Home)) 
   pub near : m.pc + 256 ≤ 2 ^ 30
   pub blocks : (b : ℕ) → (starts b < 2 ^ 30) × (starts b % 2 ≡ 0)
   pub reach : IsReached code starts m.pc
-  pub stands : Stands program m.pc (exit_shape (layout_of code homes) (is_short code) held m.pc starts exit)
+  pub setting : Setting
+  pub near_is : setting.near ≡ is_near code
+  pub short_is : setting.short ≡ is_short code
+  pub stands : Stands program m.pc (exit_shape (layout_of code homes) setting held m.pc starts exit)
+  pub next_there : (n : ℕ) → setting.next ≡ Some n →
+      starts n ≡ m.pc + 4 * length (exit_shape (layout_of code homes) setting held m.pc starts exit)
   pub holds : Holds (layout_of code homes) (InUse (graph_of code) s.here.block s.here.at) (world_of s) base m
   pub five : IsHeld held s.here.temps m
 
@@ -156,6 +170,6 @@ ExitsAreCarried =
 -- The code of an exit has at most as many words as its weight, and as many wherever it and the blocks stand.
 abbrev pub ExitsKeepWithin : Type 0
 ExitsKeepWithin =
-    (y : Layout) (short : Bool) (held : Option ℕ) (exit : Exit) (at other : ℕ) (starts others : ℕ → ℕ) → IsTrue (has_exit_shape exit) →
-    (length (exit_shape y short held at starts exit) ≤ exit_words exit) ×
-    (length (exit_shape y short held at starts exit) ≡ length (exit_shape y short held other others exit))
+    (y : Layout) (setting : Setting) (held : Option ℕ) (exit : Exit) (at other : ℕ) (starts others : ℕ → ℕ) → IsTrue (has_exit_shape exit) →
+    (length (exit_shape y setting held at starts exit) ≤ exit_words exit) ×
+    (length (exit_shape y setting held at starts exit) ≡ length (exit_shape y setting held other others exit))

@@ -162,14 +162,14 @@ pub record StandsIn (p : Program) (image : Image) (program : List (Option Instr)
   pub waits : Waits p image most size s.callers (private_word m base) (base + frame_bytes (layout_of code (image s.here.function).homes))
       (s.here.base + code.frame) (restored (layout_of code (image s.here.function).homes) base m)
 
--- The machine comes, in at least one and at most so many steps, to a state in which it stands where three-address code does in another
--- state.
-pub record Arrives (p : Program) (image : Image) (program : List (Option Instr)) (most size bound : ℕ) (out : List ℕ) (t : tac.State)
+-- The machine comes, in at most so many steps and in at least as many as three-address code takes counts, of which it had so many left, to
+-- a state in which it stands where three-address code does in another state.
+pub record Arrives (p : Program) (image : Image) (program : List (Option Instr)) (most size bound left : ℕ) (out : List ℕ) (t : tac.State)
     (m : State) : Type 0 where
   pub steps : ℕ
   pub after : State
   pub base : ℕ
-  pub some : 1 ≤ steps
+  pub enough : left ≤ t.left + steps
   pub few : steps ≤ bound
   pub runs : (more : ℕ) → run_of program m (steps + more) ≡ after_output out (run_of program after more)
   pub stands : StandsIn p image program most size t base after
@@ -187,7 +187,7 @@ pub record Finishes (program : List (Option Instr)) (v : Value) (bound : ℕ) (m
 -- stuck nothing is promised.
 abbrev pub Stepped : Program → Image → List (Option Instr) → (most size bound : ℕ) → tac.State → State → tac.Moved → Type 0
 Stepped p image program most size bound s m (Goes t) =
-    (out : List ℕ) × (t.out ≡ s.out ++ out) × Arrives p image program most size bound out t m
+    (out : List ℕ) × (t.out ≡ s.out ++ out) × Arrives p image program most size bound s.left out t m
 Stepped p image program most size bound s m (Stops (Over (Fault kind at) out)) = (out ≡ s.out) × Ends program kind at bound m
 Stepped p image program most size bound s m (Stops (Over (Returned v) out)) = (out ≡ s.out) × Finishes program v bound m
 Stepped p image program most size bound s m (Stops (Over Stuck out)) = Unit {0}

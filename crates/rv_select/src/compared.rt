@@ -4,11 +4,13 @@ ghost use Rattle.std.specs.Prelude.{◌≡◌, ◌+◌, ◌^◌, ◌≤◌, [], 
 ghost use Rattle.rv_isa.specs.Table.{word_of};
 ghost use Rattle.rv_select.specs.Places.{with_homes};
 ghost use Rattle.rv_select.specs.Compared.{below_condition, compared, compared_shape, condition_of, least_condition, left_of, operands_taken, right_of};
+ghost use Rattle.rv_select.specs.Settings.{follower};
 ghost use Rattle.rv_select.specs.Shapes.{start_of};
 
 use crate::emit::{X5, X6};
 use crate::exits::{push_chosen, start_of};
 use crate::instructions::push_operands;
+use crate::settings::{Follows, Setting, follower};
 use reg_alloc::Home;
 use rv_isa::{BranchCondition, Register};
 use tac_form::{Edge, Number, Operand};
@@ -16,7 +18,7 @@ use terra_words::BinaryOperator;
 use tl_base::NoMemory;
 
 /// The words of a block's last instruction, a comparison, and of its exit, a branch on the comparison's result, where x5 may hold the
-/// word of a temporary, by the address at which they stand and those at which the blocks begin. They serve where the result is read by that branch alone: where its
+/// word of a temporary, by the setting in which they stand, their address and those at which the blocks begin. They serve where the result is read by that branch alone: where its
 /// temporary is live at the begin of neither block. No home gets the result then.
 ///
 /// Where `select` finds such a block, it calls this in place of `push_instruction` for the last instruction and of `push_exit`; the
@@ -24,7 +26,7 @@ use tl_base::NoMemory;
 pub fn push_compared(
     code: &mut Vec<u32>,
     homes: &[Option<Home>],
-    short: bool,
+    setting: Setting,
     held: Option<u64>,
     at: u64,
     starts: &[u64],
@@ -36,14 +38,15 @@ pub fn push_compared(
     second: Edge,
 ) -> Result<(), NoMemory>
     requires { at + 256 ≤ 2 ^ 30 }
-    ensures { OnOk result (code.new.items ≡ code.old.items ++ map word_of (compared_shape (with_homes homes.now) short held at (start_of starts.now) operator form a b first second)) }
+    ensures { OnOk result (code.new.items ≡ code.old.items ++ map word_of (compared_shape (with_homes homes.now) setting held at (start_of starts.now) operator form a b first second)) }
 {
     let words = push_counted(code, homes, held, a, b)?;
     let to = start_of(starts, first.block);
     let other = start_of(starts, second.block);
     push_test(
         code,
-        short,
+        setting,
+        follower(setting.next, first.block, second.block),
         form.signed,
         operator,
         at + 4 * words,
@@ -73,7 +76,8 @@ fn push_counted(
 /// The branch on a comparison of x5 and x6, and the jumps.
 fn push_test(
     code: &mut Vec<u32>,
-    short: bool,
+    setting: Setting,
+    follows: Follows,
     signed: bool,
     operator: BinaryOperator,
     at: u64,
@@ -81,12 +85,13 @@ fn push_test(
     second: u64,
 ) -> Result<(), NoMemory>
     requires { at + 12 ≤ 2 ^ 32 }
-    ensures { OnOk result (code.new.items ≡ code.old.items ++ map word_of (compared short signed operator at first second)) }
+    ensures { OnOk result (code.new.items ≡ code.old.items ++ map word_of (compared setting.near setting.short follows signed operator at first second)) }
 {
     let condition = condition_of(signed, operator);
     push_chosen(
         code,
-        short,
+        setting,
+        follows,
         condition,
         left_of(operator),
         right_of(operator),

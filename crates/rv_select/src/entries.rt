@@ -2,10 +2,10 @@
 
 ghost use Rattle.std.specs.Prelude.{◌≡◌, ◌*◌, ◌+◌, ◌^◌, ◌<◌, ◌≤◌, [], ◌∷◌, ◌++◌, map, length, IfOk, IsTrue, OnOk};
 ghost use Rattle.rv_isa.specs.Table.{word_of};
-ghost use Rattle.rv_select.specs.Entering.{arguments_stored, begun, entered, frame_taken, frames_given, kept_offset, left, most_arguments, put_back, put_back_one, received, received_one, region_given, region_taken, result_put, saved, saved_one, size_in, stack_branch, stack_tested, stored_below};
-ghost use Rattle.rv_select.specs.Numbers.{register_of};
+ghost use Rattle.rv_select.specs.Entering.{arguments_stored, begun, entered, frame_taken, frames_given, kept_offset, left, most_arguments, place_given, put_back, put_back_one, received, received_one, region_given, region_taken, result_put, saved, saved_one, size_in, stack_branch, stack_tested, stored_below};
+ghost use Rattle.rv_select.specs.Numbers.{constant, register_of};
 ghost use Rattle.rv_select.specs.Places.{is_register, uses, with_homes};
-ghost use Rattle.rv_select.specs.Shapes.{to_area};
+ghost use Rattle.rv_select.specs.Shapes.{place_number, to_area, x11};
 
 use crate::emit::{
     X0, X2, X5, X6, X7, push_constant, push_far, push_frame_load, push_moved, push_put,
@@ -19,7 +19,7 @@ use reg_alloc::Home;
 use rv_isa::{BranchCondition, Immediate, Instr, LoadOp, Register, RegisterOp, StoreOp};
 use tac_form::{Destination, Tac};
 use terra_words::FaultKind;
-use tl_base::NoMemory;
+use tl_base::{NoMemory, Place};
 
 /// The return address.
 pub(crate) const X1: Register = Register { number: 1 };
@@ -362,6 +362,23 @@ fn most_arguments(parameters: u64) -> u64
     if parameters <= 8 { parameters } else { 0 }
 }
 
+/// x11 gets a place.
+fn push_place(code: &mut Vec<u32>, place: Place) -> Result<(), NoMemory>
+    ensures { OnOk result (code.new.items ≡ code.old.items ++ map word_of (constant x11 (place_number place))) }
+{
+    push_constant(code, X11, place_number(place))
+}
+
+/// x11 gets the place at which the run fails where there is no room for a frame. An empty one needs none.
+fn push_place_given(code: &mut Vec<u32>, frame: u64, place: Place) -> Result<(), NoMemory>
+    ensures { OnOk result (code.new.items ≡ code.old.items ++ map word_of (place_given frame place)) }
+{
+    if frame == 0 {
+        return Ok(());
+    }
+    push_place(code, place)
+}
+
 /// The words by which a function begins as the entry.
 pub(crate) fn push_begun(code: &mut Vec<u32>, tac: &Tac) -> Result<(), NoMemory>
     ensures { OnOk result (code.new.items ≡ code.old.items ++ map word_of (begun tac.now)) }
@@ -369,7 +386,7 @@ pub(crate) fn push_begun(code: &mut Vec<u32>, tac: &Tac) -> Result<(), NoMemory>
     push_moved(code, X8, X4)?;
     let parameters = tac.parameters.as_slice().len() as u64;
     push_arguments(code, most_arguments(parameters), 0)?;
-    push_constant(code, X11, place_number(tac.place))
+    push_place_given(code, tac.frame, tac.place)
 }
 
 /// A parameter from its word, which lies at an offset of the frame.

@@ -1,27 +1,29 @@
 // The words of exits of blocks.
 
-ghost use Rattle.std.specs.Prelude.{◌≡◌, ◌*◌, ◌+◌, ◌%◌, ◌^◌, ◌<◌, ◌≤◌, [], ◌∷◌, ◌++◌, map, length, IsTrue, IfOk, OnOk};
-ghost use Rattle.rv_isa.specs.declared.instr.Instr.TheVariants.{Auipc, Jal, Jalr};
+ghost use Rattle.std.specs.Prelude.{◌≡◌, ◌*◌, ◌+◌, ◌%◌, ◌^◌, ◌<◌, ◌≤◌, [], ◌∷◌, ◌++◌, map, length, false, if◌then◌else◌, IsTrue, IfOk, OnOk};
+ghost use Rattle.rv_isa.specs.declared.instr.Instr.TheVariants.{Auipc, Branch, Jal, Jalr};
 ghost use Rattle.rv_isa.specs.Table.{word_of};
 ghost use Rattle.rv_operators.specs.Codes.{x0, x5};
 ghost use Rattle.rv_select.specs.Numbers.{lower_of, upper_of};
 ghost use Rattle.rv_select.specs.Places.{with_homes};
-ghost use Rattle.rv_select.specs.Shapes.{branch_bytes, chosen, distance, exit_shape, first_taken, has_exit_shape, jump, jump_offset, start_of};
+ghost use Rattle.rv_select.specs.Settings.{falls, follower};
+ghost use Rattle.rv_select.specs.Shapes.{branch_bytes, branch_offset, branched, branched_bytes, chosen, distance, exit_shape, first_taken, has_exit_shape, jump, jump_offset, negated, start_of};
 
 use crate::emit::{X0, X5, put};
 use crate::instructions::{push_failed, push_first};
-use crate::operands::{jump_offset, lower, offset, upper};
+use crate::operands::{branch_offset, jump_offset, lower, offset, upper};
+use crate::settings::{Follows, Setting, falls, follower};
 use reg_alloc::Home;
 use rv_isa::{BranchCondition, Instr, Register};
-use tac_form::{Exit, Operand};
+use tac_form::{Edge, Exit, Operand};
 use tl_base::NoMemory;
 
-/// The words of an exit that stays in its function, which may be short, or ends the run by a fault, where x5 may hold the word of a
-/// temporary, by the address at which they stand and those at which the blocks begin.
+/// The words of an exit that stays in its function, or ends the run by a fault, where x5 may hold the word of a temporary, by the
+/// setting in which they stand, their address and those at which the blocks begin.
 pub fn push_exit(
     code: &mut Vec<u32>,
     homes: &[Option<Home>],
-    short: bool,
+    setting: Setting,
     held: Option<u64>,
     at: u64,
     starts: &[u64],
@@ -29,17 +31,18 @@ pub fn push_exit(
 ) -> Result<(), NoMemory>
     requires shape { IsTrue (has_exit_shape exit.now) }
     requires near { at + 256 ≤ 2 ^ 30 }
-    ensures { OnOk result (code.new.items ≡ code.old.items ++ map word_of (exit_shape (with_homes homes.now) short held at (start_of starts.now) exit.now)) }
+    ensures { OnOk result (code.new.items ≡ code.old.items ++ map word_of (exit_shape (with_homes homes.now) setting held at (start_of starts.now) exit.now)) }
 {
     match exit {
-        Exit::Jump(edge) => push_jump(code, short, at, start_of(starts, edge.block)),
+        Exit::Jump(edge) => { push_edge(code, setting, *edge, at, start_of(starts, edge.block)) }
         Exit::Branch(a, first, second) => {
             let words = push_tested(code, homes, held, *a)?;
             let to = start_of(starts, first.block);
             let other = start_of(starts, second.block);
             push_chosen(
                 code,
-                short,
+                setting,
+                follower(setting.next, first.block, second.block),
                 BranchCondition::Ne,
                 X5,
                 X0,
@@ -51,6 +54,23 @@ pub fn push_exit(
         Exit::Return(_) => Ok(()),
         Exit::Fail(kind, place) => push_failed(code, *kind, *place),
     }
+}
+
+/// A jump to a block, unless the code comes there by itself.
+fn push_edge(
+    code: &mut Vec<u32>,
+    setting: Setting,
+    edge: Edge,
+    at: u64,
+    to: u64,
+) -> Result<(), NoMemory>
+    requires { at ≤ 2 ^ 32 }
+    ensures { OnOk result (code.new.items ≡ code.old.items ++ map word_of (if falls setting.next edge then [] else jump setting.short at to)) }
+{
+    if falls(setting.next, edge) {
+        return Ok(());
+    }
+    push_jump(code, setting.short, at, to)
 }
 
 /// Where a block begins.
@@ -150,10 +170,101 @@ fn branch_bytes(short: bool) -> u64
     if short { 8 } else { 12 }
 }
 
-/// A branch over a jump to the second block, to a jump to the first.
-pub(crate) fn push_chosen(
+/// The condition that holds where another doesn't.
+fn negated(condition: BranchCondition) -> BranchCondition
+    ensures { result ≡ negated condition }
+{
+    match condition {
+        BranchCondition::Eq => BranchCondition::Ne,
+        BranchCondition::Ne => BranchCondition::Eq,
+        BranchCondition::Lt => BranchCondition::Ge,
+        BranchCondition::Ge => BranchCondition::Lt,
+        BranchCondition::Ltu => BranchCondition::Geu,
+        BranchCondition::Geu => BranchCondition::Ltu,
+    }
+}
+
+/// How many bytes a branch to one block has.
+fn branched_bytes(near: bool, short: bool) -> u64
+    ensures result { result ≡ branched_bytes near short }
+    ensures few { result ≤ 12 }
+{
+    if near { 4 } else { branch_bytes(short) }
+}
+
+/// A branch to a block that is near.
+fn push_near_branch(
+    code: &mut Vec<u32>,
+    condition: BranchCondition,
+    rs1: Register,
+    rs2: Register,
+    bytes: u64,
+) -> Result<(), NoMemory>
+    requires { bytes < 2 ^ 32 }
+    ensures { OnOk result (code.new.items ≡ code.old.items ++ map word_of (Branch condition rs1 rs2 (branch_offset bytes) ∷ [])) }
+{
+    put(
+        code,
+        Instr::Branch {
+            condition,
+            rs1,
+            rs2,
+            offset: branch_offset(bytes),
+        },
+    )
+}
+
+/// A jump to a block where a condition holds, and else a branch over it.
+fn push_far_branch(
     code: &mut Vec<u32>,
     short: bool,
+    condition: BranchCondition,
+    rs1: Register,
+    rs2: Register,
+    at: u64,
+    to: u64,
+) -> Result<(), NoMemory>
+    requires { at + 12 ≤ 2 ^ 32 }
+    ensures { OnOk result (code.new.items ≡ code.old.items ++ map word_of (branched false short condition rs1 rs2 at to)) }
+{
+    put(
+        code,
+        Instr::Branch {
+            condition: negated(condition),
+            rs1,
+            rs2,
+            offset: offset(branch_bytes(short)),
+        },
+    )?;
+    push_jump(code, short, at + 4, to)
+}
+
+/// A branch to one block.
+fn push_branched(
+    code: &mut Vec<u32>,
+    near: bool,
+    short: bool,
+    condition: BranchCondition,
+    rs1: Register,
+    rs2: Register,
+    at: u64,
+    to: u64,
+) -> Result<(), NoMemory>
+    requires { at + 12 ≤ 2 ^ 32 }
+    ensures { OnOk result (code.new.items ≡ code.old.items ++ map word_of (branched near short condition rs1 rs2 at to)) }
+{
+    if near {
+        push_near_branch(code, condition, rs1, rs2, distance(at, to))
+    } else {
+        push_far_branch(code, short, condition, rs1, rs2, at, to)
+    }
+}
+
+/// A branch to two blocks, of which one may stand behind it.
+pub(crate) fn push_chosen(
+    code: &mut Vec<u32>,
+    setting: Setting,
+    follows: Follows,
     condition: BranchCondition,
     rs1: Register,
     rs2: Register,
@@ -162,18 +273,17 @@ pub(crate) fn push_chosen(
     second: u64,
 ) -> Result<(), NoMemory>
     requires { at + 12 ≤ 2 ^ 32 }
-    ensures { OnOk result (code.new.items ≡ code.old.items ++ map word_of (chosen short condition rs1 rs2 at first second)) }
+    ensures { OnOk result (code.new.items ≡ code.old.items ++ map word_of (chosen setting.near setting.short follows condition rs1 rs2 at first second)) }
 {
-    let bytes = branch_bytes(short);
-    put(
-        code,
-        Instr::Branch {
-            condition,
-            rs1,
-            rs2,
-            offset: offset(bytes),
-        },
-    )?;
-    push_jump(code, short, at + 4, second)?;
-    push_jump(code, short, at + bytes, first)
+    let Setting { near, short, .. } = setting;
+    match follows {
+        Follows::Neither => {
+            push_branched(code, near, short, condition, rs1, rs2, at, first)?;
+            push_jump(code, short, at + branched_bytes(near, short), second)
+        }
+        Follows::First => {
+            push_branched(code, near, short, negated(condition), rs1, rs2, at, second)
+        }
+        Follows::Second => push_branched(code, near, short, condition, rs1, rs2, at, first),
+    }
 }

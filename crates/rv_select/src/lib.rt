@@ -21,6 +21,7 @@ pub mod pairs;
 pub mod selectable;
 pub mod selected;
 pub mod selection;
+pub mod settings;
 mod short;
 
 pub use calls::push_call_jump;

@@ -2,7 +2,7 @@
 
 ghost use Rattle.std.specs.Prelude.{◌≡◌, ◌%◌, ◌^◌, ◌<◌, ◌≤◌};
 ghost use Rattle.rv_select.specs.Numbers.{below_zero, immediate_of, lower_of, register_of, upper_of};
-ghost use Rattle.rv_select.specs.Shapes.{ahead, back, jump_offset, offset_of};
+ghost use Rattle.rv_select.specs.Shapes.{ahead, back, before, branch_offset, jump_offset, offset_of};
 
 use rv_isa::{BranchOffset, Immediate, JumpOffset, Register, UpperImmediate};
 
@@ -69,6 +69,43 @@ pub(crate) fn offset(bytes: u64) -> BranchOffset
 {
     BranchOffset {
         bytes: bytes as i16,
+    }
+}
+
+/// The offset of a branch by a distance in 32 bits, which is nearly 2 ^ 32 for a branch back. None goes further than 4,096 bytes, or by an
+/// odd number of them.
+pub(crate) fn branch_offset(distance: u64) -> BranchOffset
+    requires { distance < 2 ^ 32 }
+    ensures { result.bytes ≡ (branch_offset distance).bytes }
+{
+    if distance <= 4094 {
+        after(distance)
+    } else {
+        before((1 << 32) - 1 - distance)
+    }
+}
+
+/// So many bytes ahead.
+fn after(bytes: u64) -> BranchOffset
+    ensures { result.bytes ≡ (offset_of bytes).bytes }
+{
+    if bytes <= 4094 && bytes % 2 == 0 {
+        offset(bytes)
+    } else {
+        BranchOffset { bytes: 0 }
+    }
+}
+
+/// So many bytes and one more back.
+fn before(bytes: u64) -> BranchOffset
+    ensures { result.bytes ≡ (before bytes).bytes }
+{
+    if bytes <= 4095 && (bytes + 1) % 2 == 0 {
+        BranchOffset {
+            bytes: -(bytes as i16) - 1,
+        }
+    } else {
+        BranchOffset { bytes: 0 }
     }
 }
 

@@ -3,10 +3,11 @@
 ghost use Rattle.std.specs.Prelude.{◌≡◌, ◌*◌, ◌+◌, ◌^◌, ◌<◌, ◌≤◌, ◌&&◌, [], ◌∷◌, ◌++◌, map, length, IfOk, IsTrue, None, OnOk};
 ghost use Rattle.std.specs.List.{list_all};
 ghost use Rattle.rv_isa.specs.Table.{word_of};
-ghost use Rattle.rv_select.specs.Calls.{IsSelected, KeepsWithin, all_has_code, block_code, block_has_code, block_starts, blocks_calls, blocks_code, call_jump, called, end_code, exit_code, has_code, has_exit_code, head_code, held_behind, instruction_calls, instruction_code, instructions_calls, instructions_code, last_address, pair_code, returned, starts_from};
+ghost use Rattle.rv_select.specs.Calls.{IsSelected, KeepsWithin, all_has_code, block_code, block_has_code, block_starts, blocks_calls, blocks_code, call_jump, called, end_code, exit_code, has_code, has_exit_code, head_code, held_behind, instruction_calls, instruction_code, instructions_calls, instructions_code, jump_unless_last, last_address, pair_code, returned, starts_from};
 ghost use Rattle.rv_select.specs.Entering.{begun, entered, received, words_offset};
 ghost use Rattle.rv_select.specs.Pairs.{but_pair, pair_of, plain_of, reads_of};
-ghost use Rattle.rv_select.specs.Places.{frame_bytes, is_short, layout_of, with_homes, with_reads};
+ghost use Rattle.rv_select.specs.Places.{extent_of, frame_bytes, layout_of, with_homes, with_reads};
+ghost use Rattle.rv_select.specs.Settings.{setting_of};
 ghost use Rattle.rv_select.specs.Shapes.{jump, start_of};
 ghost use Rattle.tac_form.specs.declared.tac.Instruction.TheVariants as instructions;
 
@@ -17,7 +18,8 @@ use crate::exits::{push_exit, push_jump};
 use crate::instructions::{held_after, push_instruction};
 use crate::pairs::{Pair, Reads, pair_of, reads_of};
 use crate::selected::{Call, Code};
-use crate::short::is_short;
+use crate::settings::{Extent, Setting, setting_of};
+use crate::short::{is_near, is_short};
 use reg_alloc::{Assignment, Home};
 use std::alloc::Global;
 use tac_form::{Block, Destination, Exit, Instruction, Part, Tac};
@@ -124,38 +126,48 @@ fn push_jump_here(code: &mut Vec<u32>, short: bool, to: u64) -> Result<(), NoMem
     push_jump(code, short, at, to)
 }
 
+/// A jump to the code that leaves the function, unless that stands behind.
+fn push_jump_unless_last(code: &mut Vec<u32>, setting: Setting, last: u64) -> Result<(), NoMemory>
+    ensures { OnOk result (code.new.items ≡ code.old.items ++ map word_of (jump_unless_last setting.short setting.next (4 * length code.old.items) last)) }
+{
+    match setting.next {
+        Some(_) => push_jump_here(code, setting.short, last),
+        None => Ok(()),
+    }
+}
+
 /// The code by which a function gives back a part, and goes to where it is left.
 fn push_returned(
     code: &mut Vec<u32>,
     homes: &[Option<Home>],
-    short: bool,
+    setting: Setting,
     part: Part,
     last: u64,
 ) -> Result<(), NoMemory>
-    ensures { OnOk result (code.new.items ≡ code.old.items ++ map word_of (returned (with_homes homes.now) short (4 * length code.old.items) last part)) }
+    ensures { OnOk result (code.new.items ≡ code.old.items ++ map word_of (returned (with_homes homes.now) setting (4 * length code.old.items) last part)) }
 {
     push_given(code, homes, part)?;
-    push_jump_here(code, short, last)
+    push_jump_unless_last(code, setting, last)
 }
 
 /// The code of an exit, where x5 may hold the word of a temporary.
 fn push_end(
     code: &mut Vec<u32>,
     homes: &[Option<Home>],
-    short: bool,
+    setting: Setting,
     held: Option<u64>,
     starts: &[u64],
     last: u64,
     exit: &Exit,
 ) -> Result<(), NoMemory>
     requires { IsTrue (has_exit_code exit.now) }
-    ensures { OnOk result (code.new.items ≡ code.old.items ++ map word_of (exit_code (with_homes homes.now) short held (4 * length code.old.items) (start_of starts.now) last exit.now)) }
+    ensures { OnOk result (code.new.items ≡ code.old.items ++ map word_of (exit_code (with_homes homes.now) setting held (4 * length code.old.items) (start_of starts.now) last exit.now)) }
 {
     match exit {
-        Exit::Return(part) => push_returned(code, homes, short, *part, last),
+        Exit::Return(part) => push_returned(code, homes, setting, *part, last),
         _ => {
             let at = address(code)?;
-            push_exit(code, homes, short, held, at, starts, exit)
+            push_exit(code, homes, setting, held, at, starts, exit)
         }
     }
 }
@@ -164,7 +176,7 @@ fn push_end(
 fn push_block_end(
     code: &mut Vec<u32>,
     homes: &[Option<Home>],
-    short: bool,
+    setting: Setting,
     held: Option<u64>,
     starts: &[u64],
     last: u64,
@@ -172,11 +184,11 @@ fn push_block_end(
     exit: &Exit,
 ) -> Result<(), NoMemory>
     requires { IsTrue (has_exit_code exit.now) }
-    ensures { OnOk result (code.new.items ≡ code.old.items ++ map word_of (end_code (with_homes homes.now) short held (4 * length code.old.items) (start_of starts.now) last pair exit.now)) }
+    ensures { OnOk result (code.new.items ≡ code.old.items ++ map word_of (end_code (with_homes homes.now) setting held (4 * length code.old.items) (start_of starts.now) last pair exit.now)) }
 {
     match pair {
-        Some(pair) => push_pair(code, homes, short, held, starts, pair),
-        None => push_end(code, homes, short, held, starts, last, exit),
+        Some(pair) => push_pair(code, homes, setting, held, starts, pair),
+        None => push_end(code, homes, setting, held, starts, last, exit),
     }
 }
 
@@ -185,18 +197,18 @@ fn push_block_end(
 fn push_pair(
     code: &mut Vec<u32>,
     homes: &[Option<Home>],
-    short: bool,
+    setting: Setting,
     held: Option<u64>,
     starts: &[u64],
     pair: Pair,
 ) -> Result<(), NoMemory>
-    ensures { OnOk result (code.new.items ≡ code.old.items ++ map word_of (pair_code (with_homes homes.now) short held (4 * length code.old.items) (start_of starts.now) pair)) }
+    ensures { OnOk result (code.new.items ≡ code.old.items ++ map word_of (pair_code (with_homes homes.now) setting held (4 * length code.old.items) (start_of starts.now) pair)) }
 {
     let at = address(code)?;
     push_compared(
         code,
         homes,
-        short,
+        setting,
         held,
         at,
         starts,
@@ -219,7 +231,7 @@ fn plain_of(instructions: &[Instruction], pair: Option<Pair>) -> &[Instruction]
     }
 }
 
-/// The code of a block.
+/// The code of a block that so many follow.
 fn push_block(
     code: &mut Vec<u32>,
     calls: &mut Vec<Call>,
@@ -228,17 +240,19 @@ fn push_block(
     starts: &[u64],
     last: u64,
     reads: &[Reads],
-    short: bool,
+    extent: Extent,
+    rest: u64,
     block: &Block,
 ) -> Result<(), NoMemory>
     requires { IsTrue (block_has_code block.now) }
-    ensures code { OnOk result (code.new.items ≡ code.old.items ++ map word_of (block_code (with_reads homes.now reads.now short) sizes.now (λ f. 0) (start_of starts.now) last (4 * length code.old.items) block.now)) }
-    ensures calls { OnOk result (calls.new.items ≡ calls.old.items ++ instructions_calls (with_reads homes.now reads.now short) sizes.now (length code.old.items) None (plain_of reads.now block.now)) }
+    ensures code { OnOk result (code.new.items ≡ code.old.items ++ map word_of (block_code (with_reads homes.now reads.now extent) sizes.now (λ f. 0) (start_of starts.now) last (4 * length code.old.items) rest block.now)) }
+    ensures calls { OnOk result (calls.new.items ≡ calls.old.items ++ instructions_calls (with_reads homes.now reads.now extent) sizes.now (length code.old.items) None (plain_of reads.now block.now)) }
 {
     let pair = pair_of(reads, block);
     let plain = plain_of(block.instructions.as_slice(), pair);
     let held = push_all(code, calls, homes, sizes, plain)?;
-    push_block_end(code, homes, short, held, starts, last, pair, &block.exit)
+    let setting = setting_of(extent, rest);
+    push_block_end(code, homes, setting, held, starts, last, pair, &block.exit)
 }
 
 /// The code of blocks, each of whose addresses goes to a list.
@@ -251,17 +265,21 @@ fn push_blocks(
     starts: &[u64],
     last: u64,
     reads: &[Reads],
-    short: bool,
+    extent: Extent,
     blocks: &[Block],
 ) -> Result<(), NoMemory>
     requires { IsTrue (list_all block_has_code blocks.now) }
-    ensures code { OnOk result (code.new.items ≡ code.old.items ++ map word_of (blocks_code (with_reads homes.now reads.now short) sizes.now (λ f. 0) (start_of starts.now) last (4 * length code.old.items) blocks.now)) }
-    ensures calls { OnOk result (calls.new.items ≡ calls.old.items ++ blocks_calls (with_reads homes.now reads.now short) sizes.now (length code.old.items) blocks.now) }
-    ensures begins { OnOk result (begins.new.items ≡ begins.old.items ++ starts_from (with_reads homes.now reads.now short) sizes.now (4 * length code.old.items) blocks.now) }
+    ensures code { OnOk result (code.new.items ≡ code.old.items ++ map word_of (blocks_code (with_reads homes.now reads.now extent) sizes.now (λ f. 0) (start_of starts.now) last (4 * length code.old.items) blocks.now)) }
+    ensures calls { OnOk result (calls.new.items ≡ calls.old.items ++ blocks_calls (with_reads homes.now reads.now extent) sizes.now (length code.old.items) blocks.now) }
+    ensures begins { OnOk result (begins.new.items ≡ begins.old.items ++ starts_from (with_reads homes.now reads.now extent) sizes.now (4 * length code.old.items) blocks.now) }
 {
+    let mut rest = blocks.len() as u64;
     for block in blocks {
+        rest = rest.saturating_sub(1);
         begins.push(address(code)?)?;
-        push_block(code, calls, homes, sizes, starts, last, reads, short, block)?;
+        push_block(
+            code, calls, homes, sizes, starts, last, reads, extent, rest, block,
+        )?;
     }
     Ok(())
 }
@@ -343,11 +361,11 @@ fn push_body(
     starts: &[u64],
     last: u64,
     reads: &[Reads],
-    short: bool,
+    extent: Extent,
 ) -> Result<(), NoMemory>
     requires has_code { IsTrue (all_has_code tac.now) }
     requires reads { reads.now ≡ reads_of tac.now }
-    requires short { short ≡ is_short tac.now }
+    requires extent { extent ≡ extent_of tac.now }
     ensures code { OnOk result (code.new.items ≡ code.old.items ++ map word_of (blocks_code (layout_of tac.now homes.now) tac.now.areas (λ f. 0) (start_of starts.now) last (4 * length code.old.items) tac.now.blocks)) }
     ensures calls { OnOk result (calls.new.items ≡ calls.old.items ++ blocks_calls (layout_of tac.now homes.now) tac.now.areas (length code.old.items) tac.now.blocks) }
     ensures begins { OnOk result (begins.new.items ≡ begins.old.items ++ starts_from (layout_of tac.now homes.now) tac.now.areas (4 * length code.old.items) tac.now.blocks) }
@@ -361,7 +379,7 @@ fn push_body(
         starts,
         last,
         reads,
-        short,
+        extent,
         tac.blocks.as_slice(),
     )
 }
@@ -373,17 +391,28 @@ struct Places {
     last: u64,
 }
 
+/// Whether a function is near and whether it is short, and how many blocks it has.
+fn extent_of(tac: &Tac) -> Extent
+    ensures { result ≡ extent_of tac.now }
+{
+    Extent {
+        near: is_near(tac),
+        short: is_short(tac),
+        blocks: tac.blocks.as_slice().len() as u64,
+    }
+}
+
 /// The addresses of a function's blocks. Their code is as long wherever they stand, so it is put somewhere to see them.
 fn find_places(
     alloc: Global,
     homes: &[Option<Home>],
     tac: &Tac,
     reads: &[Reads],
-    short: bool,
+    extent: Extent,
 ) -> Result<Places, NoMemory>
     requires has_code { IsTrue (all_has_code tac.now) }
     requires reads { reads.now ≡ reads_of tac.now }
-    requires short { short ≡ is_short tac.now }
+    requires extent { extent ≡ extent_of tac.now }
     ensures starts { IfOk result (λ places. places.starts.items ≡ block_starts (layout_of tac.now homes.now) tac.now 0) }
     ensures last { IfOk result (λ places. places.last ≡ last_address (layout_of tac.now homes.now) tac.now 0) }
 {
@@ -400,7 +429,7 @@ fn find_places(
         &[],
         0,
         reads,
-        short,
+        extent,
     )?;
     let last = address(&code)?;
     Ok(Places { starts, last })
@@ -416,8 +445,8 @@ pub fn select(alloc: Global, tac: &Tac, assignment: &Assignment) -> Result<Code,
 {
     let homes = assignment.as_slice();
     let reads = reads_of(alloc, tac)?;
-    let short = is_short(tac);
-    let places = find_places(alloc, homes, tac, &reads, short)?;
+    let extent = extent_of(tac);
+    let places = find_places(alloc, homes, tac, &reads, extent)?;
     let mut words = Vec::new(alloc);
     let mut calls = Vec::new(alloc);
     let mut starts = Vec::new(alloc);
@@ -431,7 +460,7 @@ pub fn select(alloc: Global, tac: &Tac, assignment: &Assignment) -> Result<Code,
         &places.starts,
         places.last,
         &reads,
-        short,
+        extent,
     )?;
     push_left(&mut words, homes, head.frame, tac.frame)?;
     Ok(Code {

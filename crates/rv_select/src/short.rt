@@ -1,14 +1,25 @@
 // How many words a function's code has at most, by its weight.
 
 ghost use Rattle.std.specs.Prelude.{◌≡◌, ◌*◌, ◌+◌, ◌-◌, ◌^◌, ◌≤◌, length, sum_by};
-ghost use Rattle.rv_select.specs.Places.{is_short};
+ghost use Rattle.rv_select.specs.Places.{is_near, is_short};
 ghost use Rattle.tac_form.specs.Weights.{block_words, constant_words, exit_words, operand_words, operator_words, reached, received, words_of};
 
 use tac_form::{Address, Block, Destination, Exit, Instruction, Operand, Spot, Tac};
 use terra_words::BinaryOperator;
 
-/// The words of code that is no longer short.
+/// The words of code that is no longer near, and no longer short.
+const NEAR: u64 = 1000;
+
 const SHORT: u64 = 1 << 17;
+
+/// Whether a function's code has, by its weight, fewer words than 1,000.
+#[tactic(auto, unfolding(crate::specs::Places::is_near))]
+pub(crate) fn is_near(tac: &Tac) -> bool
+    ensures { result ≡ is_near tac.now }
+{
+    let rest = less_parameters(NEAR - 79, tac.parameters.as_slice());
+    less_blocks(rest, tac.blocks.as_slice()) > 0
+}
 
 /// Whether a function's code has, by its weight, fewer words than 2 ^ 17.
 #[tactic(auto, unfolding(crate::specs::Places::is_short))]

@@ -11,12 +11,12 @@ use Rattle.rv_select.proofs.selection.push_blocks.Given as goal
 abbrev pub invariant-loop-block : goal.invariant-loop-block
 invariant-loop-block l =
     (l.code.items ++ map word_of
-    (blocks_code (with_reads l.homes l.reads l.short) l.sizes (λ f. 0) (start_of l.starts) l.last (4 * length l.code.items)
+    (blocks_code (with_reads l.homes l.reads l.extent) l.sizes (λ f. 0) (start_of l.starts) l.last (4 * length l.code.items)
     (drop l.block-index l.blocks))
     ≡ l.fn.code.items ++ map word_of
-    (blocks_code (with_reads l.homes l.reads l.short) l.sizes (λ f. 0) (start_of l.starts) l.last (4 * length l.fn.code.items) l.blocks))
-    × (l.calls.items ++ blocks_calls (with_reads l.homes l.reads l.short) l.sizes (length l.code.items) (drop l.block-index l.blocks)
-    ≡ l.fn.calls.items ++ blocks_calls (with_reads l.homes l.reads l.short) l.sizes (length l.fn.code.items) l.blocks)
-    × (l.begins.items ++ starts_from (with_reads l.homes l.reads l.short) l.sizes (4 * length l.code.items) (drop l.block-index l.blocks)
-    ≡ l.fn.begins.items ++ starts_from (with_reads l.homes l.reads l.short) l.sizes (4 * length l.fn.code.items) l.blocks)
-    × (list_all block_has_code (drop l.block-index l.blocks) ≡ true)
+    (blocks_code (with_reads l.homes l.reads l.extent) l.sizes (λ f. 0) (start_of l.starts) l.last (4 * length l.fn.code.items) l.blocks))
+    × (l.calls.items ++ blocks_calls (with_reads l.homes l.reads l.extent) l.sizes (length l.code.items) (drop l.block-index l.blocks)
+    ≡ l.fn.calls.items ++ blocks_calls (with_reads l.homes l.reads l.extent) l.sizes (length l.fn.code.items) l.blocks)
+    × (l.begins.items ++ starts_from (with_reads l.homes l.reads l.extent) l.sizes (4 * length l.code.items) (drop l.block-index l.blocks)
+    ≡ l.fn.begins.items ++ starts_from (with_reads l.homes l.reads l.extent) l.sizes (4 * length l.fn.code.items) l.blocks)
+    × (list_all block_has_code (drop l.block-index l.blocks) ≡ true) × (l.rest ≡ length (drop l.block-index l.blocks))
