@@ -2,7 +2,7 @@
 -- the block and those who wait, each step does the same. A predicate on what two steps do is shown by its cases.
 use Rattle.std.proofs.Common.{◌≡◌, ℕ, zero, suc, ◌+◌, ◌-◌, ◌%◌, Bool, true, false, ◌&&◌, List, [], ◌∷◌, ◌++◌, map, length, replicate, Option, Some, None, refl, sym, ap, ap₂, ◌∙◌, subst}
 use Rattle.std.specs.Prelude.{IsTrue, nat_eq, nat_le, nat_lt, if◌then◌else◌, option_map}
-use Rattle.std.proofs.lemmas.Bool.{eqb-true, false≢true, or_left, or_right}
+use Rattle.std.proofs.lemmas.Bool.{eq-eqb, eqb-true, false≢true, or_left, or_right}
 use Rattle.std.proofs.lemmas.List.Folds.{list_any-append}
 use Rattle.tl_base.specs.declared.place.Place.{Place}
 use Rattle.tl_base.specs.declared.ids.FnId.{FnId}
@@ -30,7 +30,7 @@ use Rattle.tac_form.specs.declared.tac.Block.{Block}
 use Rattle.tac_form.specs.declared.tac.Signature.{Signature}
 use Rattle.tac_form.specs.declared.tac.Tac.{Tac}
 use Rattle.tac_form.specs.Flow.{bytes_of, width_of, Temps, Areas, put, Activation, Caller, State, Moved, Goes, Stops, stop, fault, operand, address, ahead, fetched, from_spot, written, to_spot, value_of, values_of, takes, takes_all, accepts, accepts_all, Program, enter, counted, call, has_signature, call_entry, entry, act, follow, given, give, leave}
-use Rattle.tac_form.specs.Graph.{operand_reads, address_reads, spot_reads, part_reads, parts_reads, instruction_reads, destination_write, instruction_write, exit_reads}
+use Rattle.tac_form.specs.Graph.{operand_reads, address_reads, spot_reads, part_reads, parts_reads, instruction_reads, destination_write, instruction_write, exit_next, exit_reads}
 use Rattle.tac_form.specs.Live.{has}
 use Rattle.tac_copies.specs.Directed.{makes, directed}
 use Rattle.tac_copies.specs.Shortened.{named, named_address, named_spot, named_part, named_in, named_exit, own_names}
@@ -464,32 +464,40 @@ module _ (names : ℕ → ℕ) (s : State) (at : ℕ) (temps : Temps) (callers :
       (enter-alike P stops blocks (record s { left = n }) at temps callers place f (p.code f) arguments s.here.base
       (waiting to s ∷ s.callers) (waiting to s' ∷ callers) (ap suc long) (λ code e. goes code e n)))
 
-  follow-alike : (e : Edge) → ((block left : ℕ) → P (Goes (entered block left s)) (Goes (entered block left s'))) →
+  follow-to : (e : Edge) → ((left : ℕ) → P (Goes (entered e.block left s)) (Goes (entered e.block left s'))) →
       P (follow e s) (follow e s')
-  follow-alike e goes =
+  follow-to e goes =
       either-way P e.counts (counted s.left s (λ u. Goes (record u { here = record u.here { block = e.block; at = 0 } })))
       (Goes (entered e.block s.left s))
       (counted s.left s' (λ u. Goes (record u { here = record u.here { block = e.block; at = 0 } })))
       (Goes (entered e.block s.left s'))
       (counted-alike s.left (λ u. Goes (record u { here = record u.here { block = e.block; at = 0 } }))
-      (λ u. Goes (record u { here = record u.here { block = e.block; at = 0 } })) (λ n. goes e.block n))
-      (goes e.block s.left)
+      (λ u. Goes (record u { here = record u.here { block = e.block; at = 0 } })) goes)
+      (goes s.left)
 
-  -- an exit goes to a block, gives a result or ends
+  -- an exit goes to a block to which it leads, gives a result or ends
+  pub leave-within : (p q : Program) (e : Exit) → K (exit_reads e) →
+      ((block left : ℕ) → has (exit_next e) block ≡ true → P (Goes (entered block left s)) (Goes (entered block left s'))) →
+      ((v : Value) → P (give p v s.callers s) (give q v callers s')) →
+      P (leave p e s) (leave q (named_exit names e) s')
+  leave-within p q (Jump e) k goes gives = follow-to e (λ left. goes e.block left (has-own e.block))
+  leave-within p q (Branch a e f) k goes gives =
+      one-word (λ x. leave p (Branch (Constant x) e f) s) (λ x. leave q (Branch (Constant x) e f) s') (operand s a)
+      (operand s' (named names a)) (operand-same names s at temps callers a k)
+      (either-way P (nat_eq (operand s a) 0) (follow f s) (follow e s) (follow f s') (follow e s')
+      (follow-to f (λ left. goes f.block left (or_right (nat_eq e.block f.block) (has (f.block ∷ []) f.block) (has-own f.block))))
+      (follow-to e (λ left.
+      goes e.block left (or_left (nat_eq e.block e.block) (has (f.block ∷ []) e.block) (eq-eqb e.block e.block refl)))))
+  leave-within p q (Return v) k goes gives =
+      subst (λ x. P (give p (value_of s v) s.callers s) (give q x callers s')) (sym (value-same names s at temps callers v k))
+      (gives (value_of s v))
+  leave-within p q (Fail kind place) k goes gives = stops (Over (Fault kind place) s.out)
+
   pub leave-alike : (p q : Program) (e : Exit) → K (exit_reads e) →
       ((block left : ℕ) → P (Goes (entered block left s)) (Goes (entered block left s'))) →
       ((v : Value) → P (give p v s.callers s) (give q v callers s')) →
       P (leave p e s) (leave q (named_exit names e) s')
-  leave-alike p q (Jump e) k goes gives = follow-alike e goes
-  leave-alike p q (Branch a e f) k goes gives =
-      one-word (λ x. leave p (Branch (Constant x) e f) s) (λ x. leave q (Branch (Constant x) e f) s') (operand s a)
-      (operand s' (named names a)) (operand-same names s at temps callers a k)
-      (either-way P (nat_eq (operand s a) 0) (follow f s) (follow e s) (follow f s') (follow e s') (follow-alike f goes)
-      (follow-alike e goes))
-  leave-alike p q (Return v) k goes gives =
-      subst (λ x. P (give p (value_of s v) s.callers s) (give q x callers s')) (sym (value-same names s at temps callers v k))
-      (gives (value_of s v))
-  leave-alike p q (Fail kind place) k goes gives = stops (Over (Fault kind place) s.out)
+  leave-alike p q e k goes gives = leave-within p q e k (λ block left h. goes block left) gives
 
 -- ---- by their own names
 

@@ -27,7 +27,7 @@ use Rattle.tac_form.specs.Fits.{are_apart, area_fits, block_fits, destination_fi
 abbrev pub with-blocks : Tac → List Block → Tac
 with-blocks code bs = record code { blocks = bs }
 
-parts-six : (a b c d e f : Bool) → (a && b && c && d && e && f) ≡ true →
+pub parts-six : (a b c d e f : Bool) → (a && b && c && d && e && f) ≡ true →
     (a ≡ true) × (b ≡ true) × (c ≡ true) × (d ≡ true) × (e ≡ true) × (f ≡ true)
 parts-six true true true true true true h = (refl, refl, refl, refl, refl, refl)
 parts-six false b c d e f h = cc
@@ -37,7 +37,7 @@ parts-six true true true false e f h = cc
 parts-six true true true true false f h = cc
 parts-six true true true true true false h = cc
 
-from-six : (a b c d e f : Bool) → a ≡ true → b ≡ true → c ≡ true → d ≡ true → e ≡ true → f ≡ true →
+pub from-six : (a b c d e f : Bool) → a ≡ true → b ≡ true → c ≡ true → d ≡ true → e ≡ true → f ≡ true →
     (a && b && c && d && e && f) ≡ true
 from-six true true true true true true _ _ _ _ _ _ = refl
 from-six false b c d e f h _ _ _ _ _ = cc
@@ -47,16 +47,16 @@ from-six true true true false e f _ _ _ h _ _ = cc
 from-six true true true true false f _ _ _ _ h _ = cc
 from-six true true true true true false _ _ _ _ _ h = cc
 
-module _ (code : Tac) (bs : List Block) (count : length bs ≡ length code.blocks) where
-  same-operand : (a : Operand) → operand_fits (with-blocks code bs) a ≡ operand_fits code a
+module _ (code : Tac) (bs : List Block) where
+  pub same-operand : (a : Operand) → operand_fits (with-blocks code bs) a ≡ operand_fits code a
   same-operand (Temp t) = refl
   same-operand (Constant c) = refl
 
-  same-part : (p : Part) → part_fits (with-blocks code bs) p ≡ part_fits code p
+  pub same-part : (p : Part) → part_fits (with-blocks code bs) p ≡ part_fits code p
   same-part (parts.Word a) = same-operand a
   same-part (parts.Area n) = refl
 
-  same-destination : (d : Destination) → destination_fits (with-blocks code bs) d ≡ destination_fits code d
+  pub same-destination : (d : Destination) → destination_fits (with-blocks code bs) d ≡ destination_fits code d
   same-destination (destinations.Temp t) = refl
   same-destination (destinations.Area n) = refl
 
@@ -68,7 +68,7 @@ module _ (code : Tac) (bs : List Block) (count : length bs ≡ length code.block
   same-parts : (ps : List Part) → list_all (part_fits (with-blocks code bs)) ps ≡ list_all (part_fits code) ps
   same-parts ps = ap (λ f. list_all f ps) (fun_ext same-part)
 
-  same-instruction : (i : Instruction) → instruction_fits (with-blocks code bs) i ≡ instruction_fits code i
+  pub same-instruction : (i : Instruction) → instruction_fits (with-blocks code bs) i ≡ instruction_fits code i
   same-instruction (Compute d op form a b) =
       ap (λ f. nat_lt d code.temps && f a && f b) (fun_ext same-operand)
   same-instruction (TestDivisor at a) = ap (λ z. place_fits at && z) (same-operand a)
@@ -93,20 +93,21 @@ module _ (code : Tac) (bs : List Block) (count : length bs ≡ length code.block
   same-instruction (Write at a b) = ap (λ f. place_fits at && f a && f b) (fun_ext same-operand)
   same-instruction (Alloc d a) = ap (λ z. nat_lt d code.temps && z) (same-operand a)
 
+module _ (code : Tac) (bs : List Block) (count : length bs ≡ length code.blocks) where
   same-edge : (e : Edge) → edge_fits (with-blocks code bs) e ≡ edge_fits code e
   same-edge e = ap (λ n. nat_lt e.block n) count
 
   same-exit : (e : Exit) → exit_fits (with-blocks code bs) e ≡ exit_fits code e
   same-exit (Jump e) = same-edge e
   same-exit (Branch a e f) =
-      ap (λ z. z && edge_fits (with-blocks code bs) e && edge_fits (with-blocks code bs) f) (same-operand a)
+      ap (λ z. z && edge_fits (with-blocks code bs) e && edge_fits (with-blocks code bs) f) (same-operand code bs a)
       ∙ ap (λ g. operand_fits code a && g e && g f) (fun_ext same-edge)
-  same-exit (Return v) = same-part v
+  same-exit (Return v) = same-part code bs v
   same-exit (Fail kind at) = refl
 
   same-block : (b : Block) → block_fits (with-blocks code bs) b ≡ block_fits code b
   same-block b =
-      ap (λ f. list_all f b.instructions && exit_fits (with-blocks code bs) b.exit) (fun_ext same-instruction)
+      ap (λ f. list_all f b.instructions && exit_fits (with-blocks code bs) b.exit) (fun_ext (same-instruction code bs))
       ∙ ap (λ z. list_all (instruction_fits code) b.instructions && z) (same-exit b.exit)
 
   pub within-made : IsTrue (is_within code) → list_all (block_fits code) bs ≡ true → IsTrue (is_within (with-blocks code bs))
@@ -116,7 +117,7 @@ module _ (code : Tac) (bs : List Block) (count : length bs ≡ length code.block
       from-six (list_all (block_fits (with-blocks code bs)) bs) (list_all (destination_fits (with-blocks code bs)) code.parameters)
       (list_all area_fits code.areas) (place_fits code.place) (nat_lt code.frame (2 ^ 63)) (nat_lt 0 (length bs))
       (ap (λ f. list_all f bs) (fun_ext same-block) ∙ h)
-      (ap (λ f. list_all f code.parameters) (fun_ext same-destination) ∙ p.1) p.2 p.3 p.4 (ap (λ n. nat_lt 0 n) count ∙ p.5)
+      (ap (λ f. list_all f code.parameters) (fun_ext (same-destination code bs)) ∙ p.1) p.2 p.3 p.4 (ap (λ n. nat_lt 0 n) count ∙ p.5)
 
 -- the blocks of code that fits do
 pub first-fits : (code : Tac) → IsTrue (is_within code) → list_all (block_fits code) code.blocks ≡ true

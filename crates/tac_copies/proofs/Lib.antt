@@ -23,6 +23,14 @@ pub mod ShortenedKeepsSized
 pub mod ShortenedKeepsWithin
 pub mod ShortenedKeepsLive
 pub mod ShortenedKeepsFits
+-- Code without the blocks that no way leads to.
+pub mod ReachedNext
+pub mod ReachedBlocks
+pub mod ReachedNumbers
+pub mod ReachedRuns
+pub mod ReachedKeepsCounted
+pub mod ReachedKeepsSized
+pub mod ReachedKeepsFits
 -- What is live where blocks begin, and which code fits.
 pub mod Lives
 pub mod LiveMade

@@ -1,11 +1,13 @@
--- What the code keeps while it works: which temporaries are read once, and the names by which temporaries are read.
-use Rattle.std.specs.Prelude.{◌≡◌, ℕ, zero, suc, Bool, false, not, ◌&&◌, if◌then◌else◌, nat_eq, List, ◌∷◌, ◌++◌, Option, Some, None, is_some, unwrap_or}
-use Rattle.std.specs.List.{flat_map}
+-- What the code keeps while it works: which temporaries are read once, the names by which temporaries are read, and which blocks are
+-- reached.
+use Rattle.std.specs.Prelude.{◌≡◌, ℕ, zero, suc, Bool, false, not, ◌&&◌, if◌then◌else◌, nat_eq, nat_le, List, [], ◌∷◌, ◌++◌, Option, Some, None, is_some, unwrap_or}
+use Rattle.std.specs.List.{flat_map, list_any}
 use Rattle.std.specs.Map.{lookup}
 use Rattle.tac_form.specs.declared.tac.Operand.TheVariants.{Temp}
 use Rattle.tac_form.specs.declared.tac.Instruction.{Instruction}
 use Rattle.tac_form.specs.declared.tac.Instruction.TheVariants.{Copy}
 use Rattle.tac_form.specs.declared.tac.Exit.{Exit}
+use Rattle.tac_form.specs.declared.tac.Exit.TheVariants.{Jump, Branch}
 use Rattle.tac_form.specs.declared.tac.Block.{Block}
 use Rattle.tac_form.specs.declared.tac.Tac.{Tac}
 use Rattle.tac_form.specs.Graph.{instruction_reads, exit_reads}
@@ -66,3 +68,39 @@ gone once _ is e = None
 -- code with instructions before it
 abbrev pub behind : List Instruction → Code → Code
 behind is c = record { instructions = is ++ c.instructions; exit = c.exit }
+
+-- ---- which blocks are reached
+
+abbrev pub is_among : List ℕ → ℕ → Bool
+is_among ns n = list_any (nat_eq n) ns
+
+-- numbers with one more, unless it is among them
+abbrev pub with_one : List ℕ → ℕ → List ℕ
+with_one ns n = if is_among ns n then ns else ns ++ n ∷ []
+
+abbrev pub with_one_if : Bool → List ℕ → ℕ → List ℕ
+with_one_if b ns n = if b then with_one ns n else ns
+
+-- with those to which the exit of a block leads back
+abbrev pub with_back : (from : ℕ) → List ℕ → Exit → List ℕ
+with_back from ns (Jump e) = with_one_if (nat_le e.block from) ns e.block
+with_back from ns (Branch a e f) = with_one_if (nat_le f.block from) (with_one_if (nat_le e.block from) ns e.block) f.block
+with_back from ns _ = ns
+
+abbrev pub with_backs : (from : ℕ) → List ℕ → List Block → List ℕ
+with_backs from ns [] = ns
+with_backs from ns (b ∷ bs) = with_backs (suc from) (with_back from ns b.exit) bs
+
+-- with all to which an exit leads
+abbrev pub with_next : List ℕ → Exit → List ℕ
+with_next ns (Jump e) = with_one ns e.block
+with_next ns (Branch a e f) = with_one (with_one ns e.block) f.block
+with_next ns _ = ns
+
+abbrev pub with_ahead : (from : ℕ) → List ℕ → List Block → List ℕ
+with_ahead from ns [] = ns
+with_ahead from ns (b ∷ bs) = with_ahead (suc from) (if is_among ns from then with_next ns b.exit else ns) bs
+
+-- the numbers of the blocks that are reached
+abbrev pub reached_numbers : List Block → List ℕ
+reached_numbers bs = with_ahead 0 (with_backs 0 (0 ∷ []) bs) bs

@@ -6,5 +6,7 @@ pub mod Once
 pub mod Directed
 -- What is copied is read where it was copied from.
 pub mod Shortened
+-- Blocks that no way leads to go.
+pub mod Reached
 -- What the code keeps while it works.
 pub mod Kept

@@ -2,8 +2,12 @@
 
 ghost use Rattle.std.specs.Prelude.{◌≡◌, IfOk};
 
+use crate::named::{Names, named_in};
 use std::alloc::Global;
-use tac_form::{Block, BlockList, Destination, DestinationList, Signature, SizeList, Tac, TypeIds};
+use tac_form::{
+    Block, BlockList, Destination, DestinationList, Instruction, InstructionList, Signature,
+    SizeList, Tac, TypeIds,
+};
 use tl_base::{NoMemory, TypeId};
 
 /// The same code, with other blocks.
@@ -56,4 +60,25 @@ fn copied_destinations(
     let mut items = Vec::new(alloc);
     items.extend_from_slice(destinations)?;
     Ok(DestinationList::from_vec(items))
+}
+
+pub(crate) fn copied_block(alloc: Global, block: &Block) -> Result<Block, NoMemory>
+    ensures { IfOk result (λ made. made ≡ block.now) }
+{
+    let mut made = Vec::new(alloc);
+    for instruction in block.instructions.as_slice() {
+        made.push(copied_instruction(alloc, instruction)?)?;
+    }
+    Ok(Block {
+        instructions: InstructionList::from_vec(made),
+        exit: block.exit,
+    })
+}
+
+fn copied_instruction(alloc: Global, instruction: &Instruction) -> Result<Instruction, NoMemory>
+    ensures { IfOk result (λ made. made ≡ instruction.now) }
+{
+    let own = Names::new(alloc);
+    let copied = named_in(alloc, &own, instruction)?;
+    Ok(copied)
 }

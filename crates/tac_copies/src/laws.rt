@@ -2,6 +2,7 @@
 
 ghost use Rattle.tac_copies.specs.Directed.{directed_code};
 ghost use Rattle.tac_copies.specs.Laws.{KeepsCounted, KeepsFits, KeepsRuns, KeepsSized};
+ghost use Rattle.tac_copies.specs.Reached.{reached_code};
 ghost use Rattle.tac_copies.specs.Shortened.{shortened_code};
 
 /// Code whose results go at once to where they are copied runs as before, at every count.
@@ -42,4 +43,24 @@ pub fn shortening_keeps_counted()
 /// It has no more words and private bytes than before.
 pub fn shortening_keeps_sized()
     ensures { KeepsSized shortened_code }
+{}
+
+/// Code without the blocks that no way leads to runs as before, at every count.
+pub fn reaching_keeps_runs()
+    ensures { KeepsRuns reached_code }
+{}
+
+/// Machine code can be made of it as before: what it names is there, and the same temporaries are live where it is entered.
+pub fn reaching_keeps_fits()
+    ensures { KeepsFits reached_code }
+{}
+
+/// Each way round its flow graph counts as before.
+pub fn reaching_keeps_counted()
+    ensures { KeepsCounted reached_code }
+{}
+
+/// It has no more words and private bytes than before.
+pub fn reaching_keeps_sized()
+    ensures { KeepsSized reached_code }
 {}
