@@ -23,6 +23,7 @@ use Rattle.tac_lower.proofs.Weights.{received-count}
 use Rattle.tac_lower.specs.Pieces.{nothing_used}
 use Rattle.tac_copies.specs.Directed.{directed_code}
 use Rattle.tac_copies.specs.Shortened.{shortened_code}
+use Rattle.tac_copies.specs.Reached.{reached_code}
 use Rattle.rv_select.specs.Calls.{all_has_code, block_has_code, has_code, has_exit_code}
 use Rattle.rv_select.specs.Waiting.{PassesAll}
 use Rattle.rv_link.specs.declared.function.Function.{Function}
@@ -204,11 +205,13 @@ module _ (store : Contents) where
   )
 
   -- what `lower` gives of a function that can be compiled, without copies
-  pub compiled-good : (f : FnId) (r : IsReady store f) (types : AreTypes store.types) (found : Option Tac) (code direct tac : Tac) →
+  pub compiled-good : (f : FnId) (r : IsReady store f) (types : AreTypes store.types) (found : Option Tac)
+      (code whole direct tac : Tac) →
       found ≡ option_map (lowered store []) (callable_of store f) → IfSome found (λ t. GoodWhereTyped store [] f t) → found ≡ Some code →
-      direct ≡ directed_code code → tac ≡ shortened_code direct → (tac ≡ compiled_code store r.term) × IsGood tac
-  compiled-good f r types found code direct tac is good here first second =
-      let without : tac ≡ without_copies code = second ∙ ap shortened_code first in (
+      whole ≡ reached_code code → direct ≡ directed_code whole → tac ≡ shortened_code direct →
+      (tac ≡ compiled_code store r.term) × IsGood tac
+  compiled-good f r types found code whole direct tac is good here first second third =
+      let without : tac ≡ without_copies code = third ∙ ap shortened_code (second ∙ ap directed_code first) in (
         without ∙ ap without_copies (one code (lowered store [] r.term) (sym here ∙ is ∙ ap (option_map (lowered store [])) r.is)),
         subst IsGood (sym without) (stays-good code
             (subst (λ o. IfSome o (λ t. GoodWhereTyped store [] f t)) here good r.term r.is types (omega arith) r.place
@@ -221,11 +224,12 @@ module _ (store : Contents) where
       fewer : (n : ℕ) → n ≤ 8192 → n ≤ 131072
       fewer n h = omega (arith, h)
 
-  pub compiled-has-code : (f : FnId) (r : IsReady store f) (types : AreTypes store.types) (found : Option Tac) (code direct tac : Tac) →
+  pub compiled-has-code : (f : FnId) (r : IsReady store f) (types : AreTypes store.types) (found : Option Tac)
+      (code whole direct tac : Tac) →
       found ≡ option_map (lowered store []) (callable_of store f) → IfSome found (λ t. GoodWhereTyped store [] f t) → found ≡ Some code →
-      direct ≡ directed_code code → tac ≡ shortened_code direct → all_has_code tac ≡ true
-  compiled-has-code f r types found code direct tac is good here first second =
-      let g = compiled-good f r types found code direct tac is good here first second in
+      whole ≡ reached_code code → direct ≡ directed_code whole → tac ≡ shortened_code direct → all_has_code tac ≡ true
+  compiled-has-code f r types found code whole direct tac is good here first second third =
+      let g = compiled-good f r types found code whole direct tac is good here first second third in
       subst (λ t. all_has_code t ≡ true) (sym g.0) (has-code f r.term r.is r (subst IsGood g.0 g.1))
 
 -- ---- functions that are there

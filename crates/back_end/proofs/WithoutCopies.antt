@@ -1,5 +1,6 @@
 -- What the code of a function keeps without copies: its runs, that machine code can be made of it, and what it calls.
-use Rattle.std.proofs.Common.{◌≡◌, ℕ, Bool, List, [], ◌∷◌, map, Option, Some, None, option_map, refl, sym, subst}
+use Rattle.std.proofs.Common.{◌≡◌, ℕ, zero, suc, Bool, true, false, List, [], ◌∷◌, map, length, take, Option, Some, None, option_map, refl, sym, subst}
+use Rattle.std.specs.Prelude.{if◌then◌else◌}
 use Rattle.std.proofs.lemmas.List.{length-map}
 use Rattle.tl_base.specs.declared.ids.FnId.{FnId}
 use Rattle.terra_words.specs.Runs.{Value, Run}
@@ -14,8 +15,13 @@ use Rattle.tac_form.specs.Flow.{Program, TacRun, put}
 use Rattle.tac_lower.specs.Laws.{IsGood}
 use Rattle.tac_lower.specs.Lowering.{lowered}
 use Rattle.tac_copies.specs.Once.{is_once}
+use Rattle.tac_copies.specs.Reached.{is_reached, passed, passed_where, reached_code, up_to_last}
 use Rattle.tac_copies.specs.Directed.{directed, directed_all, directed_block, directed_code}
 use Rattle.tac_copies.specs.Shortened.{Code, named_exit, named_in, named_part, own_names, shortened, shortened_block, shortened_code}
+use Rattle.tac_copies.proofs.ReachedKeepsCounted.{reached-counted}
+use Rattle.tac_copies.proofs.ReachedKeepsFits.{reached-fits}
+use Rattle.tac_copies.proofs.ReachedKeepsSized.{reached-sized}
+use Rattle.tac_copies.proofs.ReachedRuns.{reached-runs}
 use Rattle.tac_copies.proofs.DirectedKeeps.{by-merges}
 use Rattle.tac_copies.proofs.DirectedKeepsCounted.{directed-counted}
 use Rattle.tac_copies.proofs.DirectedKeepsFits.{directed-fits}
@@ -32,24 +38,45 @@ use Rattle.back_end.proofs.Coded.{AllBlocks, AllNamed, Exits, Named}
 -- ---- what the passes leave alone
 
 pub same-parameters : (code : Tac) → (without_copies code).parameters ≡ code.parameters
-unfolding directed_code shortened_code
+unfolding reached_code directed_code shortened_code
 same-parameters code = refl
 
 pub same-count : (code : Tac) → (without_copies code).nodes ≡ code.nodes
-unfolding directed_code shortened_code
+unfolding reached_code directed_code shortened_code
 same-count code = refl
 
 pub stays-good : (code : Tac) → IsGood code → IsGood (without_copies code)
 stays-good code h = record {
-  fits = keeps-fits (directed_code code) (directed-fits code h.fits);
-  counted = keeps-counted (directed_code code) (directed-counted code h.counted);
-  sized = keeps-sized (directed_code code) (directed-sized code h.sized);
+  fits = keeps-fits (directed_code (reached_code code)) (directed-fits (reached_code code) (reached-fits code h.fits));
+  counted = keeps-counted (directed_code (reached_code code)) (directed-counted (reached_code code) (reached-counted code h.counted));
+  sized = keeps-sized (directed_code (reached_code code)) (directed-sized (reached_code code) (reached-sized code h.sized));
 }
 
 -- ---- what is called
 
 -- an instruction calls the same with as many arguments, whatever its operands are and wherever its result goes
 module _ (In : FnId → ℕ → Type 0) where
+  -- what stands for a block that isn't reached calls nothing
+  passed-blocks : (reached : ℕ → Bool) (from : ℕ) (bs : List Block) → AllBlocks In bs → AllBlocks In (passed_where reached from bs)
+  passed-blocks reached from [] h = tt
+  passed-blocks reached from (b ∷ bs) h = (one (reached from), passed-blocks reached (suc from) bs h.1)
+    where
+      one : (r : Bool) →
+          AllNamed In (if r then b else passed from).instructions × Exits In (if r then b else passed from).exit
+      one true = h.0
+      one false = (tt, tt)
+
+  taken-blocks : (bs : List Block) (m : ℕ) → AllBlocks In bs → AllBlocks In (take m bs)
+  taken-blocks bs zero h = tt
+  taken-blocks [] (suc m) h = tt
+  taken-blocks (b ∷ bs) (suc m) h = (h.0, taken-blocks bs m h.1)
+
+  reached-blocks : (code : Tac) → AllBlocks In code.blocks → AllBlocks In (reached_code code).blocks
+  unfolding reached_code
+  reached-blocks code h =
+      let m = up_to_last (is_reached code) (length code.blocks) in
+      passed-blocks (is_reached code) 0 (take m code.blocks) (taken-blocks code.blocks m h)
+
   directed-named : (x : ℕ) (i : Instruction) → Named In i → Named In (directed x i)
   directed-named x (Compute d op form a b) h = tt
   directed-named x (Locate d offset) h = tt
@@ -106,7 +133,9 @@ module _ (In : FnId → ℕ → Type 0) where
   pub stays-named : (code : Tac) → AllBlocks In code.blocks → AllBlocks In (without_copies code).blocks
   unfolding directed_code shortened_code
   stays-named code h =
-      shortened-blocks (is_once (directed_code code)) (directed_code code).blocks (directed-blocks (is_once code) code.blocks h)
+      let whole = reached_code code in
+      shortened-blocks (is_once (directed_code whole)) (directed_code whole).blocks
+      (directed-blocks (is_once whole) whole.blocks (reached-blocks code h))
 
 -- ---- runs
 
@@ -114,16 +143,21 @@ module _ (In : FnId → ℕ → Type 0) where
 abbrev pub all_lowered : Contents → Program
 all_lowered store = record { code = λ g. option_map (lowered store []) (callable_of store g); entries = [] }
 
+-- that without the blocks that no way leads to
+abbrev all_reached : Contents → Program
+all_reached store = record { code = λ g. option_map reached_code ((all_lowered store).code g); entries = [] }
+
 -- that with its results put at once to where they are copied
 abbrev all_directed : Contents → Program
-all_directed store = record { code = λ g. option_map directed_code ((all_lowered store).code g); entries = [] }
+all_directed store = record { code = λ g. option_map directed_code ((all_reached store).code g); entries = [] }
 
 -- and the code that is compiled
 abbrev pub all_compiled : Contents → Program
 all_compiled store = record { code = λ g. option_map (compiled_code store) (callable_of store g); entries = [] }
 
 in-turn : (store : Contents) (o : Option Callable) →
-    option_map (compiled_code store) o ≡ option_map shortened_code (option_map directed_code (option_map (lowered store []) o))
+    option_map (compiled_code store) o
+    ≡ option_map shortened_code (option_map directed_code (option_map reached_code (option_map (lowered store []) o)))
 in-turn store None = refl
 in-turn store (Some k) = refl
 
@@ -132,5 +166,7 @@ pub compiled-runs : (store : Contents) (statics : List ℕ) (memory n : ℕ) (f 
 compiled-runs store statics memory n f arguments r run =
     shortening-keeps-runs (all_directed store) (all_compiled store)
     (record { code = λ g. in-turn store (callable_of store g); entries = refl }) statics memory n f arguments r
-    (directed-runs (all_lowered store) (all_directed store) (record { code = λ g. refl; entries = refl })
-    statics memory n f arguments r run)
+    (directed-runs (all_reached store) (all_directed store) (record { code = λ g. refl; entries = refl })
+    statics memory n f arguments r
+    (reached-runs (all_lowered store) (all_reached store) (record { code = λ g. refl; entries = refl })
+    statics memory n f arguments r run))
