@@ -40,7 +40,7 @@ use Rattle.rv_select.proofs.Homes.{first-count, first-few, take-first}
 use Rattle.rv_select.proofs.Faults.{branch-way, fails}
 use Rattle.rv_select.proofs.Divisors.{stays}
 use Rattle.rv_select.proofs.Lives.{housed}
-use Rattle.rv_select.proofs.Carries.{both-true, by-test, operand-read, place-small}
+use Rattle.rv_select.proofs.Carries.{both-true, by-test, first-read, place-small}
 use Rattle.rv_select.proofs.Jumps.{Jumped, Reaches, jump-count, jump-few, jump_words, jumps-there}
 
 -- the exit of a block in the flow graph
@@ -253,7 +253,8 @@ carry-branch p code homes held a e f starts s program base m x =
     let reach-e : InReach (is_short code) m.pc (starts e.block) = edge-reach code starts m.pc e x.reach fit-a.1 in
     let reach-f : InReach (is_short code) m.pc (starts f.block) = edge-reach code starts m.pc f x.reach fit.1 in
     let l : Loads 5 (first_taken y held a) m v =
-    take-first y held used (world_of s) base m a x.five x.holds h (operand-read code used a fit-a.0 (reads-here p code homes held (Branch a e f) starts s program base m x)) in
+    take-first y held used (world_of s) base m a x.five x.holds h 
+    (first-read code y held used a fit-a.0 (reads-here p code homes held (Branch a e f) starts s program base m x) x.asked) in
     let first : v ≢ 0 → Comes y program (InUse (graph_of code) e.block 0) (world_of s) base (exit_words (Branch a e f)) (starts e.block) [] m =
     λ n. chosen-comes y used (InUse (graph_of code) e.block 0) (world_of s) base (starts e.block) (starts f.block) (starts e.block) (exit_words (Branch a e f))
     (is_short code) Ne x5 x0 true (first_taken y held a) program m l.after (loads-five (first_taken y held a) m v l) x.holds h

@@ -25,7 +25,8 @@ use Rattle.tac_form.specs.Live.{InUse, IsLive}
 use Rattle.tac_form.specs.Weights.{exit_words, words_of}
 use Rattle.rv_operators.specs.Codes.{is_comparison, x5, x6}
 use Rattle.rv_operators.specs.Runs.{Stands}
-use Rattle.rv_select.specs.Places.{IsHeld, Layout, Holds, is_short, layout_of}
+use Rattle.rv_select.specs.Asked.{both_ask}
+use Rattle.rv_select.specs.Places.{HaveHomes, IsHeld, Layout, Holds, is_short, layout_of}
 use Rattle.rv_select.specs.Shapes.{chosen, first_taken, taken}
 use Rattle.rv_select.specs.Steps.{IsReached, Left, world_of}
 
@@ -84,6 +85,7 @@ pub record StandsAtCompare (p : Program) (code : Tac) (homes : List (Option Home
   pub first_unread : IsLive (graph_of code) e.block 0 d → ⊥
   pub second_unread : IsLive (graph_of code) f.block 0 d → ⊥
   pub right : IsRight code homes
+  pub asked : HaveHomes (layout_of code homes) (both_ask held a b)
   pub near : m.pc + 256 ≤ 2 ^ 30
   pub blocks : (b : ℕ) → (starts b < 2 ^ 30) × (starts b % 2 ≡ 0)
   pub there : IsTrue (exit_fits code (Branch (Temp d) e f))

@@ -1,5 +1,7 @@
 -- Which comparisons have one code with their branch.
 pub mod Pairs
+-- Which temporaries need a home.
+pub mod Asked
 -- Where an activation's words stand in the machine.
 pub mod Places
 -- Numbers as operands of instructions, and code that loads them.
