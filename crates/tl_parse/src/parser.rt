@@ -22,10 +22,11 @@ ghost use Rattle.tl_parse.specs.Parsing.{TookToken, token_of, with_token};
 ghost use Rattle.tl_parse.specs.Using.{is_number, sign_at, open_at, sign_among_at, prefix_at, operator_at, raise_at};
 ghost use Rattle.tl_parse.specs.Using.{call_at, number_at};
 ghost use Rattle.tl_parse.specs.Taking.{bar_of, Uses, Barred};
+ghost use Rattle.tl_parse.specs.Ranks.{rank_at, is_ranked, is_of_rank, ranked_at};
 
 use crate::error::SyntaxError;
 use crate::numerals::is_above;
-use crate::symbols::{has, number_of};
+use crate::symbols::{NO_OPERATOR, has, number_of, rank_of};
 use std::alloc::Global;
 use tl_base::{NodeId, Place};
 use tl_lex::laws::one_division;
@@ -253,6 +254,35 @@ impl<'a> Parser<'a> {
         !self.current.is_end && has(symbols, number_of(self.current.symbol))
     }
 
+    /// The rank of the next token.
+    #[tactic(auto, using(crate::proofs::Ranks::next_rank), unfolding(crate::specs::Parsing::tokens_left))]
+    pub(crate) fn next_rank(&self) -> u8
+        ensures { result ≡ rank_at (tokens_left self.now) }
+    {
+        if self.current.is_end {
+            NO_OPERATOR
+        } else {
+            rank_of(self.current.symbol)
+        }
+    }
+
+    /// Has the next token a rank from this one on, before that one?
+    pub(crate) fn next_is_ranked(&self, from: u8, end: u8) -> bool
+        ensures { result ≡ is_ranked from end (tokens_left self.now) }
+    {
+        let rank = self.next_rank();
+        from <= rank && rank < end
+    }
+
+    /// Is the next token an operator of this rank?
+    #[tactic(auto, using(crate::proofs::Ranks::begins_of_rank))]
+    fn next_is_of_rank(&self, rank: u8) -> bool
+        requires { rank < 6 }
+        ensures { result ≡ begins (is_of_rank rank) (tokens_left self.now) }
+    {
+        self.next_rank() == rank
+    }
+
     /// Is there no next token?
     #[tactic(auto, using(crate::proofs::Looking::some_left), unfolding(crate::specs::Parsing::tokens_left))]
     pub(crate) fn at_end(&self) -> bool
@@ -408,6 +438,22 @@ impl<'a> Parser<'a> {
         ensures err { IfErr result (λ e. Fails self.old (operator_at symbols.now left (tokens_left self.old)) e) }
     {
         if self.next_is_among(symbols) {
+            Ok(read!(self.advance(false, 0, Extra::Continues(left))))
+        } else {
+            Err(self.refusal())
+        }
+    }
+
+    /// Takes an operator of this rank, which continues a chain that so many may continue.
+    #[tactic(auto, using(crate::proofs::Taking::taking, crate::proofs::Taking::chain_left), unfolding(crate::specs::Ranks::ranked_at))]
+    pub(crate) fn ranked_operator(&mut self, rank: u8, left: u32) -> Result<Next<'a>, SyntaxError>
+        requires some { rank < 6 }
+        requires ready { Ready self.old }
+        ensures ok { IfOk result (λ t. TookToken self.old self.new (ranked_at rank left (tokens_left self.old)) t) }
+        ensures chain { IfOk result (λ _. 0 < left) }
+        ensures err { IfErr result (λ e. Fails self.old (ranked_at rank left (tokens_left self.old)) e) }
+    {
+        if self.next_is_of_rank(rank) {
             Ok(read!(self.advance(false, 0, Extra::Continues(left))))
         } else {
             Err(self.refusal())

@@ -1,6 +1,7 @@
 // The symbols of tokens.
 ghost use Rattle.std.specs.Prelude.{◌≡◌};
 ghost use Rattle.tl_tree.specs.Symbols as spec;
+ghost use Rattle.tl_parse.specs.Ranks as ranks;
 
 use tl_tree::Symbol;
 
@@ -77,6 +78,36 @@ pub(crate) fn number_of(symbol: Symbol) -> u8
         Symbol::Bad(_) => 65,
         Symbol::Finish => 66,
     }
+}
+
+/// The rank that a token has behind all operators.
+pub(crate) const NO_OPERATOR: u8 = 6;
+
+/// The rank of `..`.
+pub(crate) const CONCATENATION: u8 = 2;
+
+/// The rank of the operator that a token is between two operands of Lua code: 0 is the highest precedence. Tokens that
+/// are none, and `->`, stand behind all ranks.
+pub(crate) fn rank_of(symbol: Symbol) -> u8
+    ensures { result ≡ ranks.rank_of symbol }
+{
+    match symbol {
+        Symbol::Star | Symbol::Slash | Symbol::Percent => 0,
+        Symbol::Plus | Symbol::Minus => 1,
+        Symbol::DoubleDot => CONCATENATION,
+        Symbol::Less | Symbol::Greater | Symbol::LessEqual => 3,
+        Symbol::GreaterEqual | Symbol::NotEqual | Symbol::DoubleEqual => 3,
+        Symbol::And => 4,
+        Symbol::Or => 5,
+        _ => NO_OPERATOR,
+    }
+}
+
+/// The rank from which it goes on behind an operator and its right operand.
+pub(crate) fn rank_behind(rank: u8) -> u8
+    ensures { result ≡ ranks.rank_behind rank }
+{
+    if rank == CONCATENATION { 3 } else { rank }
 }
 
 /// Whether one of the symbols has this number.
