@@ -590,7 +590,7 @@ impl<'a> Parser<'a> {
         ensures ok { IfOk result (λ r. TookOperand self.old self.new (unary_at levels mode left (tokens_left self.old)) r) }
         ensures err { IfErr result (λ e. Fails self.old (unary_at levels mode left (tokens_left self.old)) e) }
     {
-        if self.next_is_among(&PREFIX) {
+        if self.next_is_prefix() {
             let token = read!(self.open_among(&PREFIX, levels));
             let operand = read!(self.operand(mode, levels - 1));
             let node = read!(self.push(Node::Expression(

@@ -8,9 +8,9 @@ ghost use Rattle.tl_tree.specs.LuaExpressions as lua;
 ghost use Rattle.tl_tree.specs.TerraExpressions as terra;
 ghost use Rattle.tl_tree.specs.Numbers.{largest_terra};
 ghost use Rattle.tl_parse.specs.TerraExpressions.{terra_number_at};
-ghost use Rattle.tl_parse.specs.Expressions.{is_simple, is_types, is_variadic};
+ghost use Rattle.tl_parse.specs.Expressions.{is_simple, simple_symbols, is_types, is_variadic};
 ghost use Rattle.tl_parse.specs.Joining.{Joined};
-ghost use Rattle.tl_parse.specs.Statements.{first_place, goes_on};
+ghost use Rattle.tl_parse.specs.Statements.{first_place, goes_on, plain_statements};
 ghost use Rattle.tl_lex.specs.Lexing.{answers_left};
 ghost use Rattle.tl_lex.specs.Laws.{EndsOnce};
 ghost use Rattle.tl_tree.specs.Symbols.{number_of, is_bad, has};
@@ -26,7 +26,9 @@ ghost use Rattle.tl_parse.specs.Ranks.{rank_at, is_ranked, is_of_rank, ranked_at
 
 use crate::error::SyntaxError;
 use crate::numerals::is_above;
-use crate::symbols::{NO_OPERATOR, has, number_of, rank_of};
+use crate::symbols::{
+    NO_OPERATOR, has, is_prefix, is_simple, is_statement, is_suffix, number_of, rank_of,
+};
 use std::alloc::Global;
 use tl_base::{NodeId, Place};
 use tl_lex::laws::one_division;
@@ -59,44 +61,6 @@ static TERRA_NUMERAL: [Symbol; 3] = [
     Symbol::Numeral,
     Symbol::LongNumeral,
     Symbol::UnsignedNumeral,
-];
-
-static SUFFIX: [Symbol; 6] = [
-    Symbol::OpenParen,
-    Symbol::OpenBracket,
-    Symbol::Dot,
-    Symbol::Colon,
-    Symbol::OpenBrace,
-    Symbol::Literal,
-];
-
-static SIMPLE: [Symbol; 11] = [
-    Symbol::Numeral,
-    Symbol::Literal,
-    Symbol::Nil,
-    Symbol::False,
-    Symbol::True,
-    Symbol::Function,
-    Symbol::OpenBrace,
-    Symbol::Terra,
-    Symbol::Struct,
-    Symbol::Quote,
-    Symbol::Backtick,
-];
-
-static STATEMENT: [Symbol; 12] = [
-    Symbol::Name,
-    Symbol::OpenParen,
-    Symbol::Do,
-    Symbol::While,
-    Symbol::Repeat,
-    Symbol::If,
-    Symbol::For,
-    Symbol::Function,
-    Symbol::Local,
-    Symbol::Return,
-    Symbol::Terra,
-    Symbol::Struct,
 ];
 
 /// A token as the grammar sees it, or the end.
@@ -327,21 +291,32 @@ impl<'a> Parser<'a> {
         Ok(NodeId((self.nodes.len() - 1) as u64))
     }
 
-    /// Takes the next token.
+    /// Passes over the next token.
     #[tactic(auto, using(crate::proofs::Looking::advanced))]
     #[inline(never)]
+    fn pass(&mut self)
+        requires next { HasNext (tokens_left self.old) }
+        requires ready { Ready self.old }
+        ensures { Advanced self.old self.new self.old.current }
+    {
+        self.current = Next::new(self.lexer.next_token());
+    }
+
+    /// Takes the next token.
+    #[inline(always)]
     fn next(&mut self) -> Next<'a>
         requires next { HasNext (tokens_left self.old) }
         requires ready { Ready self.old }
         ensures { Advanced self.old self.new result }
     {
         let token = self.current;
-        self.current = Next::new(self.lexer.next_token());
+        self.pass();
         token
     }
 
     /// Takes the next token, where the limits allow its use.
     #[tactic(auto, using(crate::proofs::Taking::takes, crate::proofs::Taking::bars, crate::proofs::Taking::barred_next_is, crate::proofs::Taking::next_place))]
+    #[inline(always)]
     fn advance(&mut self, opens: bool, levels: u32, extra: Extra) -> Result<Next<'a>, SyntaxError>
         requires next { HasNext (tokens_left self.old) }
         requires ready { Ready self.old }
@@ -554,6 +529,14 @@ impl<'a> Parser<'a> {
         is_types(mode) && self.next_is(Symbol::OpenBracket) && self.current.first_on_line
     }
 
+    /// Does the next token follow a prefix expression, wherever that stands?
+    #[tactic(auto, using(crate::proofs::Looking::next_is_among), unfolding(crate::specs::Parsing::tokens_left))]
+    fn next_is_any_suffix(&self) -> bool
+        ensures { result ≡ begins (among lua.suffix_symbols) (tokens_left self.now) }
+    {
+        !self.current.is_end && is_suffix(self.current.symbol)
+    }
+
     /// Does the next token follow a prefix expression, and belong to it?
     #[tactic(auto, using(crate::proofs::Looking::suffixes))]
     pub(crate) fn next_is_suffix(&self, mode: Mode) -> bool
@@ -562,7 +545,23 @@ impl<'a> Parser<'a> {
         if self.next_is_barred(mode) {
             return false;
         }
-        self.next_is_among(&SUFFIX)
+        self.next_is_any_suffix()
+    }
+
+    /// Is the next token an operator before its operand?
+    #[tactic(auto, using(crate::proofs::Looking::next_is_among), unfolding(crate::specs::Parsing::tokens_left))]
+    pub(crate) fn next_is_prefix(&self) -> bool
+        ensures { result ≡ begins (among lua.prefix_symbols) (tokens_left self.now) }
+    {
+        !self.current.is_end && is_prefix(self.current.symbol)
+    }
+
+    /// Does the next token begin an operand that is no prefix expression, in all functions?
+    #[tactic(auto, using(crate::proofs::Looking::next_is_among), unfolding(crate::specs::Parsing::tokens_left))]
+    fn next_is_plain_simple(&self) -> bool
+        ensures { result ≡ begins (among simple_symbols) (tokens_left self.now) }
+    {
+        !self.current.is_end && is_simple(self.current.symbol)
     }
 
     /// Does the next token begin an operand that is no prefix expression?
@@ -570,7 +569,7 @@ impl<'a> Parser<'a> {
     pub(crate) fn next_is_simple(&self, mode: Mode) -> bool
         ensures { result ≡ is_simple mode (tokens_left self.now) }
     {
-        self.next_is_among(&SIMPLE) || (is_variadic(mode) && self.next_is(Symbol::Ellipsis))
+        self.next_is_plain_simple() || (is_variadic(mode) && self.next_is(Symbol::Ellipsis))
     }
 
     /// The place of the next token.
@@ -580,6 +579,14 @@ impl<'a> Parser<'a> {
         ensures { result ≡ first_place (tokens_left self.now) }
     {
         self.current.place
+    }
+
+    /// Does the next token begin a statement, in all blocks?
+    #[tactic(auto, using(crate::proofs::Looking::next_is_among), unfolding(crate::specs::Parsing::tokens_left))]
+    fn next_is_statement(&self) -> bool
+        ensures { result ≡ begins (among plain_statements) (tokens_left self.now) }
+    {
+        !self.current.is_end && is_statement(self.current.symbol)
     }
 
     /// May the next token begin one more statement of a block, which has ended or hasn't?
@@ -596,7 +603,7 @@ impl<'a> Parser<'a> {
         if self.next_is(Symbol::Emit) {
             return context.emits;
         }
-        self.next_is_among(&STATEMENT)
+        self.next_is_statement()
     }
 
     /// No nodes.

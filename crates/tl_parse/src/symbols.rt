@@ -2,6 +2,9 @@
 ghost use Rattle.std.specs.Prelude.{◌≡◌};
 ghost use Rattle.tl_tree.specs.Symbols as spec;
 ghost use Rattle.tl_parse.specs.Ranks as ranks;
+ghost use Rattle.tl_parse.specs.Expressions.{simple_symbols};
+ghost use Rattle.tl_parse.specs.Statements.{plain_statements};
+ghost use Rattle.tl_tree.specs.LuaExpressions.{prefix_symbols, suffix_symbols};
 
 use tl_tree::Symbol;
 
@@ -108,6 +111,51 @@ pub(crate) fn rank_behind(rank: u8) -> u8
     ensures { result ≡ ranks.rank_behind rank }
 {
     if rank == CONCATENATION { 3 } else { rank }
+}
+
+/// The operators before an operand of Lua code.
+pub(crate) fn is_prefix(symbol: Symbol) -> bool
+    ensures { result ≡ spec.has prefix_symbols (spec.number_of symbol) }
+{
+    match symbol {
+        Symbol::Not | Symbol::Hash | Symbol::Minus | Symbol::Ampersand => true,
+        _ => false,
+    }
+}
+
+/// The tokens that begin an operand of Lua code that is no prefix expression.
+pub(crate) fn is_simple(symbol: Symbol) -> bool
+    ensures { result ≡ spec.has simple_symbols (spec.number_of symbol) }
+{
+    match symbol {
+        Symbol::Numeral | Symbol::Literal | Symbol::Nil | Symbol::False | Symbol::True => true,
+        Symbol::Function | Symbol::OpenBrace => true,
+        Symbol::Terra | Symbol::Struct | Symbol::Quote | Symbol::Backtick => true,
+        _ => false,
+    }
+}
+
+/// The tokens that follow a prefix expression of Lua code, and belong to it.
+pub(crate) fn is_suffix(symbol: Symbol) -> bool
+    ensures { result ≡ spec.has suffix_symbols (spec.number_of symbol) }
+{
+    match symbol {
+        Symbol::OpenParen | Symbol::OpenBracket | Symbol::Dot | Symbol::Colon => true,
+        Symbol::OpenBrace | Symbol::Literal => true,
+        _ => false,
+    }
+}
+
+/// The tokens that begin a statement of Lua code, in a loop or not.
+pub(crate) fn is_statement(symbol: Symbol) -> bool
+    ensures { result ≡ spec.has plain_statements (spec.number_of symbol) }
+{
+    match symbol {
+        Symbol::Name | Symbol::OpenParen | Symbol::Do | Symbol::While | Symbol::Repeat => true,
+        Symbol::If | Symbol::For | Symbol::Function | Symbol::Local | Symbol::Return => true,
+        Symbol::Terra | Symbol::Struct => true,
+        _ => false,
+    }
 }
 
 /// Whether one of the symbols has this number.
