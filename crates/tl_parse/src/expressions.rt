@@ -640,6 +640,7 @@ impl<'a> Parser<'a> {
     /// exp {operator exp}, of so many ranks. Where no operator follows the operand, no rank is looked at.
     #[cycle(parser)]
     #[tactic(auto, using(crate::proofs::Climbing::climbing), unfolding(crate::specs::Expressions::binary_at))]
+    #[inline(always)]
     fn binary(
         &mut self,
         ranks: u8,

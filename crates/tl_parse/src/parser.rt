@@ -220,6 +220,7 @@ impl<'a> Parser<'a> {
 
     /// The rank of the next token.
     #[tactic(auto, using(crate::proofs::Ranks::next_rank), unfolding(crate::specs::Parsing::tokens_left))]
+    #[inline(always)]
     pub(crate) fn next_rank(&self) -> u8
         ensures { result ≡ rank_at (tokens_left self.now) }
     {
@@ -231,6 +232,7 @@ impl<'a> Parser<'a> {
     }
 
     /// Has the next token a rank from this one on, before that one?
+    #[inline(always)]
     pub(crate) fn next_is_ranked(&self, from: u8, end: u8) -> bool
         ensures { result ≡ is_ranked from end (tokens_left self.now) }
     {
@@ -539,6 +541,7 @@ impl<'a> Parser<'a> {
 
     /// Does the next token follow a prefix expression, and belong to it?
     #[tactic(auto, using(crate::proofs::Looking::suffixes))]
+    #[inline(always)]
     pub(crate) fn next_is_suffix(&self, mode: Mode) -> bool
         ensures { result ≡ begins (λ t. lua.is_suffix mode t) (tokens_left self.now) }
     {
