@@ -4,7 +4,7 @@ ghost use Rattle.std.specs.Prelude.{◌≡◌, ℕ, slice_get, IfOk, OnOk};
 ghost use Rattle.terra_term.specs.declared.typed.TypedExpression.TheVariants as te;
 ghost use Rattle.check_model.specs.Plans as plans;
 ghost use Rattle.check_model.specs.Expressions as models;
-ghost use Rattle.check_model.specs.Typing.{variable_at};
+ghost use Rattle.check_model.specs.Typing.{TypingState, variable_at};
 ghost use Rattle.check_expr.specs.Frames as waiting;
 ghost use Rattle.check_expr.specs.Keeping.{KeepsTyping};
 ghost use Rattle.check_expr.specs.Steps.{Goes, Does};
@@ -20,8 +20,11 @@ use crate::step::{BodyStep, Node};
 use check_model::row::{Rest, Row, term_list};
 use check_model::{BodyJob, Made, OperandList, Site, Typing};
 use std::alloc::Global;
-use terra_term::{Constant, Expression, Initialiser, RefusalKind, Term, TypedExpression};
-use tl_base::{Budget, GlobalId, NoMemory, Place, Step, SymId, TermId, TypeId};
+use terra_term::{
+    Constant, Expression, Initialiser, RefusalKind, Term, TypedExpression, UnaryOperator,
+};
+use terra_words::BinaryOperator;
+use tl_base::{Budget, GlobalId, NoMemory, Place, Step, SymId, TermId, TextId, TypeId};
 
 /// The type of texts and of `nil`, which is there from the begin.
 const RAWSTRING: TypeId = TypeId(10);
@@ -101,31 +104,30 @@ pub fn expression(
                 Expression::SizeOf => Ok(refuse(RefusalKind::BadOperand, node.at, site)),
                 Expression::Typed(_, _) => Ok(refuse(RefusalKind::NotBuilt, node.at, site)),
                 Expression::Unary(op, operand) => {
-                    let operand = *operand;
-                    frames.push(BodyFrame::Made(MadeFrame::Unary(*op, node)))?;
-                    Ok(Step::Enter(BodyJob::Expression(operand, site)))
+                    let (op, operand) = (*op, *operand);
+                    let step = unary_operand(frames, op, operand, node)?;
+                    Ok(step)
                 }
                 Expression::Binary(op, left, right) => {
-                    let left = *left;
-                    frames.push(BodyFrame::Made(MadeFrame::Left(*op, *right, node)))?;
-                    Ok(Step::Enter(BodyJob::Expression(left, site)))
+                    let (op, left, right) = (*op, *left, *right);
+                    let step = left_operand(frames, op, left, right, node)?;
+                    Ok(step)
                 }
                 Expression::Index(object, key) => {
-                    let object = *object;
-                    frames.push(BodyFrame::Made(MadeFrame::Object(*key, node)))?;
-                    Ok(Step::Enter(BodyJob::Expression(object, site)))
+                    let (object, key) = (*object, *key);
+                    let step = indexed_object(frames, object, key, node)?;
+                    Ok(step)
                 }
                 Expression::Select(object, field) => {
-                    let object = *object;
-                    frames.push(BodyFrame::Made(MadeFrame::Select(*field, node)))?;
-                    Ok(Step::Enter(BodyJob::Expression(object, site)))
+                    let (object, field) = (*object, *field);
+                    let step = selected_object(frames, object, field, node)?;
+                    Ok(step)
                 }
                 Expression::Method(object, name, arguments) => {
-                    let object = *object;
+                    let (object, name) = (*object, *name);
                     let arguments = Rest::copy(alloc, arguments.as_slice())?;
-                    let frame = MadeFrame::Method(*name, arguments, node);
-                    frames.push(BodyFrame::Made(frame))?;
-                    Ok(Step::Enter(BodyJob::Expression(object, site)))
+                    let step = method_object(frames, object, name, arguments, node)?;
+                    Ok(step)
                 }
                 Expression::Call(f, arguments) => {
                     let f = *f;
@@ -163,6 +165,86 @@ pub fn expression(
             Ok(step)
         }
     }
+}
+
+// What is typed first of an expression of several parts, below the frame that goes on with it. Each has a function of its own, since a
+// frame is large: room for it in `expression` would be made ready for each variable and constant too.
+
+/// Types the operand of an operator.
+fn unary_operand(
+    frames: &mut Vec<BodyFrame>,
+    op: UnaryOperator,
+    operand: TermId,
+    node: Node,
+) -> Result<BodyStep, NoMemory>
+    ensures means { IfOk result (λ step. (w : TypingState) (left : ℕ) →
+        Goes frames.old.items (plans.typing operand node.site (waiting.with_made (MadeFrame.Unary op node)))
+        w left frames.new.items step w left) }
+{
+    frames.push(BodyFrame::Made(MadeFrame::Unary(op, node)))?;
+    Ok(Step::Enter(BodyJob::Expression(operand, node.site)))
+}
+
+/// Types the left operand of an operator.
+fn left_operand(
+    frames: &mut Vec<BodyFrame>,
+    op: BinaryOperator,
+    left_term: TermId,
+    right: TermId,
+    node: Node,
+) -> Result<BodyStep, NoMemory>
+    ensures means { IfOk result (λ step. (w : TypingState) (left : ℕ) →
+        Goes frames.old.items (plans.typing left_term node.site (waiting.with_made (MadeFrame.Left op right node)))
+        w left frames.new.items step w left) }
+{
+    frames.push(BodyFrame::Made(MadeFrame::Left(op, right, node)))?;
+    Ok(Step::Enter(BodyJob::Expression(left_term, node.site)))
+}
+
+/// Types what is indexed.
+fn indexed_object(
+    frames: &mut Vec<BodyFrame>,
+    object: TermId,
+    key: TermId,
+    node: Node,
+) -> Result<BodyStep, NoMemory>
+    ensures means { IfOk result (λ step. (w : TypingState) (left : ℕ) →
+        Goes frames.old.items (plans.typing object node.site (waiting.with_made (MadeFrame.Object key node)))
+        w left frames.new.items step w left) }
+{
+    frames.push(BodyFrame::Made(MadeFrame::Object(key, node)))?;
+    Ok(Step::Enter(BodyJob::Expression(object, node.site)))
+}
+
+/// Types what stands before a `.` and a name.
+fn selected_object(
+    frames: &mut Vec<BodyFrame>,
+    object: TermId,
+    field: TextId,
+    node: Node,
+) -> Result<BodyStep, NoMemory>
+    ensures means { IfOk result (λ step. (w : TypingState) (left : ℕ) →
+        Goes frames.old.items (plans.typing object node.site (waiting.with_made (MadeFrame.Select field node)))
+        w left frames.new.items step w left) }
+{
+    frames.push(BodyFrame::Made(MadeFrame::Select(field, node)))?;
+    Ok(Step::Enter(BodyJob::Expression(object, node.site)))
+}
+
+/// Types the object of a method call.
+fn method_object(
+    frames: &mut Vec<BodyFrame>,
+    object: TermId,
+    name: TextId,
+    arguments: Rest<TermId>,
+    node: Node,
+) -> Result<BodyStep, NoMemory>
+    ensures means { IfOk result (λ step. (w : TypingState) (left : ℕ) →
+        Goes frames.old.items (plans.typing object node.site (waiting.with_made (MadeFrame.Method name arguments node)))
+        w left frames.new.items step w left) }
+{
+    frames.push(BodyFrame::Made(MadeFrame::Method(name, arguments, node)))?;
+    Ok(Step::Enter(BodyJob::Expression(object, node.site)))
 }
 
 /// A constant of a type.

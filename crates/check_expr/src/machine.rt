@@ -1,7 +1,9 @@
 // The machine: how bodies and their nodes begin, and how frames go on.
 
-ghost use Rattle.std.specs.Prelude.{◌≡◌, IfOk, OnOk};
+ghost use Rattle.std.specs.Prelude.{◌≡◌, ℕ, IfOk, OnOk};
+ghost use Rattle.check_model.specs.Plans as plans;
 ghost use Rattle.check_model.specs.Plans.{on_made};
+ghost use Rattle.check_model.specs.Typing.{TypingState};
 ghost use Rattle.check_expr.specs.Frames as waiting;
 ghost use Rattle.check_expr.specs.Frames.{body_rules, is_go};
 ghost use Rattle.check_expr.specs.Keeping.{KeepsTyping};
@@ -19,15 +21,47 @@ use crate::methods::call_method;
 use crate::nodes::states;
 use crate::operators::{binary, both, meet_next, unary};
 use crate::statements::{perform, return_value, returned, statement};
-use crate::step::BodyStep;
+use crate::step::{BodyStep, Node};
 use crate::{assigning, loops, variables};
 use check_model::{BodyEnd, BodyJob, BodyQuestion, CheckAnswer, Made, PartEnd, Typing};
 use terra_term::TypedStatement;
+use terra_words::BinaryOperator;
 use tl_base::{Budget, FnId, Machine, NoMemory, Step, TermId};
 
 /// The steps of the typing of bodies.
 #[derive(Drop)]
 pub(crate) struct Steps {}
+
+/// Types the right operand of an operator, behind the left one.
+fn right_operand(
+    frames: &mut Vec<BodyFrame>,
+    op: BinaryOperator,
+    made: Made,
+    right: TermId,
+    node: Node,
+) -> Result<BodyStep, NoMemory>
+    ensures means { IfOk result (λ step. (w : TypingState) (left : ℕ) →
+        Goes frames.old.items (plans.typing right node.site (waiting.with_made (MadeFrame.Right op made node)))
+        w left frames.new.items step w left) }
+{
+    frames.push(BodyFrame::Made(MadeFrame::Right(op, made, node)))?;
+    Ok(Step::Enter(BodyJob::Expression(right, node.site)))
+}
+
+/// Types the index, behind what is indexed.
+fn key_of(
+    frames: &mut Vec<BodyFrame>,
+    object: Made,
+    key: TermId,
+    node: Node,
+) -> Result<BodyStep, NoMemory>
+    ensures means { IfOk result (λ step. (w : TypingState) (left : ℕ) →
+        Goes frames.old.items (plans.typing key node.site (waiting.with_made (MadeFrame.Key object node)))
+        w left frames.new.items step w left) }
+{
+    frames.push(BodyFrame::Made(MadeFrame::Key(object, node)))?;
+    Ok(Step::Enter(BodyJob::Expression(key, node.site)))
+}
 
 /// Goes on with what waited for a typed expression of an expression.
 fn with_made(
@@ -48,8 +82,8 @@ fn with_made(
             Ok(step)
         }
         MadeFrame::Left(op, right, node) => {
-            frames.push(BodyFrame::Made(MadeFrame::Right(op, made, node)))?;
-            Ok(Step::Enter(BodyJob::Expression(right, node.site)))
+            let step = right_operand(frames, op, made, right, node)?;
+            Ok(step)
         }
         MadeFrame::Right(op, left, node) => {
             let step = binary(frames, typing, op, left, made, node)?;
@@ -94,8 +128,8 @@ fn with_made(
             Ok(step)
         }
         MadeFrame::Object(key, node) => {
-            frames.push(BodyFrame::Made(MadeFrame::Key(made, node)))?;
-            Ok(Step::Enter(BodyJob::Expression(key, node.site)))
+            let step = key_of(frames, made, key, node)?;
+            Ok(step)
         }
         MadeFrame::Key(object, node) => {
             let step = index(frames, typing, object, made, node)?;

@@ -2,7 +2,9 @@
 
 ghost use Rattle.std.specs.Prelude.{◌≡◌, ℕ, IfOk, OnOk};
 ghost use Rattle.terra_term.specs.declared.term.Statement.TheVariants as doings;
+ghost use Rattle.check_model.specs.Plans as plans;
 ghost use Rattle.check_model.specs.Statements as models;
+ghost use Rattle.check_model.specs.Typing.{TypingState};
 ghost use Rattle.check_expr.specs.Frames as waiting;
 ghost use Rattle.check_expr.specs.Keeping.{KeepsTyping};
 ghost use Rattle.check_expr.specs.Steps.{Goes, Does};
@@ -67,14 +69,14 @@ pub fn statement(
                     let test = *test;
                     let body = Rest::copy(alloc, body.as_slice())?;
                     let more = copy_if_any(alloc, more)?;
-                    frames.push(BodyFrame::Doing(DoingFrame::If(body, more, at, site)))?;
-                    Ok(Step::Enter(BodyJob::Expression(test, site)))
+                    let step = if_test(frames, test, body, more, at, site)?;
+                    Ok(step)
                 }
                 Statement::While(test, body) => {
                     let test = *test;
                     let body = Rest::copy(alloc, body.as_slice())?;
-                    frames.push(BodyFrame::Doing(DoingFrame::While(body, at, site)))?;
-                    Ok(Step::Enter(BodyJob::Expression(test, site)))
+                    let step = while_test(frames, test, body, at, site)?;
+                    Ok(step)
                 }
                 Statement::Repeat(body, test) => {
                     let test = *test;
@@ -105,8 +107,8 @@ pub fn statement(
                 }
                 Statement::Perform(call) => {
                     let call = *call;
-                    frames.push(BodyFrame::Doing(DoingFrame::Perform(at, site)))?;
-                    Ok(Step::Enter(BodyJob::Expression(call, site)))
+                    let step = performed_call(frames, call, at, site)?;
+                    Ok(step)
                 }
             }
         }
@@ -120,6 +122,57 @@ pub fn statement(
             Ok(step)
         }
     }
+}
+
+// What is typed first of a statement with an expression, below the frame that goes on with it. Each has a function of its own, since a
+// frame is large: room for it in `statement` would be made ready for each other statement too.
+
+/// Types the condition of an `if`.
+fn if_test(
+    frames: &mut Vec<BodyFrame>,
+    test: TermId,
+    body: Rest<TermId>,
+    more: Option<Rest<TermId>>,
+    at: Place,
+    site: Site,
+) -> Result<BodyStep, NoMemory>
+    ensures means { IfOk result (λ step. (w : TypingState) (left : ℕ) →
+        Goes frames.old.items (plans.typing test site (waiting.with_doing (DoingFrame.If body more at site)))
+        w left frames.new.items step w left) }
+{
+    frames.push(BodyFrame::Doing(DoingFrame::If(body, more, at, site)))?;
+    Ok(Step::Enter(BodyJob::Expression(test, site)))
+}
+
+/// Types the condition of a `while`.
+fn while_test(
+    frames: &mut Vec<BodyFrame>,
+    test: TermId,
+    body: Rest<TermId>,
+    at: Place,
+    site: Site,
+) -> Result<BodyStep, NoMemory>
+    ensures means { IfOk result (λ step. (w : TypingState) (left : ℕ) →
+        Goes frames.old.items (plans.typing test site (waiting.with_doing (DoingFrame.While body at site)))
+        w left frames.new.items step w left) }
+{
+    frames.push(BodyFrame::Doing(DoingFrame::While(body, at, site)))?;
+    Ok(Step::Enter(BodyJob::Expression(test, site)))
+}
+
+/// Types a call that is a statement.
+fn performed_call(
+    frames: &mut Vec<BodyFrame>,
+    call: TermId,
+    at: Place,
+    site: Site,
+) -> Result<BodyStep, NoMemory>
+    ensures means { IfOk result (λ step. (w : TypingState) (left : ℕ) →
+        Goes frames.old.items (plans.typing call site (waiting.with_doing (DoingFrame.Perform at site)))
+        w left frames.new.items step w left) }
+{
+    frames.push(BodyFrame::Doing(DoingFrame::Perform(at, site)))?;
+    Ok(Step::Enter(BodyJob::Expression(call, site)))
 }
 
 /// A block within another one.
