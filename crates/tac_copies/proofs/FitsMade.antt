@@ -1,4 +1,5 @@
--- What other blocks of the same number name is there as far as it is there for the code that they are put into.
+-- What other blocks of the same number name is there as far as it is there for the code that they are put into, also where its parameters
+-- go elsewhere.
 use Rattle.std.proofs.Common.{◌≡◌, ℕ, ◌^◌, Bool, true, false, ◌&&◌, List, length, refl, ap, ◌∙◌}
 use Rattle.std.specs.Prelude.{nat_le, nat_lt, IsTrue}
 use Rattle.std.specs.List.{list_all}
@@ -27,6 +28,10 @@ use Rattle.tac_form.specs.Fits.{are_apart, area_fits, block_fits, destination_fi
 abbrev pub with-blocks : Tac → List Block → Tac
 with-blocks code bs = record code { blocks = bs }
 
+-- and with its parameters elsewhere
+abbrev pub with-parts : Tac → List Destination → List Block → Tac
+with-parts code ds bs = record code { parameters = ds; blocks = bs }
+
 pub parts-six : (a b c d e f : Bool) → (a && b && c && d && e && f) ≡ true →
     (a ≡ true) × (b ≡ true) × (c ≡ true) × (d ≡ true) × (e ≡ true) × (f ≡ true)
 parts-six true true true true true true h = (refl, refl, refl, refl, refl, refl)
@@ -47,28 +52,28 @@ from-six true true true false e f _ _ _ h _ _ = cc
 from-six true true true true false f _ _ _ _ h _ = cc
 from-six true true true true true false _ _ _ _ _ h = cc
 
-module _ (code : Tac) (bs : List Block) where
-  pub same-operand : (a : Operand) → operand_fits (with-blocks code bs) a ≡ operand_fits code a
+module _ (code : Tac) (ds : List Destination) (bs : List Block) where
+  pub same-operand : (a : Operand) → operand_fits (with-parts code ds bs) a ≡ operand_fits code a
   same-operand (Temp t) = refl
   same-operand (Constant c) = refl
 
-  pub same-part : (p : Part) → part_fits (with-blocks code bs) p ≡ part_fits code p
+  pub same-part : (p : Part) → part_fits (with-parts code ds bs) p ≡ part_fits code p
   same-part (parts.Word a) = same-operand a
   same-part (parts.Area n) = refl
 
-  pub same-destination : (d : Destination) → destination_fits (with-blocks code bs) d ≡ destination_fits code d
+  pub same-destination : (d : Destination) → destination_fits (with-parts code ds bs) d ≡ destination_fits code d
   same-destination (destinations.Temp t) = refl
   same-destination (destinations.Area n) = refl
 
-  same-spot : (size : ℕ) (s : Spot) → spot_fits (with-blocks code bs) size s ≡ spot_fits code size s
+  same-spot : (size : ℕ) (s : Spot) → spot_fits (with-parts code ds bs) size s ≡ spot_fits code size s
   same-spot size (spots.Region at (Word a)) = ap (λ z. place_fits at && z) (same-operand a)
   same-spot size (spots.Region at (Frame offset)) = refl
   same-spot size (spots.Area n offset) = refl
 
-  same-parts : (ps : List Part) → list_all (part_fits (with-blocks code bs)) ps ≡ list_all (part_fits code) ps
+  same-parts : (ps : List Part) → list_all (part_fits (with-parts code ds bs)) ps ≡ list_all (part_fits code) ps
   same-parts ps = ap (λ f. list_all f ps) (fun_ext same-part)
 
-  pub same-instruction : (i : Instruction) → instruction_fits (with-blocks code bs) i ≡ instruction_fits code i
+  pub same-instruction : (i : Instruction) → instruction_fits (with-parts code ds bs) i ≡ instruction_fits code i
   same-instruction (Compute d op form a b) =
       ap (λ f. nat_lt d code.temps && f a && f b) (fun_ext same-operand)
   same-instruction (TestDivisor at a) = ap (λ z. place_fits at && z) (same-operand a)
@@ -76,51 +81,62 @@ module _ (code : Tac) (bs : List Block) where
   same-instruction (Locate d offset) = refl
   same-instruction (Load d form spot) = ap (λ z. nat_lt d code.temps && z) (same-spot (bytes_of form.size) spot)
   same-instruction (Store spot size a) =
-      ap (λ z. z && operand_fits (with-blocks code bs) a) (same-spot (bytes_of size) spot)
+      ap (λ z. z && operand_fits (with-parts code ds bs) a) (same-spot (bytes_of size) spot)
       ∙ ap (λ z. spot_fits code (bytes_of size) spot && z) (same-operand a)
   same-instruction (Move to from size) =
       ap (λ f. f to && f from && are_apart to from && nat_le size most_moved) (fun_ext (same-spot size))
   same-instruction (Clear n size) = refl
   same-instruction (Call to at f arguments) =
-      ap (λ z. z && place_fits at && list_all (part_fits (with-blocks code bs)) arguments) (same-destination to)
+      ap (λ z. z && place_fits at && list_all (part_fits (with-parts code ds bs)) arguments) (same-destination to)
       ∙ ap (λ z. destination_fits code to && place_fits at && z) (same-parts arguments)
   same-instruction (CallValue to at sig a arguments) =
-      ap (λ z. z && place_fits at && operand_fits (with-blocks code bs) a && list_all (part_fits (with-blocks code bs)) arguments)
+      ap (λ z. z && place_fits at && operand_fits (with-parts code ds bs) a && list_all (part_fits (with-parts code ds bs)) arguments)
       (same-destination to)
-      ∙ (ap (λ z. destination_fits code to && place_fits at && z && list_all (part_fits (with-blocks code bs)) arguments) (same-operand a)
+      ∙ (ap (λ z. destination_fits code to && place_fits at && z && list_all (part_fits (with-parts code ds bs)) arguments) (same-operand a)
       ∙ ap (λ z. destination_fits code to && place_fits at && operand_fits code a && z) (same-parts arguments))
   same-instruction (PutByte a) = same-operand a
   same-instruction (Write at a b) = ap (λ f. place_fits at && f a && f b) (fun_ext same-operand)
   same-instruction (Alloc d a) = ap (λ z. nat_lt d code.temps && z) (same-operand a)
 
-module _ (code : Tac) (bs : List Block) (count : length bs ≡ length code.blocks) where
-  same-edge : (e : Edge) → edge_fits (with-blocks code bs) e ≡ edge_fits code e
+module _ (code : Tac) (ds : List Destination) (bs : List Block) (count : length bs ≡ length code.blocks) where
+  same-edge : (e : Edge) → edge_fits (with-parts code ds bs) e ≡ edge_fits code e
   same-edge e = ap (λ n. nat_lt e.block n) count
 
-  same-exit : (e : Exit) → exit_fits (with-blocks code bs) e ≡ exit_fits code e
+  same-exit : (e : Exit) → exit_fits (with-parts code ds bs) e ≡ exit_fits code e
   same-exit (Jump e) = same-edge e
   same-exit (Branch a e f) =
-      ap (λ z. z && edge_fits (with-blocks code bs) e && edge_fits (with-blocks code bs) f) (same-operand code bs a)
+      ap (λ z. z && edge_fits (with-parts code ds bs) e && edge_fits (with-parts code ds bs) f) (same-operand code ds bs a)
       ∙ ap (λ g. operand_fits code a && g e && g f) (fun_ext same-edge)
-  same-exit (Return v) = same-part code bs v
+  same-exit (Return v) = same-part code ds bs v
   same-exit (Fail kind at) = refl
 
-  same-block : (b : Block) → block_fits (with-blocks code bs) b ≡ block_fits code b
+  same-block : (b : Block) → block_fits (with-parts code ds bs) b ≡ block_fits code b
   same-block b =
-      ap (λ f. list_all f b.instructions && exit_fits (with-blocks code bs) b.exit) (fun_ext (same-instruction code bs))
+      ap (λ f. list_all f b.instructions && exit_fits (with-parts code ds bs) b.exit) (fun_ext (same-instruction code ds bs))
       ∙ ap (λ z. list_all (instruction_fits code) b.instructions && z) (same-exit b.exit)
 
-  pub within-made : IsTrue (is_within code) → list_all (block_fits code) bs ≡ true → IsTrue (is_within (with-blocks code bs))
-  within-made w h =
+  pub within-parts : IsTrue (is_within code) → list_all (block_fits code) bs ≡ true → list_all (destination_fits code) ds ≡ true →
+      IsTrue (is_within (with-parts code ds bs))
+  within-parts w h g =
       let p = parts-six (list_all (block_fits code) code.blocks) (list_all (destination_fits code) code.parameters)
       (list_all area_fits code.areas) (place_fits code.place) (nat_lt code.frame (2 ^ 63)) (nat_lt 0 (length code.blocks)) w in
-      from-six (list_all (block_fits (with-blocks code bs)) bs) (list_all (destination_fits (with-blocks code bs)) code.parameters)
+      from-six (list_all (block_fits (with-parts code ds bs)) bs) (list_all (destination_fits (with-parts code ds bs)) ds)
       (list_all area_fits code.areas) (place_fits code.place) (nat_lt code.frame (2 ^ 63)) (nat_lt 0 (length bs))
       (ap (λ f. list_all f bs) (fun_ext same-block) ∙ h)
-      (ap (λ f. list_all f code.parameters) (fun_ext (same-destination code bs)) ∙ p.1) p.2 p.3 p.4 (ap (λ n. nat_lt 0 n) count ∙ p.5)
+      (ap (λ f. list_all f ds) (fun_ext (same-destination code ds bs)) ∙ g) p.2 p.3 p.4 (ap (λ n. nat_lt 0 n) count ∙ p.5)
 
--- the blocks of code that fits do
+-- the blocks of code that fits do, and its parameters
 pub first-fits : (code : Tac) → IsTrue (is_within code) → list_all (block_fits code) code.blocks ≡ true
 first-fits code w =
     (parts-six (list_all (block_fits code) code.blocks) (list_all (destination_fits code) code.parameters)
     (list_all area_fits code.areas) (place_fits code.place) (nat_lt code.frame (2 ^ 63)) (nat_lt 0 (length code.blocks)) w).0
+
+pub second-fits : (code : Tac) → IsTrue (is_within code) → list_all (destination_fits code) code.parameters ≡ true
+second-fits code w =
+    (parts-six (list_all (block_fits code) code.blocks) (list_all (destination_fits code) code.parameters)
+    (list_all area_fits code.areas) (place_fits code.place) (nat_lt code.frame (2 ^ 63)) (nat_lt 0 (length code.blocks)) w).1
+
+-- with the parameters where they went
+pub within-made : (code : Tac) (bs : List Block) → length bs ≡ length code.blocks → IsTrue (is_within code) →
+    list_all (block_fits code) bs ≡ true → IsTrue (is_within (with-blocks code bs))
+within-made code bs count w h = within-parts code code.parameters bs count w h (second-fits code w)

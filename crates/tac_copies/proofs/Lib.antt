@@ -31,6 +31,15 @@ pub mod ReachedRuns
 pub mod ReachedKeepsCounted
 pub mod ReachedKeepsSized
 pub mod ReachedKeepsFits
+-- Code whose parameters go at once to their variables.
+pub mod TakenShape
+pub mod TakenAlike
+pub mod TakenRuns
+pub mod TakenSteps
+pub mod TakenKeepsCounted
+pub mod TakenKeepsSized
+pub mod TakenKeepsLive
+pub mod TakenKeepsFits
 -- What is live where blocks begin, and which code fits.
 pub mod Lives
 pub mod LiveMade

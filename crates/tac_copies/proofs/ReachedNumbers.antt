@@ -15,7 +15,7 @@ use Rattle.tac_form.specs.Live.{has}
 use Rattle.tac_copies.specs.Kept.{is_among, reached_numbers, with_ahead, with_back, with_backs, with_next, with_one, with_one_if}
 use Rattle.tac_copies.specs.Reached.{is_reached, leads_back, leads_to, passed, passed_where, reached_on}
 
-or-none : (a : Bool) → (a || false) ≡ a
+pub or-none : (a : Bool) → (a || false) ≡ a
 or-none true = refl
 or-none false = refl
 
@@ -36,7 +36,7 @@ same-test n m = by (nat_eq n m) refl
 
 -- ---- with one more
 
-among-one : (ns : List ℕ) (n m : ℕ) → is_among (with_one ns n) m ≡ (is_among ns m || nat_eq n m)
+pub among-one : (ns : List ℕ) (n m : ℕ) → is_among (with_one ns n) m ≡ (is_among ns m || nat_eq n m)
 among-one ns n m = by (is_among ns n) refl
   where
     there : (b : Bool) → nat_eq n m ≡ b → is_among ns n ≡ true → is_among ns m ≡ (is_among ns m || b)

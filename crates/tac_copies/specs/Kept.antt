@@ -1,9 +1,10 @@
--- What the code keeps while it works: which temporaries are read once, the names by which temporaries are read, and which blocks are
--- reached.
-use Rattle.std.specs.Prelude.{◌≡◌, ℕ, zero, suc, Bool, false, not, ◌&&◌, if◌then◌else◌, nat_eq, nat_le, List, [], ◌∷◌, ◌++◌, Option, Some, None, is_some, unwrap_or}
+-- What the code keeps while it works: which temporaries are read once, the names by which temporaries are read, which blocks are reached,
+-- and which parameters are taken.
+use Rattle.std.specs.Prelude.{◌≡◌, ℕ, zero, suc, Bool, false, not, ◌&&◌, if◌then◌else◌, nat_eq, nat_le, nat_lt, List, [], ◌∷◌, ◌++◌, Option, Some, None, is_some, unwrap_or}
 use Rattle.std.specs.List.{flat_map, list_any}
 use Rattle.std.specs.Map.{lookup}
 use Rattle.tac_form.specs.declared.tac.Operand.TheVariants.{Temp}
+use Rattle.tac_form.specs.declared.tac.Destination.{Destination}
 use Rattle.tac_form.specs.declared.tac.Instruction.{Instruction}
 use Rattle.tac_form.specs.declared.tac.Instruction.TheVariants.{Copy}
 use Rattle.tac_form.specs.declared.tac.Exit.{Exit}
@@ -14,6 +15,7 @@ use Rattle.tac_form.specs.Graph.{instruction_reads, exit_reads}
 use Rattle.tac_copies.specs.Once.{times}
 use Rattle.tac_copies.specs.Directed.{makes}
 use Rattle.tac_copies.specs.Shortened.{Code, goes}
+use Rattle.tac_copies.specs.Taken.{is_needed, may_go, most_taken}
 
 -- ---- which temporaries are read once
 
@@ -104,3 +106,25 @@ with_ahead from ns (b ∷ bs) = with_ahead (suc from) (if is_among ns from then 
 -- the numbers of the blocks that are reached
 abbrev pub reached_numbers : List Block → List ℕ
 reached_numbers bs = with_ahead 0 (with_backs 0 (0 ∷ []) bs) bs
+
+-- ---- which parameters are taken at once
+
+-- the parameter that goes at once to the temporary to which the first instruction copies it, with that
+abbrev pub taken_pair : List Destination → List Instruction → Exit → List Block → Option (ℕ × ℕ)
+taken_pair ds (Copy v (Temp p) ∷ is) e bs = if may_go ds p v is e bs then Some (p, v) else None
+taken_pair ds is e bs = None
+
+-- the same behind so many others
+abbrev pub next_pair : ℕ → List Destination → List Instruction → Exit → List Block → Option (ℕ × ℕ)
+next_pair n ds is e bs = if nat_lt n most_taken then taken_pair ds is e bs else None
+
+-- code with other parameters and other blocks, by the first
+abbrev pub standing : Tac → List Destination → List Instruction → Exit → List Block → Tac
+standing code ds is e bs = record code { parameters = ds; blocks = record { instructions = is; exit = e } ∷ bs }
+
+-- the numbers of blocks, from a number on, from whose beginning a temporary is needed
+abbrev pub needed_numbers : (t from : ℕ) → List Block → List ℕ
+needed_numbers t from [] = []
+needed_numbers t from (b ∷ bs) =
+    let behind = needed_numbers t (suc from) bs in
+    with_one_if (is_needed t b.instructions b.exit (is_among behind)) behind from

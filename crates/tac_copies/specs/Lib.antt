@@ -8,5 +8,7 @@ pub mod Directed
 pub mod Shortened
 -- Blocks that no way leads to go.
 pub mod Reached
+-- Parameters go at once to their variables.
+pub mod Taken
 -- What the code keeps while it works.
 pub mod Kept

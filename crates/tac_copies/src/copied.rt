@@ -14,6 +14,19 @@ use tl_base::{NoMemory, TypeId};
 pub(crate) fn with_blocks(alloc: Global, code: &Tac, blocks: Vec<Block>) -> Result<Tac, NoMemory>
     ensures { IfOk result (λ made. made ≡ record code.now { blocks = blocks.items }) }
 {
+    let parameters = copied_destinations(alloc, code.parameters.as_slice())?;
+    with_parameters(alloc, code, parameters, blocks)
+}
+
+/// The same code, with other blocks and parameters that go elsewhere.
+pub(crate) fn with_parameters(
+    alloc: Global,
+    code: &Tac,
+    parameters: Vec<Destination>,
+    blocks: Vec<Block>,
+) -> Result<Tac, NoMemory>
+    ensures { IfOk result (λ made. made ≡ record code.now { parameters = parameters.items; blocks = blocks.items }) }
+{
     Ok(Tac {
         nodes: code.nodes,
         signature: copied_signature(alloc, &code.signature)?,
@@ -21,7 +34,7 @@ pub(crate) fn with_blocks(alloc: Global, code: &Tac, blocks: Vec<Block>) -> Resu
         frame: code.frame,
         temps: code.temps,
         areas: copied_sizes(alloc, code.areas.as_slice())?,
-        parameters: copied_destinations(alloc, code.parameters.as_slice())?,
+        parameters: DestinationList::from_vec(parameters),
         blocks: BlockList::from_vec(blocks),
     })
 }
@@ -51,28 +64,38 @@ fn copied_sizes(alloc: Global, sizes: &[u64]) -> Result<SizeList, NoMemory>
     Ok(SizeList::from_vec(items))
 }
 
-fn copied_destinations(
+pub(crate) fn copied_destinations(
     alloc: Global,
     destinations: &[Destination],
-) -> Result<DestinationList, NoMemory>
-    ensures { IfOk result (λ made. made ≡ destinations.now) }
+) -> Result<Vec<Destination>, NoMemory>
+    ensures { IfOk result (λ made. made.items ≡ destinations.now) }
 {
     let mut items = Vec::new(alloc);
     items.extend_from_slice(destinations)?;
-    Ok(DestinationList::from_vec(items))
+    Ok(items)
 }
 
 pub(crate) fn copied_block(alloc: Global, block: &Block) -> Result<Block, NoMemory>
     ensures { IfOk result (λ made. made ≡ block.now) }
 {
-    let mut made = Vec::new(alloc);
-    for instruction in block.instructions.as_slice() {
-        made.push(copied_instruction(alloc, instruction)?)?;
-    }
+    let instructions = copied_instructions(alloc, block.instructions.as_slice())?;
     Ok(Block {
-        instructions: InstructionList::from_vec(made),
+        instructions: InstructionList::from_vec(instructions),
         exit: block.exit,
     })
+}
+
+pub(crate) fn copied_instructions(
+    alloc: Global,
+    instructions: &[Instruction],
+) -> Result<Vec<Instruction>, NoMemory>
+    ensures { IfOk result (λ made. made.items ≡ instructions.now) }
+{
+    let mut made = Vec::new(alloc);
+    for instruction in instructions {
+        made.push(copied_instruction(alloc, instruction)?)?;
+    }
+    Ok(made)
 }
 
 fn copied_instruction(alloc: Global, instruction: &Instruction) -> Result<Instruction, NoMemory>

@@ -4,6 +4,7 @@ ghost use Rattle.tac_copies.specs.Directed.{directed_code};
 ghost use Rattle.tac_copies.specs.Laws.{KeepsCounted, KeepsFits, KeepsRuns, KeepsSized};
 ghost use Rattle.tac_copies.specs.Reached.{reached_code};
 ghost use Rattle.tac_copies.specs.Shortened.{shortened_code};
+ghost use Rattle.tac_copies.specs.Taken.{taken_code};
 
 /// Code whose results go at once to where they are copied runs as before, at every count.
 pub fn directing_keeps_runs()
@@ -63,4 +64,24 @@ pub fn reaching_keeps_counted()
 /// It has no more words and private bytes than before.
 pub fn reaching_keeps_sized()
     ensures { KeepsSized reached_code }
+{}
+
+/// Code whose parameters go at once to their variables runs as before, at every count.
+pub fn taking_keeps_runs()
+    ensures { KeepsRuns taken_code }
+{}
+
+/// Machine code can be made of it as before: what it names is there, and the temporaries are live where it is entered that it takes.
+pub fn taking_keeps_fits()
+    ensures { KeepsFits taken_code }
+{}
+
+/// Each way round its flow graph counts as before.
+pub fn taking_keeps_counted()
+    ensures { KeepsCounted taken_code }
+{}
+
+/// It has no more words and private bytes than before.
+pub fn taking_keeps_sized()
+    ensures { KeepsSized taken_code }
 {}

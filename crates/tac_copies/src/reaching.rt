@@ -81,7 +81,7 @@ fn passed(alloc: Global, at: u64) -> Block
 
 /// The numbers of blocks that are reached. Contracts see the list.
 #[derive(Drop)]
-struct BlockNumbers {
+pub(crate) struct BlockNumbers {
     blocks: IndexSet<u64>,
 }
 
@@ -106,7 +106,7 @@ impl BlockNumbers {
         Ok(reached)
     }
 
-    fn none(alloc: Global) -> BlockNumbers
+    pub(crate) fn none(alloc: Global) -> BlockNumbers
         ensures { result ≡ [] }
     {
         BlockNumbers {
@@ -174,7 +174,7 @@ impl BlockNumbers {
         }
     }
 
-    fn put_if(&mut self, reached: bool, block: u64) -> Result<(), NoMemory>
+    pub(crate) fn put_if(&mut self, reached: bool, block: u64) -> Result<(), NoMemory>
         ensures { OnOk result (self.new ≡ with_one_if reached self.old block) }
     {
         if reached { self.put(block) } else { Ok(()) }
@@ -187,7 +187,7 @@ impl BlockNumbers {
         Ok(())
     }
 
-    fn has(&self, block: u64) -> bool
+    pub(crate) fn has(&self, block: u64) -> bool
         ensures { result ≡ is_among self.now block }
     {
         self.blocks.contains(&block)

@@ -105,7 +105,7 @@ fn reads_first(t: u64, s: u64, instructions: &[Instruction], exit: Exit) -> bool
 }
 
 /// Whether the instruction reads the temporary.
-fn reads(instruction: &Instruction, t: u64) -> bool
+pub(crate) fn reads(instruction: &Instruction, t: u64) -> bool
     ensures { result ≡ has (instruction_reads instruction.now) t }
 {
     match instruction {
@@ -128,7 +128,7 @@ fn reads(instruction: &Instruction, t: u64) -> bool
 }
 
 /// Whether the instruction writes the temporary.
-fn writes(instruction: &Instruction, t: u64) -> bool
+pub(crate) fn writes(instruction: &Instruction, t: u64) -> bool
     ensures { result ≡ is_written (instruction_write instruction.now) t }
 {
     match instruction {
@@ -143,7 +143,7 @@ fn writes(instruction: &Instruction, t: u64) -> bool
     }
 }
 
-fn exit_reads(exit: Exit, t: u64) -> bool
+pub(crate) fn exit_reads(exit: Exit, t: u64) -> bool
     ensures { result ≡ has (exit_reads exit) t }
 {
     match exit {
