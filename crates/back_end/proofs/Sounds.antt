@@ -24,6 +24,7 @@ use Rattle.tac_lower.specs.Pieces.{nothing_used}
 use Rattle.tac_copies.specs.Directed.{directed_code}
 use Rattle.tac_copies.specs.Shortened.{shortened_code}
 use Rattle.tac_copies.specs.Reached.{reached_code}
+use Rattle.tac_copies.specs.Taken.{taken_code}
 use Rattle.rv_select.specs.Calls.{all_has_code, block_has_code, has_code, has_exit_code}
 use Rattle.rv_select.specs.Waiting.{PassesAll}
 use Rattle.rv_link.specs.declared.function.Function.{Function}
@@ -34,7 +35,7 @@ use Rattle.back_end.specs.Working.{AreFunctions, IsFunction, compiled_code, with
 use Rattle.back_end.proofs.Coded.{AllBlocks, AllNamed, Exits, Named, block-at, instruction-at, lowered-names}
 use Rattle.back_end.proofs.Growing.{same-function}
 use Rattle.back_end.proofs.Passing.{Passes, body-passes}
-use Rattle.back_end.proofs.WithoutCopies.{same-parameters, stays-good, stays-named}
+use Rattle.back_end.proofs.WithoutCopies.{as-many-parameters, stays-good, stays-named}
 
 pub both : (a b : Bool) → a ≡ true → b ≡ true → (a && b) ≡ true
 both true true e f = refl
@@ -154,7 +155,7 @@ module _ (store : Contents) where
   pub as-many : (k : Callable) → are_narrow store.types (parameter_types k) ≡ true →
       length (compiled_code store k).parameters ≡ length k.body.parameters
   as-many k narrow =
-      ap length (same-parameters (lowered store [] k))
+      as-many-parameters (lowered store [] k)
       ∙ ap (λ b. length (if b then code_of store [] k else unreached k).parameters) narrow
       ∙ received-count store.types k.body.parameters nothing_used
 
@@ -206,12 +207,13 @@ module _ (store : Contents) where
 
   -- what `lower` gives of a function that can be compiled, without copies
   pub compiled-good : (f : FnId) (r : IsReady store f) (types : AreTypes store.types) (found : Option Tac)
-      (code whole direct tac : Tac) →
+      (code whole placed direct tac : Tac) →
       found ≡ option_map (lowered store []) (callable_of store f) → IfSome found (λ t. GoodWhereTyped store [] f t) → found ≡ Some code →
-      whole ≡ reached_code code → direct ≡ directed_code whole → tac ≡ shortened_code direct →
+      whole ≡ reached_code code → placed ≡ taken_code whole → direct ≡ directed_code placed → tac ≡ shortened_code direct →
       (tac ≡ compiled_code store r.term) × IsGood tac
-  compiled-good f r types found code whole direct tac is good here first second third =
-      let without : tac ≡ without_copies code = third ∙ ap shortened_code (second ∙ ap directed_code first) in (
+  compiled-good f r types found code whole placed direct tac is good here first second third fourth =
+      let without : tac ≡ without_copies code =
+      fourth ∙ ap shortened_code (third ∙ ap directed_code (second ∙ ap taken_code first)) in (
         without ∙ ap without_copies (one code (lowered store [] r.term) (sym here ∙ is ∙ ap (option_map (lowered store [])) r.is)),
         subst IsGood (sym without) (stays-good code
             (subst (λ o. IfSome o (λ t. GoodWhereTyped store [] f t)) here good r.term r.is types (omega arith) r.place
@@ -225,11 +227,12 @@ module _ (store : Contents) where
       fewer n h = omega (arith, h)
 
   pub compiled-has-code : (f : FnId) (r : IsReady store f) (types : AreTypes store.types) (found : Option Tac)
-      (code whole direct tac : Tac) →
+      (code whole placed direct tac : Tac) →
       found ≡ option_map (lowered store []) (callable_of store f) → IfSome found (λ t. GoodWhereTyped store [] f t) → found ≡ Some code →
-      whole ≡ reached_code code → direct ≡ directed_code whole → tac ≡ shortened_code direct → all_has_code tac ≡ true
-  compiled-has-code f r types found code whole direct tac is good here first second third =
-      let g = compiled-good f r types found code whole direct tac is good here first second third in
+      whole ≡ reached_code code → placed ≡ taken_code whole → direct ≡ directed_code placed → tac ≡ shortened_code direct →
+      all_has_code tac ≡ true
+  compiled-has-code f r types found code whole placed direct tac is good here first second third fourth =
+      let g = compiled-good f r types found code whole placed direct tac is good here first second third fourth in
       subst (λ t. all_has_code t ≡ true) (sym g.0) (has-code f r.term r.is r (subst IsGood g.0 g.1))
 
 -- ---- functions that are there

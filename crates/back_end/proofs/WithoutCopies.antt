@@ -1,5 +1,5 @@
 -- What the code of a function keeps without copies: its runs, that machine code can be made of it, and what it calls.
-use Rattle.std.proofs.Common.{◌≡◌, ℕ, zero, suc, Bool, true, false, List, [], ◌∷◌, map, length, take, Option, Some, None, option_map, refl, sym, subst}
+use Rattle.std.proofs.Common.{◌≡◌, ℕ, zero, suc, Bool, true, false, List, [], ◌∷◌, map, length, take, Option, Some, None, option_map, refl, sym, subst, inl, inr}
 use Rattle.std.specs.Prelude.{if◌then◌else◌}
 use Rattle.std.proofs.lemmas.List.{length-map}
 use Rattle.tl_base.specs.declared.ids.FnId.{FnId}
@@ -16,12 +16,18 @@ use Rattle.tac_lower.specs.Laws.{IsGood}
 use Rattle.tac_lower.specs.Lowering.{lowered}
 use Rattle.tac_copies.specs.Once.{is_once}
 use Rattle.tac_copies.specs.Reached.{is_reached, passed, passed_where, reached_code, up_to_last}
+use Rattle.tac_copies.specs.Taken.{most_taken, taken_code, taken_once, taken_times}
 use Rattle.tac_copies.specs.Directed.{directed, directed_all, directed_block, directed_code}
 use Rattle.tac_copies.specs.Shortened.{Code, named_exit, named_in, named_part, own_names, shortened, shortened_block, shortened_code}
 use Rattle.tac_copies.proofs.ReachedKeepsCounted.{reached-counted}
 use Rattle.tac_copies.proofs.ReachedKeepsFits.{reached-fits}
 use Rattle.tac_copies.proofs.ReachedKeepsSized.{reached-sized}
 use Rattle.tac_copies.proofs.ReachedRuns.{reached-runs}
+use Rattle.tac_copies.proofs.TakenKeepsCounted.{taken-counted}
+use Rattle.tac_copies.proofs.TakenKeepsFits.{taken-fits}
+use Rattle.tac_copies.proofs.TakenKeepsSized.{taken-nodes, taken-number, taken-sized}
+use Rattle.tac_copies.proofs.TakenRuns.{taken-runs}
+use Rattle.tac_copies.proofs.TakenShape.{Shape, shape}
 use Rattle.tac_copies.proofs.DirectedKeeps.{by-merges}
 use Rattle.tac_copies.proofs.DirectedKeepsCounted.{directed-counted}
 use Rattle.tac_copies.proofs.DirectedKeepsFits.{directed-fits}
@@ -37,20 +43,23 @@ use Rattle.back_end.proofs.Coded.{AllBlocks, AllNamed, Exits, Named}
 
 -- ---- what the passes leave alone
 
-pub same-parameters : (code : Tac) → (without_copies code).parameters ≡ code.parameters
+pub as-many-parameters : (code : Tac) → length (without_copies code).parameters ≡ length code.parameters
 unfolding reached_code directed_code shortened_code
-same-parameters code = refl
+as-many-parameters code = taken-number (reached_code code)
 
 pub same-count : (code : Tac) → (without_copies code).nodes ≡ code.nodes
 unfolding reached_code directed_code shortened_code
-same-count code = refl
+same-count code = taken-nodes (reached_code code)
 
 pub stays-good : (code : Tac) → IsGood code → IsGood (without_copies code)
-stays-good code h = record {
-  fits = keeps-fits (directed_code (reached_code code)) (directed-fits (reached_code code) (reached-fits code h.fits));
-  counted = keeps-counted (directed_code (reached_code code)) (directed-counted (reached_code code) (reached-counted code h.counted));
-  sized = keeps-sized (directed_code (reached_code code)) (directed-sized (reached_code code) (reached-sized code h.sized));
-}
+stays-good code h =
+    let whole = reached_code code in
+    let placed = taken_code whole in
+    record {
+      fits = keeps-fits (directed_code placed) (directed-fits placed (taken-fits whole (reached-fits code h.fits)));
+      counted = keeps-counted (directed_code placed) (directed-counted placed (taken-counted whole (reached-counted code h.counted)));
+      sized = keeps-sized (directed_code placed) (directed-sized placed (taken-sized whole (reached-sized code h.sized)));
+    }
 
 -- ---- what is called
 
@@ -76,6 +85,23 @@ module _ (In : FnId → ℕ → Type 0) where
   reached-blocks code h =
       let m = up_to_last (is_reached code) (length code.blocks) in
       passed-blocks (is_reached code) 0 (take m code.blocks) (taken-blocks code.blocks m h)
+
+  placed-once : (code : Tac) → AllBlocks In code.blocks → AllBlocks In (taken_once code).blocks
+  placed-once code h = by (shape code)
+    where
+      by : Shape code → AllBlocks In (taken_once code).blocks
+      by (inl q) = subst (λ c. AllBlocks In c.blocks) (sym q) h
+      by (inr k) =
+          let all = subst (AllBlocks In) k.blocks h in
+          subst (λ c. AllBlocks In c.blocks) (sym k.made) ((all.0.0.1, all.0.1), all.1)
+
+  placed-times : (n : ℕ) (code : Tac) → AllBlocks In code.blocks → AllBlocks In (taken_times n code).blocks
+  placed-times zero code h = h
+  placed-times (suc n) code h = placed-times n (taken_once code) (placed-once code h)
+
+  placed-blocks : (code : Tac) → AllBlocks In code.blocks → AllBlocks In (taken_code code).blocks
+  unfolding taken_code
+  placed-blocks code h = placed-times most_taken code h
 
   directed-named : (x : ℕ) (i : Instruction) → Named In i → Named In (directed x i)
   directed-named x (Compute d op form a b) h = tt
@@ -133,9 +159,9 @@ module _ (In : FnId → ℕ → Type 0) where
   pub stays-named : (code : Tac) → AllBlocks In code.blocks → AllBlocks In (without_copies code).blocks
   unfolding directed_code shortened_code
   stays-named code h =
-      let whole = reached_code code in
-      shortened-blocks (is_once (directed_code whole)) (directed_code whole).blocks
-      (directed-blocks (is_once whole) whole.blocks (reached-blocks code h))
+      let placed = taken_code (reached_code code) in
+      shortened-blocks (is_once (directed_code placed)) (directed_code placed).blocks
+      (directed-blocks (is_once placed) placed.blocks (placed-blocks (reached_code code) (reached-blocks code h)))
 
 -- ---- runs
 
@@ -147,9 +173,13 @@ all_lowered store = record { code = λ g. option_map (lowered store []) (callabl
 abbrev all_reached : Contents → Program
 all_reached store = record { code = λ g. option_map reached_code ((all_lowered store).code g); entries = [] }
 
+-- that with its parameters put at once to their variables
+abbrev all_taken : Contents → Program
+all_taken store = record { code = λ g. option_map taken_code ((all_reached store).code g); entries = [] }
+
 -- that with its results put at once to where they are copied
 abbrev all_directed : Contents → Program
-all_directed store = record { code = λ g. option_map directed_code ((all_reached store).code g); entries = [] }
+all_directed store = record { code = λ g. option_map directed_code ((all_taken store).code g); entries = [] }
 
 -- and the code that is compiled
 abbrev pub all_compiled : Contents → Program
@@ -157,7 +187,8 @@ all_compiled store = record { code = λ g. option_map (compiled_code store) (cal
 
 in-turn : (store : Contents) (o : Option Callable) →
     option_map (compiled_code store) o
-    ≡ option_map shortened_code (option_map directed_code (option_map reached_code (option_map (lowered store []) o)))
+    ≡ option_map shortened_code
+    (option_map directed_code (option_map taken_code (option_map reached_code (option_map (lowered store []) o))))
 in-turn store None = refl
 in-turn store (Some k) = refl
 
@@ -166,7 +197,9 @@ pub compiled-runs : (store : Contents) (statics : List ℕ) (memory n : ℕ) (f 
 compiled-runs store statics memory n f arguments r run =
     shortening-keeps-runs (all_directed store) (all_compiled store)
     (record { code = λ g. in-turn store (callable_of store g); entries = refl }) statics memory n f arguments r
-    (directed-runs (all_reached store) (all_directed store) (record { code = λ g. refl; entries = refl })
+    (directed-runs (all_taken store) (all_directed store) (record { code = λ g. refl; entries = refl })
+    statics memory n f arguments r
+    (taken-runs (all_reached store) (all_taken store) (record { code = λ g. refl; entries = refl })
     statics memory n f arguments r
     (reached-runs (all_lowered store) (all_reached store) (record { code = λ g. refl; entries = refl })
-    statics memory n f arguments r run))
+    statics memory n f arguments r run)))

@@ -15,6 +15,7 @@ use Rattle.tac_lower.specs.Lowering.{lowered}
 use Rattle.tac_copies.specs.Directed.{directed_code}
 use Rattle.tac_copies.specs.Shortened.{shortened_code}
 use Rattle.tac_copies.specs.Reached.{reached_code}
+use Rattle.tac_copies.specs.Taken.{taken_code}
 use Rattle.rv_select.specs.Calls.{IsSelected, KeepsWithin}
 use Rattle.rv_link.specs.declared.function.Function.{Function}
 use Rattle.back_end.specs.Compiled.{AreReached, IsReady}
@@ -25,10 +26,10 @@ id_of x = x.id
 abbrev pub Has : List FnId → FnId → Type 0
 Has fs f = (n : ℕ) × (slice_get fs n ≡ Some f)
 
--- code without the blocks that no way leads to, in which results go at once to where they are copied, and what is copied is then read
--- where it was copied from
+-- code without the blocks that no way leads to, whose parameters go at once to their variables, in which results go at once to where they
+-- are copied, and what is copied is then read where it was copied from
 abbrev pub without_copies : Tac → Tac
-without_copies code = shortened_code (directed_code (reached_code code))
+without_copies code = shortened_code (directed_code (taken_code (reached_code code)))
 
 -- the code of a typed term of which machine code is made
 abbrev pub compiled_code : Contents → Callable → Tac
