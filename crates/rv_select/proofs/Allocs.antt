@@ -1,5 +1,5 @@
 -- Bytes of the heap.
-use Rattle.std.proofs.Common.{◌≡◌, ◌≢◌, ℕ, ◌+◌, ◌-◌, ◌*◌, ◌/◌, ◌%◌, ◌^◌, ◌<◌, ◌≤◌, true, false, pos, negsuc, List, ◌∷◌, ◌++◌, length, take, drop, Option, Some, refl, sym, ap, ◌∙◌, subst, ⊎_elim, arith}
+use Rattle.std.proofs.Common.{◌≡◌, ◌≢◌, ℕ, ◌+◌, ◌-◌, ◌*◌, ◌/◌, ◌%◌, ◌^◌, ◌<◌, ◌≤◌, true, false, pos, negsuc, List, ◌∷◌, ◌++◌, length, take, drop, Option, Some, refl, sym, ap, ◌∙◌, subst, ⊎_elim, arith, inl}
 use Rattle.std.specs.Prelude.{if◌then◌else◌, nat_lt}
 use Rattle.std.proofs.lemmas.Bool.{cases_lt, le-leb, le-ltb, lt-leb, lt-ltb}
 use Rattle.rv_isa.specs.declared.instr.Instr.{Instr}
@@ -22,8 +22,8 @@ use Rattle.rv_machine.specs.Machine.{GoesOn, State, act, at_with, fetch, run_of}
 use Rattle.rv_operators.specs.Codes.{x0, x5, x6}
 use Rattle.rv_operators.specs.Runs.{Stands}
 use Rattle.rv_select.specs.Numbers.{immediate_of, upper_of}
-use Rattle.rv_select.specs.Places.{AreBytes, Holds, Housed, IsHeld, IsHome, IsRead, Keeps, Layout, World, area_offset, frame_bytes, home_of, slot_offset, value_in, word_at}
-use Rattle.rv_select.specs.Shapes.{allocated, first_taken, four, moved, offset_of, put_to, two, x3, x4, x7}
+use Rattle.rv_select.specs.Places.{AreBytes, Holds, Housed, IsFirst, IsHeld, IsHome, Keeps, Layout, World, area_offset, frame_bytes, home_of, slot_offset, value_in, word_at}
+use Rattle.rv_select.specs.Shapes.{allocated, first_taken, four, moved, offset_of, put_at, two, x3, x4, x7}
 use Rattle.rv_select.specs.Steps.{Follows, behind, with_temp}
 use Rattle.rv_select.proofs.Claims.{Gives, with_region}
 use Rattle.rv_select.proofs.Straight.{Loads, behind-both, loads-five, low-below, low-small, written-elsewhere}
@@ -31,7 +31,7 @@ use Rattle.rv_select.proofs.Numbers.{immediate-is}
 use Rattle.rv_select.proofs.Ways.{Near, Way, at_pc, near-both, near-same, scratch-near, stands-back, stands-front, step-way, straight-way, way-both, way-none}
 use Rattle.rv_select.proofs.Homes.{first-count, take-first}
 use Rattle.rv_select.proofs.Faults.{branch-way}
-use Rattle.rv_select.proofs.Moves.{keeps-both, lasts-not, near-holds, near-keeps, then-put, value-small}
+use Rattle.rv_select.proofs.Moves.{keeps-both, lasts-not, near-holds, near-keeps, PutsAway, first-small, put-away, then-put}
 
 right-four : (x : ℕ) → shifted_right x 4 ≡ x / 16
 unfolding shifted_right
@@ -262,7 +262,7 @@ heap-holds y Used w base x m n p h k region private three begun limited small = 
     bytes = subst AreBytes (sym private) p.frame.bytes;
   };
   pc = small;
-  values = λ t u. same (home_of y t) (h.homes t u) ∙ p.values t u;
+  values = λ t u j. same (home_of y t) (h.homes t u j) ∙ p.values t u j;
   words = p.words;
   areas = λ j l. ap (λ z. take (length (w.areas j)) (drop (base + area_offset y j) z)) private ∙ p.areas j l;
   short = p.short;
@@ -291,14 +291,14 @@ heap-keeps y base m n k private = record {
 
 -- a way before code
 pub earlier : (y : Layout) (program : List (Option Instr)) (Next : ℕ → Type 0) (w : World) (base k weight whole target d : ℕ) (m n : State) → Way program k m n → Keeps y base m n →
-    Gives y program Next w base weight target d n → k + weight ≤ whole → Gives y program Next w base whole target d m
-earlier y program Next w base k weight whole target d m n way keeps g h =
-    let c = g.comes in
+    PutsAway y program Next w base 0 weight target d n → 1 ≤ k → k + weight ≤ whole → Gives y program Next w base whole target d m
+earlier y program Next w base k weight whole target d m n way keeps g some h =
+    let c = g.settles in
     record {
       comes = record {
         steps = k + c.steps;
         after = c.after;
-        some = omega (arith, c.some);
+        some = omega (arith, some);
         few = omega (arith, c.few, h);
         runs = λ more.
             let split : k + c.steps + more ≡ k + (c.steps + more) = omega arith in
@@ -315,22 +315,22 @@ unfolding low
 pc-all p n = omega arith
 
 -- the code behind the operand
-abbrev body : Home → List Instr
-body home =
+abbrev body : (put : List Instr) → List Instr
+body put =
     RegisterImmediate Addi x6 x3 (immediate_of 15) ∷ Shift Srli x6 x6 four ∷ Shift Slli x6 x6 four
     ∷ Lui x7 (upper_of 0x40000000) ∷ RegisterRegister Sub x7 x4 x7 ∷ Shift Srli x7 x7 two ∷ RegisterRegister Sub x7 x4 x7
-    ∷ RegisterRegister Sub x7 x7 x6 ∷ Branch Ltu x7 x5 (offset_of 16) ∷ RegisterRegister Add x3 x6 x5 ∷ moved x5 x6 ∷ Branch Eq x0 x0 (offset_of 8) ∷ moved x5 x0 ∷ put_to home
+    ∷ RegisterRegister Sub x7 x7 x6 ∷ Branch Ltu x7 x5 (offset_of 16) ∷ RegisterRegister Add x3 x6 x5 ∷ moved x5 x6 ∷ Branch Eq x0 x0 (offset_of 8) ∷ moved x5 x0 ∷ put
 
-body-count : (home : Home) → length (body home) ≡ 13 + length (put_to home)
-body-count home = omega arith
+body-count : (put : List Instr) → length (body put) ≡ 13 + length put
+body-count put = omega arith
 
 alloc-ends : (y : Layout) (d v weight : ℕ) (Used Next : ℕ → Type 0) (w : World) (base : ℕ) (A : List Instr) (program : List (Option Instr)) (m : State) (l : Loads 5 A m v) → v < 2 ^ 64 → length A + 16 ≤ weight →
-    Holds y Used w base m → Housed y Used → Housed y Next → Next d → Follows Used Next d → Stands program m.pc (A ++ body (home_of y d)) →
-    Gives y program Next (with_temp (with_region w (alloc_of w.region (signed v)).1) d (alloc_of w.region (signed v)).0) base weight (behind m (A ++ body (home_of y d))) d m
+    Holds y Used w base m → Housed y Used → Housed y Next → Next d → Follows Used Next d → Stands program m.pc (A ++ body (put_at y d)) →
+    Gives y program Next (with_temp (with_region w (alloc_of w.region (signed v)).1) d (alloc_of w.region (signed v)).0) base weight (behind m (A ++ body (put_at y d))) d m
 alloc-ends y d v weight Used Next w base A program m l small few p h h' u follows stands =
     let t : State = l.after in
     let r : Contents = w.region in
-    let put : List Instr = put_to (home_of y d) in
+    let put : List Instr = put_at y d in
     let size : ℕ = length r.bytes in
     let start : ℕ = aligned r.heap in
     let limit : ℕ = heap_limit r in
@@ -338,20 +338,20 @@ alloc-ends y d v weight Used Next w base A program m l small few p h h' u follow
     let sized : size % 1024 ≡ 0 = p.lawful.sized.0 in
     let limited : r.heap ≤ limit = p.lawful.limited in
     let low-start : start ≤ limit = omega arith in
-    let first : Way program (length A) m t = straight-way program A m t (stands-front program m.pc A (body (home_of y d)) stands) l.straight l.goes in
+    let first : Way program (length A) m t = straight-way program A m t (stands-front program m.pc A (body (put_at y d)) stands) l.straight l.goes in
     let near : Near m t = scratch-near A m t (loads-five A m v l) in
     let pc-t : t.pc < 2 ^ 64 = subst (λ q. q < 2 ^ 64) (sym l.behind) (low-below (m.pc + 4 * length A)) in
     let q : Holds y Used w base t = near-holds y Used w base m t p h near pc-t in
-    let there : Stands program t.pc (body (home_of y d)) = subst (λ z. Stands program z (body (home_of y d))) (sym l.behind) (stands-back program m.pc A (body (home_of y d)) p.pc stands) in
-    let target : ℕ = behind m (A ++ body (home_of y d)) in
-    let to : low (t.pc + 4 * (13 + length put)) ≡ target = behind-both A (body (home_of y d)) m.pc t.pc (low (t.pc + 4 * (13 + length put))) l.behind (ap (λ n. low (t.pc + 4 * n)) (sym (body-count (home_of y d)))) in
+    let there : Stands program t.pc (body (put_at y d)) = subst (λ z. Stands program z (body (put_at y d))) (sym l.behind) (stands-back program m.pc A (body (put_at y d)) p.pc stands) in
+    let target : ℕ = behind m (A ++ body (put_at y d)) in
+    let to : low (t.pc + 4 * (13 + length put)) ≡ target = behind-both A (body (put_at y d)) m.pc t.pc (low (t.pc + 4 * (13 + length put))) l.behind (ap (λ n. low (t.pc + 4 * n)) (sym (body-count (put_at y d)))) in
     ⊎_elim
     (λ many.
     let e : alloc_of r (signed v) ≡ (0, r) = alloc-full r v (omega arith) in
     let g = refuses program t put v r.heap size l.gives q.heap q.limit small sized most p.lawful.begun limited there many in
     subst (λ x. Gives y program Next (with_temp (with_region w x.1) d x.0) base weight target d m) (sym e)
     (then-put y Used Next w base d 0 (length A + 10) weight target program m g.0 p h h' u follows (way-both program (length A) 10 m t g.0 first g.1) (near-both m t g.0 near g.4)
-    (subst (λ z. z < 2 ^ 64) (sym g.5) (low-below _)) g.2 (omega arith) (omega arith) g.3
+    (subst (λ z. z < 2 ^ 64) (sym g.5) (low-below _)) g.2 (omega arith) (omega arith) (inl (omega arith)) g.3
     (ap (λ z. low (z + 4 * length put)) g.5 ∙ (pc-all t.pc (length put) ∙ to))))
     (λ enough.
     let e : alloc_of r (signed v) ≡ (start, record r { heap = start + v }) = alloc-fits r v (omega arith) (omega arith) in
@@ -362,16 +362,16 @@ alloc-ends y d v weight Used Next w base A program m l small few p h h' u follow
     subst (λ x. Gives y program Next (with_temp (with_region w x.1) d x.0) base weight target d m) (sym e)
     (earlier y program Next (with_temp now d start) base (length A + 12) 3 weight target d m g.0 (way-both program (length A) 12 m t g.0 first g.1)
     (keeps-both y base m t g.0 (near-keeps y base m t near) (heap-keeps y base t g.0 g.5 g.7))
-    (then-put y Used Next now base d start 0 3 target program g.0 g.0 s h h' u follows (way-none program g.0) (near-same g.0) pc-g g.2 (omega arith) (omega arith) g.4
-    (ap (λ z. low (z + 4 * length put)) g.8 ∙ (pc-all t.pc (length put) ∙ to))) (omega arith)))
+    (put-away y Used Next now base d start 0 3 target program g.0 g.0 s h h' u follows (way-none program g.0) (near-same g.0) pc-g g.2 (omega arith) (omega arith) g.4
+    (ap (λ z. low (z + 4 * length put)) g.8 ∙ (pc-all t.pc (length put) ∙ to))) (omega arith) (omega arith)))
     (cases_lt (limit - start) v)
 
 pub allocs : (y : Layout) (held : Option ℕ) (d : ℕ) (a : Operand) (Used Next : ℕ → Type 0) (w : World) (base : ℕ) (program : List (Option Instr)) (m : State) →
-    Stands program m.pc (allocated y held d a) → IsHeld held w.temps m → Holds y Used w base m → Housed y Used → Housed y Next → IsRead Used a → Next d → Follows Used Next d →
+    Stands program m.pc (allocated y held d a) → IsHeld held w.temps m → Holds y Used w base m → Housed y Used → Housed y Next → IsFirst y held Used a → Next d → Follows Used Next d →
     Gives y program Next (with_temp (with_region w (alloc_of w.region (signed (value_in w.temps a))).1) d (alloc_of w.region (signed (value_in w.temps a))).0) base
     (words_of (instructions.Alloc d a))
     (behind m (allocated y held d a)) d m
 allocs y held d a Used Next w base program m stands f p h h' ra u follows =
     alloc-ends y d (value_in w.temps a) (words_of (instructions.Alloc d a)) Used Next w base (first_taken y held a) program m
-    (take-first y held Used w base m a f p h ra) (value-small Used y w base m a p ra) (omega (arith, first-count y held a))
+    (take-first y held Used w base m a f p h ra) (first-small held Used y w base m a p ra) (omega (arith, first-count y held a))
     p h h' u follows stands

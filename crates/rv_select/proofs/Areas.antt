@@ -92,7 +92,8 @@ area-loads y held d form n offset Used Next w base program m stands there within
     let v : ℕ = wrapped (width_of form) (number_of (part (w.areas n) offset (bytes_of form.size))) in
     let l : Loads 5 code m v = area-load y Used w base n offset form m p there within in
     let few : length code ≤ 3 = framed-count (λ r far. Load (load_of form.signed form.size) x5 r far) (area_offset y n + offset) in
-    straight-put y Used Next w base d v 8 code program m l.after p h h' u follows (loads-five code m v l) l.gives (wrapped-small (width_of form) _ (wide-size form.size)) (omega arith) stands
+    straight-put y Used Next w base d v 8 code program m l.after p h h' u follows (loads-five code m v l) l.gives (wrapped-small (width_of form) _ (wide-size form.size)) (omega arith)
+    (inl (framed-some (λ r far. Load (load_of form.signed form.size) x5 r far) (area_offset y n + offset))) stands
 
 -- The machine's states before and after bytes were put into an area, which has these bytes then. The bytes of an area behind those that it has may be any.
 pub record AreaSet (y : Layout) (base n : ℕ) (bs : List ℕ) (m after : State) : Type 0 where
@@ -125,7 +126,7 @@ area-holds y Used Next w base n bs m z p h f there s small = record {
     bytes = s.whole;
   };
   pc = small;
-  values = λ t u. area-home y base n bs m z (home_of y t) (h.homes t (f t u)) s ∙ p.values t (f t u);
+  values = λ t u k. area-home y base n bs m z (home_of y t) (h.homes t (f t u) k) s ∙ p.values t (f t u) k;
   words = λ t u. p.words t (f t u);
   areas = λ k l. ⊎_elim
       (λ same. subst (λ b. take (length b) (drop (base + area_offset y k) z.private) ≡ b) (sym (at-same k same)) (subst (λ j. take (length bs) (drop (base + area_offset y j) z.private) ≡ bs) (sym same) s.here))
@@ -257,7 +258,7 @@ area-written y Used w base n offset bs code m s p h l k are =
     }
 
 pub area-stores : (y : Layout) (held : Option ℕ) (size : Size) (n offset : ℕ) (b : Operand) (Used Next : ℕ → Type 0) (w : World) (base : ℕ) (program : List (Option Instr)) (m : State) →
-    Stands program m.pc (stored y held (spots.Area n offset) size b) → n < y.areas → offset ≤ length (w.areas n) → offset + bytes_of size ≤ most_moved → IsRead Used b →
+    Stands program m.pc (stored y held (spots.Area n offset) size b) → n < y.areas → offset ≤ length (w.areas n) → offset + bytes_of size ≤ most_moved → IsRead y Used b →
     Holds y Used w base m → Housed y Used → AreFewer Used Next →
     Comes y program Next (with_area w n (overwritten (w.areas n) offset (low_bytes (bytes_of size) (value_in w.temps b)))) base
     (words_of (instructions.Store (spots.Area n offset) size b))

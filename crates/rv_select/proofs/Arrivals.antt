@@ -186,7 +186,7 @@ begin-holds z base bottom placed depth link region a m n f base-is none within p
             f.bytes bytes;
       };
       pc = pc;
-      values = λ t u. absurd u;
+      values = λ t u k. absurd u;
       words = λ t u. absurd u;
       areas = λ k l. subst (λ bs. take (length bs) (drop (bottom + area_offset z k) n.private) ≡ bs) (sym (none k)) refl;
       short = λ k l. subst (λ bs. length bs ≤ 128) (sym (none k)) (omega arith);

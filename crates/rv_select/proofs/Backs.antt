@@ -20,7 +20,7 @@ use Rattle.tac_form.specs.declared.tac.Tac.{Tac}
 use Rattle.tac_form.specs.Flow as tac
 use Rattle.tac_form.specs.Flow.{Activation, Caller, Program, area_size, give, given, operand, put, step, value_of}
 use Rattle.tac_form.specs.Fits.{area_fits, destination_fits, exit_fits, part_fits, place_fits}
-use Rattle.tac_form.specs.Graph.{block_of, destination_write, exit_reads, graph_of, step_of}
+use Rattle.tac_form.specs.Graph.{block_of, destination_write, exit_reads, graph_of, part_reads, step_of}
 use Rattle.tac_form.specs.Live.{InUse, has}
 use Rattle.terra_words.specs.Runs.{word}
 use Rattle.terra_memory.specs.Numbers.{number_of}
@@ -32,19 +32,21 @@ use Rattle.rv_machine.specs.Machine as machine
 use Rattle.rv_machine.specs.declared.stops.Stop.TheVariants as stops
 use Rattle.rv_operators.specs.Runs.{Stands}
 use Rattle.rv_select.specs.Pairs.{pair_of, plain_of, reads_of}
-use Rattle.rv_select.specs.Places.{AreBytes, Holds, Housed, IsHeld, Layout, World, area_offset, frame_bytes, home_of, layout_of, private_word}
-use Rattle.rv_select.specs.Shapes.{put_to}
+use Rattle.rv_select.specs.Asked.{exit_asks}
+use Rattle.rv_select.specs.Places.{AreBytes, HasHome, Holds, Housed, IsHeld, Layout, World, area_offset, frame_bytes, home_of, layout_of, private_word}
+use Rattle.rv_select.specs.Shapes.{put_at}
 use Rattle.rv_select.specs.Steps.{Comes, world_of}
 use Rattle.rv_select.specs.Calls.{blocks_length, call_begun, call_ended, call_jump, head_code, last_address}
 use Rattle.rv_select.specs.Entering.{result_put, result_words, size_in}
 use Rattle.rv_select.specs.Waiting.{Arrives, HasRoom, Image, IsLinked, IsPlaced, StandsIn, Stepped, Waiting, Waits, entries_of, held_at, held_in, place_in, plain_in, restored}
+use Rattle.rv_select.proofs.Asking.{exit-homes}
 use Rattle.rv_select.proofs.Carries.{by-test, nothing-written, operand-read}
 use Rattle.rv_select.proofs.Copies.{copies-there, size-small}
 use Rattle.rv_select.proofs.Finds.{FoundFunction, held-next, stands-next}
 use Rattle.rv_select.proofs.Pairing.{before-next, plain-get}
 use Rattle.rv_select.proofs.Leaves.{exit-in-graph, exit-reads-live}
 use Rattle.rv_select.proofs.Lives.{housed, step-in-graph, write-used}
-use Rattle.rv_select.proofs.Moves.{then-put, value-small}
+use Rattle.rv_select.proofs.Moves.{Settles, put-away, settled, value-small}
 use Rattle.rv_select.proofs.Passes.{IsPartRead, part_value}
 use Rattle.rv_select.proofs.Receives.{housed-fewer}
 use Rattle.rv_select.proofs.Returns.{BackIn, HeldIn, Resumes, UsedBut, back-holds, goes-back, resumes}
@@ -65,12 +67,13 @@ run-returned program z (suc more) e =
 -- what a return reads
 part-read : (code : Tac) (x : List (Option Home)) (block : Block) (b k : ℕ) (v : Part) → exit_fits code (Return v) ≡ true →
     slice_get code.blocks b ≡ Some block → slice_get block.instructions k ≡ None →
-    block.exit ≡ Return v → IsPartRead (layout_of code x) (InUse (graph_of code) b k) v
-part-read code x block b k (parts.Word a) fits e g is =
+    block.exit ≡ Return v → ((t : ℕ) → has (part_reads v) t ≡ true → HasHome (layout_of code x) t) →
+    IsPartRead (layout_of code x) (InUse (graph_of code) b k) v
+part-read code x block b k (parts.Word a) fits e g is asked =
     let q = exit-in-graph code block b k e g in
-    operand-read code (InUse (graph_of code) b k) a fits
-    (λ t h. inl (exit-reads-live (graph_of code) b k t (block_of block) q.0 q.1 (ap (λ z. has (exit_reads z) t) is ∙ h)))
-part-read code x block b k (parts.Area n) fits e g is = ltb-true n (length code.areas) fits
+    operand-read code (layout_of code x) (InUse (graph_of code) b k) a fits
+    (λ t h. inl (exit-reads-live (graph_of code) b k t (block_of block) q.0 q.1 (ap (λ z. has (exit_reads z) t) is ∙ h))) asked
+part-read code x block b k (parts.Area n) fits e g is asked = ltb-true n (length code.areas) fits
 
 pub part-is : (y : Layout) (base : ℕ) (s : tac.State) (a : Operand) → part_value y base (world_of s) (parts.Word a) ≡ operand s a
 part-is y base s (operands.Temp t) = refl
@@ -138,8 +141,8 @@ some-same d t e = cc
 put-result : (p : Program) (image : Image) (program : List (Option Instr)) (most size : ℕ) → IsLinked p image program most →
     (s : tac.State) (a : Activation) (temps : tac.Temps) (areas : tac.Areas) (cs : List Caller) (code : Tac) (up k more target : ℕ)
     (held : Option ℕ) (m n : State) → p.code a.function ≡ Some code → Way program k m n → 1 ≤ k → k ≤ 36 →
-    (c : Comes (layout_of code (image a.function).homes) program (InUse (graph_of code) a.block a.at)
-    (record { temps = temps; areas = areas; region = s.region; placed = a.base; depth = length cs }) up more target [] n) →
+    (c : Settles (layout_of code (image a.function).homes) program (InUse (graph_of code) a.block a.at)
+    (record { temps = temps; areas = areas; region = s.region; placed = a.base; depth = length cs }) up more target n) →
     IsHeld held temps c.after →
     target ≡ place_in p image code (image a.function) a.block a.at → held_in code a.block a.at ≡ held →
     a.at ≤ length (plain_in (reads_of code) (slice_get code.blocks a.block)) →
@@ -239,8 +242,8 @@ abbrev Puts : List (Option Instr) → Layout → (sizes : List ℕ) → (U : ℕ
 Puts program y sizes U to s a over depth up v temps areas n =
     (t : State) → t.private ≡ n.private → t.registers 5 ≡ v → Stands program t.pc (result_put y sizes to) →
     Holds y (UsedBut U to) (outer s a over depth) up t →
-    (c : Comes y program U (record { temps = temps; areas = areas; region = s.region; placed = over; depth = depth }) up (result_words to)
-    (low (t.pc + 4 * length (result_put y sizes to))) [] t) × IsHeld (destination_write to) temps c.after
+    (c : Settles y program U (record { temps = temps; areas = areas; region = s.region; placed = over; depth = depth }) up (result_words to)
+    (low (t.pc + 4 * length (result_put y sizes to))) t) × IsHeld (destination_write to) temps c.after
 
 -- the result of a call that was made from a caller that waits
 pub to-caller : (p : Program) (image : Image) (program : List (Option Instr)) (most size : ℕ) → IsLinked p image program most →
@@ -303,10 +306,10 @@ to-caller p image program most size linked s a to v temps areas cs up over link 
         pc-put q (length R) r.after.pc (low (r.after.pc + 4 * length R))
         (r.pc ∙ ap (λ z. low (z + 4 * 2)) here) refl bc.near
         ∙ (sym bc.next ∙ ap (λ z. place_in p image W.code (image a.function) a.block z) (sym W.at)) in
-        let both : (c : Comes yc program U (record { temps = temps; areas = areas; region = s.region; placed = a.base; depth = length cs }) up
-        (result_words to) (low (r.after.pc + 4 * length R)) [] r.after) × IsHeld (destination_write to) temps c.after =
-        subst (λ z. (c : Comes yc program U (record { temps = temps; areas = areas; region = s.region; placed = z; depth = length cs }) up
-        (result_words to) (low (r.after.pc + 4 * length R)) [] r.after) × IsHeld (destination_write to) temps c.after) (sym W.placed_is)
+        let both : (c : Settles yc program U (record { temps = temps; areas = areas; region = s.region; placed = a.base; depth = length cs }) up
+        (result_words to) (low (r.after.pc + 4 * length R)) r.after) × IsHeld (destination_write to) temps c.after =
+        subst (λ z. (c : Settles yc program U (record { temps = temps; areas = areas; region = s.region; placed = z; depth = length cs }) up
+        (result_words to) (low (r.after.pc + 4 * length R)) r.after) × IsHeld (destination_write to) temps c.after) (sym W.placed_is)
         (puts r.after r.private r.five r.there held) in
         put-result p image program most size linked s a temps areas cs W.code up (k + 2) (result_words to) (low (r.after.pc + 4 * length R))
         (destination_write to) m r.after W.function
@@ -328,11 +331,11 @@ puts-word p image program most linked s a d v depth up over link M n W small t s
     let U : ℕ → Type 0 = InUse (graph_of W.code) a.block a.at in
     let h : Housed yc U = housed W.code (image a.function).homes a.block a.at (linked a.function W.code W.function).right in
     let g =
-    then-put yc (UsedBut U (Temp d)) U (outer s a over depth) up d v 0 3 (low (t.pc + 4 * length (put_to (home_of yc d)))) program t t hold
+    put-away yc (UsedBut U (Temp d)) U (outer s a over depth) up d v 0 3 (low (t.pc + 4 * length (put_at yc d))) program t t hold
     (housed-fewer yc U (UsedBut U (Temp d)) (λ x u. u.0) h) h next-used
     (λ x u. ⊎_elim (λ e. inl e) (λ o. inr (u, λ e. o (sym (some-same d x e)))) (cases_eq x d)) (way-none program t) (near-same t) hold.pc
     five small (omega arith) there refl in
-    (g.comes, g.five)
+    (g.settles, g.five)
   where
     next-used : InUse (graph_of W.code) a.block a.at d
     next-used =
@@ -355,12 +358,12 @@ puts-bytes p image program most linked s a j from bs depth up over link M n W co
     let U : ℕ → Type 0 = InUse (graph_of W.code) a.block a.at in
     let z : ℕ = size_in W.code.areas j in
     let h : Housed yc U = housed W.code (image a.function).homes a.block a.at (linked a.function W.code W.function).right in (
-      copies-there yc j z from bs (UsedBut U (Area j)) U (outer s a over depth) up program t there fits.0
+      settled yc program U _ up 39 _ t (copies-there yc j z from bs (UsedBut U (Area j)) U (outer s a over depth) up program t there fits.0
           (size-small W.code.areas j fits.1) count five
           (subst (λ x. from + z ≤ length x) (sym same) (inside from (length bs) z (length n.private) count under within))
           (inl (below from (length bs) z (area_offset yc j) count under))
           (ap (λ x. take z (drop from x)) same ∙ (ap (λ x. take x (drop from n.private)) (sym count) ∙ reads)) are hold
-          (housed-fewer yc U (UsedBut U (Area j)) (λ x u. u.0) h) (λ x u. (u, λ e. none-some x e)),
+          (housed-fewer yc U (UsedBut U (Area j)) (λ x u. u.0) h) (λ x u. (u, λ e. none-some x e))),
       tt,
     )
   where
@@ -507,6 +510,8 @@ return-steps p image program most size linked s base m x block v in-f in-b alone
         (ap (exit_fits x.code) (sym is) ∙ exit-within x.code s.here.block block
         (within-parts p image program most x.code (image s.here.function) (linked s.here.function x.code x.function)).blocks in-f)
         in-f in-b is
+        (λ t h. exit-homes x.code (image s.here.function).homes s.here.block s.here.at block (linked s.here.function x.code x.function).right in-f in-b
+        alone t (ap (λ e. has (exit_asks (held_in x.code s.here.block s.here.at) e) t) is ∙ h))
 
     last-reach : (at pc last : ℕ) → at ≤ pc → pc ≤ last → last ≤ at + 2 ^ 19 → (pc ≤ last) × (last ≤ pc + 2 ^ 19)
     last-reach at pc last a b c = (b, omega (arith, a, c))

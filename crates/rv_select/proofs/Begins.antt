@@ -22,6 +22,7 @@ use Rattle.rv_machine.specs.Machine.{State, GoesOn, act, at_with}
 use Rattle.rv_operators.specs.Runs.{Stands}
 use Rattle.rv_select.specs.Numbers.{constant, register_of}
 use Rattle.rv_select.specs.Pairs.{reads_of}
+use Rattle.rv_select.specs.Asked.{asked_homes}
 use Rattle.rv_select.specs.Places.{AreBytes, frame_bytes, layout_of, private_word, uses}
 use Rattle.rv_select.specs.Shapes.{moved, place_number, x4, x8, x11}
 use Rattle.rv_select.specs.Calls.{blocks_length, head_code, last_address}
@@ -372,7 +373,7 @@ module _ (p : Program) (image : Image) (program : List (Option Instr)) (most n :
       (place-small code.place wi.place) x.pointer
       (subst (λ z. z < 2 ^ 64) (sym x.limit) (region-end (length region.bytes) x.lawful.sized.2))
       (private-end (length m.private) x.private) small-region
-      (args-room (length m.private) (length (image f).homes) (length code.areas) (length code.parameters) fit.0)
+      (args-room (length m.private) (length (asked_homes code (image f).homes)) (length code.areas) (length code.parameters) fit.0)
 
   entry-pc : (b : AtEntry program code (place_number code.place) (length code.parameters) m) →
       b.after.pc ≡ ((image f).at + 4 * length (begun code))
@@ -398,7 +399,7 @@ module _ (p : Program) (image : Image) (program : List (Option Instr)) (most n :
     region_is = x.lawful.sized.2;
     private = subst (λ z. z ≤ 603979776) (sym b.long) x.private;
     within = subst (λ z. (length m.private) ≤ z) (sym b.long) (least-same (length m.private));
-    least = bytes-least (length (image f).homes) (length code.areas) (length code.parameters);
+    least = bytes-least (length (asked_homes code (image f).homes)) (length code.areas) (length code.parameters);
     room = fit.0;
   }
 
@@ -435,7 +436,7 @@ module _ (p : Program) (image : Image) (program : List (Option Instr)) (most n :
         (λ q. omega (arith, q, lo)) (λ q. omega (arith, q, lo)))));
     above = λ a k o. en.above a k
         (higher (length m.private) (frame_bytes (layout_of code (image f).homes)) a
-        (bytes-least (length (image f).homes) (length code.areas) (length code.parameters)) fit.0 o);
+        (bytes-least (length (asked_homes code (image f).homes)) (length code.areas) (length code.parameters)) fit.0 o);
   }
 
   lands-in : (b : AtEntry program code (place_number code.place) (length code.parameters) m)
@@ -517,7 +518,7 @@ module _ (p : Program) (image : Image) (program : List (Option Instr)) (most n :
       let h = x.arguments_are k y g in
       let l : k < length code.parameters = subst (λ z. k < z) count (slice-below arguments k y g) in (
         ap number_of (en.above ((length m.private) - 8 * (0 + k + 1)) 8
-            (word-high (length m.private) (length (image f).homes) (length code.areas) (length code.parameters) k fit.0 l))
+            (word-high (length m.private) (length (asked_homes code (image f).homes)) (length code.areas) (length code.parameters) k fit.0 l))
             ∙ (ap (λ z. private_word b.after ((length m.private) - 8 * z)) (zero-first k) ∙
             (b.words k l (subst (λ z. z < 2 ^ 64) (sym h.0) h.1) ∙ h.0)),
         h.1,
@@ -563,7 +564,7 @@ module _ (p : Program) (image : Image) (program : List (Option Instr)) (most n :
       (still-below (end_address region) code.frame (end_address region) (least-same (end_address region))) in
       let words = entry-words ((length m.private) - (frame_bytes (layout_of code (image f).homes)))
       (words_offset (layout_of code (image f).homes)) (length m.private) 0 code.parameters arguments en.after (sym count)
-      (top-is (length m.private) (length (image f).homes) (length code.areas) (length code.parameters) fit.0)
+      (top-is (length m.private) (length (asked_homes code (image f).homes)) (length code.areas) (length code.parameters) fit.0)
       (λ k y g. passed-word b en k y g) in
       let rc = parameters-received code (image f).homes program (map word arguments) (fresh_call f code (before_entry f region n)) region 0
       ((length m.private) - (frame_bytes (layout_of code (image f).homes))) en.after pl.fits pl.right accepts

@@ -15,16 +15,18 @@ use Rattle.tac_form.specs.declared.tac.Instruction.TheVariants.{Call}
 use Rattle.tac_form.specs.declared.tac.Block.{Block}
 use Rattle.tac_form.specs.declared.tac.Tac.{Tac}
 use Rattle.rv_select.specs.declared.selected.Call.{Call as Site}
+use Rattle.rv_select.specs.declared.selected.Code.{Code}
 use Rattle.rv_select.specs.declared.pairs.Pair.{Pair}
 use Rattle.rv_select.specs.declared.pairs.Reads.{Reads}
 use Rattle.rv_select.specs.Pairs.{but_pair, pair_of, plain_of, reads_of}
 use Rattle.rv_select.specs.declared.settings.Extent.{Extent}
 use Rattle.rv_select.specs.declared.settings.Setting.{Setting}
 use Rattle.rv_select.specs.Settings.{setting_of}
-use Rattle.rv_select.specs.Places.{Layout, extent_of, frame_bytes, layout_of, with_homes, with_reads}
+use Rattle.rv_select.specs.Asked.{asked_homes}
+use Rattle.rv_select.specs.Places.{Layout, extent_of, frame_bytes, layout_with, with_homes, with_reads}
 use Rattle.rv_select.specs.Shapes.{start_of}
 use Rattle.rv_select.specs.Entering.{begun, entered, left, received, words_offset}
-use Rattle.rv_select.specs.Calls.{block_code, block_has_code, block_starts, blocks_calls, blocks_code, body_code, call_begun, call_ended, call_jump, called, end_code, function_code, has_code, has_exit_code, head_code, held_behind, instruction_code, instructions_code, last_address, starts_from}
+use Rattle.rv_select.specs.Calls.{IsSelected, block_code, block_has_code, block_starts, blocks_calls, blocks_code, body_code, call_begun, call_ended, call_jump, called, end_code, function_calls, function_code, has_code, has_exit_code, head_code, held_behind, instruction_code, instructions_code, last_address, starts_from}
 use Rattle.rv_select.proofs.Layouts.{blocks-calls-same, blocks-same, end-same, instructions-same, received-same, starts-same}
 use Rattle.rv_select.proofs.Lengths.{blocks-length}
 use Rattle.rv_select.proofs.Numbers.{pushed_words}
@@ -95,22 +97,22 @@ pub call-head : {A E : Type 0} (r : Result A E) (code : Tac) (h : List (Option H
     sizes ≡ code.areas → ds ≡ code.parameters →
     mid ≡ old ++ map word_of (entered (with_homes h) bytes code.frame) →
     OnOk r (new ≡ mid ++ map word_of (received (with_homes h) sizes words ds)) →
-    OnOk r (new ≡ old ++ map word_of (entered (layout_of code h) bytes code.frame ++ received (layout_of code h) code.areas words code.parameters))
+    OnOk r (new ≡ old ++ map word_of (entered (layout_with code h) bytes code.frame ++ received (layout_with code h) code.areas words code.parameters))
 call-head r code h words bytes sizes ds old mid new w v e g =
-    let same : received (with_homes h) sizes words ds ≡ received (layout_of code h) code.areas words code.parameters =
+    let same : received (with_homes h) sizes words ds ≡ received (layout_with code h) code.areas words code.parameters =
     ap (λ z. received (with_homes h) z words ds) w ∙ (ap (λ z. received (with_homes h) code.areas words z) v
     ∙ received-same h 0 0 (length code.areas) (length code.parameters) [] (reads_of code) of_nothing (extent_of code) code.areas words code.parameters) in
-    turn r old mid new (entered (layout_of code h) bytes code.frame) (received (layout_of code h) code.areas words code.parameters)
-    (entered (layout_of code h) bytes code.frame ++ received (layout_of code h) code.areas words code.parameters) refl e
+    turn r old mid new (entered (layout_with code h) bytes code.frame) (received (layout_with code h) code.areas words code.parameters)
+    (entered (layout_with code h) bytes code.frame ++ received (layout_with code h) code.areas words code.parameters) refl e
     (subst (λ z. OnOk r (new ≡ mid ++ map word_of z)) same g)
 
 pub body-code : {A E : Type 0} (r : Result A E) (code : Tac) (h : List (Option Home)) (reads : List Reads) (extent : Extent) (sizes : List ℕ)
     (bs : List Block) (starts : ℕ → ℕ) (last at : ℕ) (old new : List ℕ) →
     sizes ≡ code.areas → bs ≡ code.blocks → reads ≡ reads_of code → extent ≡ extent_of code →
     OnOk r (new ≡ old ++ map word_of (blocks_code (with_reads h reads extent) sizes (λ f. 0) starts last at bs)) →
-    OnOk r (new ≡ old ++ map word_of (blocks_code (layout_of code h) code.areas (λ f. 0) starts last at code.blocks))
+    OnOk r (new ≡ old ++ map word_of (blocks_code (layout_with code h) code.areas (λ f. 0) starts last at code.blocks))
 body-code r code h reads extent sizes bs starts last at old new w v u o g =
-    let same : blocks_code (with_reads h reads extent) sizes (λ f. 0) starts last at bs ≡ blocks_code (layout_of code h) code.areas
+    let same : blocks_code (with_reads h reads extent) sizes (λ f. 0) starts last at bs ≡ blocks_code (layout_with code h) code.areas
     (λ f. 0) starts last at code.blocks =
     ap (λ z. blocks_code (with_reads h reads extent) z (λ f. 0) starts last at bs) w
     ∙ (ap (λ z. blocks_code (with_reads h reads extent) code.areas (λ f. 0) starts last at z) v
@@ -123,9 +125,9 @@ pub body-calls : {A E : Type 0} (r : Result A E) (code : Tac) (h : List (Option 
     (bs : List Block) (at : ℕ) (old new : List Site) →
     sizes ≡ code.areas → bs ≡ code.blocks → reads ≡ reads_of code → extent ≡ extent_of code →
     OnOk r (new ≡ old ++ blocks_calls (with_reads h reads extent) sizes at bs) →
-    OnOk r (new ≡ old ++ blocks_calls (layout_of code h) code.areas at code.blocks)
+    OnOk r (new ≡ old ++ blocks_calls (layout_with code h) code.areas at code.blocks)
 body-calls r code h reads extent sizes bs at old new w v u o g =
-    let same : blocks_calls (with_reads h reads extent) sizes at bs ≡ blocks_calls (layout_of code h) code.areas at code.blocks =
+    let same : blocks_calls (with_reads h reads extent) sizes at bs ≡ blocks_calls (layout_with code h) code.areas at code.blocks =
     ap (λ z. blocks_calls (with_reads h reads extent) z at bs) w ∙ (ap (λ z. blocks_calls (with_reads h reads extent) code.areas at z) v
     ∙ (ap (λ z. blocks_calls (with_reads h z extent) code.areas at code.blocks) u
     ∙ (ap (λ z. blocks_calls (with_reads h (reads_of code) z) code.areas at code.blocks) o
@@ -136,9 +138,9 @@ pub body-begins : {A E : Type 0} (r : Result A E) (code : Tac) (h : List (Option
     (bs : List Block) (at : ℕ) (old new : List ℕ) →
     sizes ≡ code.areas → bs ≡ code.blocks → reads ≡ reads_of code → extent ≡ extent_of code →
     OnOk r (new ≡ old ++ starts_from (with_reads h reads extent) sizes at bs) →
-    OnOk r (new ≡ old ++ starts_from (layout_of code h) code.areas at code.blocks)
+    OnOk r (new ≡ old ++ starts_from (layout_with code h) code.areas at code.blocks)
 body-begins r code h reads extent sizes bs at old new w v u o g =
-    let same : starts_from (with_reads h reads extent) sizes at bs ≡ starts_from (layout_of code h) code.areas at code.blocks =
+    let same : starts_from (with_reads h reads extent) sizes at bs ≡ starts_from (layout_with code h) code.areas at code.blocks =
     ap (λ z. starts_from (with_reads h reads extent) z at bs) w ∙ (ap (λ z. starts_from (with_reads h reads extent) code.areas at z) v
     ∙ (ap (λ z. starts_from (with_reads h z extent) code.areas at code.blocks) u
     ∙ (ap (λ z. starts_from (with_reads h (reads_of code) z) code.areas at code.blocks) o
@@ -190,17 +192,29 @@ pub whole-calls : (y : Layout) (code : Tac) (old head : List ℕ) (none calls : 
 whole-calls y code old head none calls n m e g =
     g ∙ (ap (λ z. z ++ blocks_calls y code.areas (length head) code.blocks) m ∙ ap (λ z. blocks_calls y code.areas z code.blocks) (head-words y code old head n e))
 
-pub head-whole : (code : Tac) (h : List (Option Home)) (words frame : ℕ) (old mid new : List ℕ) → words ≡ words_offset (layout_of code h) → frame ≡ frame_bytes (layout_of code h) →
+pub head-whole : (code : Tac) (h : List (Option Home)) (words frame : ℕ) (old mid new : List ℕ) → words ≡ words_offset (layout_with code h) → frame ≡ frame_bytes (layout_with code h) →
     mid ≡ old ++ map word_of (begun code) →
-    new ≡ mid ++ map word_of (entered (layout_of code h) frame code.frame ++ received (layout_of code h) code.areas words code.parameters) →
-    new ≡ old ++ map word_of (head_code (layout_of code h) code)
+    new ≡ mid ++ map word_of (entered (layout_with code h) frame code.frame ++ received (layout_with code h) code.areas words code.parameters) →
+    new ≡ old ++ map word_of (head_code (layout_with code h) code)
 head-whole code h words frame old mid new w f e g =
-    let y : Layout = layout_of code h in
+    let y : Layout = layout_with code h in
     behind old mid new (begun code) (entered y (frame_bytes y) code.frame ++ received y code.areas (words_offset y) code.parameters) e
     (g ∙ (ap (λ z. mid ++ map word_of (entered y z code.frame ++ received y code.areas words code.parameters)) f
     ∙ ap (λ z. mid ++ map word_of (entered y (frame_bytes y) code.frame ++ received y code.areas z code.parameters)) w))
 
-pub left-whole : (code : Tac) (h : List (Option Home)) (frame : ℕ) (body whole : List ℕ) → frame ≡ frame_bytes (layout_of code h) →
+pub left-whole : (code : Tac) (h : List (Option Home)) (frame : ℕ) (body whole : List ℕ) → frame ≡ frame_bytes (layout_with code h) →
     whole ≡ body ++ map word_of (left (with_homes h) frame code.frame) →
-    whole ≡ body ++ map word_of (left (layout_of code h) (frame_bytes (layout_of code h)) code.frame)
-left-whole code h frame body whole f e = e ∙ ap (λ z. body ++ map word_of (left (layout_of code h) z code.frame)) f
+    whole ≡ body ++ map word_of (left (layout_with code h) (frame_bytes (layout_with code h)) code.frame)
+left-whole code h frame body whole f e = e ∙ ap (λ z. body ++ map word_of (left (layout_with code h) z code.frame)) f
+
+-- what is given with the homes that the code asks for
+pub selected-by : (code : Tac) (h homes : List (Option Home)) (selected : Code) → h ≡ asked_homes code homes →
+    selected.words.items ≡ map word_of (function_code (layout_with code h) code (λ f. 0) 0) →
+    selected.calls.items ≡ function_calls (layout_with code h) code → selected.entry ≡ length (begun code) →
+    selected.frame ≡ frame_bytes (layout_with code h) → IsSelected code homes selected
+selected-by code h homes selected is words calls entry frame = record {
+  words = subst (λ z. selected.words.items ≡ map word_of (function_code (layout_with code z) code (λ f. 0) 0)) is words;
+  calls = subst (λ z. selected.calls.items ≡ function_calls (layout_with code z) code) is calls;
+  entry = entry;
+  frame = subst (λ z. selected.frame ≡ frame_bytes (layout_with code z)) is frame;
+}

@@ -29,7 +29,8 @@ use Rattle.rv_machine.specs.Word.{low}
 use Rattle.rv_machine.specs.Machine.{State, run_of}
 use Rattle.rv_operators.specs.Runs.{Stands}
 use Rattle.rv_select.specs.Pairs.{pair_of, plain_of, reads_of}
-use Rattle.rv_select.specs.Places.{Holds, Housed, Layout, World, area_offset, frame_bytes, home_of, layout_of, private_word}
+use Rattle.rv_select.specs.Asked.{asked_homes}
+use Rattle.rv_select.specs.Places.{HasHome, Holds, Housed, Layout, World, area_offset, frame_bytes, home_of, layout_of, private_word}
 use Rattle.rv_select.specs.Shapes.{place_number, start_of}
 use Rattle.rv_select.specs.Steps.{Ends, world_of}
 use Rattle.rv_select.specs.Calls.{block_starts, blocks_length, call_begun, call_ended, call_jump, head_code, instruction_code, last_address, starts_from}
@@ -37,6 +38,7 @@ use Rattle.rv_select.specs.Entering.{begun, entered, received, receiving, words_
 use Rattle.rv_select.specs.Frames.{BeforeEntering, Enters, IsPartRead, Received, part_value, seen, without_words}
 use Rattle.rv_select.specs.Waiting.{Arrives, HasRoom, Image, IsLinked, IsPlaced, StandsIn, Stepped, Waiting, Waits, entries_of, entry_of, held_in, place_in, plain_in, restored}
 use Rattle.rv_select.proofs.Amounts.{all-few, args-room, bytes-least, chain, deep-is, entry-facts, far, few-deep, frame-fits, goes, head-in, least, less-frame, link-facts, link-low, link-word, nearer, not-le, not-lt, shallow-is, shorter, some-steps, stack-less, stack-more, steps-few, still-below, top-is, word-high, word-near, word-of, words-under, zero-first}
+use Rattle.rv_select.proofs.Asking.{instruction-homes}
 use Rattle.rv_select.proofs.Arrivals.{InFunction, areas-lie, begin-holds, enters-call, has-words, link-after, room-next, same-after}
 use Rattle.rv_select.proofs.Callings.{Begun, JumpedTo, begins, jumps-to, too-deep}
 use Rattle.rv_select.proofs.Carries.{by-test, has-left, has-right, nothing-written, operand-read, place-small}
@@ -60,9 +62,10 @@ part-in (p ∷ ps) zero q t e h = let same : p ≡ q = cc in has-left (part_read
 part-in (p ∷ ps) (suc k) q t e h = has-right (part_reads p) (flat_map part_reads ps) t (part-in ps k q t e h)
 
 part-is-read : (code : Tac) (homes : List (Option Home)) (Used : ℕ → Type 0) (q : Part) → part_fits code q ≡ true →
-    ((t : ℕ) → has (part_reads q) t ≡ true → Used t) → IsPartRead (layout_of code homes) Used q
-part-is-read code homes Used (parts.Word a) fits f = operand-read code Used a fits f
-part-is-read code homes Used (parts.Area n) fits f = ltb-true n (length code.areas) fits
+    ((t : ℕ) → has (part_reads q) t ≡ true → Used t) → ((t : ℕ) → has (part_reads q) t ≡ true → HasHome (layout_of code homes) t) →
+    IsPartRead (layout_of code homes) Used q
+part-is-read code homes Used (parts.Word a) fits f g = operand-read code (layout_of code homes) Used a fits f g
+part-is-read code homes Used (parts.Area n) fits f g = ltb-true n (length code.areas) fits
 
 -- the first block begins behind the code that enters the function
 pub first-start : (y : Layout) (code : Tac) (at : ℕ) → 0 < length code.blocks →
@@ -97,10 +100,10 @@ made-waiting p image program most size linked s base m M x block to place f argu
   arguments = arguments;
   in_block = in-b;
   returns = link-is;
-  values = λ t u o. same-home (layout_of x.code (image s.here.function).homes) base (s.here.temps t) m M
+  values = λ t u o k. same-home (layout_of x.code (image s.here.function).homes) base (s.here.temps t) m M
       (home_of (layout_of x.code (image s.here.function).homes) t)
       ((housed x.code (image s.here.function).homes s.here.block s.here.at (linked s.here.function x.code x.function).right).homes t
-      (before t u o)) same (x.holds.values t (before t u o)) (x.holds.words t (before t u o));
+      (before t u o) k) same (x.holds.values t (before t u o) k) (x.holds.words t (before t u o));
   words = λ t u o. x.holds.words t (before t u o);
   areas = λ n l. same.private (base + area_offset (layout_of x.code (image s.here.function).homes) n) (length (s.here.areas n))
       (omega arith) ∙ x.holds.areas n l;
@@ -407,6 +410,8 @@ at-call p image program most size linked s base m x block to place f arguments i
         (both-true (destination_fits x.code to && place_fits place) (list_all (part_fits x.code) arguments) fits).1 e)
         (λ t h. inl (read-live (graph_of x.code) s.here.block s.here.at t (block_of block) (step_of (Call to place f arguments)) g.0 g.1
         (part-in arguments k q t e h)))
+        (λ t h. instruction-homes x.code (image s.here.function).homes s.here.block s.here.at block pl.right in-f (Call to place f arguments) in-b t
+        (part-in arguments k q t e h))
 
 -- a call that comes to a function: its frame has no room, or the machine stands where it begins
 callee-step : (p : Program) (image : Image) (program : List (Option Instr)) (most size : ℕ) → IsLinked p image program most →
@@ -512,7 +517,7 @@ callee-step p image program most size linked s base m x block to place f argumen
       region_is = x.holds.lawful.sized.2;
       private = subst (λ q. q ≤ 603979776) (sym (ap length jump.private ∙ b.long)) x.holds.frame.private;
       within = subst (λ q. base ≤ q) (sym (ap length jump.private ∙ b.long)) top-within;
-      least = bytes-least (length (image f).homes) (length callee.areas) (length callee.parameters);
+      least = bytes-least (length (asked_homes callee (image f).homes)) (length callee.areas) (length callee.parameters);
       room = room.0;
     }
 
@@ -578,12 +583,12 @@ callee-step p image program most size linked s base m x block to place f argumen
         let words = has-words (layout_of x.code (image s.here.function).homes) base s
         (base - (frame_bytes (layout_of callee (image f).homes))) (words_offset (layout_of callee (image f).homes)) base 0
         callee.parameters arguments en.after (sym count)
-        (top-is base (length (image f).homes) (length callee.areas) (length callee.parameters) room.0)
+        (top-is base (length (asked_homes callee (image f).homes)) (length callee.areas) (length callee.parameters) room.0)
         (λ k q g. passed-word en k q g (position k q g)) c.small
         (areas-lie (layout_of x.code (image s.here.function).homes) (InUse (graph_of x.code) s.here.block s.here.at) (world_of s) base
         (base - (frame_bytes (layout_of callee (image f).homes))) (words_offset (layout_of callee (image f).homes)) m en.after x.holds
         inside.above inside.long
-        (words-under base (length (image f).homes) (length callee.areas) (length callee.parameters) room.0))
+        (words-under base (length (asked_homes callee (image f).homes)) (length callee.areas) (length callee.parameters) room.0))
         (InUse (graph_of x.code) s.here.block s.here.at) c.reads in
         let rc = parameters-received callee (image f).homes program (values_of s arguments) (fresh_call f callee s) s.region
         (suc (length s.callers)) (base - (frame_bytes (layout_of callee (image f).homes))) en.after plz.fits plz.right accepts
@@ -638,7 +643,7 @@ callee-step p image program most size linked s base m x block to place f argumen
             private_word en.after (base - 8 * (0 + k + 1)) ≡ part_value (layout_of x.code (image s.here.function).homes) base (world_of s) q
         passed-word en k q g l =
             ap number_of (en.above (base - 8 * (0 + k + 1)) 8
-            (word-high base (length (image f).homes) (length callee.areas) (length callee.parameters) (length arguments) k room.0 count
+            (word-high base (length (asked_homes callee (image f).homes)) (length callee.areas) (length callee.parameters) (length arguments) k room.0 count
             l))
             ∙ (ap (λ z. number_of (take 8 (drop (base - 8 * (0 + k + 1)) z))) jump.private ∙
             (ap (λ n. private_word b.after (base - 8 * n)) (zero-first k) ∙ b.words k q g))
@@ -672,7 +677,7 @@ call-step p image program most size linked s base m x block to place f arguments
 
     room : (callee : Tac) → p.code f ≡ Some callee → length s.callers < 511 → 8 * length arguments ≤ base
     room callee e less =
-        args-room base (length (image f).homes) (length callee.areas) (length callee.parameters) (length arguments)
+        args-room base (length (asked_homes callee (image f).homes)) (length callee.areas) (length callee.parameters) (length arguments)
         (room-next most (length s.callers) base (frame_bytes (layout_of callee (image f).homes)) x.room less (linked f callee e).frame).0
         (count callee e)
 

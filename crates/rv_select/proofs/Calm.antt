@@ -87,7 +87,7 @@ calm-holds y Used w base m n p h c small = record {
     bytes = subst AreBytes (sym c.private) p.frame.bytes;
   };
   pc = small;
-  values = λ t u. calm-home y base m n (home_of y t) (h.homes t u) c ∙ p.values t u;
+  values = λ t u k. calm-home y base m n (home_of y t) (h.homes t u k) c ∙ p.values t u k;
   words = p.words;
   areas = λ k l. ap (λ z. take (length (w.areas k)) (drop (base + area_offset y k) z)) c.private ∙ p.areas k l;
   short = p.short;

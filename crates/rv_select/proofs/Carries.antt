@@ -31,11 +31,13 @@ use Rattle.tac_form.specs.Graph.{block_of, graph_of, instruction_reads, instruct
 use Rattle.tac_form.specs.Live.{InUse, has, is_written}
 use Rattle.tac_form.specs.Fits.{are_apart, area_fits, area_there, instruction_fits, operand_fits, place_fits, spot_fits}
 use Rattle.tac_form.specs.Weights.{most_moved, words_of}
-use Rattle.rv_select.specs.Places.{IsHeld, IsRead, Layout, World, layout_of, value_in}
+use Rattle.rv_select.specs.Asked.{address_asks, both_ask, first_asks, is_held}
+use Rattle.rv_select.specs.Places.{HasHome, IsFirst, IsHeld, IsRead, Layout, World, layout_of, value_in}
 use Rattle.rv_operators.specs.Runs.{Stands}
 use Rattle.rv_select.specs.Shapes.{bytes_moved, held_after, loaded, range_written, shape_of, some_moved, stored}
 use Rattle.rv_select.specs.Steps.{AreFewer, Carried, Comes, Ends, Follows, IsPlace, InstructionsAreCarried, StandsBefore, behind, with_temp, world_of}
 use Rattle.rv_select.proofs.Claims.{Gives, IsReached, address_in, with_region}
+pub use Rattle.rv_select.proofs.Granted.{has-left, has-right}
 use Rattle.rv_select.proofs.Lives.{housed, read-live, step-in-graph, use-follows, write-used}
 use Rattle.rv_select.proofs.Moves.{copies, operators}
 use Rattle.rv_select.proofs.Divisors.{addresses, divisors}
@@ -89,21 +91,30 @@ written-next p code homes held i s program base m d x e =
     write-used (graph_of code) s.here.block s.here.at d (block_of x.block) (step_of i) g.0 g.1 (ap (λ o. is_written o d) e ∙ eq-eqb d d refl)
 
 -- operands
-pub has-left : (xs ys : List ℕ) (t : ℕ) → has xs t ≡ true → has (xs ++ ys) t ≡ true
-has-left [] ys t h = cc
-has-left (x ∷ xs) ys t h = ⊎_elim (λ e. ap (λ b. b || has (xs ++ ys) t) e) (λ e. ap (λ b. b || has (xs ++ ys) t) e ∙ has-left xs ys t (sym (ap (λ b. b || has xs t) e) ∙ h)) (cases_Bool (nat_eq x t))
+pub operand-read : (code : Tac) (y : Layout) (Used : ℕ → Type 0) (a : Operand) → operand_fits code a ≡ true → ((t : ℕ) → has (operand_reads a) t ≡ true → Used t) →
+    ((t : ℕ) → has (operand_reads a) t ≡ true → HasHome y t) → IsRead y Used a
+operand-read code y Used (Temp t) fits f g =
+    let here : has (t ∷ []) t ≡ true = ap (λ b. b || false) (eq-eqb t t refl) in (f t here, g t here)
+operand-read code y Used (Constant c) fits f g = ltb-true c (2 ^ 64) fits
 
-or-second : (a b : Bool) → b ≡ true → (a || b) ≡ true
-or-second true b q = refl
-or-second false b q = q
+-- an operand that x5 takes
+pub first-read : (code : Tac) (y : Layout) (held : Option ℕ) (Used : ℕ → Type 0) (a : Operand) → operand_fits code a ≡ true →
+    ((t : ℕ) → has (operand_reads a) t ≡ true → Used t) → ((t : ℕ) → has (first_asks held a) t ≡ true → HasHome y t) → IsFirst y held Used a
+first-read code y held Used (Temp t) fits f g =
+    (f t here, ⊎_elim (λ e. inl e) (λ e. inr (g t (ap (λ b. has (if b then [] else t ∷ []) t) e ∙ here))) (cases_Bool (is_held held t)))
+  where
+    here : has (t ∷ []) t ≡ true
+    here = ap (λ b. b || false) (eq-eqb t t refl)
+first-read code y held Used (Constant c) fits f g = ltb-true c (2 ^ 64) fits
 
-pub has-right : (xs ys : List ℕ) (t : ℕ) → has ys t ≡ true → has (xs ++ ys) t ≡ true
-has-right [] ys t h = h
-has-right (x ∷ xs) ys t h = or-second (nat_eq x t) (has (xs ++ ys) t) (has-right xs ys t h)
-
-pub operand-read : (code : Tac) (Used : ℕ → Type 0) (a : Operand) → operand_fits code a ≡ true → ((t : ℕ) → has (operand_reads a) t ≡ true → Used t) → IsRead Used a
-operand-read code Used (Temp t) fits f = f t (ap (λ b. b || false) (eq-eqb t t refl))
-operand-read code Used (Constant c) fits f = ltb-true c (2 ^ 64) fits
+-- two operands, of which x5 takes the first
+both-read : (code : Tac) (y : Layout) (held : Option ℕ) (Used : ℕ → Type 0) (a b : Operand) → operand_fits code a ≡ true → operand_fits code b ≡ true →
+    ((t : ℕ) → has (operand_reads a) t ≡ true → Used t) → ((t : ℕ) → has (operand_reads b) t ≡ true → Used t) →
+    ((t : ℕ) → has (both_ask held a b) t ≡ true → HasHome y t) → IsFirst y held Used a × IsRead y Used b
+both-read code y held Used a b fit-a fit-b read-a read-b asked = (
+  first-read code y held Used a fit-a read-a (λ t u. asked t (has-left (first_asks held a) (operand_reads b) t u)),
+  operand-read code y Used b fit-b read-b (λ t u. asked t (has-right (first_asks held a) (operand_reads b) t u)),
+)
 
 pub place-small : (at : Place) → place_fits at ≡ true → IsPlace at
 place-small at h =
@@ -131,8 +142,10 @@ carry-copy p code homes held d a s program base m x =
     let e3 = x.in_block in
     rw (e1, e2, e3) (given s.out (copies (layout_of code homes) held d a (used code s) (next code s) (world_of s) base program m x.stands x.five x.holds
     (housed code homes s.here.block s.here.at x.right) (housed code homes s.here.block (suc s.here.at) x.right)
-    (operand-read code (used code s) a fit.1 (reads p code homes held (Copy d a) s program base m x))
-    (written-next p code homes held (Copy d a) s program base m d x refl) (follows p code homes held (Copy d a) s program base m d x refl)))
+    (first-read code (layout_of code homes) held (used code s) a fit.1 (reads p code homes held (Copy d a) s program base m x)
+    (λ t u. x.asked t (has-right (d ∷ []) (first_asks held a) t u)))
+    (written-next p code homes held (Copy d a) s program base m d x refl) (x.asked d (ap (λ b. b || has (first_asks held a) d) (eq-eqb d d refl)))
+    (follows p code homes held (Copy d a) s program base m d x refl)))
 
 -- by a test, and by whether there is something
 pub by-test : {A : Type 0} (P : A → Type 0) (c : Bool) (x y : A) → (c ≡ true → P x) → (c ≡ false → P y) → P (if c then x else y)
@@ -153,6 +166,10 @@ carry-compute p code homes held d op form a b s program base m x =
     let fit = both-true (nat_lt d code.temps && operand_fits code a) (operand_fits code b) x.fits in
     let fit-a = both-true (nat_lt d code.temps) (operand_fits code a) fit.0 in
     let i : Instruction = Compute d op form a b in
+    let read-a : (t : ℕ) → has (operand_reads a) t ≡ true → used code s t =
+    λ t u. reads p code homes held i s program base m x t (has-left (operand_reads a) (operand_reads b) t u) in
+    let read-b : (t : ℕ) → has (operand_reads b) t ≡ true → used code s t =
+    λ t u. reads p code homes held i s program base m x t (has-right (operand_reads a) (operand_reads b) t u) in
     let e1 = x.function in
     let e2 = x.in_function in
     let e3 = x.in_block in
@@ -163,8 +180,10 @@ carry-compute p code homes held d op form a b s program base m x =
     (λ h. (given s.out (operators (layout_of code homes) held d op form a b (used code s) (next code s) (world_of s) base program m x.stands x.five
     (no-zero (divides op) (nat_eq (value_in s.here.temps b) 0) (value_in s.here.temps b) h refl) x.holds
     (housed code homes s.here.block s.here.at x.right) (housed code homes s.here.block (suc s.here.at) x.right)
-    (operand-read code (used code s) a fit-a.1 (λ t u. reads p code homes held i s program base m x t (has-left (operand_reads a) (operand_reads b) t u)))
-    (operand-read code (used code s) b fit.1 (λ t u. reads p code homes held i s program base m x t (has-right (operand_reads a) (operand_reads b) t u)))
+    (λ plain. both-read code (layout_of code homes) held (used code s) a b fit-a.1 fit.1 read-a read-b
+    (λ t u. x.asked t (ap (λ c. has (if c then both_ask held b a else both_ask held a b) t) plain ∙ u)))
+    (λ turn. both-read code (layout_of code homes) held (used code s) b a fit.1 fit-a.1 read-b read-a
+    (λ t u. x.asked t (ap (λ c. has (if c then both_ask held b a else both_ask held a b) t) turn ∙ u)))
     (written-next p code homes held i s program base m d x refl) (follows p code homes held i s program base m d x refl)))))
 
 carry-test : (p : Program) (code : Tac) (homes : List (Option Home)) (held : Option ℕ) (at : Place) (a : Operand) (s : tac.State) (program : List (Option Instr)) (base : ℕ) (m : State) →
@@ -178,7 +197,7 @@ carry-test p code homes held at a s program base m x =
     let e3 = x.in_block in
     let both =
     divisors (layout_of code homes) held at a (used code s) (next code s) (world_of s) base program m x.stands x.five (place-small at fit.0) x.holds
-    (housed code homes s.here.block s.here.at x.right) (operand-read code (used code s) a fit.1 (reads p code homes held i s program base m x))
+    (housed code homes s.here.block s.here.at x.right) (first-read code (layout_of code homes) held (used code s) a fit.1 (reads p code homes held i s program base m x) x.asked)
     (fewer p code homes held i s program base m x refl) in
     rw (e1, e2, e3)
     (by-test
@@ -203,10 +222,11 @@ carry-locate p code homes held d offset s program base m x =
     (written-next p code homes held i s program base m d x refl) (follows p code homes held i s program base m d x refl)))
 
 -- an address in the region
-address-reached : (code : Tac) (Used : ℕ → Type 0) (s : tac.State) (at : Place) (size : ℕ) (a : Address) → spot_fits code size (spots.Region at a) ≡ true →
-    s.here.base + code.frame ≤ end_address s.region → ((t : ℕ) → has (address_reads a) t ≡ true → Used t) → IsReached Used (world_of s) size a
-address-reached code Used s at size (Word a) h frame f = operand-read code Used a (both-true (place_fits at) (operand_fits code a) h).1 f
-address-reached code Used s at size (Frame offset) h frame f =
+address-reached : (code : Tac) (y : Layout) (held : Option ℕ) (Used : ℕ → Type 0) (s : tac.State) (at : Place) (size : ℕ) (a : Address) → spot_fits code size (spots.Region at a) ≡ true →
+    s.here.base + code.frame ≤ end_address s.region → ((t : ℕ) → has (address_reads a) t ≡ true → Used t) →
+    ((t : ℕ) → has (address_asks held a) t ≡ true → HasHome y t) → IsReached y held Used (world_of s) size a
+address-reached code y held Used s at size (Word a) h frame f g = first-read code y held Used a (both-true (place_fits at) (operand_fits code a) h).1 f g
+address-reached code y held Used s at size (Frame offset) h frame f g =
     let within : offset + size ≤ code.frame = leb-true (offset + size) code.frame (both-true (place_fits at) (nat_le (offset + size) code.frame) h).1 in
     omega arith
 
@@ -223,7 +243,7 @@ carry-load p code homes held d form at a s program base m x =
     let i : Instruction = Load d form (spots.Region at a) in
     let both =
     region-loads (layout_of code homes) held d form at a (used code s) (next code s) (world_of s) base program m x.stands x.five (spot-place code at (bytes_of form.size) a fit.1)
-    (address-reached code (used code s) s at (bytes_of form.size) a fit.1 x.frame (reads p code homes held i s program base m x)) x.holds
+    (address-reached code (layout_of code homes) held (used code s) s at (bytes_of form.size) a fit.1 x.frame (reads p code homes held i s program base m x) x.asked) x.holds
     (housed code homes s.here.block s.here.at x.right) (housed code homes s.here.block (suc s.here.at) x.right)
     (written-next p code homes held i s program base m d x refl) (follows p code homes held i s program base m d x refl) in
     load-step p code homes held d form at a s program base m x both (some-or-none (range_of s.region (address_in (world_of s) a) (bytes_of form.size)))
@@ -261,8 +281,11 @@ carry-store p code homes held size at a b s program base m x =
     let i : Instruction = Store (spots.Region at a) size b in
     let both =
     region-stores (layout_of code homes) held size at a b (used code s) (next code s) (world_of s) base program m x.stands x.five (spot-place code at (bytes_of size) a fit.0)
-    (address-reached code (used code s) s at (bytes_of size) a fit.0 x.frame (λ t u. reads p code homes held i s program base m x t (has-left (address_reads a) (operand_reads b) t u)))
-    (operand-read code (used code s) b fit.1 (λ t u. reads p code homes held i s program base m x t (has-right (address_reads a) (operand_reads b) t u))) x.holds
+    (address-reached code (layout_of code homes) held (used code s) s at (bytes_of size) a fit.0 x.frame
+    (λ t u. reads p code homes held i s program base m x t (has-left (address_reads a) (operand_reads b) t u))
+    (λ t u. x.asked t (has-left (address_asks held a) (operand_reads b) t u)))
+    (operand-read code (layout_of code homes) (used code s) b fit.1 (λ t u. reads p code homes held i s program base m x t (has-right (address_reads a) (operand_reads b) t u))
+    (λ t u. x.asked t (has-right (address_asks held a) (operand_reads b) t u))) x.holds
     (housed code homes s.here.block s.here.at x.right) (fewer p code homes held i s program base m x refl) in
     store-step p code homes held size at a b s program base m x both
     (some-or-none (put_bytes s.region (address_in (world_of s) a) (low_bytes (bytes_of size) (value_in s.here.temps b))))
@@ -342,7 +365,7 @@ carry-area-store p code homes held size n offset b s program base m x =
       nothing-written s.out,
       area-stores (layout_of code homes) held size n offset b (used code s) (next code s) (world_of s) base program m x.stands spot.0
           (leb-true offset (length (s.here.areas n)) h) spot.1
-          (operand-read code (used code s) b fit.1 (reads p code homes held i s program base m x)) x.holds
+          (operand-read code (layout_of code homes) (used code s) b fit.1 (reads p code homes held i s program base m x) x.asked) x.holds
           (housed code homes s.here.block s.here.at x.right) (fewer p code homes held i s program base m x refl),
       tt,
     ))
@@ -377,7 +400,7 @@ carry-byte p code homes held a s program base m x =
       value_in s.here.temps a % 256 ∷ [],
       refl,
       byte-puts (layout_of code homes) held a (used code s) (next code s) (world_of s) base program m x.stands x.five x.holds (housed code homes s.here.block s.here.at x.right)
-          (operand-read code (used code s) a x.fits (reads p code homes held i s program base m x)) (fewer p code homes held i s program base m x refl),
+          (first-read code (layout_of code homes) held (used code s) a x.fits (reads p code homes held i s program base m x) x.asked) (fewer p code homes held i s program base m x refl),
       tt,
     )
 
@@ -392,7 +415,7 @@ carry-alloc p code homes held d a s program base m x =
     let e3 = x.in_block in
     rw (e1, e2, e3) (given s.out (allocs (layout_of code homes) held d a (used code s) (next code s) (world_of s) base program m x.stands x.five x.holds
     (housed code homes s.here.block s.here.at x.right) (housed code homes s.here.block (suc s.here.at) x.right)
-    (operand-read code (used code s) a fit.1 (reads p code homes held i s program base m x))
+    (first-read code (layout_of code homes) held (used code s) a fit.1 (reads p code homes held i s program base m x) x.asked)
     (written-next p code homes held i s program base m d x refl) (follows p code homes held i s program base m d x refl)))
 
 -- a range that is written, by where it lies
@@ -410,8 +433,12 @@ module _ (p : Program) (code : Tac) (homes : List (Option Home)) (held : Option 
       let fit-a = both-true (place_fits at) (operand_fits code a) fit.0 in
       let i : Instruction = Write at a b in
       ranges (layout_of code homes) at a b (used code s) (next code s) (world_of s) base program m x.stands (place-small at fit-a.0)
-      (operand-read code (used code s) a fit-a.1 (λ t u. reads p code homes held i s program base m x t (has-left (operand_reads a) (operand_reads b) t u)))
-      (operand-read code (used code s) b fit.1 (λ t u. reads p code homes held i s program base m x t (has-right (operand_reads a) (operand_reads b) t u)))
+      (operand-read code (layout_of code homes) (used code s) a fit-a.1
+      (λ t u. reads p code homes held i s program base m x t (has-left (operand_reads a) (operand_reads b) t u))
+      (λ t u. x.asked t (has-left (operand_reads a) (operand_reads b) t u)))
+      (operand-read code (layout_of code homes) (used code s) b fit.1
+      (λ t u. reads p code homes held i s program base m x t (has-right (operand_reads a) (operand_reads b) t u))
+      (λ t u. x.asked t (has-right (operand_reads a) (operand_reads b) t u)))
       x.holds (housed code homes s.here.block s.here.at x.right) (fewer p code homes held i s program base m x refl)
 
   write-goes : (bs : List ℕ) → range_of s.region va vb ≡ Some bs → Comes (layout_of code homes) program (next code s) (world_of s) base (words_of (Write at a b)) (behind m (range_written (layout_of code homes) at a b)) bs m
@@ -621,7 +648,7 @@ carry-region-move p code homes held n offset at a (suc size) s program base m x 
     let e3 = x.in_block in
     let both =
     region-moves (layout_of code homes) held n offset at a (suc size) (used code s) (next code s) (world_of s) base program m (subst (λ c. Stands program m.pc c) is x.stands) x.five (spot-place code at (suc size) a fit.0.1)
-    (address-reached code (used code s) s at (suc size) a fit.0.1 x.frame (reads p code homes held i s program base m x)) (omega arith) to.0 to.1 x.holds
+    (address-reached code (layout_of code homes) held (used code s) s at (suc size) a fit.0.1 x.frame (reads p code homes held i s program base m x) x.asked) (omega arith) to.0 to.1 x.holds
     (housed code homes s.here.block s.here.at x.right) (fewer p code homes held i s program base m x refl) in
     let there = address-same s a in
     subst (λ c. Carried (layout_of code homes) (graph_of code) program base (words_of (Move (spots.Area n offset) (spots.Region at a) (suc size))) None c s m (step p s)) (sym is)
@@ -687,7 +714,8 @@ carry-move-out p code homes held at a n offset (suc size) s program base m x =
     (λ h.
     let both =
     stores-moved (layout_of code homes) held at a n offset (suc size) (used code s) (next code s) (world_of s) base program m (subst (λ c. Stands program m.pc c) is x.stands) x.five (spot-place code at (suc size) a fit.0.0)
-    (address-reached code (used code s) s at (suc size) a fit.0.0 x.frame (λ t u. reads p code homes held i s program base m x t (has-left (address_reads a) [] t u))) (omega arith) from.0
+    (address-reached code (layout_of code homes) held (used code s) s at (suc size) a fit.0.0 x.frame
+    (λ t u. reads p code homes held i s program base m x t (has-left (address_reads a) [] t u)) (λ t u. x.asked t (has-left (address_asks held a) [] t u))) (omega arith) from.0
     (leb-true (offset + suc size) (length (s.here.areas n)) h) x.holds (housed code homes s.here.block s.here.at x.right) (fewer p code homes held i s program base m x refl) in
     by-written at s (put_bytes s.region (tac.address s a) (part (s.here.areas n) offset (suc size)))
     (λ moved. Carried (layout_of code homes) (graph_of code) program base (words_of (Move (spots.Region at a) (spots.Area n offset) (suc size)))

@@ -1,5 +1,5 @@
 -- What the code of each instruction does, whatever is in use before and after it.
-use Rattle.std.proofs.Common.{◌≡◌, ◌≢◌, ℕ, ◌+◌, ◌^◌, ◌<◌, ◌≤◌, true, List, [], ◌++◌, Option, Some, None}
+use Rattle.std.proofs.Common.{◌≡◌, ◌≢◌, ℕ, ◌+◌, ◌^◌, ◌<◌, ◌≤◌, false, true, List, [], ◌++◌, Option, Some, None}
 use Rattle.tl_base.specs.declared.place.Place.{Place}
 use Rattle.rv_isa.specs.declared.instr.Instr.{Instr}
 use Rattle.rv_machine.specs.Machine.{State}
@@ -19,8 +19,8 @@ use Rattle.tac_form.specs.declared.tac.Instruction.TheVariants.{Compute, Copy, L
 use Rattle.tac_form.specs.Flow.{bytes_of, put, width_of}
 use Rattle.tac_form.specs.Weights.{words_of}
 use Rattle.rv_operators.specs.Runs.{Stands}
-use Rattle.rv_select.specs.Places.{IsHeld, Layout, World, Holds, Housed, IsRead, home_of, value_in}
-use Rattle.rv_select.specs.Shapes.{copied, computed, divisor_tested, loaded, located, put_to, stored}
+use Rattle.rv_select.specs.Places.{HasHome, IsFirst, IsHeld, Layout, World, Holds, Housed, IsRead, value_in}
+use Rattle.rv_select.specs.Shapes.{copied, computed, divisor_tested, is_turned, loaded, located, put_at, stored}
 use Rattle.rv_select.specs.Steps.{AreFewer, Comes, Ends, Follows, IsPlace, behind, with_temp}
 
 -- The machine comes somewhere with the word of a temporary in x5.
@@ -33,7 +33,7 @@ abbrev pub CopiesAreCarried : Type 1
 CopiesAreCarried =
     (y : Layout) (held : Option ℕ) (d : ℕ) (a : Operand) (Used Next : ℕ → Type 0) (w : World) (base : ℕ) (program : List (Option Instr)) (m : State) →
     Stands program m.pc (copied y held d a) → IsHeld held w.temps m → Holds y Used w base m → Housed y Used → Housed y Next →
-    IsRead Used a → Next d → Follows Used Next d →
+    IsFirst y held Used a → Next d → HasHome y d → Follows Used Next d →
     Gives y program Next (with_temp w d (value_in w.temps a)) base (words_of (Copy d a)) (behind m (copied y held d a)) d m
 
 -- an operator on numbers, whose divisor isn't zero
@@ -42,7 +42,9 @@ OperatorsAreCarried =
     (y : Layout) (held : Option ℕ) (d : ℕ) (op : BinaryOperator) (form : Number) (a b : Operand) (Used Next : ℕ → Type 0) (w : World) (base : ℕ)
     (program : List (Option Instr)) (m : State) →
     Stands program m.pc (computed y held d op (width_of form) a b) → IsHeld held w.temps m → (divides op ≡ true → value_in w.temps b ≢ 0) →
-    Holds y Used w base m → Housed y Used → Housed y Next → IsRead Used a → IsRead Used b → Next d → Follows Used Next d →
+    Holds y Used w base m → Housed y Used → Housed y Next →
+    (is_turned held op b ≡ false → IsFirst y held Used a × IsRead y Used b) →
+    (is_turned held op b ≡ true → IsFirst y held Used b × IsRead y Used a) → Next d → Follows Used Next d →
     Gives y program Next (with_temp w d (applied (width_of form) op (value_in w.temps a) (value_in w.temps b))) base
     (words_of (Compute d op form a b)) (behind m (computed y held d op (width_of form) a b)) d m
 
@@ -50,7 +52,7 @@ OperatorsAreCarried =
 abbrev pub DivisorsAreTested : Type 1
 DivisorsAreTested =
     (y : Layout) (held : Option ℕ) (at : Place) (a : Operand) (Used Next : ℕ → Type 0) (w : World) (base : ℕ) (program : List (Option Instr)) (m : State) →
-    Stands program m.pc (divisor_tested y held at a) → IsHeld held w.temps m → IsPlace at → Holds y Used w base m → Housed y Used → IsRead Used a → AreFewer Used Next →
+    Stands program m.pc (divisor_tested y held at a) → IsHeld held w.temps m → IsPlace at → Holds y Used w base m → Housed y Used → IsFirst y held Used a → AreFewer Used Next →
     (value_in w.temps a ≢ 0 → Comes y program Next w base (words_of (TestDivisor at a)) (behind m (divisor_tested y held at a)) [] m)
     × (value_in w.temps a ≡ 0 → Ends program DivZero at (words_of (TestDivisor at a)) m)
 
@@ -58,18 +60,18 @@ DivisorsAreTested =
 abbrev pub AddressesAreCarried : Type 1
 AddressesAreCarried =
     (y : Layout) (d offset : ℕ) (Used Next : ℕ → Type 0) (w : World) (base : ℕ) (program : List (Option Instr)) (m : State) →
-    Stands program m.pc (located offset ++ put_to (home_of y d)) → w.placed + offset < 2 ^ 64 →
+    Stands program m.pc (located offset ++ put_at y d) → w.placed + offset < 2 ^ 64 →
     Holds y Used w base m → Housed y Used → Housed y Next → Next d → Follows Used Next d →
-    Gives y program Next (with_temp w d (w.placed + offset)) base (words_of (Locate d offset)) (behind m (located offset ++ put_to (home_of y d))) d m
+    Gives y program Next (with_temp w d (w.placed + offset)) base (words_of (Locate d offset)) (behind m (located offset ++ put_at y d)) d m
 
 -- an address, and what has to be there where it is reached without a test
 abbrev pub address_in : World → Address → ℕ
 address_in w (Word a) = value_in w.temps a
 address_in w (Frame offset) = w.placed + offset
 
-abbrev pub IsReached : (ℕ → Type 0) → World → (size : ℕ) → Address → Type 0
-IsReached Used w size (Word a) = IsRead Used a
-IsReached Used w size (Frame offset) = w.placed + offset + size ≤ end_address w.region
+abbrev pub IsReached : Layout → (held : Option ℕ) → (ℕ → Type 0) → World → (size : ℕ) → Address → Type 0
+IsReached y held Used w size (Word a) = IsFirst y held Used a
+IsReached y held Used w size (Frame offset) = w.placed + offset + size ≤ end_address w.region
 
 -- what three-address code sees with another region
 abbrev pub with_region : World → Contents → World
@@ -79,7 +81,7 @@ with_region w r = record w { region = r }
 abbrev pub RegionLoadsAreCarried : Type 1
 RegionLoadsAreCarried =
     (y : Layout) (held : Option ℕ) (d : ℕ) (form : Number) (at : Place) (a : Address) (Used Next : ℕ → Type 0) (w : World) (base : ℕ) (program : List (Option Instr)) (m : State) →
-    Stands program m.pc (loaded y held d form (spots.Region at a)) → IsHeld held w.temps m → IsPlace at → IsReached Used w (bytes_of form.size) a →
+    Stands program m.pc (loaded y held d form (spots.Region at a)) → IsHeld held w.temps m → IsPlace at → IsReached y held Used w (bytes_of form.size) a →
     Holds y Used w base m → Housed y Used → Housed y Next → Next d → Follows Used Next d →
     ((bs : List ℕ) → range_of w.region (address_in w a) (bytes_of form.size) ≡ Some bs →
     Gives y program Next (with_temp w d (wrapped (width_of form) (number_of bs))) base (words_of (Load d form (spots.Region at a)))
@@ -90,7 +92,7 @@ RegionLoadsAreCarried =
 abbrev pub RegionStoresAreCarried : Type 1
 RegionStoresAreCarried =
     (y : Layout) (held : Option ℕ) (size : Size) (at : Place) (a : Address) (b : Operand) (Used Next : ℕ → Type 0) (w : World) (base : ℕ) (program : List (Option Instr)) (m : State) →
-    Stands program m.pc (stored y held (spots.Region at a) size b) → IsHeld held w.temps m → IsPlace at → IsReached Used w (bytes_of size) a → IsRead Used b →
+    Stands program m.pc (stored y held (spots.Region at a) size b) → IsHeld held w.temps m → IsPlace at → IsReached y held Used w (bytes_of size) a → IsRead y Used b →
     Holds y Used w base m → Housed y Used → AreFewer Used Next →
     ((r : Contents) → put_bytes w.region (address_in w a) (low_bytes (bytes_of size) (value_in w.temps b)) ≡ Some r →
     Comes y program Next (with_region w r) base (words_of (Store (spots.Region at a) size b)) (behind m (stored y held (spots.Region at a) size b)) [] m)

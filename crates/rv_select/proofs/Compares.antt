@@ -31,7 +31,8 @@ use Rattle.tac_form.specs.Weights as weights
 use Rattle.tac_form.specs.Weights.{exit_words, words_of}
 use Rattle.rv_operators.specs.Codes.{is_comparison, x6}
 use Rattle.rv_operators.proofs.Values.{signed-less}
-use Rattle.rv_select.specs.Places.{Holds, Housed, IsRead, Layout, World, layout_of, value_in}
+use Rattle.rv_select.specs.Asked.{first_asks}
+use Rattle.rv_select.specs.Places.{Holds, Housed, IsFirst, IsRead, Layout, World, layout_of, value_in}
 use Rattle.rv_select.specs.declared.settings.Follows.{Follows}
 use Rattle.rv_select.specs.declared.settings.Follows.TheVariants.{First, Second}
 use Rattle.rv_select.specs.Settings.{follower}
@@ -40,11 +41,11 @@ use Rattle.rv_select.specs.Compared.{ComparesAreCarried, ComparesKeepWithin, Sta
 use Rattle.rv_select.specs.Steps.{AreFewer, Comes, Left, with_temp, world_of}
 use Rattle.rv_select.proofs.Straight.{Loads, Scratch, loads-five, loads-six, scratch-both}
 use Rattle.rv_select.proofs.Homes.{first-count, first-few, operand-count, take-first, take-operand, taken-count}
-use Rattle.rv_select.proofs.Moves.{scratch-holds, value-small}
+use Rattle.rv_select.proofs.Moves.{first-small, scratch-holds, value-small}
 use Rattle.rv_select.proofs.Numbers.{pushed_words}
 use Rattle.rv_select.proofs.Areas.{put-other}
 use Rattle.rv_select.proofs.Lives.{housed, read-live, step-in-graph, use-follows}
-use Rattle.rv_select.proofs.Carries.{both-true, by-test, has-left, has-right, operand-read}
+use Rattle.rv_select.proofs.Carries.{both-true, by-test, first-read, has-left, has-right, operand-read}
 use Rattle.rv_select.proofs.Leaves.{chosen-comes, edge-near, edge-reach, exit-in-graph, next-live, or-left, or-second, zero-or-more}
 use Rattle.rv_select.proofs.Branched.{follower-first, follower-second}
 use Rattle.rv_select.proofs.Jumps.{chosen-count, chosen-few, chosen_words}
@@ -94,7 +95,7 @@ unread-holds : (y : Layout) (Used : ℕ → Type 0) (w : World) (base d v : ℕ)
 unread-holds y Used w base d v m p = record {
   frame = p.frame;
   pc = p.pc;
-  values = λ t u. p.values t u.0 ∙ sym (put-other w.temps d t v u.1);
+  values = λ t u k. p.values t u.0 k ∙ sym (put-other w.temps d t v u.1);
   words = λ t u. subst (λ x. x < 2 ^ 64) (sym (put-other w.temps d t v u.1)) (p.words t u.0);
   areas = p.areas;
   short = p.short;
@@ -163,11 +164,15 @@ module _ (p : Program) (code : Tac) (homes : List (Option Home)) (held : Option 
   fits-both : ((nat_lt d code.temps && operand_fits code a) ≡ true) × (operand_fits code b ≡ true)
   fits-both = both-true (nat_lt d code.temps && operand_fits code a) (operand_fits code b) x.fits
 
-  read-a : IsRead used a
-  read-a = operand-read code used a (both-true (nat_lt d code.temps) (operand_fits code a) fits-both.0).1 (λ t u. reads-here t (has-left (operand_reads a) (operand_reads b) t u))
+  read-a : IsFirst y held used a
+  read-a =
+      first-read code y held used a (both-true (nat_lt d code.temps) (operand_fits code a) fits-both.0).1
+      (λ t u. reads-here t (has-left (operand_reads a) (operand_reads b) t u)) (λ t u. x.asked t (has-left (first_asks held a) (operand_reads b) t u))
 
-  read-b : IsRead used b
-  read-b = operand-read code used b fits-both.1 (λ t u. reads-here t (has-right (operand_reads a) (operand_reads b) t u))
+  read-b : IsRead y used b
+  read-b =
+      operand-read code y used b fits-both.1 (λ t u. reads-here t (has-right (operand_reads a) (operand_reads b) t u))
+      (λ t u. x.asked t (has-right (first_asks held a) (operand_reads b) t u))
 
   fit-e : edge_fits code e ≡ true
   fit-e = (both-true (operand_fits code (Temp d)) (edge_fits code e) (both-true (operand_fits code (Temp d) && edge_fits code e) (edge_fits code f) x.there).0).1
@@ -194,11 +199,11 @@ module _ (p : Program) (code : Tac) (homes : List (Option Home)) (held : Option 
       λ g. x.next_there f.block (follower-second x.setting.next e.block f.block g) in
       chosen-comes y (without used d) (InUse (graph_of code) c 0) (world_of after_it) base (starts e.block) (starts f.block) (starts c) weight x.setting.near x.setting.short o
       (condition_of form.signed op) (left_of op) (right_of op) taken_it A program m k.after
-      both (unread-holds y used (world_of s) base d result m x.holds) (record { homes = λ t u. all-housed.homes t u.0; apart = λ t u i j g. all-housed.apart t u i.0 j.0 g }) (next-here c unread h)
+      both (unread-holds y used (world_of s) base d result m x.holds) (record { homes = λ t u k. all-housed.homes t u.0 k; apart = λ t u i j k o g. all-housed.apart t u i.0 j.0 k o g }) (next-here c unread h)
       (omega (arith, count)) few x.near (x.blocks e.block) (x.blocks f.block) (edge-reach code starts m.pc x.setting.short e x.short_is x.reach fit-e)
       (edge-reach code starts m.pc x.setting.short f x.short_is x.reach fit-f) (edge-near code starts m.pc x.setting.near e x.near_is x.reach fit-e)
       (edge-near code starts m.pc x.setting.near f x.near_is x.reach fit-f) first-next second-next x.stands
-      (compare-is (width_of form) op va vb x.compares (value-small used y (world_of s) base m a x.holds read-a) (value-small used y (world_of s) base m b x.holds read-b) k.after five k.gives ∙ is)
+      (compare-is (width_of form) op va vb x.compares (first-small held used y (world_of s) base m a x.holds read-a) (value-small used y (world_of s) base m b x.holds read-b) k.after five k.gives ∙ is)
       (chosen-start taken_it c block)
     where
       chosen-start : (t : Bool) (c : ℕ) → (if t then e.block else f.block) ≡ c → (if t then starts e.block else starts f.block) ≡ starts c

@@ -27,6 +27,7 @@ use Rattle.rv_select.specs.Compared.{StandsAtCompare, compared_shape}
 use Rattle.rv_select.specs.Calls.{block_starts, pair_code}
 use Rattle.rv_select.specs.Waiting.{Image, IsLinked, IsPlaced, StandsIn, Stepped, held_in, place_in, plain_in}
 use Rattle.rv_select.specs.Whole.{AreShort, steps_left}
+use Rattle.rv_select.proofs.Asking.{pair-homes}
 use Rattle.rv_select.proofs.Carries.{by-test}
 use Rattle.rv_select.proofs.Compares.{carry-leave}
 use Rattle.rv_select.proofs.Falls.{FallsIf, falls-exit, falls-inner}
@@ -160,6 +161,7 @@ pair-steps p image program most size linked s base m x block pair in-f in-p is k
       first_unread = unread pair.first.block;
       second_unread = unread pair.second.block;
       right = pl.right;
+      asked = pair-homes x.code (image s.here.function).homes s.here.block s.here.at block pl.right in-f k.result pair in-p is both.here;
       near = subst (λ q. q + 256 ≤ 2 ^ 30) (sym x.pc) found.near;
       blocks = starts-small p image program most x.code s.here.function pl;
       there = subst (λ z. exit_fits x.code z ≡ true) k.exit_is

@@ -1,5 +1,5 @@
 -- Tests of divisors, and addresses of the frame in the region.
-use Rattle.std.proofs.Common.{◌≡◌, ◌≢◌, ℕ, suc, ◌+◌, ◌*◌, ◌^◌, ◌<◌, ◌≤◌, Bool, true, false, not, List, [], ◌∷◌, ◌++◌, length, Option, refl, sym, ap, ◌∙◌, subst, ⊎_elim, arith}
+use Rattle.std.proofs.Common.{◌≡◌, ◌≢◌, ℕ, suc, ◌+◌, ◌*◌, ◌^◌, ◌<◌, ◌≤◌, Bool, true, false, not, List, [], ◌∷◌, ◌++◌, length, Option, refl, sym, ap, ◌∙◌, subst, ⊎_elim, arith, inl}
 use Rattle.std.specs.Prelude.{if◌then◌else◌, nat_eq, nat_le}
 use Rattle.std.proofs.lemmas.Bool.{cases_lt, eq-eqb, ne_eqb, le-leb, lt-leb}
 use Rattle.std.proofs.lemmas.List.{length-append}
@@ -115,8 +115,15 @@ located-count offset = either (nat_le offset 2047)
     either true = omega arith
     either false = omega (arith, length-append (constant x5 offset) (RegisterRegister Add x5 x5 x8 ∷ []), constant-count x5 offset)
 
+located-some : (offset : ℕ) → 1 ≤ length (located offset)
+located-some offset = either (nat_le offset 2047)
+  where
+    either : (b : Bool) → 1 ≤ length (if b then RegisterImmediate Addi x5 x8 (immediate_of offset) ∷ [] else constant x5 offset ++ RegisterRegister Add x5 x5 x8 ∷ [])
+    either true = omega arith
+    either false = omega (arith, length-append (constant x5 offset) (RegisterRegister Add x5 x5 x8 ∷ []))
+
 pub addresses : AddressesAreCarried
 addresses y d offset Used Next w base program m stands small p h h' u follows =
     let l : Loads 5 (located offset) m (w.placed + offset) = located-loads m w.placed offset p.placed small in
     straight-put y Used Next w base d (w.placed + offset) 12 (located offset) program m l.after p h h' u follows
-    (loads-five (located offset) m (w.placed + offset) l) l.gives small (omega (arith, located-count offset)) stands
+    (loads-five (located offset) m (w.placed + offset) l) l.gives small (omega (arith, located-count offset)) (inl (located-some offset)) stands

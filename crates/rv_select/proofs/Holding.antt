@@ -1,5 +1,5 @@
 -- What instructions compute that hold a constant.
-use Rattle.std.proofs.Common.{◌≡◌, ℕ, ◌+◌, ◌-◌, ◌*◌, ◌/◌, ◌%◌, ◌^◌, ◌<◌, ◌≤◌, Bool, true, false, not, ◌&&◌, List, [], ◌∷◌, ◌++◌, length, refl, sym, ap, ◌∙◌, subst, ⊎_elim, arith}
+use Rattle.std.proofs.Common.{◌≡◌, ℕ, ◌+◌, ◌-◌, ◌*◌, ◌/◌, ◌%◌, ◌^◌, ◌<◌, ◌≤◌, Bool, true, false, not, ◌&&◌, List, [], ◌∷◌, ◌++◌, length, refl, sym, ap, ◌∙◌, subst, ⊎_elim, arith, Option, Some, None}
 use Rattle.std.specs.Prelude.{if◌then◌else◌, nat_eq, nat_le, nat_lt, ◌||◌, bit_and, bit_or, bit_xor, int_lt}
 use Rattle.std.proofs.lemmas.Bool.{cases_eq, cases_lt, eq-eqb, le-leb, le-ltb, leb-true, lt-leb, lt-ltb, ltb-true, ne_eqb}
 use Rattle.std.proofs.lemmas.List.{length-append}
@@ -10,6 +10,7 @@ use Rattle.rv_isa.specs.declared.instr.Instr.TheVariants.{Addiw, RegisterImmedia
 use Rattle.rv_isa.specs.declared.operation.ImmediateOp.{ImmediateOp}
 use Rattle.rv_isa.specs.declared.operation.ImmediateOp.TheVariants.{Addi, Slti, Sltiu, Xori, Ori, Andi}
 use Rattle.rv_isa.specs.declared.operation.RegisterOp.TheVariants.{Sltu}
+use Rattle.rv_isa.specs.declared.operation.RegisterWordOp.{RegisterWordOp}
 use Rattle.rv_isa.specs.declared.operation.ShiftOp.{ShiftOp}
 use Rattle.rv_isa.specs.declared.operation.ShiftOp.TheVariants.{Slli, Srli, Srai}
 use Rattle.rv_machine.specs.Word.{low, word, difference, signed, extended_word}
@@ -24,7 +25,7 @@ use Rattle.tac_form.specs.declared.tac.Operand.{Operand}
 use Rattle.tac_form.specs.declared.tac.Operand.TheVariants.{Temp, Constant}
 use Rattle.tac_form.specs.Weights.{operand_words, operator_words}
 use Rattle.rv_operators.specs.Claims.{Leads}
-use Rattle.rv_operators.specs.Codes.{code_of, cut, is_width, one_immediate, x0, x5, x6}
+use Rattle.rv_operators.specs.Codes.{code_of, counted, cut, in_one, in_parts, is_comparison, is_width, one_immediate, operation, word_operation, x0, x5, x6}
 use Rattle.rv_operators.specs.Runs.{AreStraight}
 use Rattle.rv_operators.proofs.Cuts.{Low, by-width, low-bits, low-word, then-cut}
 use Rattle.rv_operators.proofs.Lows.{shifted_of}
@@ -357,6 +358,73 @@ folded-few w Greater c = record { few = omega arith; straight = refl }
 folded-few w Multiply c = record { few = omega arith; straight = refl }
 folded-few w Divide c = record { few = omega arith; straight = refl }
 folded-few w Modulo c = record { few = omega arith; straight = refl }
+
+-- and that there is one
+after-some : (xs : List Instr) (i : Instr) (is : List Instr) → 1 ≤ length (xs ++ i ∷ is)
+after-some xs i is = omega (arith, length-append xs (i ∷ is))
+
+either-some : (b : Bool) (x y : List Instr) → 1 ≤ length x → 1 ≤ length y → 1 ≤ length (if b then x else y)
+either-some true x y h k = h
+either-some false x y h k = k
+
+sum-some : (w : Width) (c : ℕ) → 1 ≤ length (sum_of w c)
+sum-some w c = either-some (w.signed && nat_eq w.bits 32) _ _ (omega arith) (omega arith)
+
+folded-some : (w : Width) (op : BinaryOperator) (c : ℕ) → is_folded op c ≡ true → 1 ≤ length (folded w op c)
+folded-some w Add c e = sum-some w c
+folded-some w Subtract c e = sum-some w (opposite c)
+folded-some w Xor c e = omega arith
+folded-some w And c e = omega arith
+folded-some w Or c e = omega arith
+folded-some w ShiftLeft c e = omega arith
+folded-some w ShiftRight c e = omega arith
+folded-some w Equal c e = after-some (differing c) _ []
+folded-some w NotEqual c e = after-some (differing c) _ []
+folded-some w Less c e = omega arith
+folded-some w GreaterEqual c e = omega arith
+folded-some w LessEqual c e = omega arith
+folded-some w Greater c e = omega arith
+folded-some w Multiply c e = cc
+folded-some w Divide c e = cc
+folded-some w Modulo c e = cc
+
+operation-some : (w : Width) (op : BinaryOperator) → 1 ≤ length (operation w op)
+operation-some w Add = omega arith
+operation-some w Subtract = omega arith
+operation-some w Multiply = omega arith
+operation-some w Divide = omega arith
+operation-some w Modulo = omega arith
+operation-some w Xor = omega arith
+operation-some w And = omega arith
+operation-some w Or = omega arith
+operation-some w ShiftLeft = after-some (counted w.bits) _ []
+operation-some w ShiftRight = after-some (counted w.bits) _ []
+operation-some w Equal = omega arith
+operation-some w NotEqual = omega arith
+operation-some w Less = omega arith
+operation-some w LessEqual = omega arith
+operation-some w Greater = omega arith
+operation-some w GreaterEqual = omega arith
+
+parts-some : (w : Width) (op : BinaryOperator) → 1 ≤ length (in_parts w op)
+parts-some w op = omega (arith, length-append (operation w op) (cut w), operation-some w op)
+
+one-some : (o : Option RegisterWordOp) (other : List Instr) → 1 ≤ length other → 1 ≤ length (in_one o other)
+one-some (Some op) other h = omega arith
+one-some None other h = h
+
+code-some : (w : Width) (op : BinaryOperator) → 1 ≤ length (code_of w op)
+code-some w op =
+    either-some (is_comparison op) _ _ (operation-some w op)
+    (either-some (w.signed && nat_eq w.bits 32) _ _ (one-some (word_operation op) (in_parts w op) (parts-some w op)) (parts-some w op))
+
+pub applied-some : (y : Layout) (w : Width) (op : BinaryOperator) (b : Operand) → 1 ≤ length (applied_to y w op b)
+applied-some y w op (Temp t) = omega (arith, length-append (taken y x6 (Temp t)) (code_of w op), code-some w op)
+applied-some y w op (Constant c) = either (is_folded op c) refl
+  where
+    either : (b : Bool) → is_folded op c ≡ b → 1 ≤ length (if b then folded w op c else constant x6 c ++ code_of w op)
+    either true e = folded-some w op c e
+    either false e = omega (arith, length-append (constant x6 c) (code_of w op), code-some w op)
 
 pub applied-count : (y : Layout) (w : Width) (op : BinaryOperator) (b : Operand) → length (applied_to y w op b) ≤ operand_words b + operator_words op
 applied-count y w op (Temp t) =

@@ -1,6 +1,6 @@
 -- Words at homes.
 use Rattle.std.proofs.Common.{◌≡◌, ◌≢◌, ℕ, ◌+◌, ◌*◌, ◌^◌, ◌<◌, ◌≤◌, List, [], ◌∷◌, Bool, true, false, length, take, drop, refl, sym, ap, ◌∙◌, subst, ⊎_elim, inl, inr, arith}
-use Rattle.std.specs.Prelude.{◌⊎◌, nat_lt, if◌then◌else◌, Option, Some, None}
+use Rattle.std.specs.Prelude.{◌⊎◌, nat_lt, if◌then◌else◌, Option, Some, None, slice_get}
 use Rattle.std.proofs.lemmas.Bool.{cases_lt, eqb-true, ltb-true}
 use Rattle.rv_isa.specs.declared.instr.Instr.{Instr}
 use Rattle.rv_isa.specs.declared.instr.Instr.TheVariants.{Load, Store}
@@ -21,9 +21,9 @@ use Rattle.rv_operators.specs.Claims.{acts, then_on}
 use Rattle.rv_operators.specs.Codes.{x5}
 use Rattle.rv_operators.specs.Runs.{AreStraight}
 use Rattle.rv_operators.proofs.Runs.{straight-both}
-use Rattle.rv_select.specs.Places.{AreBytes, Layout, World, HasFrame, Holds, Housed, IsHeld, IsHome, IsRead, home_of, private_word, slot_offset, value_in, word_at}
+use Rattle.rv_select.specs.Places.{AreBytes, Layout, World, HasFrame, Holds, Housed, IsFirst, IsHeld, IsHome, IsRead, home_of, is_given, or_first, private_word, slot_offset, value_in, word_at}
 use Rattle.rv_select.specs.Numbers.{constant, register_of}
-use Rattle.rv_select.specs.Shapes.{first_taken, is_held, moved, put_to, taken, taken_from}
+use Rattle.rv_select.specs.Shapes.{first_taken, is_held, moved, put_at, put_in, put_to, taken, taken_from}
 use Rattle.rv_select.proofs.Bytes.{other-than-word, private-place, stored-length, stored-word}
 use Rattle.rv_select.proofs.Numbers.{constant-count, constant-loads, one-count, register-is, small-count}
 use Rattle.rv_select.proofs.Straight.{Loads, behind-both, goes-both, loads-one, low-first, low-here, low-small, register-value, written-elsewhere, written-there}
@@ -72,9 +72,10 @@ pub region-small : (y : Layout) (Used : ℕ → Type 0) (w : World) (base : ℕ)
 region-small y Used w base m h = subst (λ r. length r ≤ 67108864) (sym h.region) h.lawful.sized.2
 
 pub take-operand : (y : Layout) (d : Register) (Used : ℕ → Type 0) (w : World) (base : ℕ) (m : State) (a : Operand) → d.number ≢ 0 →
-    Holds y Used w base m → Housed y Used → IsRead Used a → Loads d.number (taken y d a) m (value_in w.temps a)
+    Holds y Used w base m → Housed y Used → IsRead y Used a → Loads d.number (taken y d a) m (value_in w.temps a)
 take-operand y d Used w base m (Temp t) n p h r =
-    take-home y d base m (home_of y t) (w.temps t) n p.pc p.frame (region-small y Used w base m p) (h.homes t r) (p.values t r) (p.words t r)
+    take-home y d base m (home_of y t) (w.temps t) n p.pc p.frame (region-small y Used w base m p) (h.homes t r.0 r.1) (p.values t r.0 r.1)
+    (p.words t r.0)
 take-operand y d Used w base m (Constant k) n p h r = constant-loads d m k n r
 
 pub home-count : (d : Register) (h : Home) → length (taken_from d h) ≤ 3
@@ -117,13 +118,15 @@ held-loads m v small e = record {
 }
 
 pub take-first : (y : Layout) (held : Option ℕ) (Used : ℕ → Type 0) (w : World) (base : ℕ) (m : State) (a : Operand) → IsHeld held w.temps m →
-    Holds y Used w base m → Housed y Used → IsRead Used a → Loads 5 (first_taken y held a) m (value_in w.temps a)
+    Holds y Used w base m → Housed y Used → IsFirst y held Used a → Loads 5 (first_taken y held a) m (value_in w.temps a)
 take-first y held Used w base m (Constant k) f p h r = constant-loads x5 m k (λ e. omega (arith, e)) r
 take-first y held Used w base m (Temp t) f p h r = either (is_held held t) refl
   where
     either : (b : Bool) → is_held held t ≡ b → Loads 5 (if b then [] else taken y x5 (Temp t)) m (w.temps t)
     either true e = held-loads m (w.temps t) p.pc (held-is held t w.temps m f e)
-    either false e = take-operand y x5 Used w base m (Temp t) (λ z. omega (arith, z)) p h r
+    either false e =
+        take-operand y x5 Used w base m (Temp t) (λ z. omega (arith, z)) p h
+        (r.0, ⊎_elim (λ g. let no : true ≡ false = sym g ∙ e in cc) (λ o. o) r.1)
 
 -- and else as much as for any operand
 first-least : (y : Layout) (held : Option ℕ) (a : Operand) → length (first_taken y held a) ≤ length (taken y x5 a)
@@ -143,6 +146,31 @@ first-few y held a = omega (arith, first-least y held a, taken-count y x5 a)
 pub put-count : (h : Home) → length (put_to h) ≤ 3
 put-count (homes.Register x) = omega arith
 put-count (homes.Slot k) = framed-count (λ r offset. Store Sd r x5 offset) (slot_offset k)
+
+-- where a temporary has a home, the code puts to it, and else there is none
+put-there : (o : Option (Option Home)) → is_given o ≡ true → put_in o ≡ put_to (or_first o)
+put-there (Some (Some h)) e = refl
+put-there (Some None) e = cc
+put-there None e = cc
+
+put-nowhere : (o : Option (Option Home)) → is_given o ≡ false → put_in o ≡ []
+put-nowhere (Some (Some h)) e = cc
+put-nowhere (Some None) e = refl
+put-nowhere None e = refl
+
+pub put-is : (y : Layout) (d : ℕ) → is_given (slice_get y.homes d) ≡ true → put_at y d ≡ put_to (home_of y d)
+put-is y d e = put-there (slice_get y.homes d) e
+
+pub put-none : (y : Layout) (d : ℕ) → is_given (slice_get y.homes d) ≡ false → put_at y d ≡ []
+put-none y d e = put-nowhere (slice_get y.homes d) e
+
+pub put-few : (y : Layout) (d : ℕ) → length (put_at y d) ≤ 3
+put-few y d = either (slice_get y.homes d)
+  where
+    either : (o : Option (Option Home)) → length (put_in o) ≤ 3
+    either (Some (Some h)) = put-count h
+    either (Some None) = omega arith
+    either None = omega arith
 
 -- Private memory is the same outside some bytes.
 pub record SameOutside (first behind : ℕ) (m after : State) : Type 0 where

@@ -45,7 +45,7 @@ use Rattle.rv_select.proofs.Faults.{branch-way, fails}
 use Rattle.rv_select.proofs.Divisors.{stays}
 use Rattle.rv_select.proofs.Moves.{fewer-holds}
 use Rattle.rv_select.proofs.Lives.{housed}
-use Rattle.rv_select.proofs.Carries.{both-true, by-test, operand-read, place-small}
+use Rattle.rv_select.proofs.Carries.{both-true, by-test, first-read, place-small}
 use Rattle.rv_select.proofs.Branched.{IsNearby, Turned, branched-few, chosen-turns, follower-first, follower-second, is-next, low-near}
 use Rattle.rv_select.proofs.Jumps.{Jumped, Reaches, jump-few, jump_words, jumps-there}
 
@@ -286,7 +286,8 @@ carry-branch p code homes held a e f starts s program base m x =
     let near-e = edge-near code starts m.pc x.setting.near e x.near_is x.reach fit-a.1 in
     let near-f = edge-near code starts m.pc x.setting.near f x.near_is x.reach fit.1 in
     let l : Loads 5 (first_taken y held a) m v =
-    take-first y held used (world_of s) base m a x.five x.holds h (operand-read code used a fit-a.0 (reads-here p code homes held (Branch a e f) starts s program base m x)) in
+    take-first y held used (world_of s) base m a x.five x.holds h
+    (first-read code y held used a fit-a.0 (reads-here p code homes held (Branch a e f) starts s program base m x) x.asked) in
     let o : Follows = follower x.setting.next e.block f.block in
     let C : List Instr = exit_shape y x.setting held m.pc starts (Branch a e f) in
     let first-next : o ≡ First → starts e.block ≡ m.pc + 4 * length C =

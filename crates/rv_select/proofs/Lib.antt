@@ -23,6 +23,7 @@ pub mod Ranges
 pub mod Allocs
 pub mod Transfers
 pub mod Transports
+pub mod Granted
 pub mod Lives
 pub mod Pairing
 pub mod Unread
@@ -32,11 +33,13 @@ pub mod Weights
 pub mod Jumps
 pub mod Branched
 pub mod Leaves
+pub mod Asking
 pub mod Pushed
 pub mod Lengths
 pub mod Loops
 pub mod Layouts
 pub mod Bodies
+pub mod Askings
 pub mod Kept
 pub mod Enters
 pub mod Passes

@@ -1,5 +1,5 @@
 -- What is in use at an instruction and behind it.
-use Rattle.std.proofs.Common.{◌≡◌, ℕ, zero, suc, Bool, true, false, not, ◌&&◌, ◌||◌, List, [], ◌∷◌, length, option_map, Option, Some, None, refl, sym, ap, ◌∙◌, subst, ⊎_elim, inl, inr}
+use Rattle.std.proofs.Common.{◌≡◌, ◌<◌, ℕ, zero, suc, Bool, true, false, not, ◌&&◌, ◌||◌, List, [], ◌∷◌, length, option_map, Option, Some, None, refl, sym, ap, ◌∙◌, subst, ⊎_elim, inl, inr}
 use Rattle.std.specs.Prelude.{nat_le, slice_get, ◌⊎◌}
 use Rattle.std.specs.List.{list_any}
 use Rattle.std.proofs.lemmas.Bool.{cases_Bool, cases_eq, eq-eqb, leb-true, ltb-true}
@@ -14,7 +14,9 @@ use Rattle.tac_form.specs.Live.{InUse, IsLive, at_place, at_step, has, is_writte
 use Rattle.reg_alloc.specs.declared.assignment.Home.{Home}
 use Rattle.reg_alloc.specs.declared.assignment.Home.TheVariants as homes
 use Rattle.reg_alloc.specs.Right.{IsRight, is_home, is_some_home}
+use Rattle.rv_select.specs.Asked.{asked_homes}
 use Rattle.rv_select.specs.Places.{Housed, IsHome, is_register, layout_of, or_first}
+use Rattle.rv_select.proofs.Granted.{asked-is, asked-length}
 
 -- the step of an instruction in the flow graph
 pub step-in-graph : (code : Tac) (b : Block) (i : Instruction) (block at : ℕ) → slice_get code.blocks block ≡ Some b → slice_get b.instructions at ≡ Some i →
@@ -87,24 +89,26 @@ both-true : (a b : Bool) → (a && b) ≡ true → (a ≡ true) × (b ≡ true)
 both-true true b e = (refl, e)
 both-true false b e = cc
 
-home-of-kind : (code : Tac) (hs : List (Option Home)) (t : ℕ) (h : Home) → slice_get hs t ≡ Some (Some h) → is_home (length hs) h ≡ true → IsHome (layout_of code hs) h
+home-of-kind : (code : Tac) (hs : List (Option Home)) (t : ℕ) (h : Home) → slice_get (asked_homes code hs) t ≡ Some (Some h) →
+    is_home (length hs) h ≡ true → IsHome (layout_of code hs) h
 home-of-kind code hs t (homes.Register x) e g =
     let b = both-true (nat_le 18 x) (nat_le x 27) g in
-    (leb-true 18 x b.0, leb-true x 27 b.1, used-here hs t x e)
-home-of-kind code hs t (homes.Slot k) e g = ltb-true k (length hs) g
+    (leb-true 18 x b.0, leb-true x 27 b.1, used-here (asked_homes code hs) t x e)
+home-of-kind code hs t (homes.Slot k) e g = subst (λ n. k < n) (sym (asked-length code hs)) (ltb-true k (length hs) g)
 
 pub housed : (code : Tac) (hs : List (Option Home)) (block at : ℕ) → IsRight code hs → Housed (layout_of code hs) (InUse (graph_of code) block at)
 housed code hs block at r = record {
-  homes = λ t u.
+  homes = λ t u k.
       let h = some-home (length hs) (slice_get hs t) (r.homes_are block at t u) in
-      subst (λ o. IsHome (layout_of code hs) (or_first o)) (sym h.1) (home-of-kind code hs t h.0 h.1 h.2);
-  apart = λ t u a b same.
+      let there : slice_get (asked_homes code hs) t ≡ Some (Some h.0) = asked-is code hs t k ∙ h.1 in
+      subst (λ o. IsHome (layout_of code hs) (or_first o)) (sym there) (home-of-kind code hs t h.0 there h.2);
+  apart = λ t u a b i j same.
       ⊎_elim (λ e. e)
       (λ n.
       let g = some-home (length hs) (slice_get hs t) (r.homes_are block at t a) in
       let h = some-home (length hs) (slice_get hs u) (r.homes_are block at u b) in
-      let first : or_first (slice_get hs t) ≡ g.0 = ap or_first g.1 in
-      let second : or_first (slice_get hs u) ≡ h.0 = ap or_first h.1 in
+      let first : or_first (slice_get (asked_homes code hs) t) ≡ g.0 = ap or_first (asked-is code hs t i ∙ g.1) in
+      let second : or_first (slice_get (asked_homes code hs) u) ≡ h.0 = ap or_first (asked-is code hs u j ∙ h.1) in
       let equal : g.0 ≡ h.0 = sym first ∙ (same ∙ second) in
       absurd (r.apart block at t u a b n (g.1 ∙ (ap (λ x. Some (Some x)) equal ∙ sym h.1))))
       (cases_eq t u);

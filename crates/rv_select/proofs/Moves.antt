@@ -1,6 +1,6 @@
 -- Copies and operators.
-use Rattle.std.proofs.Common.{◌≡◌, ◌≢◌, ℕ, ◌+◌, ◌*◌, ◌^◌, ◌<◌, ◌≤◌, Bool, true, false, not, ◌&&◌, List, ◌++◌, length, take, drop, append_assoc, Option, refl, sym, ap, ◌∙◌, subst, ⊎_elim, inl, inr, arith}
-use Rattle.std.specs.Prelude.{if◌then◌else◌, nat_eq, ◌⊎◌, IsTrue}
+use Rattle.std.proofs.Common.{◌≡◌, ◌≢◌, ℕ, ◌+◌, ◌*◌, ◌^◌, ◌<◌, ◌≤◌, Bool, true, false, not, ◌&&◌, List, [], ◌++◌, length, take, drop, append_assoc, Option, refl, sym, ap, ◌∙◌, subst, ⊎_elim, inl, inr, arith}
+use Rattle.std.specs.Prelude.{if◌then◌else◌, nat_eq, ◌⊎◌, IsTrue, slice_get}
 use Rattle.std.proofs.lemmas.Bool.{cases_Bool, cases_eq, eq-eqb, ne_eqb}
 use Rattle.std.proofs.lemmas.List.{length-append}
 use Rattle.std.proofs.lemmas.Nat.{and_comm, or_comm, xor_comm}
@@ -12,7 +12,7 @@ use Rattle.reg_alloc.specs.declared.assignment.Home.{Home}
 use Rattle.reg_alloc.specs.declared.assignment.Home.TheVariants as homes
 use Rattle.terra_memory.specs.Numbers.{number_of}
 use Rattle.rv_machine.specs.Word.{low}
-use Rattle.rv_machine.specs.Machine.{State}
+use Rattle.rv_machine.specs.Machine.{State, run_of}
 use Rattle.terra_words.specs.declared.words.Width.{Width}
 use Rattle.terra_words.specs.declared.words.BinaryOperator.{BinaryOperator}
 use Rattle.terra_words.specs.declared.words.BinaryOperator.TheVariants as ops
@@ -30,17 +30,17 @@ use Rattle.rv_operators.specs.Codes.{x5, x6, code_of, is_width}
 use Rattle.rv_operators.specs.Runs.{Stands}
 use Rattle.rv_operators.proofs.Operators.{computed as operator-computes}
 use Rattle.rv_operators.proofs.Short.{code-short}
-use Rattle.rv_select.specs.Places.{AreBytes, Layout, World, Holds, Housed, IsHeld, IsHome, IsRead, Keeps, area_offset, frame_bytes, home_of, is_lasting, slot_offset, uses, value_in, word_at}
+use Rattle.rv_select.specs.Places.{AreBytes, HasHome, Layout, World, Holds, Housed, IsFirst, IsHeld, IsHome, IsRead, Keeps, area_offset, frame_bytes, home_of, is_given, is_lasting, slot_offset, uses, value_in, word_at}
 use Rattle.rv_select.specs.Folded.{folded, is_folded}
 use Rattle.rv_select.specs.Numbers.{constant}
-use Rattle.rv_select.specs.Shapes.{applied_to, first_taken, is_held, is_symmetric, is_turned, operated, put_to, taken}
-use Rattle.rv_select.specs.Steps.{Follows, behind, with_temp}
+use Rattle.rv_select.specs.Shapes.{applied_to, first_taken, is_held, is_symmetric, is_turned, operated, put_at, put_to, taken}
+use Rattle.rv_select.specs.Steps.{Comes, Follows, behind, with_temp}
 use Rattle.rv_select.proofs.Claims.{CopiesAreCarried, Gives, OperatorsAreCarried}
-use Rattle.rv_select.proofs.Straight.{Loads, Scratch, behind-both, leads-scratch, loads-five, loads-six, low-below, scratch-both}
+use Rattle.rv_select.proofs.Straight.{Loads, Scratch, behind-both, leads-scratch, loads-five, loads-six, low-below, low-here, scratch-both}
 use Rattle.rv_select.proofs.Ways.{Near, Way, scratch-near, stands-back, stands-front, straight-way, way-both}
 use Rattle.rv_select.proofs.Frames.{framed-some}
-use Rattle.rv_select.proofs.Homes.{Puts, first-count, put-count, put-home, region-small, take-first, take-operand}
-use Rattle.rv_select.proofs.Holding.{applied-count, folded-few, folds}
+use Rattle.rv_select.proofs.Homes.{Puts, first-count, put-count, put-home, put-is, put-none, region-small, take-first, take-operand}
+use Rattle.rv_select.proofs.Holding.{applied-count, applied-some, folded-few, folds}
 use Rattle.rv_select.proofs.Numbers.{constant-loads}
 use Rattle.rv_select.proofs.Small.{applied-small}
 
@@ -62,7 +62,7 @@ near-holds y Used w base m n p h s small = record {
     bytes = subst AreBytes (sym s.private) p.frame.bytes;
   };
   pc = small;
-  values = λ t u. home-keeps y base m n (home_of y t) (h.homes t u) s.keeps s.private ∙ p.values t u;
+  values = λ t u k. home-keeps y base m n (home_of y t) (h.homes t u k) s.keeps s.private ∙ p.values t u k;
   words = p.words;
   areas = λ k l. ap (λ z. take (length (w.areas k)) (drop (base + area_offset y k) z)) s.private ∙ p.areas k l;
   short = p.short;
@@ -88,7 +88,7 @@ pub fewer-holds : (y : Layout) (Used Next : ℕ → Type 0) (w : World) (base : 
 fewer-holds y Used Next w base m f p = record {
   frame = p.frame;
   pc = p.pc;
-  values = λ t u. p.values t (f t u);
+  values = λ t u k. p.values t (f t u) k;
   words = λ t u. p.words t (f t u);
   areas = p.areas;
   short = p.short;
@@ -139,20 +139,20 @@ no-home y h r i f e = let g : IsHome y (homes.Register r) = subst (IsHome y) e i
 
 -- after a put, what is in use stands at its home
 put-holds : (y : Layout) (Used Next : ℕ → Type 0) (w : World) (base d v : ℕ) (code : List Instr) (m : State) (p : Puts y base code m (home_of y d)) →
-    Holds y Used w base m → Housed y Next → Next d → Follows Used Next d → m.registers 5 ≡ v → v < 2 ^ 64 → Holds y Next (with_temp w d v) base p.after
-put-holds y Used Next w base d v code m p q h n follows e s = record {
+    Holds y Used w base m → Housed y Next → Next d → HasHome y d → Follows Used Next d → m.registers 5 ≡ v → v < 2 ^ 64 → Holds y Next (with_temp w d v) base p.after
+put-holds y Used Next w base d v code m p q h n has follows e s = record {
   frame = record {
-    pointer = p.keeps 2 (λ z. omega (arith, z)) (no-home y (home_of y d) 2 (h.homes d n) (inl (omega arith))) ∙ q.frame.pointer;
+    pointer = p.keeps 2 (λ z. omega (arith, z)) (no-home y (home_of y d) 2 (h.homes d n has) (inl (omega arith))) ∙ q.frame.pointer;
     within = subst (λ z. base + frame_bytes y ≤ z) (sym p.memory.long) q.frame.within;
     private = subst (λ z. z ≤ 603979776) (sym p.memory.long) q.frame.private;
     bytes = p.memory.bytes q.frame.bytes;
   };
   pc = subst (λ z. z < 2 ^ 64) (sym p.behind) (low-below (m.pc + 4 * length code));
-  values = λ t u. ⊎_elim
+  values = λ t u k. ⊎_elim
       (λ same. subst (λ x. word_at base p.after (home_of y x) ≡ put w.temps d v x) (sym same) (p.holds ∙ (e ∙ sym (ap (λ b. if b then v else w.temps d) (eq-eqb d d refl)))))
       (λ other.
-      p.others (home_of y t) (h.homes t u) (λ g. other (h.apart t d u n g))
-      ∙ (q.values t (before t u other) ∙ sym (ap (λ b. if b then v else w.temps t) (ne_eqb t d other))))
+      p.others (home_of y t) (h.homes t u k) (λ g. other (h.apart t d u n k has g))
+      ∙ (q.values t (before t u other) k ∙ sym (ap (λ b. if b then v else w.temps t) (ne_eqb t d other))))
       (cases_eq t d);
   words = λ t u. ⊎_elim
       (λ same. subst (λ x. put w.temps d v x < 2 ^ 64) (sym same) (subst (λ z. z < 2 ^ 64) (ap (λ b. if b then v else w.temps d) (sym (eq-eqb d d refl))) s))
@@ -164,12 +164,42 @@ put-holds y Used Next w base d v code m p q h n follows e s = record {
   bytes = q.bytes;
   region = p.region ∙ q.region;
   lawful = q.lawful;
-  heap = p.keeps 3 (λ z. omega (arith, z)) (no-home y (home_of y d) 3 (h.homes d n) (inl (omega arith))) ∙ q.heap;
-  limit = p.keeps 4 (λ z. omega (arith, z)) (no-home y (home_of y d) 4 (h.homes d n) (inl (omega arith))) ∙ q.limit;
-  placed = p.keeps 8 (λ z. omega (arith, z)) (no-home y (home_of y d) 8 (h.homes d n) (inl (omega arith))) ∙ q.placed;
+  heap = p.keeps 3 (λ z. omega (arith, z)) (no-home y (home_of y d) 3 (h.homes d n has) (inl (omega arith))) ∙ q.heap;
+  limit = p.keeps 4 (λ z. omega (arith, z)) (no-home y (home_of y d) 4 (h.homes d n has) (inl (omega arith))) ∙ q.limit;
+  placed = p.keeps 8 (λ z. omega (arith, z)) (no-home y (home_of y d) 8 (h.homes d n has) (inl (omega arith))) ∙ q.placed;
   above = q.above;
   below = q.below;
-  depth = p.keeps 28 (λ z. omega (arith, z)) (no-home y (home_of y d) 28 (h.homes d n) (inr (omega arith))) ∙ q.depth;
+  depth = p.keeps 28 (λ z. omega (arith, z)) (no-home y (home_of y d) 28 (h.homes d n has) (inr (omega arith))) ∙ q.depth;
+}
+  where
+    before : (t : ℕ) → Next t → t ≢ d → Used t
+    before t u other = ⊎_elim (λ same. absurd (other same)) (λ used. used) (follows t u)
+
+-- a temporary without a home gets another word
+unput-holds : (y : Layout) (Used Next : ℕ → Type 0) (w : World) (base d v : ℕ) (m : State) → Holds y Used w base m → Follows Used Next d →
+    is_given (slice_get y.homes d) ≡ false → v < 2 ^ 64 → Holds y Next (with_temp w d v) base m
+unput-holds y Used Next w base d v m q follows none s = record {
+  frame = q.frame;
+  pc = q.pc;
+  values = λ t u k.
+      let other : t ≢ d = λ e. let no : true ≡ false = sym (subst (HasHome y) e k) ∙ none in cc in
+      q.values t (before t u other) k ∙ sym (ap (λ b. if b then v else w.temps t) (ne_eqb t d other));
+  words = λ t u. ⊎_elim
+      (λ same. subst (λ x. put w.temps d v x < 2 ^ 64) (sym same) (subst (λ z. z < 2 ^ 64) (ap (λ b. if b then v else w.temps d) (sym (eq-eqb d d refl))) s))
+      (λ other. subst (λ z. z < 2 ^ 64) (ap (λ b. if b then v else w.temps t) (sym (ne_eqb t d other))) (q.words t (before t u other)))
+      (cases_eq t d);
+  areas = q.areas;
+  short = q.short;
+  area_bytes = q.area_bytes;
+  bytes = q.bytes;
+  region = q.region;
+  lawful = q.lawful;
+  heap = q.heap;
+  limit = q.limit;
+  placed = q.placed;
+  above = q.above;
+  below = q.below;
+  depth = q.depth;
 }
   where
     before : (t : ℕ) → Next t → t ≢ d → Used t
@@ -180,59 +210,140 @@ pub some-put : (h : Home) → 1 ≤ length (put_to h)
 some-put (homes.Register x) = omega arith
 some-put (homes.Slot k) = framed-some (λ r offset. Store Sd r x5 offset) (slot_offset k)
 
--- a way to a state near, and a put there, which leaves the word in x5
+-- The machine comes somewhere, maybe in no steps.
+pub record Settles (y : Layout) (program : List (Option Instr)) (Next : ℕ → Type 0) (w : World) (base weight target : ℕ) (m : State) : Type 0 where
+  pub steps : ℕ
+  pub after : State
+  pub few : steps ≤ weight
+  pub runs : (more : ℕ) → run_of program m (steps + more) ≡ run_of program after more
+  pub at : after.pc ≡ target
+  pub holds : Holds y Next w base after
+  pub keeps : Keeps y base m after
+
+pub settled : (y : Layout) (program : List (Option Instr)) (Next : ℕ → Type 0) (w : World) (base weight target : ℕ) (m : State) →
+    Comes y program Next w base weight target [] m → Settles y program Next w base weight target m
+settled y program Next w base weight target m c = record {
+  steps = c.steps;
+  after = c.after;
+  few = c.few;
+  runs = c.runs;
+  at = c.at;
+  holds = c.holds;
+  keeps = c.keeps;
+}
+
+-- A way to a state near, and a put there, which leaves the word in x5. Where the temporary has no home, the put takes no step.
+pub record PutsAway (y : Layout) (program : List (Option Instr)) (Next : ℕ → Type 0) (w : World) (base k weight target d : ℕ) (m : State) : Type 0 where
+  pub settles : Settles y program Next w base weight target m
+  pub five : settles.after.registers 5 ≡ w.temps d
+  pub some : (1 ≤ k) ⊎ HasHome y d → 1 ≤ settles.steps
+
+pub put-away : (y : Layout) (Used Next : ℕ → Type 0) (w : World) (base d v k weight target : ℕ) (program : List (Option Instr)) (m n : State) →
+    Holds y Used w base m → Housed y Used → Housed y Next → Next d → Follows Used Next d → Way program k m n → Near m n → n.pc < 2 ^ 64 →
+    n.registers 5 ≡ v → v < 2 ^ 64 → k + 3 ≤ weight → Stands program n.pc (put_at y d) → low (n.pc + 4 * length (put_at y d)) ≡ target →
+    PutsAway y program Next (with_temp w d v) base k weight target d m
+put-away y Used Next w base d v k weight target program m n p h h' u follows way near small e l few stands to =
+    ⊎_elim
+    (λ has. home has (subst (λ c. Stands program n.pc c) (put-is y d has) stands) (ap (λ c. low (n.pc + 4 * length c)) (sym (put-is y d has)) ∙ to))
+    (λ none. nowhere none (ap (λ c. low (n.pc + 4 * length c)) (sym (put-none y d none)) ∙ to))
+    (cases_Bool (is_given (slice_get y.homes d)))
+  where
+    q : Holds y Used w base n
+    q = near-holds y Used w base m n p h near small
+
+    there : v ≡ put w.temps d v d
+    there = sym (ap (λ c. if c then v else w.temps d) (eq-eqb d d refl))
+
+    home : HasHome y d → Stands program n.pc (put_to (home_of y d)) → low (n.pc + 4 * length (put_to (home_of y d))) ≡ target →
+        PutsAway y program Next (with_temp w d v) base k weight target d m
+    home has stands to =
+        let b : List Instr = put_to (home_of y d) in
+        let r : Puts y base b n (home_of y d) =
+        put-home y base n (home_of y d) small q.frame (region-small y Used w base n q) (h'.homes d u has) (subst (λ x. x < 2 ^ 64) (sym e) l) in
+        let most : length b ≤ 3 = put-count (home_of y d) in
+        let least : 1 ≤ length b = some-put (home_of y d) in
+        let whole : Way program (k + length b) m r.after =
+        way-both program k (length b) m n r.after way (straight-way program b n r.after stands r.straight r.goes) in
+        record {
+          settles = record {
+            steps = k + length b;
+            after = r.after;
+            few = omega arith;
+            runs = whole.runs;
+            at = r.behind ∙ to;
+            holds = put-holds y Used Next w base d v b n r q h' u has follows e l;
+            keeps = keeps-both y base m n r.after (near-keeps y base m n near) (put-keeps y base b n (home_of y d) r (h'.homes d u has));
+          };
+          five = r.keeps 5 (λ z. omega (arith, z)) (no-home y (home_of y d) 5 (h'.homes d u has) (inl (omega arith))) ∙ (e ∙ there);
+          some = λ o. omega (arith, least);
+        }
+
+    nowhere : is_given (slice_get y.homes d) ≡ false → low (n.pc + 4 * 0) ≡ target →
+        PutsAway y program Next (with_temp w d v) base k weight target d m
+    nowhere none to = record {
+      settles = record {
+        steps = k;
+        after = n;
+        few = omega (arith, few);
+        runs = way.runs;
+        at = low-here n.pc small ∙ to;
+        holds = unput-holds y Used Next w base d v n q follows none l;
+        keeps = near-keeps y base m n near;
+      };
+      five = e ∙ there;
+      some = λ o. ⊎_elim (λ s. s) (λ has. let no : true ≡ false = sym has ∙ none in cc) o;
+    }
+
 pub then-put : (y : Layout) (Used Next : ℕ → Type 0) (w : World) (base d v k weight target : ℕ) (program : List (Option Instr)) (m n : State) →
     Holds y Used w base m → Housed y Used → Housed y Next → Next d → Follows Used Next d → Way program k m n → Near m n → n.pc < 2 ^ 64 →
-    n.registers 5 ≡ v → v < 2 ^ 64 → k + 3 ≤ weight → Stands program n.pc (put_to (home_of y d)) → low (n.pc + 4 * length (put_to (home_of y d))) ≡ target →
+    n.registers 5 ≡ v → v < 2 ^ 64 → k + 3 ≤ weight → (1 ≤ k) ⊎ HasHome y d → Stands program n.pc (put_at y d) →
+    low (n.pc + 4 * length (put_at y d)) ≡ target →
     Gives y program Next (with_temp w d v) base weight target d m
-then-put y Used Next w base d v k weight target program m n p h h' u follows way near small e l few stands to =
-    let b : List Instr = put_to (home_of y d) in
-    let q : Holds y Used w base n = near-holds y Used w base m n p h near small in
-    let r : Puts y base b n (home_of y d) =
-    put-home y base n (home_of y d) small q.frame (region-small y Used w base n q) (h'.homes d u) (subst (λ x. x < 2 ^ 64) (sym e) l) in
-    let most : length b ≤ 3 = put-count (home_of y d) in
-    let least : 1 ≤ length b = some-put (home_of y d) in
-    let whole : Way program (k + length b) m r.after =
-    way-both program k (length b) m n r.after way (straight-way program b n r.after stands r.straight r.goes) in
+then-put y Used Next w base d v k weight target program m n p h h' u follows way near small e l few some stands to =
+    let r = put-away y Used Next w base d v k weight target program m n p h h' u follows way near small e l few stands to in
+    let s = r.settles in
     record {
       comes = record {
-        steps = k + length b;
-        after = r.after;
-        some = omega arith;
-        few = omega arith;
-        runs = whole.runs;
-        at = r.behind ∙ to;
-        holds = put-holds y Used Next w base d v b n r q h' u follows e l;
-        keeps = keeps-both y base m n r.after (near-keeps y base m n near) (put-keeps y base b n (home_of y d) r (h'.homes d u));
+        steps = s.steps;
+        after = s.after;
+        some = r.some some;
+        few = s.few;
+        runs = s.runs;
+        at = s.at;
+        holds = s.holds;
+        keeps = s.keeps;
       };
-      five =
-          r.keeps 5 (λ z. omega (arith, z)) (no-home y (home_of y d) 5 (h'.homes d u) (inl (omega arith)))
-          ∙ (e ∙ sym (ap (λ c. if c then v else w.temps d) (eq-eqb d d refl)));
+      five = r.five;
     }
 
 -- straight code that leaves a word in x5, and a put
 pub straight-put : (y : Layout) (Used Next : ℕ → Type 0) (w : World) (base d v weight : ℕ) (a : List Instr) (program : List (Option Instr)) (m n : State) →
     Holds y Used w base m → Housed y Used → Housed y Next → Next d → Follows Used Next d → Scratch a m n → n.registers 5 ≡ v → v < 2 ^ 64 →
-    length a + 3 ≤ weight → Stands program m.pc (a ++ put_to (home_of y d)) →
-    Gives y program Next (with_temp w d v) base weight (behind m (a ++ put_to (home_of y d))) d m
-straight-put y Used Next w base d v weight a program m n p h h' u follows s e l few stands =
-    let b : List Instr = put_to (home_of y d) in
+    length a + 3 ≤ weight → (1 ≤ length a) ⊎ HasHome y d → Stands program m.pc (a ++ put_at y d) →
+    Gives y program Next (with_temp w d v) base weight (behind m (a ++ put_at y d)) d m
+straight-put y Used Next w base d v weight a program m n p h h' u follows s e l few some stands =
+    let b : List Instr = put_at y d in
     then-put y Used Next w base d v (length a) weight (behind m (a ++ b)) program m n p h h' u follows
     (straight-way program a m n (stands-front program m.pc a b stands) s.straight s.goes) (scratch-near a m n s)
-    (subst (λ z. z < 2 ^ 64) (sym s.behind) (low-below (m.pc + 4 * length a))) e l few
+    (subst (λ z. z < 2 ^ 64) (sym s.behind) (low-below (m.pc + 4 * length a))) e l few some
     (subst (λ z. Stands program z b) (sym s.behind) (stands-back program m.pc a b p.pc stands))
     (behind-both a b m.pc n.pc (low (n.pc + 4 * length b)) s.behind refl)
 
-pub value-small : (Used : ℕ → Type 0) (y : Layout) (w : World) (base : ℕ) (m : State) (a : Operand) → Holds y Used w base m → IsRead Used a → value_in w.temps a < 2 ^ 64
-value-small Used y w base m (Temp t) p r = p.words t r
+pub value-small : (Used : ℕ → Type 0) (y : Layout) (w : World) (base : ℕ) (m : State) (a : Operand) → Holds y Used w base m → IsRead y Used a → value_in w.temps a < 2 ^ 64
+value-small Used y w base m (Temp t) p r = p.words t r.0
 value-small Used y w base m (Constant c) p r = r
 
+pub first-small : (held : Option ℕ) (Used : ℕ → Type 0) (y : Layout) (w : World) (base : ℕ) (m : State) (a : Operand) → Holds y Used w base m →
+    IsFirst y held Used a → value_in w.temps a < 2 ^ 64
+first-small held Used y w base m (Temp t) p r = p.words t r.0
+first-small held Used y w base m (Constant c) p r = r
+
 pub copies : CopiesAreCarried
-copies y held d a Used Next w base program m stands f p h h' r u follows =
+copies y held d a Used Next w base program m stands f p h h' r u has follows =
     let A : List Instr = first_taken y held a in
     let l : Loads 5 A m (value_in w.temps a) = take-first y held Used w base m a f p h r in
     straight-put y Used Next w base d (value_in w.temps a) (words_of (Copy d a)) A program m l.after p h h' u follows
-    (loads-five A m (value_in w.temps a) l) l.gives (value-small Used y w base m a p r) (omega (arith, first-count y held a)) stands
+    (loads-five A m (value_in w.temps a) l) l.gives (first-small held Used y w base m a p r) (omega (arith, first-count y held a)) (inr has) stands
 
 -- Code that comes to a word in x5.
 pub record Applies (code : List Instr) (m : State) (v : ℕ) : Type 0 where
@@ -269,7 +380,7 @@ folded-apply op wide c m va is e sa sc f =
 -- an operator of x5 and an operand
 applies : (y : Layout) (Used : ℕ → Type 0) (w : World) (base : ℕ) (op : BinaryOperator) (wide : Width) (b : Operand) (m : State) (va : ℕ) →
     is_width wide.bits ≡ true → (divides op ≡ true → value_in w.temps b ≢ 0) → m.registers 5 ≡ va → va < 2 ^ 64 →
-    Holds y Used w base m → Housed y Used → IsRead Used b → Applies (applied_to y wide op b) m (applied wide op va (value_in w.temps b))
+    Holds y Used w base m → Housed y Used → IsRead y Used b → Applies (applied_to y wide op b) m (applied wide op va (value_in w.temps b))
 applies y Used w base op wide (Temp t) m va is divisor e sa p h r =
     loads-apply op wide (taken y x6 (Temp t)) m va (w.temps t) is divisor e sa (value-small Used y w base m (Temp t) p r)
     (take-operand y x6 Used w base m (Temp t) (λ e. omega (arith, e)) p h r)
@@ -294,7 +405,7 @@ OperandsAreCarried =
     (y : Layout) (held : Option ℕ) (d : ℕ) (op : BinaryOperator) (form : Number) (a b : Operand) (Used Next : ℕ → Type 0) (w : World) (base : ℕ)
     (program : List (Option Instr)) (m : State) →
     Stands program m.pc (operated y held d op (width_of form) a b) → IsHeld held w.temps m → (divides op ≡ true → value_in w.temps b ≢ 0) →
-    Holds y Used w base m → Housed y Used → Housed y Next → IsRead Used a → IsRead Used b → Next d → Follows Used Next d →
+    Holds y Used w base m → Housed y Used → Housed y Next → IsFirst y held Used a → IsRead y Used b → Next d → Follows Used Next d →
     Gives y program Next (with_temp w d (applied (width_of form) op (value_in w.temps a) (value_in w.temps b))) base
     (words_of (Compute d op form a b)) (behind m (operated y held d op (width_of form) a b)) d m
 
@@ -305,17 +416,18 @@ in-order y held d op form a b Used Next w base program m stands f divisor p h h'
     let vb = value_in w.temps b in
     let A : List Instr = first_taken y held a in
     let S : List Instr = applied_to y wide op b in
-    let sa : va < 2 ^ 64 = value-small Used y w base m a p ra in
+    let sa : va < 2 ^ 64 = first-small held Used y w base m a p ra in
     let l : Loads 5 A m va = take-first y held Used w base m a f p h ra in
     let q : Holds y Used w base l.after = scratch-holds y Used w base A m l.after p h (loads-five A m va l) in
     let o : Applies S l.after (applied wide op va vb) = applies y Used w base op wide b l.after va (wide-size form.size) divisor l.gives sa q h rb in
     let few : length (A ++ S) + 3 ≤ words_of (Compute d op form a b) =
     omega (arith, length-append A S, first-count y held a, applied-count y wide op b) in
+    let some : 1 ≤ length (A ++ S) = omega (arith, length-append A S, applied-some y wide op b) in
     subst (λ x. Gives y program Next (with_temp w d (applied wide op va vb)) base (words_of (Compute d op form a b)) (behind m x) d m)
-    (append_assoc A S (put_to (home_of y d)))
+    (append_assoc A S (put_at y d))
     (straight-put y Used Next w base d (applied wide op va vb) (words_of (Compute d op form a b)) (A ++ S) program m o.after p h h' u follows
-    (scratch-both A S m l.after o.after (loads-five A m va l) o.scratch) o.gives (applied-small wide op va vb (wide-size form.size)) few
-    (subst (λ x. Stands program m.pc x) (sym (append_assoc A S (put_to (home_of y d)))) stands))
+    (scratch-both A S m l.after o.after (loads-five A m va l) o.scratch) o.gives (applied-small wide op va vb (wide-size form.size)) few (inl some)
+    (subst (λ x. Stands program m.pc x) (sym (append_assoc A S (put_at y d))) stands))
 
 -- operands that change places
 and-left : (a b : Bool) → (a && b) ≡ true → a ≡ true
@@ -364,7 +476,7 @@ symmetric wide ops.Greater x y e = cc
 symmetric wide ops.GreaterEqual x y e = cc
 
 pub operators : OperatorsAreCarried
-operators y held d op form a b Used Next w base program m stands f divisor p h h' ra rb u follows = either (is_turned held op b) refl stands
+operators y held d op form a b Used Next w base program m stands f divisor p h h' plain turn u follows = either (is_turned held op b) refl stands
   where
     turned : (b : Operand) → is_turned held op b ≡ true → (is_symmetric op ≡ true) × (divides op ≡ false)
     turned (Temp t) e = let s : is_symmetric op ≡ true = and-left (is_symmetric op) (is_held held t) e in (s, no-divisor op s)
@@ -375,9 +487,10 @@ operators y held d op form a b Used Next w base program m stands f divisor p h h
         Gives y program Next (with_temp w d (applied (width_of form) op (value_in w.temps a) (value_in w.temps b))) base
         (words_of (Compute d op form a b))
         (behind m (if c then operated y held d op (width_of form) b a else operated y held d op (width_of form) a b)) d m
-    either false e there = in-order y held d op form a b Used Next w base program m there f divisor p h h' ra rb u follows
+    either false e there = (let r = plain e in in-order y held d op form a b Used Next w base program m there f divisor p h h' r.0 r.1 u follows)
     either true e there =
         let t = turned b e in
+        let r = turn e in
         let never : divides op ≡ true → value_in w.temps a ≢ 0 = λ g. let none : false ≡ true = sym t.1 ∙ g in cc in
         let same : words_of (Compute d op form b a) ≡ words_of (Compute d op form a b) = omega arith in
         subst (λ n. Gives y program Next (with_temp w d (applied (width_of form) op (value_in w.temps a) (value_in w.temps b))) base n
@@ -385,4 +498,4 @@ operators y held d op form a b Used Next w base program m stands f divisor p h h
         (subst (λ v. Gives y program Next (with_temp w d v) base (words_of (Compute d op form b a))
         (behind m (operated y held d op (width_of form) b a)) d m)
         (symmetric (width_of form) op (value_in w.temps b) (value_in w.temps a) t.0)
-        (in-order y held d op form b a Used Next w base program m there f never p h h' rb ra u follows))
+        (in-order y held d op form b a Used Next w base program m there f never p h h' r.0 r.1 u follows))

@@ -144,7 +144,7 @@ beneath-holds y Used w base m n p h s small = record {
     bytes = s.bytes p.frame.bytes;
   };
   pc = small;
-  values = λ t u. beneath-home y base m n (home_of y t) (h.homes t u) s ∙ p.values t u;
+  values = λ t u k. beneath-home y base m n (home_of y t) (h.homes t u k) s ∙ p.values t u k;
   words = p.words;
   areas = λ k l. s.above (base + area_offset y k) (length (w.areas k)) (omega arith) ∙ p.areas k l;
   short = p.short;

@@ -16,7 +16,7 @@ use Rattle.rv_machine.specs.Machine.{GoesOn, State, Writes, act, at_with, loads,
 use Rattle.rv_operators.specs.Codes.{x0, x5, x6, zero_immediate}
 use Rattle.rv_operators.specs.Runs.{Stands}
 use Rattle.rv_select.specs.Numbers.{constant, immediate_of}
-use Rattle.rv_select.specs.Places.{AreBytes, Holds, Housed, IsHeld, IsRead, Layout, World, value_in}
+use Rattle.rv_select.specs.Places.{AreBytes, Holds, Housed, IsFirst, IsHeld, Layout, World, value_in}
 use Rattle.rv_select.specs.Shapes.{byte_put, byte_taken, byte_written, moved, x2, x10, x11, x12, x17}
 use Rattle.rv_select.specs.Steps.{AreFewer, Comes, behind}
 use Rattle.rv_select.proofs.Bytes.{private-part}
@@ -150,7 +150,7 @@ module _ (program : List (Option Instr)) (t : State) (base v : ℕ) (five : t.re
 
 -- an operand's byte goes to x5
 byte-loads : (y : Layout) (held : Option ℕ) (Used : ℕ → Type 0) (w : World) (base : ℕ) (m : State) (a : Operand) → IsHeld held w.temps m →
-    Holds y Used w base m → Housed y Used → IsRead Used a → (v : ℕ) × Loads 5 (byte_taken y held a) m v × (v % 256 ≡ value_in w.temps a % 256)
+    Holds y Used w base m → Housed y Used → IsFirst y held Used a → (v : ℕ) × Loads 5 (byte_taken y held a) m v × (v % 256 ≡ value_in w.temps a % 256)
 byte-loads y held Used w base m (Temp t) f p h r = (w.temps t, take-first y held Used w base m (Temp t) f p h r, refl)
 byte-loads y held Used w base m (Constant c) f p h r =
     (c % 256, constant-loads x5 m (c % 256) (λ e. omega (arith, e)) (omega arith), omega arith)
@@ -182,7 +182,7 @@ byte-comes y Used Next w base v x A program m l p h f few same stands =
     (near-calm m t (scratch-near A m t (loads-five A m v l))) l.behind same g.1 g.2 g.3
 
 pub byte-puts : (y : Layout) (held : Option ℕ) (a : Operand) (Used Next : ℕ → Type 0) (w : World) (base : ℕ) (program : List (Option Instr)) (m : State) →
-    Stands program m.pc (byte_put y held a) → IsHeld held w.temps m → Holds y Used w base m → Housed y Used → IsRead Used a → AreFewer Used Next →
+    Stands program m.pc (byte_put y held a) → IsHeld held w.temps m → Holds y Used w base m → Housed y Used → IsFirst y held Used a → AreFewer Used Next →
     Comes y program Next w base 11 (behind m (byte_put y held a)) (value_in w.temps a % 256 ∷ []) m
 byte-puts y held a Used Next w base program m stands five p h r f =
     let g = byte-loads y held Used w base m a five p h r in

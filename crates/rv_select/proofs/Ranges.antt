@@ -260,7 +260,7 @@ range-ends y Used Next w base weight va vb at A program m t p h f place few firs
     }
 
 pub ranges : (y : Layout) (at : Place) (a b : Operand) (Used Next : ℕ → Type 0) (w : World) (base : ℕ) (program : List (Option Instr)) (m : State) →
-    Stands program m.pc (range_written y at a b) → IsPlace at → IsRead Used a → IsRead Used b → Holds y Used w base m → Housed y Used → AreFewer Used Next →
+    Stands program m.pc (range_written y at a b) → IsPlace at → IsRead y Used a → IsRead y Used b → Holds y Used w base m → Housed y Used → AreFewer Used Next →
     RangeWritten y program Next w base (words_of (instructions.Write at a b)) (value_in w.temps a) (value_in w.temps b) (behind m (range_written y at a b)) at m
 ranges y at a b Used Next w base program m stands place ra rb p h f =
     let A : List Instr = taken y x11 a in

@@ -21,10 +21,11 @@ use Rattle.rv_machine.specs.Machine.{State, GoesOn, at_with, loads, loads_from}
 use Rattle.rv_operators.specs.Codes.{x5}
 use Rattle.rv_operators.specs.Runs.{Stands}
 use Rattle.rv_select.specs.declared.pairs.Reads.{Reads}
+use Rattle.rv_select.specs.Asked.{asked_homes}
 use Rattle.rv_select.specs.Pairs.{reads_of}
 use Rattle.rv_select.specs.declared.settings.Extent.{Extent}
 use Rattle.rv_select.specs.Places.{Holds, Housed, Keeps, Layout, World, area_offset, extent_of, frame_bytes, home_of, layout_of, private_word, with_homes}
-use Rattle.rv_select.specs.Shapes.{framed, put_to, to_area}
+use Rattle.rv_select.specs.Shapes.{framed, put_at, to_area}
 use Rattle.rv_select.specs.Steps.{Comes, behind, with_temp}
 use Rattle.rv_select.specs.Entering.{received, received_one, receiving, size_in, words_offset}
 pub use Rattle.rv_select.specs.Frames.{HasWords, IsWordOf, LiesAt, ParametersAreReceived, Received, seen, without_words}
@@ -35,7 +36,7 @@ use Rattle.rv_select.proofs.Claims.{with_area}
 use Rattle.rv_select.proofs.Copies.{copies-there, size-small}
 use Rattle.rv_select.proofs.Lives.{housed}
 use Rattle.rv_select.proofs.Bytes.{private-place}
-use Rattle.rv_select.proofs.Frames.{framed-count, framed-loads}
+use Rattle.rv_select.proofs.Frames.{framed-count, framed-loads, framed-some}
 use Rattle.rv_select.proofs.Homes.{region-small}
 use Rattle.rv_select.proofs.Moves.{fewer-holds, keeps-both, near-keeps, scratch-holds, straight-put}
 use Rattle.rv_select.proofs.Stands.{both-true}
@@ -87,7 +88,10 @@ words-keep y base last (d ∷ ds) (v ∷ vs) m n k l h =
     (subst (λ z. IsWordOf n (base + last) v z) (sym same) (word-keeps y base last v _ m n k l h.0), words-keep y base last ds vs m n k l h.1)
 
 pub housed-fewer : (y : Layout) (U V : ℕ → Type 0) → ((t : ℕ) → V t → U t) → Housed y U → Housed y V
-housed-fewer y U V f h = record { homes = λ t u. h.homes t (f t u); apart = λ t u a b e. h.apart t u (f t a) (f u b) e }
+housed-fewer y U V f h = record {
+  homes = λ t u k. h.homes t (f t u) k;
+  apart = λ t u a b i j e. h.apart t u (f t a) (f u b) i j e;
+}
 
 -- All parameters are taken.
 pub record GotAll (program : List (Option Instr)) (y : Layout) (Fin : ℕ → Type 0) (w : World) (base most : ℕ) (code rest : List Instr) (m : State) : Type 0 where
@@ -204,7 +208,7 @@ receives program y code U Used Fin base last depth region (Temp d ∷ ds) (bytes
 receives program y code U Used Fin base last depth region (Temp d ∷ ds) (word x ∷ vs) a rest m there p h sub goes fin whole small are accepts words within room =
     let at : ℕ = last + 8 * length ds in
     let A : List Instr = framed (λ r far. Load Ld x5 r far) at in
-    let B : List Instr = put_to (home_of y d) in
+    let B : List Instr = put_at y d in
     let C : List Instr = received y code.areas last ds in
     let w : World = seen a region depth in
     let Next : ℕ → Type 0 = λ t. (t ≡ d) ⊎ Used t in
@@ -215,7 +219,8 @@ receives program y code U Used Fin base last depth region (Temp d ∷ ds) (word 
     word-loads base at m p.pc p.frame.pointer (omega (arith, room)) p.frame.private (region-small y Used w base m p) in
     let one : Comes y program Next (with_temp w d x) base 6 (low (m.pc + 4 * length (A ++ B))) [] m =
     (straight-put y Used Next w base d x 6 A program m l.after p (housed-fewer y U Used sub h) (housed-fewer y U Next in-u h) (inl refl) (λ t u. u)
-    (loads-five A m (private_word m (base + at)) l) (l.gives ∙ words.0.0) words.0.1 (omega (arith, framed-count (λ r far. Load Ld x5 r far) at)) (stands-front program m.pc (A ++ B) (C ++ rest) all)).comes in
+    (loads-five A m (private_word m (base + at)) l) (l.gives ∙ words.0.0) words.0.1 (omega (arith, framed-count (λ r far. Load Ld x5 r far) at))
+    (inl (framed-some (λ r far. Load Ld x5 r far) at)) (stands-front program m.pc (A ++ B) (C ++ rest) all)).comes in
     let t : State = one.after in
     let after-t : Stands program t.pc (C ++ rest) = subst (λ q. Stands program q (C ++ rest)) (sym one.at) (stands-back program m.pc (A ++ B) (C ++ rest) p.pc all) in
     let more : GotAll program y Fin (seen (takes_all ds vs (takes (Temp d) (word x) a)) region depth) base (receiving ds) C rest t =
@@ -240,7 +245,7 @@ received-same : (homes : List (Option Home)) (reads : List Reads) (extent : Exte
     ≡ received (record { homes = homes; areas = b; parameters = q; reads = reads; extent = extent }) sizes last ds
 received-same homes reads extent a b p q last sizes [] = refl
 received-same homes reads extent a b p q last sizes (Temp d ∷ ds) =
-    ap (λ z. (framed (λ r far. Load Ld x5 r far) (last + 8 * length ds) ++ put_to (home_of (with_homes homes) d)) ++ z)
+    ap (λ z. (framed (λ r far. Load Ld x5 r far) (last + 8 * length ds) ++ put_at (with_homes homes) d) ++ z)
     (received-same homes reads extent a b p q last sizes ds)
 received-same homes reads extent a b p q last sizes (Area n ∷ ds) =
     ap (λ z. (framed (λ r far. Load Ld x5 r far) (last + 8 * length ds) ++ to_area (with_homes homes) n 0 (size_in sizes n)) ++ z)
@@ -253,7 +258,7 @@ parameters-received code homes program values a region depth base m fits right a
     let U : ℕ → Type 0 = InUse (graph_of code) 0 0 in
     let parts = fits-parts code fits in
     let same : received z code.areas (words_offset y) code.parameters ≡ received y code.areas (words_offset y) code.parameters =
-    received-same homes (reads_of code) (extent_of code) (length code.areas) (length code.areas) 0 (length code.parameters)
+    received-same (asked_homes code homes) (reads_of code) (extent_of code) (length code.areas) (length code.areas) 0 (length code.parameters)
     (words_offset y) code.areas code.parameters in
     let all : Stands program m.pc (received z code.areas (words_offset y) code.parameters ++ []) =
     subst (λ c. Stands program m.pc c) (sym (append-nil (received z code.areas (words_offset y) code.parameters) ∙ same)) there in

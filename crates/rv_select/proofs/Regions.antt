@@ -25,10 +25,10 @@ use Rattle.tac_form.specs.Flow.{bytes_of, width_of}
 use Rattle.tac_form.specs.Weights.{operand_words, words_of}
 use Rattle.rv_operators.specs.Codes.{x5, x6, zero_immediate}
 use Rattle.rv_operators.specs.Runs.{Stands}
-use Rattle.rv_select.specs.Places.{AreBytes, World, Holds, Housed, IsHeld, IsRead, Layout, home_of, value_in}
+use Rattle.rv_select.specs.Places.{AreBytes, World, Holds, Housed, IsFirst, IsHeld, Layout, home_of, value_in}
 use Rattle.rv_select.specs.Numbers.{below_zero}
 use Rattle.rv_select.specs.Shapes as shapes
-use Rattle.rv_select.specs.Shapes.{bounds_tested, failed, first_taken, load_of, loaded, located, offset_of, over, put_to, reached, store_of, stored, x4}
+use Rattle.rv_select.specs.Shapes.{bounds_tested, failed, first_taken, load_of, loaded, located, offset_of, over, put_at, reached, store_of, stored, x4}
 use Rattle.rv_select.specs.Steps.{Comes, Ends, Follows, IsPlace, behind, with_temp}
 use Rattle.rv_select.proofs.Straight.{Loads, behind-both, loads-five, low-below, low-small, written-elsewhere, written-there}
 use Rattle.rv_select.proofs.Numbers.{below-is}
@@ -37,7 +37,7 @@ use Rattle.rv_select.proofs.Homes.{first-count, take-first}
 use Rattle.rv_select.proofs.Words.{load-bytes, load-is, size-range, take-bytes, drop-bytes}
 use Rattle.rv_select.proofs.Claims.{Gives, RegionLoadsAreCarried}
 use Rattle.rv_select.proofs.Small.{wrapped-small}
-use Rattle.rv_select.proofs.Moves.{then-put, value-small, wide-size}
+use Rattle.rv_select.proofs.Moves.{first-small, then-put, wide-size}
 use Rattle.rv_select.proofs.Faults.{branch-way, failed-count, fails, later-ends}
 use Rattle.rv_select.proofs.Divisors.{located-count, located-loads}
 
@@ -174,7 +174,7 @@ reached-both program a b m n v first most way near pc short r = record {
 
 -- an address in a word, with its test
 module _ (y : Layout) (held : Option ℕ) (Used : ℕ → Type 0) (w : World) (base : ℕ) (program : List (Option Instr)) (m : State) (at : Place) (a : Operand) (size : ℕ)
-    (f : IsHeld held w.temps m) (p : Holds y Used w base m) (h : Housed y Used) (r : IsRead Used a) (some : 1 ≤ size) (few : size ≤ 128)
+    (f : IsHeld held w.temps m) (p : Holds y Used w base m) (h : Housed y Used) (r : IsFirst y held Used a) (some : 1 ≤ size) (few : size ≤ 128)
     (there : Stands program m.pc (first_taken y held a ++ bounds_tested at size)) where
   taken-load : Loads 5 (first_taken y held a) m (value_in w.temps a)
   taken-load = take-first y held Used w base m a f p h r
@@ -270,12 +270,12 @@ pc-more p n = omega arith
 load-ends : (y : Layout) (d : ℕ) (form : Number) (Used Next : ℕ → Type 0) (w : World) (base most a : ℕ) (code : List Instr) (program : List (Option Instr)) (m : State) →
     Reached program code m a most → Holds y Used w base m → Housed y Used → Housed y Next → Next d → Follows Used Next d →
     a < 2 ^ 64 → first_address ≤ a → a + bytes_of form.size ≤ end_address w.region → wrapped (width_of form) (number_of (accessed w.region a (bytes_of form.size))) < 2 ^ 64 →
-    Stands program m.pc (code ++ (Load (load_of form.signed form.size) x5 x5 zero_immediate ∷ put_to (home_of y d))) →
+    Stands program m.pc (code ++ (Load (load_of form.signed form.size) x5 x5 zero_immediate ∷ put_at y d)) →
     Gives y program Next (with_temp w d (wrapped (width_of form) (number_of (accessed w.region a (bytes_of form.size))))) base (most + 4)
-    (behind m (code ++ (Load (load_of form.signed form.size) x5 x5 zero_immediate ∷ put_to (home_of y d)))) d m
+    (behind m (code ++ (Load (load_of form.signed form.size) x5 x5 zero_immediate ∷ put_at y d))) d m
 load-ends y d form Used Next w base most a code program m r p h h' u follows small low-end high-end value there =
     let i : Instr = Load (load_of form.signed form.size) x5 x5 zero_immediate in
-    let b : List Instr = put_to (home_of y d) in
+    let b : List Instr = put_at y d in
     let v : ℕ = wrapped (width_of form) (number_of (accessed w.region a (bytes_of form.size))) in
     let n : State = r.after in
     let rest : Stands program n.pc (i ∷ b) = subst (λ q. Stands program q (i ∷ b)) (sym r.pc) (stands-back program m.pc code (i ∷ b) p.pc there) in
@@ -284,7 +284,7 @@ load-ends y d form Used Next w base most a code program m r p h h' u follows sma
     way-both program r.steps 1 m n t r.way
     (step-way program i n t rest.0 (load-act m n w.region form a (r.near.region ∙ p.region) r.five small p.bytes low-end high-end)) in
     then-put y Used Next w base d v (r.steps + 1) (most + 4) (behind m (code ++ (i ∷ b))) program m t p h h' u follows way
-    (near-both m n t r.near (near-five n (low (n.pc + 4)) v)) (low-below (n.pc + 4)) (written-there n.registers 5 v (λ e. omega (arith, e))) value (omega (arith, r.few)) rest.1
+    (near-both m n t r.near (near-five n (low (n.pc + 4)) v)) (low-below (n.pc + 4)) (written-there n.registers 5 v (λ e. omega (arith, e))) value (omega (arith, r.few)) (inl (omega arith)) rest.1
     (pc-more n.pc (length b) ∙ behind-both code (i ∷ b) m.pc n.pc (low (n.pc + 4 * suc (length b))) r.pc refl)
 
 -- what a range is
@@ -364,7 +364,7 @@ low-enough y Used w base offset m p = let h : first_address ≤ w.placed = omega
 pub region-loads : RegionLoadsAreCarried
 region-loads y held d form at (Word a) Used Next w base program m there five place r p h h' u follows =
     let code : List Instr = first_taken y held a ++ bounds_tested at (bytes_of form.size) in
-    let rest : List Instr = Load (load_of form.signed form.size) x5 x5 zero_immediate ∷ put_to (home_of y d) in
+    let rest : List Instr = Load (load_of form.signed form.size) x5 x5 zero_immediate ∷ put_at y d in
     let v : ℕ = value_in w.temps a in
     let some : 1 ≤ bytes_of form.size = (size-range form.size).0 in
     let few : bytes_of form.size ≤ 8 = (size-range form.size).1 in
@@ -374,12 +374,12 @@ region-loads y held d form at (Word a) Used Next w base program m there five pla
     weaker-gives y program Next _ base (operand_words a + 4 + 4) (words_of (instructions.Load d form (spots.Region at (Word a)))) (behind m (code ++ rest)) d m (omega arith)
     (load-ends y d form Used Next w base (operand_words a + 4) v code program m
     (word-inside y held Used w base program m at a (bytes_of form.size) five p h r some (omega arith) front i.0 i.1)
-    p h h' u follows (value-small Used y w base m a p r) i.0 i.1 (wrapped-small (width_of form) _ (wide-size form.size)) there))
+    p h h' u follows (first-small held Used y w base m a p r) i.0 i.1 (wrapped-small (width_of form) _ (wide-size form.size)) there))
     (λ o.
     weaker-ends program at (operand_words a + 15) (words_of (instructions.Load d form (spots.Region at (Word a)))) m (omega arith) (word-outside y held Used w base program m at a (bytes_of form.size) five p h r some (omega arith) front place o))
 region-loads y held d form at (Frame offset) Used Next w base program m there five place r p h h' u follows =
     let code : List Instr = located offset in
-    let rest : List Instr = Load (load_of form.signed form.size) x5 x5 zero_immediate ∷ put_to (home_of y d) in
+    let rest : List Instr = Load (load_of form.signed form.size) x5 x5 zero_immediate ∷ put_at y d in
     let a : ℕ = w.placed + offset in
     let e = end-small y Used w base m p in
     let small : a < 2 ^ 64 = omega (arith, r, e.0) in

@@ -240,7 +240,7 @@ back-holds p image program most depth link base placed c w M n linked x s g with
     record {
       frame = record { pointer = pointer; within = within; private = small; bytes = bytes };
       pc = pc;
-      values = λ t u. same-home yc base (c.waits.temps t) M n (home_of yc t) (h.homes t u.0) s (x.values t u.0 u.1) (x.words t u.0 u.1);
+      values = λ t u k. same-home yc base (c.waits.temps t) M n (home_of yc t) (h.homes t u.0 k) s (x.values t u.0 u.1 k) (x.words t u.0 u.1);
       words = λ t u. x.words t u.0 u.1;
       areas = λ k l. s.private (base + area_offset yc k) (length (c.waits.areas k)) (omega arith) ∙ x.areas k l;
       short = x.short;

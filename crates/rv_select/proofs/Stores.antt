@@ -32,7 +32,7 @@ use Rattle.rv_select.proofs.Ways.{Near, Way, near-both, scratch-near, stands-bac
 use Rattle.rv_select.proofs.Homes.{operand-count, take-operand}
 use Rattle.rv_select.proofs.Words.{low-are-bytes, overwritten-bytes, size-range, store-bytes}
 use Rattle.rv_select.proofs.Claims.{RegionStoresAreCarried, with_region}
-use Rattle.rv_select.proofs.Moves.{near-holds, near-keeps, value-small}
+use Rattle.rv_select.proofs.Moves.{first-small, near-holds, near-keeps, value-small}
 use Rattle.rv_select.proofs.Regions.{Reached, end-small, frame-reached, inside-true, insides, low-enough, outside-false, region-place, weaker, weaker-ends, word-inside, word-outside}
 
 -- the region after a store
@@ -60,7 +60,7 @@ region-holds : (y : Layout) (Used Next : ℕ → Type 0) (w : World) (base : ℕ
 region-holds y Used Next w base t bytes r p f c e g are = record {
   frame = record { pointer = p.frame.pointer; within = p.frame.within; private = p.frame.private; bytes = p.frame.bytes };
   pc = low-below (t.pc + 4);
-  values = λ x u. same (home_of y x) (p.values x (f x u));
+  values = λ x u k. same (home_of y x) (p.values x (f x u) k);
   words = λ x u. p.words x (f x u);
   areas = p.areas;
   short = p.short;
@@ -101,7 +101,7 @@ unfolding low
 pc-more p n = omega arith
 
 store-ends : (y : Layout) (size : Size) (b : Operand) (Used Next : ℕ → Type 0) (w : World) (base most a : ℕ) (code : List Instr) (program : List (Option Instr)) (m : State) →
-    Reached program code m a most → Holds y Used w base m → Housed y Used → AreFewer Used Next → IsRead Used b →
+    Reached program code m a most → Holds y Used w base m → Housed y Used → AreFewer Used Next → IsRead y Used b →
     a < 2 ^ 64 → first_address ≤ a → a + bytes_of size ≤ end_address w.region →
     Stands program m.pc (code ++ (taken y x6 b ++ Store (store_of size) x5 x6 zero_immediate ∷ [])) →
     Comes y program Next (with_region w (stored-region w.region a (low_bytes (bytes_of size) (value_in w.temps b)))) base (most + (operand_words b + 1))
@@ -193,7 +193,7 @@ region-stores y held size at (Word a) b Used Next w base program m there five pl
     weaker y program Next _ base (operand_words a + 4 + (operand_words b + 1)) (words_of (instructions.Store (spots.Region at (Word a)) size b)) (behind m (code ++ rest)) [] m (omega arith)
     (store-ends y size b Used Next w base (operand_words a + 4) v code program m
     (word-inside y held Used w base program m at a (bytes_of size) five p h r some (omega arith) front i.0 i.1)
-    p h f rb (value-small Used y w base m a p r) i.0 i.1 there))
+    p h f rb (first-small held Used y w base m a p r) i.0 i.1 there))
     (λ o.
     weaker-ends program at (operand_words a + 15) (words_of (instructions.Store (spots.Region at (Word a)) size b)) m (omega arith) (word-outside y held Used w base program m at a (bytes_of size) five p h r some (omega arith) front place o))
 region-stores y held size at (Frame offset) b Used Next w base program m there five place r rb p h f =

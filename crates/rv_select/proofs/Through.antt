@@ -25,6 +25,7 @@ use Rattle.rv_select.specs.Shapes.{exit_shape, has_exit_shape, has_shape, held_a
 use Rattle.rv_select.specs.Steps.{Carried, Comes, IsReached, Left, Remains, StandsAtExit, StandsBefore, behind, world_of}
 use Rattle.rv_select.specs.Calls.{block_starts, exit_code, instruction_code, last_address}
 use Rattle.rv_select.specs.Waiting.{Arrives, Image, IsLinked, IsPlaced, StandsIn, Stepped, entries_of, held_at, held_in, place_in, plain_in}
+use Rattle.rv_select.proofs.Asking.{exit-homes, instruction-homes}
 use Rattle.rv_select.proofs.Carries.{instructions, nothing-written}
 use Rattle.rv_select.proofs.Finds.{held-next}
 use Rattle.rv_select.proofs.Inner.{LeavesIf, LeavesTo, Stays, StaysIf, act-stays, leave-to}
@@ -190,6 +191,7 @@ inner-step p image program most size linked s base m x block i in-f in-p h =
       areas = (within-parts p image program most x.code (image s.here.function) pl).areas;
       frame = x.frame;
       right = pl.right;
+      asked = instruction-homes x.code (image s.here.function).homes s.here.block s.here.at block pl.right in-f i in-p;
       stands = subst (λ q. Stands program q (shape_of (layout_of x.code (image s.here.function).homes) held i)) (sym x.pc)
           (subst (λ c. Stands program (place_in p image x.code (image s.here.function) s.here.block s.here.at) c) same found.stands);
       holds = x.holds;
@@ -367,6 +369,7 @@ exit-step p image program most size linked s base m x block in-f in-b alone h =
       is = refl;
       fits = exit-within x.code s.here.block block (within-parts p image program most x.code (image s.here.function) pl).blocks in-f;
       right = pl.right;
+      asked = exit-homes x.code (image s.here.function).homes s.here.block s.here.at block pl.right in-f in-b alone;
       near = subst (λ q. q + 256 ≤ 2 ^ 30) (sym x.pc) found.near;
       blocks = starts-small p image program most x.code s.here.function pl;
       reach = subst (λ q. IsReached x.code (start_of (block_starts (layout_of x.code (image s.here.function).homes) x.code (image s.here.function).at)) q)

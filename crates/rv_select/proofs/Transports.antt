@@ -242,7 +242,7 @@ written-holds y Used Next w base m z r p h f keeps private region long heap are 
     bytes = subst AreBytes (sym private) p.frame.bytes;
   };
   pc = small;
-  values = λ x u. home-keeps y base m z (home_of y x) (h.homes x (f x u)) keeps private ∙ p.values x (f x u);
+  values = λ x u k. home-keeps y base m z (home_of y x) (h.homes x (f x u) k) keeps private ∙ p.values x (f x u) k;
   words = λ x u. p.words x (f x u);
   areas = λ k l. ap (λ i. take (length (w.areas k)) (drop (base + area_offset y k) i)) private ∙ p.areas k l;
   short = p.short;
@@ -367,7 +367,7 @@ put-cases r a size bs P Q some count f g =
 
 -- from the region to an area
 pub region-moves : (y : Layout) (held : Option ℕ) (n offset : ℕ) (at : Place) (a : Address) (size : ℕ) (Used Next : ℕ → Type 0) (w : World) (base : ℕ) (program : List (Option Instr)) (m : State) →
-    Stands program m.pc (some_moved y held (spots.Area n offset) (spots.Region at a) size) → IsHeld held w.temps m → IsPlace at → IsReached Used w size a → 1 ≤ size → n < y.areas → offset + size ≤ 128 →
+    Stands program m.pc (some_moved y held (spots.Area n offset) (spots.Region at a) size) → IsHeld held w.temps m → IsPlace at → IsReached y held Used w size a → 1 ≤ size → n < y.areas → offset + size ≤ 128 →
     Holds y Used w base m → Housed y Used → AreFewer Used Next →
     ((bs : List ℕ) → range_of w.region (address_in w a) size ≡ Some bs → offset ≤ length (w.areas n) →
     Comes y program Next (with_area w n (overwritten (w.areas n) offset bs)) base (words_of (Move (spots.Area n offset) (spots.Region at a) size)) (behind m (some_moved y held (spots.Area n offset) (spots.Region at a) size)) [] m)
@@ -395,7 +395,7 @@ region-moves y held n offset at (Frame far) size Used Next w base program m ther
 
 -- from an area to the region
 pub stores-moved : (y : Layout) (held : Option ℕ) (at : Place) (a : Address) (n offset size : ℕ) (Used Next : ℕ → Type 0) (w : World) (base : ℕ) (program : List (Option Instr)) (m : State) →
-    Stands program m.pc (some_moved y held (spots.Region at a) (spots.Area n offset) size) → IsHeld held w.temps m → IsPlace at → IsReached Used w size a → 1 ≤ size → n < y.areas → offset + size ≤ length (w.areas n) →
+    Stands program m.pc (some_moved y held (spots.Region at a) (spots.Area n offset) size) → IsHeld held w.temps m → IsPlace at → IsReached y held Used w size a → 1 ≤ size → n < y.areas → offset + size ≤ length (w.areas n) →
     Holds y Used w base m → Housed y Used → AreFewer Used Next →
     ((r : Contents) → put_bytes w.region (address_in w a) (part (w.areas n) offset size) ≡ Some r →
     Comes y program Next (with_region w r) base (words_of (Move (spots.Region at a) (spots.Area n offset) size)) (behind m (some_moved y held (spots.Region at a) (spots.Area n offset) size)) [] m)

@@ -59,9 +59,9 @@ waiting-same p image program most c depth link base placed m n linked s w =
       arguments = w.arguments;
       in_block = w.in_block;
       returns = w.returns;
-      values = λ t u o.
+      values = λ t u o k.
           same-home (layout_of w.code (image c.waits.function).homes) base (c.waits.temps t) m n
-          (home_of (layout_of w.code (image c.waits.function).homes) t) (h.homes t u) s (w.values t u o) (w.words t u o);
+          (home_of (layout_of w.code (image c.waits.function).homes) t) (h.homes t u k) s (w.values t u o k) (w.words t u o);
       words = w.words;
       areas = λ k l. s.private (base + area_offset (layout_of w.code (image c.waits.function).homes) k) (length (c.waits.areas k))
           (omega arith) ∙ w.areas k l;

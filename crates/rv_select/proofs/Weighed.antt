@@ -23,10 +23,12 @@ use Rattle.rv_select.specs.declared.pairs.Pair.{Pair}
 use Rattle.rv_select.specs.declared.settings.Setting.{Setting}
 use Rattle.rv_select.specs.Settings.{setting_of}
 use Rattle.rv_select.specs.Pairs.{but_pair, pair_of}
+use Rattle.rv_select.specs.Asked.{asked_homes}
 use Rattle.rv_select.specs.Places.{Layout, frame_bytes, layout_of}
 use Rattle.rv_select.specs.Shapes.{held_after, start_of}
 use Rattle.rv_select.specs.Entering.{begun, entered, left, received, receiving, words_offset}
 use Rattle.rv_select.specs.Calls.{IsSelected, KeepsWithin, all_has_code, block_code, block_has_code, block_starts, blocks_code, body_code, end_code, exit_code, function_code, has_code, has_exit_code, head_code, held_behind, instruction_code, instructions_code, last_address, pair_code}
+use Rattle.rv_select.proofs.Granted.{asked-length}
 use Rattle.rv_select.proofs.Compares.{compares-within}
 use Rattle.rv_select.proofs.Taken.{params-least}
 use Rattle.rv_select.proofs.Pairing.{IsPair, compare_of, pair-parts, pair-sum, plain-all}
@@ -164,7 +166,9 @@ frame-most : (f : ℕ → ℕ) (xs : List ℕ) (h k q : ℕ) → ((n : ℕ) → 
 frame-most f xs h k q g l = let e = areas-count f g xs in omega (arith, e, l)
 
 frame-weight : (code : Tac) (homes : List (Option Home)) → length homes ≤ code.temps → frame_bytes (layout_of code homes) ≤ private_bytes code
-frame-weight code homes h = frame-most _ code.areas (length homes) code.temps (length code.parameters) (λ n. refl) h
+frame-weight code homes h =
+    frame-most _ code.areas (length (asked_homes code homes)) code.temps (length code.parameters) (λ n. refl)
+    (subst (λ n. n ≤ code.temps) (sym (asked-length code homes)) h)
 
 pub keeps-within : (code : Tac) (homes : List (Option Home)) (selected : Code) → all_has_code code ≡ true →
     IsSelected code homes selected → KeepsWithin code homes selected

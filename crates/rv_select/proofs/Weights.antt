@@ -20,10 +20,10 @@ use Rattle.tac_form.specs.Flow.{bytes_of, width_of}
 use Rattle.tac_form.specs.Weights.{operand_words, operator_words, words_of}
 use Rattle.rv_operators.specs.Codes.{x0, x5, x6, zero_immediate}
 use Rattle.rv_select.specs.Places.{Layout, area_offset, home_of}
-use Rattle.rv_select.specs.Shapes.{all_carried, applied_to, area_reached, bounds_tested, byte_taken, bytes_given, chosen, exit_shape, failed, first_taken, framed, from_area, heap_aligned, is_turned, limit_found, load_of, located, operated, over, put_to, range_tested, reached, store_of, taken, to_area, write_call, x11, x12, zeros}
+use Rattle.rv_select.specs.Shapes.{all_carried, applied_to, area_reached, bounds_tested, byte_taken, bytes_given, chosen, exit_shape, failed, first_taken, framed, from_area, heap_aligned, is_turned, limit_found, load_of, located, operated, over, put_at, range_tested, reached, store_of, taken, to_area, write_call, x11, x12, zeros}
 use Rattle.rv_select.specs.Steps.{ExitsKeepWithin, ShapesKeepWithin}
 use Rattle.rv_select.proofs.Frames.{framed-count}
-use Rattle.rv_select.proofs.Homes.{first-count, operand-count, put-count}
+use Rattle.rv_select.proofs.Homes.{first-count, operand-count, put-few}
 use Rattle.rv_select.proofs.Holding.{applied-count}
 use Rattle.rv_select.proofs.Faults.{failed-count}
 use Rattle.rv_select.proofs.Divisors.{located-count}
@@ -66,8 +66,8 @@ operated-count : (y : Layout) (held : Option ℕ) (d : ℕ) (op : BinaryOperator
     length (operated y held d op (width_of form) a b) ≤ operand_words a + (operand_words b + operator_words op + 3)
 operated-count y held d op form a b =
     both (first_taken y held a) _ (operand_words a) (operand_words b + operator_words op + 3) (first-count y held a)
-    (both (applied_to y (width_of form) op b) (put_to (home_of y d)) (operand_words b + operator_words op) 3
-    (applied-count y (width_of form) op b) (put-count (home_of y d)))
+    (both (applied_to y (width_of form) op b) (put_at y d) (operand_words b + operator_words op) 3
+    (applied-count y (width_of form) op b) (put-few y d))
 
 pub within : ShapesKeepWithin
 within y held (Compute d op form a b) h =
@@ -85,20 +85,20 @@ within y held (TestDivisor at a) h =
     more (operand_words a + 12) (words_of (TestDivisor at a)) _ (omega arith)
     (both (first_taken y held a) (instrs.Branch Ne x5 x0 (over (failed DivZero at)) ∷ failed DivZero at) (operand_words a) 12 (first-count y held a)
     (one-more (instrs.Branch Ne x5 x0 (over (failed DivZero at))) (failed DivZero at) 11 (failed-count DivZero at)))
-within y held (Copy d a) h = both (first_taken y held a) (put_to (home_of y d)) (operand_words a) 3 (first-count y held a) (put-count (home_of y d))
-within y held (Locate d offset) h = both (located offset) (put_to (home_of y d)) 9 3 (located-count offset) (put-count (home_of y d))
+within y held (Copy d a) h = both (first_taken y held a) (put_at y d) (operand_words a) 3 (first-count y held a) (put-few y d)
+within y held (Locate d offset) h = both (located offset) (put_at y d) 9 3 (located-count offset) (put-few y d)
 within y held (Load d form (spots.Region at (Word a))) h =
     more (operand_words a + 15 + 4) (words_of (Load d form (spots.Region at (Word a)))) _ (omega arith)
-    (both (reached y held at (Word a) (bytes_of form.size)) (instrs.Load (load_of form.signed form.size) x5 x5 zero_immediate ∷ put_to (home_of y d)) (operand_words a + 15) 4
-    (word-reached y held at a (bytes_of form.size)) (one-more (instrs.Load (load_of form.signed form.size) x5 x5 zero_immediate) (put_to (home_of y d)) 3 (put-count (home_of y d))))
+    (both (reached y held at (Word a) (bytes_of form.size)) (instrs.Load (load_of form.signed form.size) x5 x5 zero_immediate ∷ put_at y d) (operand_words a + 15) 4
+    (word-reached y held at a (bytes_of form.size)) (one-more (instrs.Load (load_of form.signed form.size) x5 x5 zero_immediate) (put_at y d) 3 (put-few y d)))
 within y held (Load d form (spots.Region at (Frame offset))) h =
     more 13 14 _ (omega arith)
-    (both (located offset) (instrs.Load (load_of form.signed form.size) x5 x5 zero_immediate ∷ put_to (home_of y d)) 9 4
-    (located-count offset) (one-more (instrs.Load (load_of form.signed form.size) x5 x5 zero_immediate) (put_to (home_of y d)) 3 (put-count (home_of y d))))
+    (both (located offset) (instrs.Load (load_of form.signed form.size) x5 x5 zero_immediate ∷ put_at y d) 9 4
+    (located-count offset) (one-more (instrs.Load (load_of form.signed form.size) x5 x5 zero_immediate) (put_at y d) 3 (put-few y d)))
 within y held (Load d form (spots.Area n offset)) h =
     more 6 8 _ (omega arith)
-    (both (framed (λ r far. instrs.Load (load_of form.signed form.size) x5 r far) (area_offset y n + offset)) (put_to (home_of y d)) 3 3
-    (framed-count (λ r far. instrs.Load (load_of form.signed form.size) x5 r far) (area_offset y n + offset)) (put-count (home_of y d)))
+    (both (framed (λ r far. instrs.Load (load_of form.signed form.size) x5 r far) (area_offset y n + offset)) (put_at y d) 3 3
+    (framed-count (λ r far. instrs.Load (load_of form.signed form.size) x5 r far) (area_offset y n + offset)) (put-few y d))
 within y held (Store (spots.Region at (Word a)) size b) h =
     more (operand_words a + 15 + (operand_words b + 1)) (words_of (Store (spots.Region at (Word a)) size b)) _ (omega arith)
     (both (reached y held at (Word a) (bytes_of size)) (taken y x6 b ++ instrs.Store (store_of size) x5 x6 zero_immediate ∷ []) (operand_words a + 15) (operand_words b + 1)
@@ -145,7 +145,7 @@ within y held (Write at a b) h =
     (both (range_tested at) write_call 16 3 (range-count at) (omega arith)))))
 within y held (Alloc d a) h =
     more (operand_words a + 16) (words_of (Alloc d a)) _ (omega arith)
-    (both (first_taken y held a) (heap_aligned ++ (limit_found ++ (bytes_given ++ put_to (home_of y d)))) (operand_words a) 16 (first-count y held a) (omega (arith, put-count (home_of y d))))
+    (both (first_taken y held a) (heap_aligned ++ (limit_found ++ (bytes_given ++ put_at y d))) (operand_words a) 16 (first-count y held a) (omega (arith, put-few y d)))
 
 -- exits
 branch-count : (y : Layout) (near short : Bool) (o : Follows) (held : Option ℕ) (a : Operand) (at first second : ℕ) →

@@ -27,7 +27,7 @@ use Rattle.rv_select.specs.Frames.{CallsKeepWithin, FramesKeepWithin, Parameters
 use Rattle.rv_select.proofs.Copies.{size-small}
 use Rattle.rv_select.proofs.Enters.{saved-count}
 use Rattle.rv_select.proofs.Frames.{framed-count}
-use Rattle.rv_select.proofs.Homes.{put-count}
+use Rattle.rv_select.proofs.Homes.{put-few}
 use Rattle.rv_select.proofs.Numbers.{constant-count, short-count}
 use Rattle.rv_select.proofs.Passes.{below-count, part-count}
 use Rattle.rv_select.proofs.Quits.{put-back-count}
@@ -111,7 +111,7 @@ frames-within code y setting bytes at last v =
 -- a word goes to its home, and bytes to their area
 result-count : (y : Layout) (sizes : List ℕ) (to : Destination) → list_all area_fits sizes ≡ true →
     length (result_put y sizes to) ≤ result_words to
-result-count y sizes (Temp d) h = put-count (home_of y d)
+result-count y sizes (Temp d) h = put-few y d
 result-count y sizes (Area n) h = to-count y n 0 (size_in sizes n) (size-small sizes n h)
 
 call-weight : (to : Destination) (place : Place) (f : FnId) (arguments : List Part) (n : ℕ) →

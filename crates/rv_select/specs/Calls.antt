@@ -28,6 +28,7 @@ use Rattle.rv_select.specs.declared.selected.Call.{Call as Site}
 use Rattle.rv_select.specs.declared.pairs.Pair.{Pair}
 use Rattle.rv_select.specs.declared.settings.Setting.{Setting}
 use Rattle.rv_select.specs.Settings.{setting_of}
+pub use Rattle.rv_select.specs.Asked.{held_behind}
 use Rattle.rv_select.specs.Compared.{compared_shape}
 use Rattle.rv_select.specs.Pairs.{pair_of, plain_of}
 use Rattle.rv_select.specs.Numbers.{below_zero, constant, immediate_of, lower_of, upper_of}
@@ -97,11 +98,6 @@ instructions_code y sizes places at held [] = []
 instructions_code y sizes places at held (i ∷ is) =
     instruction_code y sizes places at held i
     ++ instructions_code y sizes places (at + 4 * length (instruction_code y sizes places at held i)) (held_after i) is
-
--- what x5 holds behind instructions; nothing is known of it where a block begins
-abbrev pub held_behind : (held : Option ℕ) → List Instruction → Option ℕ
-held_behind held [] = held
-held_behind held (i ∷ is) = held_behind (held_after i) is
 
 -- what follows the instructions with code of their own: the code of a comparison and the exit, or that of the exit
 unfoldable pub pair_code : Layout → Setting → (held : Option ℕ) → (at : ℕ) → (starts : ℕ → ℕ) → Pair → List Instr

@@ -28,7 +28,8 @@ use Rattle.rv_operators.specs.Runs.{Stands}
 use Rattle.rv_select.specs.declared.settings.Follows.{Follows}
 use Rattle.rv_select.specs.declared.settings.Setting.{Setting}
 use Rattle.rv_select.specs.Settings.{follower}
-use Rattle.rv_select.specs.Places.{IsHeld, Layout, Holds, is_near, is_short, layout_of}
+use Rattle.rv_select.specs.Asked.{both_ask}
+use Rattle.rv_select.specs.Places.{HaveHomes, IsHeld, Layout, Holds, is_near, is_short, layout_of}
 use Rattle.rv_select.specs.Shapes.{chosen, first_taken, taken}
 use Rattle.rv_select.specs.Steps.{IsReached, Left, world_of}
 
@@ -88,6 +89,7 @@ pub record StandsAtCompare (p : Program) (code : Tac) (homes : List (Option Home
   pub first_unread : IsLive (graph_of code) e.block 0 d → ⊥
   pub second_unread : IsLive (graph_of code) f.block 0 d → ⊥
   pub right : IsRight code homes
+  pub asked : HaveHomes (layout_of code homes) (both_ask held a b)
   pub near : m.pc + 256 ≤ 2 ^ 30
   pub blocks : (b : ℕ) → (starts b < 2 ^ 30) × (starts b % 2 ≡ 0)
   pub there : IsTrue (exit_fits code (Branch (Temp d) e f))

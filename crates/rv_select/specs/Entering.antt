@@ -16,8 +16,8 @@ use Rattle.tac_form.specs.declared.tac.Tac.{Tac}
 use Rattle.tac_form.specs.Weights.{kept_bytes, most_moved}
 use Rattle.rv_operators.specs.Codes.{x0, x5, x6, zero_immediate}
 use Rattle.rv_select.specs.Numbers.{below_zero, constant, immediate_of, lower_of, register_of, short_constant}
-use Rattle.rv_select.specs.Places.{Layout, home_of, uses}
-use Rattle.rv_select.specs.Shapes.{far_part, fault_call, framed, limit_found, moved, over, place_number, put_to, to_area, x2, x4, x7, x8, x11}
+use Rattle.rv_select.specs.Places.{Layout, uses}
+use Rattle.rv_select.specs.Shapes.{far_part, fault_call, framed, limit_found, moved, over, place_number, put_at, to_area, x2, x4, x7, x8, x11}
 
 -- the return address, and the number of calls that wait
 abbrev pub x1 : Register
@@ -80,7 +80,7 @@ abbrev pub size_in : List ℕ → ℕ → ℕ
 size_in sizes n = unwrap_or (slice_get sizes n) 0
 
 abbrev pub result_put : Layout → (sizes : List ℕ) → Destination → List Instr
-result_put y sizes (Temp t) = put_to (home_of y t)
+result_put y sizes (Temp t) = put_at y t
 result_put y sizes (Area n) = to_area y n 0 (size_in sizes n)
 
 -- the most steps of that: a word takes three, and the bytes of an area as many as a copy of 128 bytes

@@ -36,7 +36,7 @@ part_value y base w (parts.Word a) = value_in w.temps a
 part_value y base w (parts.Area n) = 2 ^ 32 + (base + area_offset y n)
 
 abbrev pub IsPartRead : Layout → (ℕ → Type 0) → Part → Type 0
-IsPartRead y Used (parts.Word a) = IsRead Used a
+IsPartRead y Used (parts.Word a) = IsRead y Used a
 IsPartRead y Used (parts.Area n) = n < y.areas
 
 -- The machine enters a function whose frame in private memory begins at `base` then, and that in the region at `under`. The return address

@@ -2,6 +2,8 @@
 pub mod Pairs
 -- What stands behind the end of a block.
 pub mod Settings
+-- Which temporaries need a home.
+pub mod Asked
 -- Where an activation's words stand in the machine.
 pub mod Places
 -- Numbers as operands of instructions, and code that loads them.

@@ -3,12 +3,12 @@
 -- x2 has the address of the activation's frame in private memory. x3 is the end of the heap, x4 that of the region, x8 the
 -- address of the frame in the region, and x28 the number of calls that wait. x18 to x27 hold temporaries. x1, x5 to x7 and x10
 -- to x17 are scratch: between two instructions of three-address code they hold nothing, but for x5, which behind an instruction of a
--- block may hold the word that this one put to a temporary's home.
+-- block may hold the word that this one wrote. A temporary whose word is only ever taken from x5 has no home.
 --
 -- The private frame has, from x2 upwards, the return address and a word for each of x18 to x27, in which a function that uses
 -- one keeps its caller's word; then the slots, a word each; then 128 bytes for each area; and at its end the words of the
 -- parameters, which the caller stores below its own frame, the first uppermost.
-use Rattle.std.specs.Prelude.{◌≡◌, ℕ, ◌+◌, ◌*◌, ◌^◌, ◌<◌, ◌≤◌, Bool, false, ◌&&◌, ◌||◌, nat_eq, nat_le, nat_lt, List, take, drop, length, Option, Some, None, slice_get, IsTrue, ◌⊎◌, [], ◌∷◌}
+use Rattle.std.specs.Prelude.{◌≡◌, ℕ, ◌+◌, ◌*◌, ◌^◌, ◌<◌, ◌≤◌, Bool, true, false, ◌&&◌, ◌||◌, nat_eq, nat_le, nat_lt, List, take, drop, length, Option, Some, None, slice_get, IsTrue, ◌⊎◌, [], ◌∷◌}
 use Rattle.std.specs.List.{list_any}
 use Rattle.reg_alloc.specs.declared.assignment.Home.{Home}
 use Rattle.reg_alloc.specs.declared.assignment.Home.TheVariants.{Register, Slot}
@@ -19,9 +19,11 @@ use Rattle.tac_form.specs.declared.tac.Operand.{Operand}
 use Rattle.tac_form.specs.declared.tac.Operand.TheVariants.{Temp, Constant}
 use Rattle.tac_form.specs.declared.tac.Tac.{Tac}
 use Rattle.tac_form.specs.Flow.{Temps, Areas}
+use Rattle.tac_form.specs.Live.{has}
 use Rattle.tac_form.specs.Weights.{code_words, kept_bytes, most_moved}
 use Rattle.rv_select.specs.declared.pairs.Reads.{Reads}
 use Rattle.rv_select.specs.declared.settings.Extent.{Extent}
+use Rattle.rv_select.specs.Asked.{asked_homes, is_held}
 use Rattle.rv_select.specs.Pairs.{reads_of}
 
 -- A function whose code has, by its weight, fewer words than this is short: a jump of one word leads from each word of it to each other.
@@ -36,8 +38,8 @@ is_near code = nat_lt (code_words code) 1000
 abbrev pub extent_of : Tac → Extent
 extent_of code = record { near = is_near code; short = is_short code; blocks = length code.blocks }
 
--- A function's layout: the homes of its temporaries, how many areas and parameters it has, how often each temporary is read, and its
--- extent.
+-- A function's layout: the homes of its temporaries that have one, how many areas and parameters it has, how often each temporary is read,
+-- and its extent.
 pub record Layout : Type 0 where
   pub homes : List (Option Home)
   pub areas : ℕ
@@ -45,14 +47,18 @@ pub record Layout : Type 0 where
   pub reads : List Reads
   pub extent : Extent
 
-abbrev pub layout_of : Tac → List (Option Home) → Layout
-layout_of code homes = record {
+abbrev pub layout_with : Tac → (homes : List (Option Home)) → Layout
+layout_with code homes = record {
   homes = homes;
   areas = length code.areas;
   parameters = length code.parameters;
   reads = reads_of code;
   extent = extent_of code;
 }
+
+-- by an assignment, which gives a home to temporaries that need none too
+abbrev pub layout_of : Tac → List (Option Home) → Layout
+layout_of code homes = layout_with code (asked_homes code homes)
 
 -- code of one instruction depends on the homes alone, and that of blocks on how often temporaries are read and on the extent besides
 abbrev pub with_homes : List (Option Home) → Layout
@@ -71,7 +77,18 @@ area_offset y n = kept_bytes + 8 * length y.homes + most_moved * n
 abbrev pub frame_bytes : Layout → ℕ
 frame_bytes y = kept_bytes + 8 * length y.homes + most_moved * y.areas + 8 * y.parameters
 
--- a temporary's home. One that is never in use has none, and is never asked for
+-- whether a temporary has a home, and which. One that has none is never asked for
+abbrev pub is_given : Option (Option Home) → Bool
+is_given (Some (Some h)) = true
+is_given _ = false
+
+abbrev pub HasHome : Layout → ℕ → Type 0
+HasHome y t = IsTrue (is_given (slice_get y.homes t))
+
+-- these temporaries have homes
+abbrev pub HaveHomes : Layout → List ℕ → Type 0
+HaveHomes y ts = (t : ℕ) → IsTrue (has ts t) → HasHome y t
+
 abbrev pub or_first : Option (Option Home) → Home
 or_first (Some (Some h)) = h
 or_first _ = Slot 0
@@ -120,12 +137,12 @@ pub record World : Type 0 where
   pub placed : ℕ
   pub depth : ℕ
 
--- The machine holds what three-address code sees. Each temporary in use stands at its home, and the bytes of each area in the
+-- The machine holds what three-address code sees. Each temporary in use that has a home stands there, and the bytes of each area in the
 -- frame; the region is the same; and x3, x4, x8 and x28 are what they are said to be above.
 pub record Holds (y : Layout) (Used : ℕ → Type 0) (w : World) (base : ℕ) (m : State) : Type 0 where
   pub frame : HasFrame y base m
   pub pc : m.pc < 2 ^ 64
-  pub values : (t : ℕ) → Used t → word_at base m (home_of y t) ≡ w.temps t
+  pub values : (t : ℕ) → Used t → HasHome y t → word_at base m (home_of y t) ≡ w.temps t
   pub words : (t : ℕ) → Used t → w.temps t < 2 ^ 64
   pub areas : (n : ℕ) → n < y.areas →
       take (length (w.areas n)) (drop (base + area_offset y n) m.private) ≡ w.areas n
@@ -141,10 +158,10 @@ pub record Holds (y : Layout) (Used : ℕ → Type 0) (w : World) (base : ℕ) (
   pub below : w.placed ≤ end_address w.region
   pub depth : m.registers 28 ≡ w.depth
 
--- the homes of the temporaries in use
+-- the homes of the temporaries in use that have one
 pub record Housed (y : Layout) (Used : ℕ → Type 0) : Type 0 where
-  pub homes : (t : ℕ) → Used t → IsHome y (home_of y t)
-  pub apart : (t u : ℕ) → Used t → Used u → home_of y t ≡ home_of y u → t ≡ u
+  pub homes : (t : ℕ) → Used t → HasHome y t → IsHome y (home_of y t)
+  pub apart : (t u : ℕ) → Used t → Used u → HasHome y t → HasHome y u → home_of y t ≡ home_of y u → t ≡ u
 
 -- What callers rest on. The registers that no instruction uses as scratch are the same, those apart that the function keeps for
 -- its caller; and so are the words that it keeps, and all that lies behind its frame.
@@ -162,11 +179,15 @@ abbrev pub IsHeld : (held : Option ℕ) → Temps → State → Type 0
 IsHeld None temps m = Unit {0}
 IsHeld (Some t) temps m = m.registers 5 ≡ temps t
 
--- an operand's word, and what is in use where it is read
+-- an operand's word, and what is in use where it is read: a temporary with a home, or, where x5 takes the operand, one that x5 holds
 abbrev pub value_in : Temps → Operand → ℕ
 value_in temps (Temp t) = temps t
 value_in temps (Constant c) = c
 
-abbrev pub IsRead : (ℕ → Type 0) → Operand → Type 0
-IsRead Used (Temp t) = Used t
-IsRead Used (Constant c) = c < 2 ^ 64
+abbrev pub IsRead : Layout → (ℕ → Type 0) → Operand → Type 0
+IsRead y Used (Temp t) = Used t × HasHome y t
+IsRead y Used (Constant c) = c < 2 ^ 64
+
+abbrev pub IsFirst : Layout → (held : Option ℕ) → (ℕ → Type 0) → Operand → Type 0
+IsFirst y held Used (Temp t) = Used t × (IsTrue (is_held held t) ⊎ HasHome y t)
+IsFirst y held Used (Constant c) = c < 2 ^ 64

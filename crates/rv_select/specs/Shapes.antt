@@ -41,13 +41,13 @@ use Rattle.tac_form.specs.declared.tac.Exit.TheVariants as exits
 use Rattle.tac_form.specs.declared.tac.Instruction.{Instruction}
 use Rattle.tac_form.specs.declared.tac.Instruction.TheVariants as instructions
 use Rattle.tac_form.specs.Flow.{bytes_of, width_of}
-use Rattle.tac_form.specs.Graph.{destination_write}
 use Rattle.tac_form.specs.Weights.{most_moved}
 use Rattle.rv_operators.specs.Codes.{x0, x5, x6, code_of, zero_immediate}
 use Rattle.rv_select.specs.declared.settings.Follows.{Follows}
 use Rattle.rv_select.specs.declared.settings.Follows.TheVariants.{Neither, First, Second}
 use Rattle.rv_select.specs.declared.settings.Setting.{Setting}
 use Rattle.rv_select.specs.Settings.{falls, follower}
+pub use Rattle.rv_select.specs.Asked.{held_after, is_held, is_symmetric, is_turned}
 use Rattle.rv_select.specs.Folded.{folded, is_folded}
 use Rattle.rv_select.specs.Numbers.{constant, immediate_of, below_zero, lower_of, register_of, upper_of}
 use Rattle.rv_select.specs.Places.{Layout, area_offset, home_of, slot_offset}
@@ -105,10 +105,6 @@ taken y d (Temp t) = taken_from d (home_of y t)
 taken y d (Constant c) = constant d c
 
 -- x5 gets an operand, unless it holds it: where an instruction leaves a temporary's word in x5, the next one knows
-abbrev pub is_held : (held : Option ℕ) → ℕ → Bool
-is_held None t = false
-is_held (Some u) t = nat_eq u t
-
 abbrev pub first_taken : Layout → (held : Option ℕ) → Operand → List Instr
 first_taken y held (Temp t) = if is_held held t then [] else taken y x5 (Temp t)
 first_taken y held (Constant c) = constant x5 c
@@ -117,6 +113,14 @@ first_taken y held (Constant c) = constant x5 c
 abbrev pub put_to : Home → List Instr
 put_to (homes.Register x) = moved (register_of x) x5 ∷ []
 put_to (homes.Slot k) = framed (λ r offset. Store Sd r x5 offset) (slot_offset k)
+
+-- a temporary's home gets it, where it has one
+abbrev pub put_in : Option (Option Home) → List Instr
+put_in (Some (Some h)) = put_to h
+put_in _ = []
+
+abbrev pub put_at : Layout → ℕ → List Instr
+put_at y d = put_in (slice_get y.homes d)
 
 -- the offset of a branch over so many instructions
 abbrev pub offset_if : (n : ℕ) (fits even : Bool) → nat_le n 4094 ≡ fits → nat_eq (n % 2) 0 ≡ even → BranchOffset
@@ -161,7 +165,7 @@ branched_over condition a b kind at = Branch condition a b (over (failed kind at
 
 -- a copy, an operator, and a test of a divisor
 abbrev pub copied : Layout → (held : Option ℕ) → ℕ → Operand → List Instr
-copied y held d a = first_taken y held a ++ put_to (home_of y d)
+copied y held d a = first_taken y held a ++ put_at y d
 
 -- x5 gets what an operator gives of x5 and an operand, which instructions hold where they can
 abbrev pub applied_to : Layout → Width → BinaryOperator → Operand → List Instr
@@ -169,23 +173,9 @@ applied_to y w op (Temp t) = taken y x6 (Temp t) ++ code_of w op
 applied_to y w op (Constant c) = if is_folded op c then folded w op c else constant x6 c ++ code_of w op
 
 abbrev pub operated : Layout → (held : Option ℕ) → ℕ → BinaryOperator → Width → Operand → Operand → List Instr
-operated y held d op w a b = first_taken y held a ++ (applied_to y w op b ++ put_to (home_of y d))
+operated y held d op w a b = first_taken y held a ++ (applied_to y w op b ++ put_at y d)
 
--- the operators whose operands may change places, and do where x5 holds the second
-abbrev pub is_symmetric : BinaryOperator → Bool
-is_symmetric operators.Add = true
-is_symmetric operators.Multiply = true
-is_symmetric operators.Xor = true
-is_symmetric operators.And = true
-is_symmetric operators.Or = true
-is_symmetric operators.Equal = true
-is_symmetric operators.NotEqual = true
-is_symmetric _ = false
-
-abbrev pub is_turned : (held : Option ℕ) → BinaryOperator → Operand → Bool
-is_turned held op (Temp t) = is_symmetric op && is_held held t
-is_turned held op (Constant c) = false
-
+-- the same, where the operands change places if x5 holds the second
 abbrev pub computed : Layout → (held : Option ℕ) → ℕ → BinaryOperator → Width → Operand → Operand → List Instr
 computed y held d op w a b = if is_turned held op b then operated y held d op w b a else operated y held d op w a b
 
@@ -236,9 +226,9 @@ store_of Eight = Sd
 abbrev pub loaded : Layout → (held : Option ℕ) → ℕ → Number → Spot → List Instr
 loaded y held d form (spots.Region at a) =
     reached y held at a (bytes_of form.size)
-    ++ (Load (load_of form.signed form.size) x5 x5 zero_immediate ∷ put_to (home_of y d))
+    ++ (Load (load_of form.signed form.size) x5 x5 zero_immediate ∷ put_at y d)
 loaded y held d form (spots.Area n offset) =
-    framed (λ r far. Load (load_of form.signed form.size) x5 r far) (area_offset y n + offset) ++ put_to (home_of y d)
+    framed (λ r far. Load (load_of form.signed form.size) x5 r far) (area_offset y n + offset) ++ put_at y d
 
 abbrev pub stored : Layout → (held : Option ℕ) → Spot → Size → Operand → List Instr
 stored y held (spots.Region at a) size b =
@@ -373,14 +363,14 @@ bytes_given =
 abbrev pub allocated : Layout → (held : Option ℕ) → ℕ → Operand → List Instr
 allocated y held d a =
     first_taken y held a
-    ++ (heap_aligned ++ (limit_found ++ (bytes_given ++ put_to (home_of y d))))
+    ++ (heap_aligned ++ (limit_found ++ (bytes_given ++ put_at y d)))
 
 -- the code of an instruction, where x5 may hold the word of a temporary, and which have one so far
 abbrev pub shape_of : Layout → (held : Option ℕ) → Instruction → List Instr
 shape_of y held (instructions.Compute d op form a b) = computed y held d op (width_of form) a b
 shape_of y held (instructions.TestDivisor at a) = divisor_tested y held at a
 shape_of y held (instructions.Copy d a) = copied y held d a
-shape_of y held (instructions.Locate d offset) = located offset ++ put_to (home_of y d)
+shape_of y held (instructions.Locate d offset) = located offset ++ put_at y d
 shape_of y held (instructions.Load d form spot) = loaded y held d form spot
 shape_of y held (instructions.Store spot size a) = stored y held spot size a
 shape_of y held (instructions.Move to from size) = bytes_moved y held to from size
@@ -390,16 +380,6 @@ shape_of y held (instructions.CallValue to at sig a arguments) = []
 shape_of y held (instructions.PutByte a) = byte_put y held a
 shape_of y held (instructions.Write at a b) = range_written y at a b
 shape_of y held (instructions.Alloc d a) = allocated y held d a
-
--- the temporary whose word an instruction leaves in x5: the one that it puts to its home last, as a call does with its result
-abbrev pub held_after : Instruction → Option ℕ
-held_after (instructions.Compute d op form a b) = Some d
-held_after (instructions.Copy d a) = Some d
-held_after (instructions.Locate d offset) = Some d
-held_after (instructions.Load d form spot) = Some d
-held_after (instructions.Alloc d a) = Some d
-held_after (instructions.Call to at f arguments) = destination_write to
-held_after _ = None
 
 abbrev pub has_shape : Instruction → Bool
 has_shape (instructions.Compute d op form a b) = true

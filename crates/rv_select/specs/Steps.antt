@@ -26,7 +26,8 @@ use Rattle.tac_form.specs.Fits.{area_fits, exit_fits, instruction_fits}
 use Rattle.tac_form.specs.Weights.{code_words, exit_words, words_of}
 use Rattle.rv_operators.specs.Runs.{Stands}
 use Rattle.rv_select.specs.declared.settings.Setting.{Setting}
-use Rattle.rv_select.specs.Places.{IsHeld, Layout, World, Holds, Keeps, is_near, is_short, layout_of}
+use Rattle.rv_select.specs.Asked.{asks, exit_asks}
+use Rattle.rv_select.specs.Places.{HaveHomes, IsHeld, Layout, World, Holds, Keeps, is_near, is_short, layout_of}
 use Rattle.rv_select.specs.Shapes.{exit_shape, has_exit_shape, has_shape, held_after, place_number, shape_of}
 
 -- what is in use after an instruction was in use before it, or is what it writes
@@ -91,7 +92,8 @@ Carried y graph program base weight held code s m (Stops (Over Stuck out)) = Uni
 Carried y graph program base weight held code s m (Stops (More out)) = ⊥
 
 -- Where a function's code stands at one of its instructions: its three-address code is right for machine code, its temporaries have
--- right homes, and the machine stands before the instruction's code and holds what three-address code sees, in x5 too.
+-- right homes, those have one that the instruction's code asks for, and the machine stands before this code and holds what three-address
+-- code sees, in x5 too.
 pub record StandsBefore (p : Program) (code : Tac) (homes : List (Option Home)) (held : Option ℕ) (i : Instruction) (s : tac.State) (program : List (Option Instr)) (base : ℕ) (m : State) : Type 0 where
   pub block : Block
   pub function : p.code s.here.function ≡ Some code
@@ -101,6 +103,7 @@ pub record StandsBefore (p : Program) (code : Tac) (homes : List (Option Home)) 
   pub areas : IsTrue (list_all area_fits code.areas)
   pub frame : s.here.base + code.frame ≤ end_address s.region
   pub right : IsRight code homes
+  pub asked : HaveHomes (layout_of code homes) (asks held i)
   pub stands : Stands program m.pc (shape_of (layout_of code homes) held i)
   pub holds : Holds (layout_of code homes) (InUse (graph_of code) s.here.block s.here.at) (world_of s) base m
   pub five : IsHeld held s.here.temps m
@@ -148,6 +151,7 @@ pub record StandsAtExit (p : Program) (code : Tac) (homes : List (Option Home)) 
   pub is : block.exit ≡ exit
   pub fits : IsTrue (exit_fits code exit)
   pub right : IsRight code homes
+  pub asked : HaveHomes (layout_of code homes) (exit_asks held exit)
   pub near : m.pc + 256 ≤ 2 ^ 30
   pub blocks : (b : ℕ) → (starts b < 2 ^ 30) × (starts b % 2 ≡ 0)
   pub reach : IsReached code starts m.pc

@@ -22,7 +22,7 @@ use Rattle.tac_form.specs.Live.{InUse}
 use Rattle.tac_form.specs.Fits.{Counted, Fits}
 use Rattle.tac_form.specs.Weights.{most_moved}
 use Rattle.rv_operators.specs.Runs.{Stands}
-use Rattle.rv_select.specs.Places.{AreBytes, Holds, IsHeld, Keeps, Layout, area_offset, frame_bytes, home_of, layout_of, private_word, uses, word_at}
+use Rattle.rv_select.specs.Places.{AreBytes, HasHome, Holds, IsHeld, Keeps, Layout, area_offset, frame_bytes, home_of, layout_of, private_word, uses, word_at}
 use Rattle.rv_select.specs.declared.pairs.Reads.{Reads}
 use Rattle.rv_select.specs.Pairs.{plain_of, reads_of}
 use Rattle.rv_select.specs.Shapes.{held_after, start_of}
@@ -109,7 +109,7 @@ pub record HasRoom (most depth base : ℕ) : Type 0 where
   pub room : rest * most ≤ base
 
 -- A caller that waits, whose frame begins at an offset: the return address is behind its call, and all that it has in use afterwards
--- stands where its function's layout says, but for the result.
+-- stands where its function's layout gives it a home, but for the result.
 pub record Waiting (p : Program) (image : Image) (most : ℕ) (c : Caller) (depth link base placed : ℕ) (m : State) : Type 0 where
   pub code : Tac
   pub function : p.code c.waits.function ≡ Some code
@@ -124,7 +124,7 @@ pub record Waiting (p : Program) (image : Image) (most : ℕ) (c : Caller) (dept
   pub returns : link ≡ place_in p image code (image c.waits.function) c.waits.block before
       + 4 * length (call_begun (layout_of code (image c.waits.function).homes) place arguments) + 8
   pub values : (t : ℕ) → InUse (graph_of code) c.waits.block c.waits.at t → destination_write c.to ≢ Some t →
-      word_at base m (home_of (layout_of code (image c.waits.function).homes) t) ≡ c.waits.temps t
+      HasHome (layout_of code (image c.waits.function).homes) t → word_at base m (home_of (layout_of code (image c.waits.function).homes) t) ≡ c.waits.temps t
   pub words : (t : ℕ) → InUse (graph_of code) c.waits.block c.waits.at t → destination_write c.to ≢ Some t → c.waits.temps t < 2 ^ 64
   pub areas : (n : ℕ) → n < length code.areas →
       take (length (c.waits.areas n)) (drop (base + area_offset (layout_of code (image c.waits.function).homes) n) m.private) ≡

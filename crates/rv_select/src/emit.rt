@@ -7,7 +7,7 @@ ghost use Rattle.rv_isa.specs.Table.{word_of};
 ghost use Rattle.rv_select.specs.Numbers.{constant, in_four, in_two, long_constant, moved_up, short_constant};
 ghost use Rattle.rv_machine.specs.Word.{extended_word};
 ghost use Rattle.rv_select.specs.Places.{area_offset, home_of, slot_offset, with_homes};
-ghost use Rattle.rv_select.specs.Shapes.{far_part, framed, moved, put_to, taken, taken_from, x11};
+ghost use Rattle.rv_select.specs.Shapes.{far_part, framed, moved, put_at, put_to, taken, taken_from, x11};
 
 use crate::operands::{immediate, lower, register, upper};
 use reg_alloc::Home;
@@ -317,7 +317,7 @@ pub(crate) fn area_offset(homes: &[Option<Home>], area: u64, offset: u64) -> Res
     }
 }
 
-/// A temporary's home. One that is never in use has none, and is never asked for.
+/// A temporary's home. One that has none is never asked for.
 fn home_of(homes: &[Option<Home>], temp: u64) -> Home
     ensures { result ≡ home_of (with_homes homes.now) temp }
 {
@@ -342,15 +342,18 @@ pub(crate) fn push_taken(
     }
 }
 
-/// A temporary's home gets the word in x5.
+/// A temporary's home gets the word in x5, where it has one.
 pub(crate) fn push_put(
     code: &mut Vec<u32>,
     homes: &[Option<Home>],
     temp: u64,
 ) -> Result<(), NoMemory>
-    ensures { OnOk result (code.new.items ≡ code.old.items ++ map word_of (put_to (home_of (with_homes homes.now) temp))) }
+    ensures { OnOk result (code.new.items ≡ code.old.items ++ map word_of (put_at (with_homes homes.now) temp)) }
 {
-    push_put_to(code, home_of(homes, temp))
+    match homes.get(temp as usize) {
+        Some(Some(home)) => push_put_to(code, *home),
+        _ => Ok(()),
+    }
 }
 
 /// How many words `push_constant` takes.

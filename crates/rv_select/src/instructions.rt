@@ -9,8 +9,8 @@ ghost use Rattle.tac_form.specs.Flow.{bytes_of, width_of};
 ghost use Rattle.rv_operators.specs.Codes.{code_of, x5, x6, zero_immediate};
 ghost use Rattle.rv_select.specs.Folded.{folded, is_folded};
 ghost use Rattle.rv_select.specs.Numbers.{constant};
-ghost use Rattle.rv_select.specs.Places.{home_of, with_homes};
-ghost use Rattle.rv_select.specs.Shapes.{applied_to, area_reached, bounds_tested, cleared, computed, copied, divisor_tested, failed, fault_call, first_taken, branched_over, has_shape, held_after, is_held, is_symmetric, is_turned, load_of, loaded, located, operated, place_number, put_to, reached, shape_of, small, store_of, stored, taken, zero_put, zeros};
+ghost use Rattle.rv_select.specs.Places.{with_homes};
+ghost use Rattle.rv_select.specs.Shapes.{applied_to, area_reached, bounds_tested, cleared, computed, copied, divisor_tested, failed, fault_call, first_taken, branched_over, has_shape, held_after, is_held, is_symmetric, is_turned, load_of, loaded, located, operated, place_number, put_at, reached, shape_of, small, store_of, stored, taken, zero_put, zeros};
 
 use crate::emit::{
     X0, X5, X6, area_offset, constant_words, push_constant, push_frame_address, push_frame_load,
@@ -95,7 +95,7 @@ fn push_address(
     temp: u64,
     offset: u64,
 ) -> Result<(), NoMemory>
-    ensures { OnOk result (code.new.items ≡ code.old.items ++ map word_of (located offset ++ put_to (home_of (with_homes homes.now) temp))) }
+    ensures { OnOk result (code.new.items ≡ code.old.items ++ map word_of (located offset ++ put_at (with_homes homes.now) temp)) }
 {
     push_located(code, offset)?;
     push_put(code, homes, temp)
@@ -152,7 +152,7 @@ fn push_operated(
 }
 
 /// Whether the operands change places: where x5 holds the second.
-fn is_turned(held: Option<u64>, operator: BinaryOperator, b: Operand) -> bool
+pub(crate) fn is_turned(held: Option<u64>, operator: BinaryOperator, b: Operand) -> bool
     ensures { result ≡ is_turned held operator b }
 {
     match b {
@@ -257,7 +257,7 @@ pub(crate) fn push_first_temp(
     }
 }
 
-fn is_held(held: Option<u64>, temp: u64) -> bool
+pub(crate) fn is_held(held: Option<u64>, temp: u64) -> bool
     ensures { result ≡ is_held held temp }
 {
     match held {

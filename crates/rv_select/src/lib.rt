@@ -6,6 +6,7 @@
 //! holds afterwards what three-address code sees then. The laws of `law` have that of each instruction.
 #![tactic(auto)]
 
+mod asked;
 mod calls;
 pub mod compared;
 mod emit;

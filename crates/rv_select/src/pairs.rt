@@ -3,7 +3,7 @@
 ghost use Rattle.std.specs.Prelude.{◌≡◌, ◌<◌, ◌&&◌, IfOk, Some, nat_eq, replicate, slice_set};
 ghost use Rattle.rv_operators.specs.Codes.{is_comparison};
 ghost use Rattle.rv_select.specs.declared.pairs.Reads.TheVariants.{Never};
-ghost use Rattle.rv_select.specs.Pairs.{counted, counted_steps, counted_blocks, is_once, once_more, pair_at, pair_of, reads_at, reads_of};
+ghost use Rattle.rv_select.specs.Pairs.{but_pair, counted, counted_steps, counted_blocks, is_once, once_more, pair_at, pair_of, reads_at, reads_of};
 ghost use Rattle.tac_form.specs.declared.tac.Instruction.TheVariants as instructions;
 
 use reg_alloc::flow_graph;
@@ -144,6 +144,16 @@ fn compared_at(
             })
         }
         _ => None,
+    }
+}
+
+/// The instructions of a block that have code of their own: all, but for a comparison that has one code with its branch.
+pub(crate) fn plain_of(instructions: &[Instruction], pair: Option<Pair>) -> &[Instruction]
+    ensures { result.now ≡ but_pair pair instructions.now }
+{
+    match pair {
+        Some(_) if !instructions.is_empty() => &instructions[..instructions.len() - 1],
+        _ => instructions,
     }
 }
 

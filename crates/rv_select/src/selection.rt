@@ -5,18 +5,19 @@ ghost use Rattle.std.specs.List.{list_all};
 ghost use Rattle.rv_isa.specs.Table.{word_of};
 ghost use Rattle.rv_select.specs.Calls.{IsSelected, KeepsWithin, all_has_code, block_code, block_has_code, block_starts, blocks_calls, blocks_code, call_jump, called, end_code, exit_code, has_code, has_exit_code, head_code, held_behind, instruction_calls, instruction_code, instructions_calls, instructions_code, jump_unless_last, last_address, pair_code, returned, starts_from};
 ghost use Rattle.rv_select.specs.Entering.{begun, entered, received, words_offset};
-ghost use Rattle.rv_select.specs.Pairs.{but_pair, pair_of, plain_of, reads_of};
-ghost use Rattle.rv_select.specs.Places.{extent_of, frame_bytes, layout_of, with_homes, with_reads};
+ghost use Rattle.rv_select.specs.Pairs.{pair_of, plain_of, reads_of};
+ghost use Rattle.rv_select.specs.Places.{extent_of, frame_bytes, layout_with, with_homes, with_reads};
 ghost use Rattle.rv_select.specs.Settings.{setting_of};
 ghost use Rattle.rv_select.specs.Shapes.{jump, start_of};
 ghost use Rattle.tac_form.specs.declared.tac.Instruction.TheVariants as instructions;
 
+use crate::asked::asked_homes;
 use crate::calls::{push_call_begun, push_call_ended, push_call_jump, push_given};
 use crate::compared::push_compared;
 use crate::entries::{push_begun, push_entered, push_left, push_received};
 use crate::exits::{push_exit, push_jump};
 use crate::instructions::{held_after, push_instruction};
-use crate::pairs::{Pair, Reads, pair_of, reads_of};
+use crate::pairs::{Pair, Reads, pair_of, plain_of, reads_of};
 use crate::selected::{Call, Code};
 use crate::settings::{Extent, Setting, setting_of};
 use crate::short::{is_near, is_short};
@@ -221,16 +222,6 @@ fn push_pair(
     )
 }
 
-/// The instructions of a block that have code of their own: all, but for a comparison that has one code with its branch.
-fn plain_of(instructions: &[Instruction], pair: Option<Pair>) -> &[Instruction]
-    ensures { result.now ≡ but_pair pair instructions.now }
-{
-    match pair {
-        Some(_) if !instructions.is_empty() => &instructions[..instructions.len() - 1],
-        _ => instructions,
-    }
-}
-
 /// The code of a block that so many follow.
 fn push_block(
     code: &mut Vec<u32>,
@@ -286,8 +277,8 @@ fn push_blocks(
 
 /// Where the parameters' words begin in the frame, and the bytes of the frame.
 fn frame_of(homes: &[Option<Home>], tac: &Tac) -> Result<(u64, u64), NoMemory>
-    ensures words { IfOk result (λ both. both.0 ≡ words_offset (layout_of tac.now homes.now)) }
-    ensures bytes { IfOk result (λ both. both.1 ≡ frame_bytes (layout_of tac.now homes.now)) }
+    ensures words { IfOk result (λ both. both.0 ≡ words_offset (layout_with tac.now homes.now)) }
+    ensures bytes { IfOk result (λ both. both.1 ≡ frame_bytes (layout_with tac.now homes.now)) }
     ensures few { IfOk result (λ both. both.0 < 2 ^ 63) }
 {
     let temps = homes.len() as u64;
@@ -320,7 +311,7 @@ fn push_call_head(
     bytes: u64,
 ) -> Result<(), NoMemory>
     requires { words < 2 ^ 63 }
-    ensures { OnOk result (code.new.items ≡ code.old.items ++ map word_of (entered (layout_of tac.now homes.now) bytes tac.now.frame ++ received (layout_of tac.now homes.now) tac.now.areas words tac.now.parameters)) }
+    ensures { OnOk result (code.new.items ≡ code.old.items ++ map word_of (entered (layout_with tac.now homes.now) bytes tac.now.frame ++ received (layout_with tac.now homes.now) tac.now.areas words tac.now.parameters)) }
 {
     push_entered(code, homes, bytes, tac.frame)?;
     push_received(
@@ -341,9 +332,9 @@ struct Head {
 
 /// The code that comes before the blocks of a function.
 fn push_head(code: &mut Vec<u32>, homes: &[Option<Home>], tac: &Tac) -> Result<Head, NoMemory>
-    ensures code { OnOk result (code.new.items ≡ code.old.items ++ map word_of (head_code (layout_of tac.now homes.now) tac.now)) }
+    ensures code { OnOk result (code.new.items ≡ code.old.items ++ map word_of (head_code (layout_with tac.now homes.now) tac.now)) }
     ensures entry { IfOk result (λ head. head.entry ≡ length (begun tac.now)) }
-    ensures frame { IfOk result (λ head. head.frame ≡ frame_bytes (layout_of tac.now homes.now)) }
+    ensures frame { IfOk result (λ head. head.frame ≡ frame_bytes (layout_with tac.now homes.now)) }
 {
     let (words, frame) = frame_of(homes, tac)?;
     let entry = push_entry(code, tac)?;
@@ -366,9 +357,9 @@ fn push_body(
     requires has_code { IsTrue (all_has_code tac.now) }
     requires reads { reads.now ≡ reads_of tac.now }
     requires extent { extent ≡ extent_of tac.now }
-    ensures code { OnOk result (code.new.items ≡ code.old.items ++ map word_of (blocks_code (layout_of tac.now homes.now) tac.now.areas (λ f. 0) (start_of starts.now) last (4 * length code.old.items) tac.now.blocks)) }
-    ensures calls { OnOk result (calls.new.items ≡ calls.old.items ++ blocks_calls (layout_of tac.now homes.now) tac.now.areas (length code.old.items) tac.now.blocks) }
-    ensures begins { OnOk result (begins.new.items ≡ begins.old.items ++ starts_from (layout_of tac.now homes.now) tac.now.areas (4 * length code.old.items) tac.now.blocks) }
+    ensures code { OnOk result (code.new.items ≡ code.old.items ++ map word_of (blocks_code (layout_with tac.now homes.now) tac.now.areas (λ f. 0) (start_of starts.now) last (4 * length code.old.items) tac.now.blocks)) }
+    ensures calls { OnOk result (calls.new.items ≡ calls.old.items ++ blocks_calls (layout_with tac.now homes.now) tac.now.areas (length code.old.items) tac.now.blocks) }
+    ensures begins { OnOk result (begins.new.items ≡ begins.old.items ++ starts_from (layout_with tac.now homes.now) tac.now.areas (4 * length code.old.items) tac.now.blocks) }
 {
     push_blocks(
         code,
@@ -413,8 +404,8 @@ fn find_places(
     requires has_code { IsTrue (all_has_code tac.now) }
     requires reads { reads.now ≡ reads_of tac.now }
     requires extent { extent ≡ extent_of tac.now }
-    ensures starts { IfOk result (λ places. places.starts.items ≡ block_starts (layout_of tac.now homes.now) tac.now 0) }
-    ensures last { IfOk result (λ places. places.last ≡ last_address (layout_of tac.now homes.now) tac.now 0) }
+    ensures starts { IfOk result (λ places. places.starts.items ≡ block_starts (layout_with tac.now homes.now) tac.now 0) }
+    ensures last { IfOk result (λ places. places.last ≡ last_address (layout_with tac.now homes.now) tac.now 0) }
 {
     let mut code = Vec::new(alloc);
     let mut calls = Vec::new(alloc);
@@ -435,7 +426,8 @@ fn find_places(
     Ok(Places { starts, last })
 }
 
-/// The machine's code of a function by its three-address code and an assignment. Its temporaries stand where the assignment says.
+/// The machine's code of a function by its three-address code and an assignment. Its temporaries stand where the assignment says, but for
+/// those whose words are only ever taken from x5.
 pub fn select(alloc: Global, tac: &Tac, assignment: &Assignment) -> Result<Code, NoMemory>
     requires { IsTrue (all_has_code tac.now) }
     ensures selected { IfOk result (λ code. IsSelected tac.now assignment.now code) }
@@ -443,8 +435,9 @@ pub fn select(alloc: Global, tac: &Tac, assignment: &Assignment) -> Result<Code,
     // is sized.
     ensures within { IfOk result (λ code. KeepsWithin tac.now assignment.now code) }
 {
-    let homes = assignment.as_slice();
     let reads = reads_of(alloc, tac)?;
+    let given = asked_homes(alloc, tac, &reads, assignment.as_slice())?;
+    let homes = given.as_slice();
     let extent = extent_of(tac);
     let places = find_places(alloc, homes, tac, &reads, extent)?;
     let mut words = Vec::new(alloc);

@@ -1,7 +1,7 @@
-use Rattle.std.proofs.Common.{◌∙◌, subst}
-use Rattle.rv_select.specs.Calls.{IsSelected}
-use Rattle.rv_select.specs.Places.{layout_of}
-use Rattle.rv_select.proofs.Bodies.{left-whole, whole-calls, whole-words}
+use Rattle.std.proofs.Common.{ap, ◌∙◌}
+use Rattle.rv_select.specs.Asked.{asked_homes}
+use Rattle.rv_select.specs.Places.{layout_with}
+use Rattle.rv_select.proofs.Bodies.{left-whole, selected-by, whole-calls, whole-words}
 use Rattle.rv_select.proofs.Weighed.{keeps-within}
 use Rattle.rv_select.proofs.selection.select.Goals as goal
 
@@ -9,18 +9,17 @@ pub returns-clause-selected : goal.returns-clause-selected
 returns-clause-selected c =
     let tac = c.args.tac.now in
     let h = c.as_slice-homes.result.now in
-    subst (λ z. IsSelected tac z (record { words = c.push_left.new.code; calls = c.push_body.new.calls; entry = c.in_ok-head.head.entry; frame = c.in_ok-head.head.frame })) c.as_slice-homes.ensures
-    (record {
-      words = whole-words (layout_of tac h) tac c.new-words.result.items c.push_head.new.code.items c.push_body.new.code.items
-          c.push_left.new.code.items c.deref-2.result.now c.in_ok-places.places.last
-          c.new-words.ensures.items (c.deref-2.ensures.value ∙ c.in_ok-places.ensures.starts) c.in_ok-places.ensures.last
-          c.in_ok-head.ensures.code c.in_ok-push_body.ensures.code
-          (left-whole tac h c.in_ok-head.head.frame c.push_body.new.code.items c.push_left.new.code.items c.in_ok-head.ensures.frame c.in_ok-push_left.ensures);
-      calls = whole-calls (layout_of tac h) tac c.new-words.result.items c.push_head.new.code.items c.new-calls.result.items c.push_body.new.calls.items
-          c.new-words.ensures.items c.new-calls.ensures.items c.in_ok-head.ensures.code c.in_ok-push_body.ensures.calls;
-      entry = c.in_ok-head.ensures.entry;
-      frame = c.in_ok-head.ensures.frame;
-    })
+    selected-by tac h c.args.assignment.now
+    (record { words = c.push_left.new.code; calls = c.push_body.new.calls; entry = c.in_ok-head.head.entry; frame = c.in_ok-head.head.frame })
+    (c.as_slice-homes.ensures.value ∙ (c.in_ok-given.ensures ∙ ap (asked_homes tac) c.as_slice.ensures))
+    (whole-words (layout_with tac h) tac c.new-words.result.items c.push_head.new.code.items c.push_body.new.code.items
+    c.push_left.new.code.items c.deref-3.result.now c.in_ok-places.places.last
+    c.new-words.ensures.items (c.deref-3.ensures.value ∙ c.in_ok-places.ensures.starts) c.in_ok-places.ensures.last
+    c.in_ok-head.ensures.code c.in_ok-push_body.ensures.code
+    (left-whole tac h c.in_ok-head.head.frame c.push_body.new.code.items c.push_left.new.code.items c.in_ok-head.ensures.frame c.in_ok-push_left.ensures))
+    (whole-calls (layout_with tac h) tac c.new-words.result.items c.push_head.new.code.items c.new-calls.result.items c.push_body.new.calls.items
+    c.new-words.ensures.items c.new-calls.ensures.items c.in_ok-head.ensures.code c.in_ok-push_body.ensures.calls)
+    c.in_ok-head.ensures.entry c.in_ok-head.ensures.frame
 
 pub returns-clause-within : goal.returns-clause-within
 returns-clause-within c =

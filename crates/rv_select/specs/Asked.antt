@@ -1,0 +1,120 @@
+-- Which temporaries the code of a function takes from their homes. The others have none: their words are only ever taken from x5, directly
+-- behind the instructions that leave them there.
+use Rattle.std.specs.Prelude.{ℕ, Bool, true, false, ◌&&◌, if◌then◌else◌, nat_eq, List, [], ◌∷◌, ◌++◌, length, replicate, Option, Some, None, slice_get, slice_set}
+use Rattle.std.specs.List.{flat_map}
+use Rattle.terra_words.specs.declared.words.BinaryOperator.{BinaryOperator}
+use Rattle.terra_words.specs.declared.words.BinaryOperator.TheVariants as operators
+use Rattle.reg_alloc.specs.declared.assignment.Home.{Home}
+use Rattle.tac_form.specs.declared.tac.Operand.{Operand}
+use Rattle.tac_form.specs.declared.tac.Operand.TheVariants.{Temp, Constant}
+use Rattle.tac_form.specs.declared.tac.Address.{Address}
+use Rattle.tac_form.specs.declared.tac.Address.TheVariants.{Word, Frame}
+use Rattle.tac_form.specs.declared.tac.Spot.{Spot}
+use Rattle.tac_form.specs.declared.tac.Spot.TheVariants as spots
+use Rattle.tac_form.specs.declared.tac.Instruction.{Instruction}
+use Rattle.tac_form.specs.declared.tac.Instruction.TheVariants as instructions
+use Rattle.tac_form.specs.declared.tac.Exit.{Exit}
+use Rattle.tac_form.specs.declared.tac.Exit.TheVariants as exits
+use Rattle.tac_form.specs.declared.tac.Block.{Block}
+use Rattle.tac_form.specs.declared.tac.Tac.{Tac}
+use Rattle.tac_form.specs.Graph.{destination_write, exit_reads, instruction_reads, operand_reads}
+use Rattle.rv_select.specs.declared.pairs.Reads.{Reads}
+use Rattle.rv_select.specs.declared.pairs.Pair.{Pair}
+use Rattle.rv_select.specs.Pairs.{pair_of, plain_of, reads_of}
+
+-- the temporary whose word an instruction leaves in x5: the one that it writes last, as a call does with its result
+abbrev pub held_after : Instruction → Option ℕ
+held_after (instructions.Compute d op form a b) = Some d
+held_after (instructions.Copy d a) = Some d
+held_after (instructions.Locate d offset) = Some d
+held_after (instructions.Load d form spot) = Some d
+held_after (instructions.Alloc d a) = Some d
+held_after (instructions.Call to at f arguments) = destination_write to
+held_after _ = None
+
+-- what x5 holds behind instructions; nothing is known of it where a block begins
+abbrev pub held_behind : (held : Option ℕ) → List Instruction → Option ℕ
+held_behind held [] = held
+held_behind held (i ∷ is) = held_behind (held_after i) is
+
+abbrev pub is_held : (held : Option ℕ) → ℕ → Bool
+is_held None t = false
+is_held (Some u) t = nat_eq u t
+
+-- the operators whose operands may change places, and do where x5 holds the second
+abbrev pub is_symmetric : BinaryOperator → Bool
+is_symmetric operators.Add = true
+is_symmetric operators.Multiply = true
+is_symmetric operators.Xor = true
+is_symmetric operators.And = true
+is_symmetric operators.Or = true
+is_symmetric operators.Equal = true
+is_symmetric operators.NotEqual = true
+is_symmetric _ = false
+
+abbrev pub is_turned : (held : Option ℕ) → BinaryOperator → Operand → Bool
+is_turned held op (Temp t) = is_symmetric op && is_held held t
+is_turned held op (Constant c) = false
+
+-- an operand that x5 takes is asked for unless x5 holds it
+abbrev pub first_asks : (held : Option ℕ) → Operand → List ℕ
+first_asks held (Temp t) = if is_held held t then [] else t ∷ []
+first_asks held (Constant c) = []
+
+abbrev pub both_ask : (held : Option ℕ) → (a b : Operand) → List ℕ
+both_ask held a b = first_asks held a ++ operand_reads b
+
+abbrev pub address_asks : (held : Option ℕ) → Address → List ℕ
+address_asks held (Word a) = first_asks held a
+address_asks held (Frame offset) = []
+
+abbrev pub spot_asks : (held : Option ℕ) → Spot → List ℕ
+spot_asks held (spots.Region at a) = address_asks held a
+spot_asks held (spots.Area n offset) = []
+
+abbrev pub computed_asks : (held : Option ℕ) → BinaryOperator → (a b : Operand) → List ℕ
+computed_asks held op a b = if is_turned held op b then both_ask held b a else both_ask held a b
+
+-- What the code of an instruction asks for. A copy always puts its word to a home, so that it has at least one instruction.
+abbrev pub asks : (held : Option ℕ) → Instruction → List ℕ
+asks held (instructions.Compute d op form a b) = computed_asks held op a b
+asks held (instructions.TestDivisor at a) = first_asks held a
+asks held (instructions.Copy d a) = d ∷ first_asks held a
+asks held (instructions.Load d form spot) = spot_asks held spot
+asks held (instructions.Store spot size a) = spot_asks held spot ++ operand_reads a
+asks held (instructions.Move to from size) = spot_asks held to ++ spot_asks held from
+asks held (instructions.PutByte a) = first_asks held a
+asks held (instructions.Alloc d a) = first_asks held a
+asks held i = instruction_reads i
+
+abbrev pub all_ask : (held : Option ℕ) → List Instruction → List ℕ
+all_ask held [] = []
+all_ask held (i ∷ is) = asks held i ++ all_ask (held_after i) is
+
+-- what the end of a block asks for: a comparison and its branch, or an exit
+abbrev pub exit_asks : (held : Option ℕ) → Exit → List ℕ
+exit_asks held (exits.Branch a e f) = first_asks held a
+exit_asks held e = exit_reads e
+
+abbrev pub end_asks : (held : Option ℕ) → Option Pair → Exit → List ℕ
+end_asks held None e = exit_asks held e
+end_asks held (Some pair) e = both_ask held pair.a pair.b
+
+abbrev pub block_asks : List Reads → Block → List ℕ
+block_asks reads b =
+    all_ask None (plain_of reads b) ++ end_asks (held_behind None (plain_of reads b)) (pair_of reads b) b.exit
+
+unfoldable pub asked_of : Tac → List ℕ
+asked_of code = flat_map (block_asks (reads_of code)) code.blocks
+
+-- Each temporary that is asked for gets its home.
+abbrev pub home_in : Option (Option Home) → Option Home
+home_in None = None
+home_in (Some h) = h
+
+abbrev pub with_given : (homes given : List (Option Home)) → List ℕ → List (Option Home)
+with_given homes given [] = given
+with_given homes given (t ∷ ts) = with_given homes (slice_set given t (home_in (slice_get homes t))) ts
+
+unfoldable pub asked_homes : Tac → List (Option Home) → List (Option Home)
+asked_homes code homes = with_given homes (replicate (length homes) None) (asked_of code)
