@@ -5,6 +5,8 @@ pub mod Composing
 pub mod Making
 -- What is behind a conversion or a value.
 pub mod Behind
+-- Conversions that change nothing.
+pub mod Staying
 -- Layouts.
 pub mod Laying
 -- Types that are made.

@@ -1,8 +1,11 @@
 -- What forms of types say.
-use Rattle.std.specs.Prelude.{Bool, true, false, Option, Some, None}
+use Rattle.std.specs.Prelude.{Bool, true, false, not, ◌&&◌, Option, Some, None}
 use Rattle.tl_base.specs.declared.ids.TypeId.{TypeId}
 use Rattle.terra_types.specs.declared.types.TypeForm.{TypeForm}
 use Rattle.terra_types.specs.declared.types.TypeForm.TheVariants as forms
+use Rattle.terra_types.specs.Making.{same_type}
+use Rattle.exotype.specs.World.{StageState}
+use Rattle.check_model.specs.Typing.{form_in, is_aggregate_form}
 use Rattle.check_expr.specs.declared.entries.Elements.{Elements}
 use Rattle.check_expr.specs.declared.entries.Elements.TheVariants as elements
 
@@ -19,3 +22,7 @@ abbrev pub elements_in : TypeForm → Elements
 elements_in (forms.Pointer t) = elements.Behind t
 elements_in (forms.Array t n) = elements.Within t
 elements_in _ = elements.Nothing
+
+-- what has the first type is a value of the second one as it stands
+abbrev pub stands_as : StageState → TypeId → TypeId → Bool
+stands_as w t u = same_type t u && not (is_aggregate_form (form_in w t))

@@ -18,7 +18,8 @@ use crate::frame::{BodyFrame, LaidThen, MadeFrame, MeetFrame};
 use crate::layouts::lay_out;
 use crate::nodes::{gives, make, pointer_to, refuse, without_lua};
 use crate::reading::{
-    bytes, is_bool, is_integer, is_nil, is_struct, metamethod, metamethod_of_either, target,
+    bytes, is_bool, is_integer, is_nil, is_struct, is_value_of, metamethod, metamethod_of_either,
+    target,
 };
 use crate::step::{BodyStep, Node};
 use check_cast::meet;
@@ -297,8 +298,31 @@ fn meeting(typing: &Typing, left: Made, right: Made) -> TypeId
     }
 }
 
+// Most often an operand has the type at which both meet already. It is then what it is converted to, and no frame waits for it.
+
 /// Converts both operands to the type at which they meet: the left one first.
 fn at_type(
+    frames: &mut Vec<BodyFrame>,
+    typing: &mut Typing,
+    frame: MeetFrame,
+    left: Made,
+    right: Made,
+) -> Result<BodyStep, NoMemory>
+    ensures means { IfOk result (λ step. (units : ℕ) →
+        Goes frames.old.items
+        (models.at_type frame.meet frame.op frame.of left right frame.node.at frame.node.source frame.node.site)
+        typing.old units frames.new.items step typing.new units) }
+    ensures kept { OnOk result (KeepsTyping typing.old typing.new) }
+{
+    if is_value_of(&typing.world, left.of, frame.meet) {
+        meet_next(frames, typing, frame, left, right)
+    } else {
+        convert_left(frames, typing, frame, left, right)
+    }
+}
+
+/// Converts the left operand, and then the right one.
+fn convert_left(
     frames: &mut Vec<BodyFrame>,
     typing: &mut Typing,
     frame: MeetFrame,
@@ -325,6 +349,27 @@ fn at_type(
 
 /// Converts the right operand, behind the left one.
 pub fn meet_next(
+    frames: &mut Vec<BodyFrame>,
+    typing: &mut Typing,
+    frame: MeetFrame,
+    left: Made,
+    right: Made,
+) -> Result<BodyStep, NoMemory>
+    ensures means { IfOk result (λ step. (units : ℕ) →
+        Goes frames.old.items
+        (converting.convert Mode.Implicit right frame.meet frame.node.site (λ y. meet_right frame left y))
+        typing.old units frames.new.items step typing.new units) }
+    ensures kept { OnOk result (KeepsTyping typing.old typing.new) }
+{
+    if is_value_of(&typing.world, right.of, frame.meet) {
+        both(typing, frame.op, frame.of, left, right, frame.node)
+    } else {
+        convert_right(frames, typing, frame, left, right)
+    }
+}
+
+/// Converts the right operand.
+fn convert_right(
     frames: &mut Vec<BodyFrame>,
     typing: &mut Typing,
     frame: MeetFrame,

@@ -4,7 +4,7 @@ ghost use Rattle.std.specs.Prelude.{◌≡◌};
 ghost use Rattle.terra_term.specs.WellTyped as tests;
 ghost use Rattle.check_model.specs.Typing as models;
 ghost use Rattle.check_model.specs.Plans.{is_wide};
-ghost use Rattle.check_expr.specs.Forms.{bool_form, target_in};
+ghost use Rattle.check_expr.specs.Forms.{bool_form, stands_as, target_in};
 ghost use Rattle.check_model.specs.Structs as structs;
 
 use check_model::Made;
@@ -26,6 +26,13 @@ pub fn is_aggregate(world: &World, of: TypeId) -> bool
         Some(TypeForm::Array(_, _)) => true,
         _ => false,
     }
+}
+
+/// Whether what has the first type is a value of the second one as it stands: both are the same, and no aggregate, so no layout is needed.
+pub fn is_value_of(world: &World, of: TypeId, to: TypeId) -> bool
+    ensures { result ≡ stands_as world.now of to }
+{
+    of.0 == to.0 && !is_aggregate(world, of)
 }
 
 /// The number of bytes of a type whose layout is settled, and 0 for any other.
