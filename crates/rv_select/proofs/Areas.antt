@@ -268,7 +268,7 @@ area-stores y held size n offset b Used Next w base program m stands there withi
     let B : List Instr = framed (λ r far. Store (store_of size) r x6 far) (area_offset y n + offset) in
     let v : ℕ = value_in w.temps b in
     let bs : List ℕ = low_bytes (bytes_of size) v in
-    let l : Loads 6 A m v = take-operand y x6 Used w base m b (λ e. omega (arith, e)) p h r in
+    let l : Loads 6 A m v = take-operand y x6 Used w base m b (λ e. omega (arith, e)) (λ e. omega (arith, e)) p h r in
     let q : Holds y Used w base l.after = scratch-holds y Used w base A m l.after p h (loads-six A m v l) in
     let s : Saves (A ++ B) m (base + (area_offset y n + offset)) bs =
     then-saves A B m l.after (base + (area_offset y n + offset)) bs (loads-six A m v l) (area-save y Used w base n offset v size l.after q there most l.gives) in

@@ -175,7 +175,7 @@ gives-place program zero at m p small there = record {
 }
 gives-place program (suc n) at m p small there =
     let E : List Instr = constant x11 (place_number at) in
-    let c : Loads 11 E m (place_number at) = constant-loads x11 m (place_number at) (λ z. omega (arith, z)) small in
+    let c : Loads 11 E m (place_number at) = constant-loads x11 m (place_number at) (λ z. omega (arith, z)) (λ z. omega (arith, z)) small in
     record {
       after = c.after;
       way = straight-way program E m c.after there c.straight c.goes;

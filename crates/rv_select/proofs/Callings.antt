@@ -99,7 +99,7 @@ module _ (program : List (Option Instr)) (y : Layout) (Used : ℕ → Type 0) (w
   P = passed y 0 ps
 
   abbrev l : Loads 11 A m (place_number at)
-  l = constant-loads x11 m (place_number at) (λ z. omega (arith, z)) fits
+  l = constant-loads x11 m (place_number at) (λ z. omega (arith, z)) (λ z. omega (arith, z)) fits
 
   abbrev t1 : State
   t1 = l.after

@@ -185,7 +185,8 @@ module _ (p : Program) (code : Tac) (homes : List (Option Home)) (held : Option 
   compare-comes taken_it c is block unread h =
       let l : Loads 5 (first_taken y held a) m va = take-first y held used (world_of s) base m a x.five x.holds all-housed read-a in
       let q : Holds y used (world_of s) base l.after = scratch-holds y used (world_of s) base (first_taken y held a) m l.after x.holds all-housed (loads-five (first_taken y held a) m va l) in
-      let k : Loads 6 (taken y x6 b) l.after vb = take-operand y x6 used (world_of s) base l.after b (λ i. omega (arith, i)) q all-housed read-b in
+      let k : Loads 6 (taken y x6 b) l.after vb =
+      take-operand y x6 used (world_of s) base l.after b (λ i. omega (arith, i)) (λ i. omega (arith, i)) q all-housed read-b in
       let five : k.after.registers 5 ≡ va = k.keeps 5 (λ i. omega (arith, i)) (λ i. omega (arith, i)) ∙ l.gives in
       let both : Scratch A m k.after = scratch-both (first_taken y held a) (taken y x6 b) m l.after k.after (loads-five (first_taken y held a) m va l) (loads-six (taken y x6 b) l.after vb k) in
       let count : length A ≤ weights.operand_words a + weights.operand_words b =

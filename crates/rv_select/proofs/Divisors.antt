@@ -91,7 +91,8 @@ near-located m placed offset e h k =
 
 far-located : (m : State) (placed offset : ℕ) → m.registers 8 ≡ placed → placed + offset < 2 ^ 64 → Loads 5 (constant x5 offset ++ RegisterRegister Add x5 x5 x8 ∷ []) m (placed + offset)
 far-located m placed offset e h =
-    let l : Loads 5 (constant x5 offset) m offset = constant-loads x5 m offset (λ z. omega (arith, z)) (omega arith) in
+    let l : Loads 5 (constant x5 offset) m offset =
+    constant-loads x5 m offset (λ z. omega (arith, z)) (λ z. omega (arith, z)) (omega arith) in
     let sum : offset + placed ≡ placed + offset = omega arith in
     loads-both 5 offset (placed + offset) (constant x5 offset) (RegisterRegister Add x5 x5 x8 ∷ []) m l
     (loads-one (RegisterRegister Add x5 x5 x8) l.after 5 (placed + offset) (λ z. omega (arith, z)) refl

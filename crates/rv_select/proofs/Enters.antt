@@ -115,7 +115,7 @@ module _ (program : List (Option Instr)) (m : State) (frame size placed : ℕ) (
   A = constant x5 frame
 
   abbrev l : Loads 5 A m frame
-  l = constant-loads x5 m frame (λ z. omega (arith, z)) (omega arith)
+  l = constant-loads x5 m frame (λ z. omega (arith, z)) (λ z. omega (arith, z)) (omega arith)
 
   abbrev a : State
   a = l.after

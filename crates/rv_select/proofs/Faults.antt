@@ -42,7 +42,7 @@ pub fails : (program : List (Option Instr)) (m : State) (kind : FaultKind) (at :
     1 ≤ fault_number kind → fault_number kind ≤ 5 → Stands program m.pc (failed kind at) → Ends program kind at 11 m
 fails program m kind at p h l u there =
     let code : List Instr = constant x11 (place_number at) in
-    let k : Loads 11 code m (place_number at) = constant-loads x11 m (place_number at) (λ e. omega (arith, e)) h in
+    let k : Loads 11 code m (place_number at) = constant-loads x11 m (place_number at) (λ e. omega (arith, e)) (λ e. omega (arith, e)) h in
     let a : State = k.after in
     let rest : Stands program a.pc (fault_call kind) =
     subst (λ q. Stands program q (fault_call kind)) (sym k.behind) (stands-back program m.pc code (fault_call kind) p there) in

@@ -71,12 +71,12 @@ take-home y d base m (homes.Slot k) v n p f g i e s =
 pub region-small : (y : Layout) (Used : ℕ → Type 0) (w : World) (base : ℕ) (m : State) → Holds y Used w base m → length m.region ≤ 67108864
 region-small y Used w base m h = subst (λ r. length r ≤ 67108864) (sym h.region) h.lawful.sized.2
 
-pub take-operand : (y : Layout) (d : Register) (Used : ℕ → Type 0) (w : World) (base : ℕ) (m : State) (a : Operand) → d.number ≢ 0 →
-    Holds y Used w base m → Housed y Used → IsRead y Used a → Loads d.number (taken y d a) m (value_in w.temps a)
-take-operand y d Used w base m (Temp t) n p h r =
+pub take-operand : (y : Layout) (d : Register) (Used : ℕ → Type 0) (w : World) (base : ℕ) (m : State) (a : Operand) →
+    d.number ≢ 0 → d.number ≢ 7 → Holds y Used w base m → Housed y Used → IsRead y Used a → Loads d.number (taken y d a) m (value_in w.temps a)
+take-operand y d Used w base m (Temp t) n seven p h r =
     take-home y d base m (home_of y t) (w.temps t) n p.pc p.frame (region-small y Used w base m p) (h.homes t r.0 r.1) (p.values t r.0 r.1)
     (p.words t r.0)
-take-operand y d Used w base m (Constant k) n p h r = constant-loads d m k n r
+take-operand y d Used w base m (Constant k) n seven p h r = constant-loads d m k n seven r
 
 pub home-count : (d : Register) (h : Home) → length (taken_from d h) ≤ 3
 home-count d (homes.Register x) = omega arith
@@ -119,13 +119,13 @@ held-loads m v small e = record {
 
 pub take-first : (y : Layout) (held : Option ℕ) (Used : ℕ → Type 0) (w : World) (base : ℕ) (m : State) (a : Operand) → IsHeld held w.temps m →
     Holds y Used w base m → Housed y Used → IsFirst y held Used a → Loads 5 (first_taken y held a) m (value_in w.temps a)
-take-first y held Used w base m (Constant k) f p h r = constant-loads x5 m k (λ e. omega (arith, e)) r
+take-first y held Used w base m (Constant k) f p h r = constant-loads x5 m k (λ e. omega (arith, e)) (λ e. omega (arith, e)) r
 take-first y held Used w base m (Temp t) f p h r = either (is_held held t) refl
   where
     either : (b : Bool) → is_held held t ≡ b → Loads 5 (if b then [] else taken y x5 (Temp t)) m (w.temps t)
     either true e = held-loads m (w.temps t) p.pc (held-is held t w.temps m f e)
     either false e =
-        take-operand y x5 Used w base m (Temp t) (λ z. omega (arith, z)) p h
+        take-operand y x5 Used w base m (Temp t) (λ z. omega (arith, z)) (λ z. omega (arith, z)) p h
         (r.0, ⊎_elim (λ g. let no : true ≡ false = sym g ∙ e in cc) (λ o. o) r.1)
 
 -- and else as much as for any operand

@@ -383,13 +383,14 @@ applies : (y : Layout) (Used : ℕ → Type 0) (w : World) (base : ℕ) (op : Bi
     Holds y Used w base m → Housed y Used → IsRead y Used b → Applies (applied_to y wide op b) m (applied wide op va (value_in w.temps b))
 applies y Used w base op wide (Temp t) m va is divisor e sa p h r =
     loads-apply op wide (taken y x6 (Temp t)) m va (w.temps t) is divisor e sa (value-small Used y w base m (Temp t) p r)
-    (take-operand y x6 Used w base m (Temp t) (λ e. omega (arith, e)) p h r)
+    (take-operand y x6 Used w base m (Temp t) (λ e. omega (arith, e)) (λ e. omega (arith, e)) p h r)
 applies y Used w base op wide (Constant c) m va is divisor e sa p h r =
     ⊎_elim
     (λ f. subst (λ x. Applies (if x then folded wide op c else constant x6 c ++ code_of wide op) m (applied wide op va c)) (sym f)
     (folded-apply op wide c m va is e sa r f))
     (λ f. subst (λ x. Applies (if x then folded wide op c else constant x6 c ++ code_of wide op) m (applied wide op va c)) (sym f)
-    (loads-apply op wide (constant x6 c) m va c is divisor e sa r (constant-loads x6 m c (λ e. omega (arith, e)) r)))
+    (loads-apply op wide (constant x6 c) m va c is divisor e sa r
+    (constant-loads x6 m c (λ e. omega (arith, e)) (λ e. omega (arith, e)) r)))
     (cases_Bool (is_folded op c))
 
 -- numbers have the width of a type

@@ -5,19 +5,20 @@ use Rattle.std.proofs.lemmas.List.{length-append, length-map}
 use Rattle.std.proofs.lemmas.Bool.{cases_Bool, cases_lt, le-leb, lt-leb, lt-ltb, le-ltb, eq-eqb, ne_eqb, eqb-true}
 use Rattle.rv_isa.specs.Table.{word_of}
 use Rattle.rv_isa.specs.declared.instr.Instr.{Instr}
-use Rattle.rv_isa.specs.declared.instr.Instr.TheVariants.{Lui, RegisterImmediate, Shift, Addiw}
+use Rattle.rv_isa.specs.declared.instr.Instr.TheVariants.{Lui, RegisterImmediate, RegisterRegister, Shift, Addiw}
 use Rattle.rv_isa.specs.declared.operation.ImmediateOp.TheVariants.{Addi}
+use Rattle.rv_isa.specs.declared.operation.RegisterOp.TheVariants.{Add}
 use Rattle.rv_isa.specs.declared.operation.ShiftOp.TheVariants.{Slli}
 use Rattle.rv_isa.specs.declared.operand.Register.{Register}
-use Rattle.rv_isa.specs.declared.operand.ShiftCount.{ShiftCount}
 use Rattle.rv_machine.specs.Word.{low, word, extended_word}
 use Rattle.rv_machine.specs.Machine.{State, GoesOn, at_with, value_at}
 use Rattle.rv_machine.specs.Arithmetic.{shifted_left}
 use Rattle.terra_words.specs.Words.{wrapped}
 use Rattle.rv_operators.specs.Codes.{x0}
 use Rattle.rv_operators.proofs.Values.{width, wrapped-32}
-use Rattle.rv_select.specs.Numbers.{register_if, register_of, immediate_if, immediate_of, below_zero_if, below_zero, lower_of, upper_number, upper_if, upper_of, short_constant, eleven, half, in_four, in_two, ten, moved_up, long_constant, constant}
-use Rattle.rv_select.proofs.Straight.{Loads, loads-one, loads-both, loads-as, loaded-value}
+use Rattle.rv_select.specs.Numbers.{register_if, register_of, immediate_if, immediate_of, below_zero_if, below_zero, lower_of, upper_number, upper_if, upper_of}
+use Rattle.rv_select.specs.Numbers.{short_constant, half, half_added, in_both, in_halves, is_twice, long_constant, upper_half, x7, constant}
+use Rattle.rv_select.proofs.Straight.{Loads, loads-one, loads-both, loads-past, loads-as, loaded-value}
 
 register-if : (n : ℕ) (b : Bool) (e : nat_le n 31 ≡ b) → b ≡ true → (register_if n b e).number ≡ n
 register-if n true e h = refl
@@ -52,12 +53,13 @@ pub record Parts (n lower : ℕ) : Type 0 where
   pub sum : (upper_number n * 4096 + lower) % 2 ^ 32 ≡ n % 2 ^ 32
   pub near : n < 2 ^ 30 → (upper_number n * 4096 + lower) % 2 ^ 64 ≡ n
   pub small : lower < 2 ^ 64
+  pub alone : n < 2 ^ 64 → upper_number n ≡ 0 → (upper_half n * 2 ^ 32 + lower) % 2 ^ 64 ≡ n
 
 low-parts : (n l : ℕ) → l ≡ n % 4096 → l < 2048 → Parts n l
-low-parts n l e h = record { sum = omega arith; near = λ k. omega arith; small = omega arith }
+low-parts n l e h = record { sum = omega arith; near = λ k. omega arith; small = omega arith; alone = λ k z. omega arith }
 
 high-parts : (n l : ℕ) → l ≡ n % 4096 → 2048 ≤ l → Parts n (2 ^ 64 - suc (4095 - l))
-high-parts n l e h = record { sum = omega arith; near = λ k. omega arith; small = omega arith }
+high-parts n l e h = record { sum = omega arith; near = λ k. omega arith; small = omega arith; alone = λ k z. omega arith }
 
 pub parts : (n : ℕ) → Parts n (word (lower_of n).value)
 parts n =
@@ -128,85 +130,126 @@ short-loads d m n o =
     (two-parts d m n o))
     (cases_Bool (nat_eq (upper_number n) 0))
 
--- more bits below
-pub up-loads : (d : Register) (count : ShiftCount) (n v : ℕ) (m : State) → d.number ≢ 0 → n ≤ 2047 → m.registers d.number ≡ v →
-    Loads d.number (moved_up d count n) m (low (low (v * 2 ^ count.count) + n))
+-- the upper half is moved up
+moved-up : (d : Register) (v : ℕ) (m : State) → d.number ≢ 0 → m.registers d.number ≡ v → (to : Register) → to.number ≢ 0 →
+    Loads to.number (Shift Slli to d half ∷ []) m (low (v * 2 ^ 32))
 unfolding shifted_left
-up-loads d count n v m o h e =
-    let s : ℕ = low (v * 2 ^ count.count) in
-    let l : Loads d.number (Shift Slli d d count ∷ []) m s =
-    loads-one (Shift Slli d d count) m d.number s o refl
-    (ap (λ x. GoesOn (at_with m (low (m.pc + 4)) d.number (low (x * 2 ^ count.count)))) (loaded-value m d o ∙ e)) in
-    loads-both d.number s (low (s + n)) (Shift Slli d d count ∷ []) (RegisterImmediate Addi d d (immediate_of n) ∷ []) m l
-    (loads-one (RegisterImmediate Addi d d (immediate_of n)) l.after d.number (low (s + n)) o refl
-    (ap (λ x. GoesOn (at_with l.after (low (l.after.pc + 4)) d.number (low (x + word (immediate_of n).value)))) (loaded-value l.after d o ∙ l.gives)
-    ∙ ap (λ x. GoesOn (at_with l.after (low (l.after.pc + 4)) d.number (low (s + x)))) (immediate-is n h)))
+moved-up d v m o e to n =
+    loads-one (Shift Slli to d half) m to.number (low (v * 2 ^ 32)) n refl
+    (ap (λ x. GoesOn (at_with m (low (m.pc + 4)) to.number (low (x * 2 ^ 32)))) (loaded-value m d o ∙ e))
 
-up-first : (v h e : ℕ) → v % 2 ^ 32 ≡ h % 2 ^ 32 → low (low (v * 2 ^ 11) + e) % 2 ^ 43 ≡ (h * 2 ^ 11 + e) % 2 ^ 43
-unfolding low
-up-first v h e q = omega arith
+-- the sum of a register and x7
+seven-added : (d : Register) (a b : ℕ) (m : State) → d.number ≢ 0 → m.registers d.number ≡ a → m.registers 7 ≡ b →
+    Loads d.number (RegisterRegister Add d d x7 ∷ []) m (low (a + b))
+seven-added d a b m o e f =
+    loads-one (RegisterRegister Add d d x7) m d.number (low (a + b)) o refl
+    (ap (λ x. GoesOn (at_with m (low (m.pc + 4)) d.number (low (x + m.registers 7)))) (loaded-value m d o ∙ e)
+    ∙ ap (λ x. GoesOn (at_with m (low (m.pc + 4)) d.number (low (a + x)))) f)
 
-up-second : (v h e : ℕ) → v % 2 ^ 43 ≡ h % 2 ^ 43 → low (low (v * 2 ^ 11) + e) % 2 ^ 54 ≡ (h * 2 ^ 11 + e) % 2 ^ 54
-unfolding low
-up-second v h e q = omega arith
+-- the lower half is added
+alone-added : (d : Register) (n s : ℕ) (m : State) → d.number ≢ 0 → m.registers d.number ≡ s →
+    Loads d.number (RegisterImmediate Addi d d (lower_of n) ∷ []) m (low (s + word (lower_of n).value))
+alone-added d n s m o e =
+    loads-one (RegisterImmediate Addi d d (lower_of n)) m d.number (low (s + word (lower_of n).value)) o refl
+    (ap (λ x. GoesOn (at_with m (low (m.pc + 4)) d.number (low (x + word (lower_of n).value)))) (loaded-value m d o ∙ e))
 
-up-third : (v h e : ℕ) → v % 2 ^ 54 ≡ h % 2 ^ 54 → low (low (v * 2 ^ 10) + e) ≡ (h * 2 ^ 10 + e) % 2 ^ 64
-unfolding low
-up-third v h e q = omega arith
-
-four-loads : (d : Register) (m : State) (n : ℕ) → d.number ≢ 0 → n < 2 ^ 64 → Loads d.number (in_four d n) m n
-four-loads d m n o h =
-    let a : List Instr = short_constant d (n / 2 ^ 32) in
-    let b : List Instr = moved_up d eleven (n / 2 ^ 21 % 2 ^ 11) in
-    let c : List Instr = moved_up d eleven (n / 2 ^ 10 % 2 ^ 11) in
-    let f : List Instr = moved_up d ten (n % 2 ^ 10) in
-    let v0 : ℕ = extended_word (n / 2 ^ 32) in
-    let v1 : ℕ = low (low (v0 * 2 ^ 11) + n / 2 ^ 21 % 2 ^ 11) in
-    let v2 : ℕ = low (low (v1 * 2 ^ 11) + n / 2 ^ 10 % 2 ^ 11) in
-    let v3 : ℕ = low (low (v2 * 2 ^ 10) + n % 2 ^ 10) in
-    let la : Loads d.number a m v0 = short-loads d m (n / 2 ^ 32) o in
-    let lb : Loads d.number b la.after v1 = up-loads d eleven (n / 2 ^ 21 % 2 ^ 11) v0 la.after o (omega arith) la.gives in
-    let lc : Loads d.number c lb.after v2 = up-loads d eleven (n / 2 ^ 10 % 2 ^ 11) v1 lb.after o (omega arith) lb.gives in
-    let lf : Loads d.number f lc.after v3 = up-loads d ten (n % 2 ^ 10) v2 lc.after o (omega arith) lc.gives in
-    let e1 : v1 % 2 ^ 43 ≡ (n / 2 ^ 32 * 2 ^ 11 + n / 2 ^ 21 % 2 ^ 11) % 2 ^ 43 = up-first v0 (n / 2 ^ 32) (n / 2 ^ 21 % 2 ^ 11) (extended-low (n / 2 ^ 32)) in
-    let f1 : n / 2 ^ 32 * 2 ^ 11 + n / 2 ^ 21 % 2 ^ 11 ≡ n / 2 ^ 21 = omega arith in
-    let e2 : v2 % 2 ^ 54 ≡ (n / 2 ^ 21 * 2 ^ 11 + n / 2 ^ 10 % 2 ^ 11) % 2 ^ 54 =
-    up-second v1 (n / 2 ^ 21) (n / 2 ^ 10 % 2 ^ 11) (e1 ∙ ap (λ x. x % 2 ^ 43) f1) in
-    let f2 : n / 2 ^ 21 * 2 ^ 11 + n / 2 ^ 10 % 2 ^ 11 ≡ n / 2 ^ 10 = omega arith in
-    let e3 : v3 ≡ (n / 2 ^ 10 * 2 ^ 10 + n % 2 ^ 10) % 2 ^ 64 = up-third v2 (n / 2 ^ 10) (n % 2 ^ 10) (e2 ∙ ap (λ x. x % 2 ^ 54) f2) in
-    let f3 : (n / 2 ^ 10 * 2 ^ 10 + n % 2 ^ 10) % 2 ^ 64 ≡ n = omega arith in
-    loads-as d.number v3 n (a ++ (b ++ (c ++ f))) m (e3 ∙ f3)
-    (loads-both d.number v0 v3 a (b ++ (c ++ f)) m la
-    (loads-both d.number v1 v3 b (c ++ f) la.after lb (loads-both d.number v2 v3 c f lb.after lc lf)))
+far-added : (d : Register) (n s : ℕ) (m : State) → d.number ≢ 0 → d.number ≢ 7 → m.registers d.number ≡ s →
+    Loads d.number (short_constant x7 n ++ RegisterRegister Add d d x7 ∷ []) m (low (s + extended_word n))
+far-added d n s m o seven e =
+    let l : Loads 7 (short_constant x7 n) m (extended_word n) = short-loads x7 m n (λ z. omega (arith, z)) in
+    loads-past d.number (extended_word n) (low (s + extended_word n)) (short_constant x7 n) (RegisterRegister Add d d x7 ∷ []) m l
+    (seven-added d s (extended_word n) l.after o (l.keeps d.number seven seven ∙ e) l.gives)
 
 up-half : (v h e : ℕ) → v % 2 ^ 32 ≡ h % 2 ^ 32 → low (low (v * 2 ^ 32) + e) ≡ (h * 2 ^ 32 + e) % 2 ^ 64
 unfolding low
 up-half v h e q = omega arith
 
-two-loads : (d : Register) (m : State) (n : ℕ) → d.number ≢ 0 → n < 2 ^ 64 → n % 2 ^ 32 < 2 ^ 11 → Loads d.number (in_two d n) m n
-two-loads d m n o h k =
-    let a : List Instr = short_constant d (n / 2 ^ 32) in
-    let v0 : ℕ = extended_word (n / 2 ^ 32) in
-    let v1 : ℕ = low (low (v0 * 2 ^ 32) + n % 2 ^ 11) in
-    let la : Loads d.number a m v0 = short-loads d m (n / 2 ^ 32) o in
-    let lb : Loads d.number (moved_up d half (n % 2 ^ 11)) la.after v1 = up-loads d half (n % 2 ^ 11) v0 la.after o (omega arith) la.gives in
-    let e : v1 ≡ (n / 2 ^ 32 * 2 ^ 32 + n % 2 ^ 11) % 2 ^ 64 = up-half v0 (n / 2 ^ 32) (n % 2 ^ 11) (extended-low (n / 2 ^ 32)) in
-    let f : (n / 2 ^ 32 * 2 ^ 32 + n % 2 ^ 11) % 2 ^ 64 ≡ n = omega (arith, h, k) in
-    loads-as d.number v1 n (in_two d n) m (e ∙ f) (loads-both d.number v0 v1 a (moved_up d half (n % 2 ^ 11)) m la lb)
+-- the word that both halves make
+abbrev whole : (n v : ℕ) → ℕ
+whole n v = (upper_half n * 2 ^ 32 + v) % 2 ^ 64
 
-long-loads : (d : Register) (m : State) (n : ℕ) → d.number ≢ 0 → n < 2 ^ 64 → Loads d.number (long_constant d n) m n
-long-loads d m n o h =
+lower-sum : (n : ℕ) → n < 2 ^ 64 → (upper_half n * 2 ^ 32 + wrapped (width true 32) n) % 2 ^ 64 ≡ n
+unfolding wrapped
+lower-sum n h =
     ⊎_elim
-    (λ k. subst (λ b. Loads d.number (if b then in_two d n else in_four d n) m n) (sym (lt-ltb (n % 2 ^ 32) (2 ^ 11) k)) (two-loads d m n o h k))
-    (λ k. subst (λ b. Loads d.number (if b then in_two d n else in_four d n) m n) (sym (le-ltb (n % 2 ^ 32) (2 ^ 11) k)) (four-loads d m n o h))
-    (cases_lt (n % 2 ^ 32) (2 ^ 11))
+    (λ l. ap (λ b. whole n (if b then n % 2 ^ 32 + (2 ^ 64 - 2 ^ 32) else n % 2 ^ 32)) (lt-leb (2 ^ 31) (n % 2 ^ 32) l) ∙ omega arith)
+    (λ l. ap (λ b. whole n (if b then n % 2 ^ 32 + (2 ^ 64 - 2 ^ 32) else n % 2 ^ 32)) (le-leb (2 ^ 31) (n % 2 ^ 32) l) ∙ omega arith)
+    (cases_lt (n % 2 ^ 32) (2 ^ 31))
 
-pub constant-loads : (d : Register) (m : State) (n : ℕ) → d.number ≢ 0 → n < 2 ^ 64 → Loads d.number (constant d n) m n
-constant-loads d m n o h =
+half-sum : (n : ℕ) → n < 2 ^ 64 → (upper_half n * 2 ^ 32 + extended_word n) % 2 ^ 64 ≡ n
+half-sum n h = ap (λ v. (upper_half n * 2 ^ 32 + v) % 2 ^ 64) (wrapped-32 n) ∙ lower-sum n h
+
+abbrev added_if : Register → ℕ → Bool → List Instr
+added_if d n alone =
+    if alone then RegisterImmediate Addi d d (lower_of n) ∷ [] else short_constant x7 n ++ RegisterRegister Add d d x7 ∷ []
+
+half-loads : (d : Register) (n v : ℕ) (m : State) → d.number ≢ 0 → d.number ≢ 7 → n < 2 ^ 64 → v % 2 ^ 32 ≡ upper_half n % 2 ^ 32 →
+    m.registers d.number ≡ low (v * 2 ^ 32) → Loads d.number (half_added d n) m n
+half-loads d n v m o seven h q e =
+    ⊎_elim
+    (λ z. subst (λ b. Loads d.number (added_if d n b) m n) (sym z) (near (eqb-true (upper_number n) 0 z)))
+    (λ z. subst (λ b. Loads d.number (added_if d n b) m n) (sym z) far)
+    (cases_Bool (nat_eq (upper_number n) 0))
+  where
+    near : upper_number n ≡ 0 → Loads d.number (RegisterImmediate Addi d d (lower_of n) ∷ []) m n
+    near z =
+        let p : Parts n (word (lower_of n).value) = parts n in
+        loads-as d.number (low (low (v * 2 ^ 32) + word (lower_of n).value)) n (RegisterImmediate Addi d d (lower_of n) ∷ []) m
+        (up-half v (upper_half n) (word (lower_of n).value) q ∙ p.alone h z) (alone-added d n (low (v * 2 ^ 32)) m o e)
+
+    far : Loads d.number (short_constant x7 n ++ RegisterRegister Add d d x7 ∷ []) m n
+    far =
+        loads-as d.number (low (low (v * 2 ^ 32) + extended_word n)) n (short_constant x7 n ++ RegisterRegister Add d d x7 ∷ []) m
+        (up-half v (upper_half n) (extended_word n) q ∙ half-sum n h) (far-added d n (low (v * 2 ^ 32)) m o seven e)
+
+halves-load : (d : Register) (m : State) (n : ℕ) → d.number ≢ 0 → d.number ≢ 7 → n < 2 ^ 64 → Loads d.number (in_halves d n) m n
+halves-load d m n o seven h =
+    let a : List Instr = short_constant d (upper_half n) in
+    let b : List Instr = Shift Slli d d half ∷ [] in
+    let v : ℕ = extended_word (upper_half n) in
+    let la : Loads d.number a m v = short-loads d m (upper_half n) o in
+    let lb : Loads d.number b la.after (low (v * 2 ^ 32)) = moved-up d v la.after o la.gives d o in
+    let lc : Loads d.number (half_added d n) lb.after n = half-loads d n v lb.after o seven h (extended-low (upper_half n)) lb.gives in
+    loads-both d.number v n a (b ++ half_added d n) m la (loads-both d.number (low (v * 2 ^ 32)) n b (half_added d n) la.after lb lc)
+
+-- the same number in both
+twice-low : (n : ℕ) → n % 2 ^ 31 * (2 ^ 32 + 1) ≡ n → n % 2 ^ 32 ≡ n % 2 ^ 31 % 2 ^ 32
+twice-low n e = omega arith
+
+twice-sum : (n k : ℕ) → k * (2 ^ 32 + 1) ≡ n → k < 2 ^ 31 → low (k + low (k * 2 ^ 32)) ≡ n
+unfolding low
+twice-sum n k e h = omega arith
+
+both-load : (d : Register) (m : State) (n : ℕ) → d.number ≢ 0 → d.number ≢ 7 → n % 2 ^ 31 * (2 ^ 32 + 1) ≡ n →
+    Loads d.number (in_both d n) m n
+both-load d m n o seven t =
+    let k : ℕ = n % 2 ^ 31 in
+    let s : ℕ = low (k * 2 ^ 32) in
+    let a : List Instr = short_constant d n in
+    let b : List Instr = Shift Slli x7 d half ∷ [] in
+    let c : List Instr = RegisterRegister Add d d x7 ∷ [] in
+    let e : extended_word n ≡ k = extended-same n k (twice-low n t) ∙ extended-small k (omega arith) in
+    let la : Loads d.number a m k = loads-as d.number (extended_word n) k a m e (short-loads d m n o) in
+    let lb : Loads 7 b la.after s = moved-up d k la.after o la.gives x7 (λ z. omega (arith, z)) in
+    let lc : Loads d.number c lb.after n =
+    loads-as d.number (low (k + s)) n c lb.after (twice-sum n k t (omega arith))
+    (seven-added d k s lb.after o (lb.keeps d.number seven seven ∙ la.gives) lb.gives) in
+    loads-both d.number k n a (b ++ c) m la (loads-past d.number s n b c la.after lb lc)
+
+long-loads : (d : Register) (m : State) (n : ℕ) → d.number ≢ 0 → d.number ≢ 7 → n < 2 ^ 64 → Loads d.number (long_constant d n) m n
+long-loads d m n o seven h =
+    ⊎_elim
+    (λ e. subst (λ b. Loads d.number (if b then in_both d n else in_halves d n) m n) (sym e)
+    (both-load d m n o seven (eqb-true (n % 2 ^ 31 * (2 ^ 32 + 1)) n e)))
+    (λ e. subst (λ b. Loads d.number (if b then in_both d n else in_halves d n) m n) (sym e) (halves-load d m n o seven h))
+    (cases_Bool (is_twice n))
+
+pub constant-loads : (d : Register) (m : State) (n : ℕ) → d.number ≢ 0 → d.number ≢ 7 → n < 2 ^ 64 → Loads d.number (constant d n) m n
+constant-loads d m n o seven h =
     ⊎_elim
     (λ e. subst (λ b. Loads d.number (if b then short_constant d n else long_constant d n) m n) (sym e)
     (loads-as d.number (extended_word n) n (short_constant d n) m (eqb-true (extended_word n) n e) (short-loads d m n o)))
-    (λ e. subst (λ b. Loads d.number (if b then short_constant d n else long_constant d n) m n) (sym e) (long-loads d m n o h))
+    (λ e. subst (λ b. Loads d.number (if b then short_constant d n else long_constant d n) m n) (sym e) (long-loads d m n o seven h))
     (cases_Bool (nat_eq (extended_word n) n))
 
 -- how many instructions these are
@@ -217,26 +260,32 @@ short-count d n = either (nat_eq (upper_number n) 0)
     either true = omega arith
     either false = omega arith
 
-long-count : (d : Register) (n : ℕ) → length (long_constant d n) ≤ 8
-long-count d n = either (nat_lt (n % 2 ^ 32) (2 ^ 11))
+half-count : (d : Register) (n : ℕ) → length (half_added d n) ≤ 3
+half-count d n = either (nat_eq (upper_number n) 0)
   where
-    two : (a : List Instr) → length a ≤ 2 → length (a ++ moved_up d half (n % 2 ^ 11)) ≤ 8
-    two a h = omega (arith, length-append a (moved_up d half (n % 2 ^ 11)))
+    either : (b : Bool) → length (added_if d n b) ≤ 3
+    either true = omega arith
+    either false = omega (arith, length-append (short_constant x7 n) (RegisterRegister Add d d x7 ∷ []), short-count x7 n)
 
-    four : (a : List Instr) → length a ≤ 2 →
-        length (a ++ (moved_up d eleven (n / 2 ^ 21 % 2 ^ 11) ++ (moved_up d eleven (n / 2 ^ 10 % 2 ^ 11) ++ moved_up d ten (n % 2 ^ 10)))) ≤ 8
-    four a h = omega (arith, length-append a (moved_up d eleven (n / 2 ^ 21 % 2 ^ 11) ++ (moved_up d eleven (n / 2 ^ 10 % 2 ^ 11) ++ moved_up d ten (n % 2 ^ 10))))
+long-count : (d : Register) (n : ℕ) → length (long_constant d n) ≤ 6
+long-count d n = either (is_twice n)
+  where
+    halves : (a b : List Instr) → length a ≤ 2 → length b ≤ 3 → length (a ++ (Shift Slli d d half ∷ b)) ≤ 6
+    halves a b h k = omega (arith, length-append a (Shift Slli d d half ∷ b))
 
-    either : (b : Bool) → length (if b then in_two d n else in_four d n) ≤ 8
-    either true = two (short_constant d (n / 2 ^ 32)) (short-count d (n / 2 ^ 32))
-    either false = four (short_constant d (n / 2 ^ 32)) (short-count d (n / 2 ^ 32))
+    both : (a : List Instr) → length a ≤ 2 → length (a ++ (Shift Slli x7 d half ∷ RegisterRegister Add d d x7 ∷ [])) ≤ 6
+    both a h = omega (arith, length-append a (Shift Slli x7 d half ∷ RegisterRegister Add d d x7 ∷ []))
+
+    either : (b : Bool) → length (if b then in_both d n else in_halves d n) ≤ 6
+    either true = both (short_constant d n) (short-count d n)
+    either false = halves (short_constant d (upper_half n)) (half_added d n) (short-count d (upper_half n)) (half-count d n)
 
 pub constant-count : (d : Register) (n : ℕ) → length (constant d n) ≤ 8
 constant-count d n = either (nat_eq (extended_word n) n)
   where
     either : (b : Bool) → length (if b then short_constant d n else long_constant d n) ≤ 8
     either true = let h : length (short_constant d n) ≤ 2 = short-count d n in omega arith
-    either false = long-count d n
+    either false = let h : length (long_constant d n) ≤ 6 = long-count d n in omega arith
 
 -- which numbers are the extension of their low 32 bits
 both-tests : (a b c d : ℕ) → (a < b → c ≡ d) → (b ≤ a → c ≢ d) → nat_lt a b ≡ nat_eq c d

@@ -169,10 +169,11 @@ saves-beneath code at v m s room = record {
   above = λ q k l. ap (λ z. take k (drop q z)) s.private ∙ other-than-word m.private at v q k (omega arith) (inr l);
 }
 
-pub take-part : (y : Layout) (d : Register) (Used : ℕ → Type 0) (w : World) (base : ℕ) (m : State) (p : Part) → d.number ≢ 0 → Holds y Used w base m → Housed y Used → IsPartRead y Used p →
+pub take-part : (y : Layout) (d : Register) (Used : ℕ → Type 0) (w : World) (base : ℕ) (m : State) (p : Part) →
+    d.number ≢ 0 → d.number ≢ 7 → Holds y Used w base m → Housed y Used → IsPartRead y Used p →
     Loads d.number (part_taken y d p) m (part_value y base w p)
-take-part y d Used w base m (parts.Word a) n p h r = take-operand y d Used w base m a n p h r
-take-part y d Used w base m (parts.Area k) n p h r =
+take-part y d Used w base m (parts.Word a) n seven p h r = take-operand y d Used w base m a n seven p h r
+take-part y d Used w base m (parts.Area k) n seven p h r =
     let none : area_offset y k + 0 ≡ area_offset y k = omega arith in
     subst (λ o. Loads d.number (part_taken y d (parts.Area k)) m (2 ^ 32 + (base + o))) none
     (framed-address d (area_offset y k + 0) base m n p.pc (area-near y base k 0 m p.frame r (omega arith)) p.frame.pointer (omega (arith, p.frame.within, p.frame.private)))
@@ -239,7 +240,7 @@ passes y Used w base program i (q ∷ ps) rest m there p h reads room =
     let C : List Instr = passed y (i + 1) ps in
     let v : ℕ = part_value y base w q in
     let r : IsPartRead y Used q = reads 0 q refl in
-    let l : Loads 5 A m v = take-part y x5 Used w base m q (λ z. omega (arith, z)) p h r in
+    let l : Loads 5 A m v = take-part y x5 Used w base m q (λ z. omega (arith, z)) (λ z. omega (arith, z)) p h r in
     let t : State = l.after in
     let near : Near m t = scratch-near A m t (loads-five A m v l) in
     let pc-t : t.pc < 2 ^ 64 = subst (λ z. z < 2 ^ 64) (sym l.behind) (low-below (m.pc + 4 * length A)) in

@@ -153,7 +153,7 @@ byte-loads : (y : Layout) (held : Option ℕ) (Used : ℕ → Type 0) (w : World
     Holds y Used w base m → Housed y Used → IsFirst y held Used a → (v : ℕ) × Loads 5 (byte_taken y held a) m v × (v % 256 ≡ value_in w.temps a % 256)
 byte-loads y held Used w base m (Temp t) f p h r = (w.temps t, take-first y held Used w base m (Temp t) f p h r, refl)
 byte-loads y held Used w base m (Constant c) f p h r =
-    (c % 256, constant-loads x5 m (c % 256) (λ e. omega (arith, e)) (omega arith), omega arith)
+    (c % 256, constant-loads x5 m (c % 256) (λ e. omega (arith, e)) (λ e. omega (arith, e)) (omega arith), omega arith)
 
 pub byte-count : (y : Layout) (held : Option ℕ) (a : Operand) → length (byte_taken y held a) ≤ 3
 byte-count y held (Temp t) = first-count y held (Temp t)

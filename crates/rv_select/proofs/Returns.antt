@@ -96,7 +96,8 @@ goes-back program y Used w base frame last link from v m setting p h reads near 
     let at : ℕ = m.pc + 4 * length A in
     let J : List Instr = jump_unless_last setting.short setting.next at last in
     let few : length A ≤ 8 = part-count y x10 v in
-    let l : Loads 10 A m (part_value y base w v) = take-part y x10 Used w base m v (λ z. omega (arith, z)) p h reads in
+    let l : Loads 10 A m (part_value y base w v) =
+    take-part y x10 Used w base m v (λ z. omega (arith, z)) (λ z. omega (arith, z)) p h reads in
     let t1 : State = l.after in
     let at-is : t1.pc ≡ at = l.behind ∙ low-small (m.pc + 4 * length A) (omega (arith, near, few)) in
     let one : Way program (length A) m t1 = straight-way program A m t1 (stands-front program m.pc A J there) l.straight

@@ -113,7 +113,7 @@ store-ends y size b Used Next w base most a code program m r p h f rb small low-
     let n : State = r.after in
     let pc-small : n.pc < 2 ^ 64 = subst (λ q. q < 2 ^ 64) (sym r.pc) (low-below (m.pc + 4 * length code)) in
     let q : Holds y Used w base n = near-holds y Used w base m n p h r.near pc-small in
-    let l : Loads 6 B n v = take-operand y x6 Used w base n b (λ e. omega (arith, e)) q h rb in
+    let l : Loads 6 B n v = take-operand y x6 Used w base n b (λ e. omega (arith, e)) (λ e. omega (arith, e)) q h rb in
     let t : State = l.after in
     let near : Near n t = scratch-near B n t (loads-six B n v l) in
     let rest : Stands program n.pc (B ++ i ∷ []) = subst (λ z. Stands program z (B ++ i ∷ [])) (sym r.pc) (stands-back program m.pc code (B ++ i ∷ []) p.pc there) in

@@ -139,6 +139,19 @@ loads-both d v w a b m l k = record {
   straight = straight-both a b l.straight k.straight;
 }
 
+-- a load after one of x7
+pub loads-past : (d v w : ℕ) (a b : List Instr) (m : State) (l : Loads 7 a m v) → Loads d b l.after w → Loads d (a ++ b) m w
+loads-past d v w a b m l k = record {
+  after = k.after;
+  goes = goes-both a b m l.after k.after l.goes k.goes;
+  gives = k.gives;
+  behind = behind-both a b m.pc l.after.pc k.after.pc l.behind k.behind;
+  keeps = λ r o p. k.keeps r o p ∙ l.keeps r p p;
+  region = k.region ∙ l.region;
+  private = k.private ∙ l.private;
+  straight = straight-both a b l.straight k.straight;
+}
+
 -- the value is known by another name
 pub loads-as : (d v w : ℕ) (code : List Instr) (m : State) → v ≡ w → Loads d code m v → Loads d code m w
 loads-as d v w code m e l = subst (λ x. Loads d code m x) e l

@@ -1,10 +1,12 @@
 -- Numbers as operands of instructions, and the code that loads one of 64 bits.
-use Rattle.std.specs.Prelude.{◌≡◌, ℕ, ◌+◌, ◌-◌, ◌/◌, ◌%◌, ◌^◌, pos, negsuc, Bool, true, false, nat_eq, nat_le, nat_lt, if◌then◌else◌, List, [], ◌∷◌, ◌++◌}
+use Rattle.std.specs.Prelude.{◌≡◌, ℕ, ◌+◌, ◌-◌, ◌*◌, ◌/◌, ◌%◌, ◌^◌, pos, negsuc, Bool, true, false, nat_eq, nat_le, nat_lt}
+use Rattle.std.specs.Prelude.{if◌then◌else◌, List, [], ◌∷◌, ◌++◌}
 use Rattle.std.proofs.Common.{lit≤, lit<, subst, sym, refl, ltb→lt}
 use lib.Dec.{T, leb→le}
 use Rattle.rv_isa.specs.declared.instr.Instr.{Instr}
-use Rattle.rv_isa.specs.declared.instr.Instr.TheVariants.{Lui, RegisterImmediate, Shift, Addiw}
+use Rattle.rv_isa.specs.declared.instr.Instr.TheVariants.{Lui, RegisterImmediate, RegisterRegister, Shift, Addiw}
 use Rattle.rv_isa.specs.declared.operation.ImmediateOp.TheVariants.{Addi}
+use Rattle.rv_isa.specs.declared.operation.RegisterOp.TheVariants.{Add}
 use Rattle.rv_isa.specs.declared.operation.ShiftOp.TheVariants.{Slli}
 use Rattle.rv_isa.specs.declared.operand.Register.{Register}
 use Rattle.rv_isa.specs.declared.operand.Immediate.{Immediate}
@@ -57,31 +59,37 @@ short_constant d n =
     if nat_eq (upper_number n) 0 then Addiw d x0 (lower_of n) ∷ []
     else Lui d (upper_of n) ∷ Addiw d d (lower_of n) ∷ []
 
--- the register's number moved up by some bits, and others put below
-abbrev pub eleven : ShiftCount
-eleven = record { count = 11; in_range = lit≤ tt }
-
-abbrev pub ten : ShiftCount
-ten = record { count = 10; in_range = lit≤ tt }
-
-abbrev pub moved_up : Register → ShiftCount → ℕ → List Instr
-moved_up d count n = Shift Slli d d count ∷ RegisterImmediate Addi d d (immediate_of n) ∷ []
-
 abbrev pub half : ShiftCount
 half = record { count = 32; in_range = lit≤ tt }
 
--- a number of 64 bits to a register: its upper 32 bits, and then 11, 11 and 10 more
-abbrev pub in_four : Register → ℕ → List Instr
-in_four d n =
-    short_constant d (n / 2 ^ 32)
-    ++ (moved_up d eleven (n / 2 ^ 21 % 2 ^ 11) ++ (moved_up d eleven (n / 2 ^ 10 % 2 ^ 11) ++ moved_up d ten (n % 2 ^ 10)))
+-- a scratch register
+abbrev pub x7 : Register
+x7 = record { number = 7; in_range = lit≤ tt }
 
--- the same where at most the last 11 of the lower 32 bits are set, as in most places
-abbrev pub in_two : Register → ℕ → List Instr
-in_two d n = short_constant d (n / 2 ^ 32) ++ moved_up d half (n % 2 ^ 11)
+-- The lower half of a number of 64 bits to a register whose word is the upper half: what twelve bits with a sign hold by one instruction,
+-- and else by way of x7.
+abbrev pub half_added : Register → ℕ → List Instr
+half_added d n =
+    if nat_eq (upper_number n) 0 then RegisterImmediate Addi d d (lower_of n) ∷ []
+    else short_constant x7 n ++ RegisterRegister Add d d x7 ∷ []
+
+-- a number of 64 bits to a register by its halves: the upper 32 bits, one more where the lower ones are below zero by their sign
+abbrev pub upper_half : ℕ → ℕ
+upper_half n = n / 2 ^ 32 + n / 2 ^ 31 % 2
+
+abbrev pub in_halves : Register → ℕ → List Instr
+in_halves d n = short_constant d (upper_half n) ++ (Shift Slli d d half ∷ half_added d n)
+
+-- one that is the same number below 2 ^ 31 in both halves, of which x7 gets the upper one
+abbrev pub is_twice : ℕ → Bool
+is_twice n = nat_eq (n % 2 ^ 31 * (2 ^ 32 + 1)) n
+
+abbrev pub in_both : Register → ℕ → List Instr
+in_both d n = short_constant d n ++ (Shift Slli x7 d half ∷ RegisterRegister Add d d x7 ∷ [])
 
 abbrev pub long_constant : Register → ℕ → List Instr
-long_constant d n = if nat_lt (n % 2 ^ 32) (2 ^ 11) then in_two d n else in_four d n
+long_constant d n = if is_twice n then in_both d n else in_halves d n
 
+-- d is another register than x7
 abbrev pub constant : Register → ℕ → List Instr
 constant d n = if nat_eq (extended_word n) n then short_constant d n else long_constant d n

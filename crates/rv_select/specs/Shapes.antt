@@ -49,10 +49,11 @@ use Rattle.rv_select.specs.declared.settings.Setting.{Setting}
 use Rattle.rv_select.specs.Settings.{falls, follower}
 pub use Rattle.rv_select.specs.Asked.{held_after, is_held, is_symmetric, is_turned}
 use Rattle.rv_select.specs.Folded.{folded, is_folded}
+pub use Rattle.rv_select.specs.Numbers.{x7}
 use Rattle.rv_select.specs.Numbers.{constant, immediate_of, below_zero, lower_of, register_of, upper_of}
 use Rattle.rv_select.specs.Places.{Layout, area_offset, home_of, slot_offset}
 
--- the frame, the end of the heap, the end of the region, a scratch register, the frame in the region, and the registers in
+-- the frame, the end of the heap, the end of the region, the frame in the region, and the registers in
 -- which the machine takes the parts of a call
 abbrev pub x2 : Register
 x2 = record { number = 2; in_range = lit≤ tt }
@@ -62,9 +63,6 @@ x3 = record { number = 3; in_range = lit≤ tt }
 
 abbrev pub x4 : Register
 x4 = record { number = 4; in_range = lit≤ tt }
-
-abbrev pub x7 : Register
-x7 = record { number = 7; in_range = lit≤ tt }
 
 abbrev pub x8 : Register
 x8 = record { number = 8; in_range = lit≤ tt }

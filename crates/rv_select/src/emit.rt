@@ -3,8 +3,11 @@
 ghost use Rattle.std.specs.Prelude.{◌≡◌, ◌+◌, ◌^◌, ◌<◌, ◌≤◌, [], ◌∷◌, ◌++◌, map, length, nat_eq, IfOk, OnOk};
 ghost use Rattle.rv_isa.specs.declared.instr.Instr.TheVariants as instrs;
 ghost use Rattle.rv_isa.specs.declared.operation.ImmediateOp.TheVariants as immediates;
+ghost use Rattle.rv_isa.specs.declared.operation.RegisterOp.TheVariants as ops;
+ghost use Rattle.rv_isa.specs.declared.operation.ShiftOp.TheVariants as shifts;
 ghost use Rattle.rv_isa.specs.Table.{word_of};
-ghost use Rattle.rv_select.specs.Numbers.{constant, in_four, in_two, long_constant, moved_up, short_constant};
+ghost use Rattle.rv_select.specs.Numbers.{constant, half, half_added, in_both, in_halves, is_twice, long_constant, short_constant};
+ghost use Rattle.rv_select.specs.Numbers.{upper_half, x7};
 ghost use Rattle.rv_machine.specs.Word.{extended_word};
 ghost use Rattle.rv_select.specs.Places.{area_offset, home_of, slot_offset, with_homes};
 ghost use Rattle.rv_select.specs.Shapes.{far_part, framed, moved, put_at, put_to, taken, taken_from, x11};
@@ -67,60 +70,93 @@ pub(crate) fn push_short_constant(
     )
 }
 
-/// A register's number moved up by so many bits, and others put below.
-fn push_moved_up(
-    code: &mut Vec<u32>,
-    rd: Register,
-    count: ShiftCount,
-    number: u64,
-) -> Result<(), NoMemory>
-    requires { number ≤ 2047 }
-    ensures { OnOk result (code.new.items ≡ code.old.items ++ map word_of (moved_up rd count number)) }
+/// A register gets another's word, moved up by half its bits.
+fn push_moved_up(code: &mut Vec<u32>, rd: Register, rs1: Register) -> Result<(), NoMemory>
+    ensures { OnOk result (code.new.items ≡ code.old.items ++ word_of (instrs.Shift shifts.Slli rd rs1 half) ∷ []) }
 {
     put(
         code,
         Instr::Shift {
             op: ShiftOp::Slli,
             rd,
-            rs1: rd,
-            count,
-        },
-    )?;
-    put(
-        code,
-        Instr::RegisterImmediate {
-            op: ImmediateOp::Addi,
-            rd,
-            rs1: rd,
-            imm: immediate(number),
+            rs1,
+            count: ShiftCount { count: 32 },
         },
     )
+}
+
+/// A register gets the sum of its word and x7's.
+fn push_seven_added(code: &mut Vec<u32>, rd: Register) -> Result<(), NoMemory>
+    ensures { OnOk result (code.new.items ≡ code.old.items ++ word_of (instrs.RegisterRegister ops.Add rd rd x7) ∷ []) }
+{
+    put(
+        code,
+        Instr::RegisterRegister {
+            op: RegisterOp::Add,
+            rd,
+            rs1: rd,
+            rs2: X7,
+        },
+    )
+}
+
+/// The lower half of a number to a register that has the upper one.
+fn push_half_added(code: &mut Vec<u32>, rd: Register, number: u64) -> Result<(), NoMemory>
+    ensures { OnOk result (code.new.items ≡ code.old.items ++ map word_of (half_added rd number)) }
+{
+    if upper(number).value == 0 {
+        return put(
+            code,
+            Instr::RegisterImmediate {
+                op: ImmediateOp::Addi,
+                rd,
+                rs1: rd,
+                imm: lower(number),
+            },
+        );
+    }
+    push_short_constant(code, X7, number)?;
+    push_seven_added(code, rd)
+}
+
+/// The upper half of a number, one more where the lower one is below zero by its sign.
+fn upper_half(number: u64) -> u64
+    ensures { result ≡ upper_half number }
+{
+    (number >> 32) + (number >> 31) % 2
+}
+
+fn push_in_halves(code: &mut Vec<u32>, rd: Register, number: u64) -> Result<(), NoMemory>
+    ensures { OnOk result (code.new.items ≡ code.old.items ++ map word_of (in_halves rd number)) }
+{
+    push_short_constant(code, rd, upper_half(number))?;
+    push_moved_up(code, rd, rd)?;
+    push_half_added(code, rd, number)
+}
+
+/// Whether a number is the same one below 2 ^ 31 in both halves.
+fn is_twice(number: u64) -> bool
+    ensures { result ≡ is_twice number }
+{
+    number % (1 << 31) * ((1 << 32) + 1) == number
+}
+
+fn push_in_both(code: &mut Vec<u32>, rd: Register, number: u64) -> Result<(), NoMemory>
+    ensures { OnOk result (code.new.items ≡ code.old.items ++ map word_of (in_both rd number)) }
+{
+    push_short_constant(code, rd, number)?;
+    push_moved_up(code, X7, rd)?;
+    push_seven_added(code, rd)
 }
 
 fn push_long_constant(code: &mut Vec<u32>, rd: Register, number: u64) -> Result<(), NoMemory>
     ensures { OnOk result (code.new.items ≡ code.old.items ++ map word_of (long_constant rd number)) }
 {
-    if number % (1 << 32) < 2048 {
-        push_in_two(code, rd, number)
+    if is_twice(number) {
+        push_in_both(code, rd, number)
     } else {
-        push_in_four(code, rd, number)
+        push_in_halves(code, rd, number)
     }
-}
-
-fn push_in_two(code: &mut Vec<u32>, rd: Register, number: u64) -> Result<(), NoMemory>
-    ensures { OnOk result (code.new.items ≡ code.old.items ++ map word_of (in_two rd number)) }
-{
-    push_short_constant(code, rd, number >> 32)?;
-    push_moved_up(code, rd, ShiftCount { count: 32 }, number % 2048)
-}
-
-fn push_in_four(code: &mut Vec<u32>, rd: Register, number: u64) -> Result<(), NoMemory>
-    ensures { OnOk result (code.new.items ≡ code.old.items ++ map word_of (in_four rd number)) }
-{
-    push_short_constant(code, rd, number >> 32)?;
-    push_moved_up(code, rd, ShiftCount { count: 11 }, (number >> 21) % 2048)?;
-    push_moved_up(code, rd, ShiftCount { count: 11 }, (number >> 10) % 2048)?;
-    push_moved_up(code, rd, ShiftCount { count: 10 }, number % 1024)
 }
 
 /// Whether a number is its low 32 bits, extended by their sign.
@@ -369,12 +405,23 @@ pub(crate) fn constant_words(number: u64) -> u64
 
 fn long_constant_words(number: u64) -> u64
     ensures words { result ≡ length (long_constant x11 number) }
-    ensures few { result ≤ 8 }
+    ensures few { result ≤ 6 }
 {
-    if number % (1 << 32) < 2048 {
-        short_constant_words(number >> 32) + 2
+    if is_twice(number) {
+        short_constant_words(number) + 2
     } else {
-        short_constant_words(number >> 32) + 6
+        short_constant_words(upper_half(number)) + 1 + half_added_words(number)
+    }
+}
+
+fn half_added_words(number: u64) -> u64
+    ensures words { result ≡ length (half_added x11 number) }
+    ensures few { result ≤ 3 }
+{
+    if upper(number).value == 0 {
+        1
+    } else {
+        short_constant_words(number) + 1
     }
 }
 
