@@ -18,17 +18,18 @@ use Rattle.rv_machine.specs.Word.{low, difference}
 use Rattle.rv_machine.specs.Machine.{State, GoesOn, Throws, act, at_with, run_of}
 use Rattle.rv_operators.specs.Codes.{x0, x5, x6, zero_immediate}
 use Rattle.rv_operators.specs.Runs.{Stands}
-use Rattle.rv_select.specs.Numbers.{constant, immediate_of, register_of, short_constant, upper_of}
+use Rattle.rv_select.specs.Numbers.{constant, immediate_of, register_of, upper_of}
 use Rattle.rv_select.specs.Places.{AreBytes, Layout, private_word, uses}
 use Rattle.rv_select.specs.Shapes.{fault_call, limit_found, place_number, two, x2, x4, x7, x8, x10, x17}
 use Rattle.rv_select.specs.Steps.{Ends}
-use Rattle.rv_select.specs.Entering.{frame_taken, if_used, kept_offset, region_taken, saved, stack_branch, stack_tested, x1}
+use Rattle.rv_select.specs.Entering.{frame_taken, if_used, kept_offset, pointer_down, region_taken, saved, stack_branch, stack_tested, x1}
 use Rattle.rv_select.proofs.Allocs.{less, right-two}
 use Rattle.rv_select.proofs.Faults.{branch-way, later-ends, small-load, throws}
 use Rattle.terra_memory.specs.Numbers.{number_of}
 use Rattle.rv_select.proofs.Homes.{word_stored}
 use Rattle.rv_select.proofs.Kept.{Saved, Stored, saves, stored-one, word-stored}
-use Rattle.rv_select.proofs.Numbers.{constant-count, constant-loads, short-count, short-loads, extended-small}
+use Rattle.rv_select.proofs.Numbers.{constant-count, constant-loads}
+use Rattle.rv_select.proofs.Pointers.{down-count, goes-down}
 use Rattle.rv_select.proofs.Straight.{Loads, loads-both, loads-one, low-below, low-small, written-elsewhere, written-there}
 use Rattle.rv_select.proofs.Ways.{Near, Way, at_pc, low-none, near-both, near-pc, stands-back, stands-front, step-way, straight-way, throw-step, way-both, way-none}
 
@@ -310,10 +311,9 @@ pub zero-sum : (x base : ℕ) → x ≡ 2 ^ 32 + base → base < 2 ^ 63 → low 
 unfolding low
 zero-sum x base e h = omega arith
 
-pc-frame : (p n b c d e k : ℕ) → b ≡ low (p + 4 * n) → c ≡ low (b + 4) → d ≡ low (c + 4) → e ≡ low (d + 4 * k) →
-    e ≡ low (p + 4 * (n + suc (suc k)))
+pc-frame : (p n c d e k : ℕ) → c ≡ low (p + 4 * n) → d ≡ low (c + 4) → e ≡ low (d + 4 * k) → e ≡ low (p + 4 * (n + suc k))
 unfolding low
-pc-frame p n b c d e k i j l o = omega arith
+pc-frame p n c d e k i j o = omega arith
 
 pub takes-frame : (program : List (Option Instr)) (y : Layout) (bytes top : ℕ) (rest : List Instr) (m : State) → m.pc < 2 ^ 64 →
     m.registers 2 ≡ 2 ^ 32 + top → 88 ≤ bytes → bytes ≤ top →
@@ -321,50 +321,39 @@ pub takes-frame : (program : List (Option Instr)) (y : Layout) (bytes top : ℕ)
     Taken program y bytes (top - bytes) rest m
 takes-frame program y bytes top rest m p two-is least room within most region there =
     let base : ℕ = top - bytes in
-    let C : List Instr = short_constant x6 bytes in
-    let l : Loads 6 C m bytes =
-    subst (λ v. Loads 6 C m v) (extended-small bytes (omega arith)) (short-loads x6 m bytes (λ z. omega (arith, z))) in
-    let t2 : State = l.after in
-    let t3 : State = at_with t2 (low (t2.pc + 4)) 2 (2 ^ 32 + base) in
-    let pointer : t2.registers 2 ≡ 2 ^ 32 + top = l.keeps 2 (λ z. omega (arith, z)) (λ z. omega (arith, z)) ∙ two-is in
-    let down : 2 ^ 32 + top - bytes ≡ 2 ^ 32 + base = omega arith in
-    let to-3 : act (RegisterRegister Sub x2 x2 x6) t2 ≡ GoesOn t3 =
-    ap (λ x. GoesOn (at_with t2 (low (t2.pc + 4)) 2 (difference x (t2.registers 6)))) pointer
-    ∙ (ap (λ x. GoesOn (at_with t2 (low (t2.pc + 4)) 2 (difference (2 ^ 32 + top) x))) l.gives
-    ∙ ap (λ x. GoesOn (at_with t2 (low (t2.pc + 4)) 2 x)) (less (2 ^ 32 + top) bytes (omega arith) (omega arith) ∙ down)) in
+    let C : List Instr = pointer_down bytes in
+    let l : Loads 2 C m (2 ^ 32 + base) = goes-down bytes top m two-is (omega (arith, least)) room (omega (arith, within, most)) in
+    let t3 : State = l.after in
     let region-3 : length t3.region ≤ 67108864 = subst (λ z. length z ≤ 67108864) (sym l.region) region in
     let room-3 : base + 8 ≤ length t3.private = subst (λ z. base + 8 ≤ length z) (sym l.private) (omega arith) in
     let s1 : Stored (Store Sd x2 x1 zero_immediate ∷ []) base (base + 8) t3 _ =
-    stored-one t3 x2 x1 zero_immediate base (t3.registers 1) (zero-sum (t3.registers 2) base (written-there t2.registers 2 (2 ^ 32 + base) (λ z. omega (arith, z))) (omega arith)) refl region-3 room-3 in
+    stored-one t3 x2 x1 zero_immediate base (t3.registers 1) (zero-sum (t3.registers 2) base l.gives (omega arith)) refl region-3 room-3 in
     let t4 : State = word_stored t3 base (t3.registers 1) in
-    let pc-2 : t2.pc < 2 ^ 64 = subst (λ q. q < 2 ^ 64) (sym l.behind) (low-below (m.pc + 4 * length C)) in
     let pc-4 : t4.pc < 2 ^ 64 = low-below (t3.pc + 4) in
     let sv : Saved y 10 18 base t4 =
-    saves y 10 18 base t4 pc-4 (written-there t2.registers 2 (2 ^ 32 + base) (λ z. omega (arith, z))) (omega arith) (omega arith)
+    saves y 10 18 base t4 pc-4 l.gives (omega arith) (omega arith)
     (subst (λ z. base + 88 ≤ z) (sym (s1.long ∙ ap length (l.private))) (omega arith)) (subst (λ z. z ≤ 603979776) (sym (s1.long ∙ ap length (l.private))) most) region-3 in
     let t5 : State = sv.after in
-    let D : List Instr = RegisterRegister Sub x2 x2 x6 ∷ Store Sd x2 x1 zero_immediate ∷ saved y 10 18 in
+    let D : List Instr = Store Sd x2 x1 zero_immediate ∷ saved y 10 18 in
     let all : Stands program m.pc (C ++ (D ++ rest)) = subst (λ z. Stands program m.pc z) (append_assoc C D rest) there in
-    let after-2 : Stands program t2.pc (D ++ rest) = subst (λ q. Stands program q (D ++ rest)) (sym l.behind) (stands-back program m.pc C (D ++ rest) p all) in
-    let after-4 : Stands program t4.pc (saved y 10 18 ++ rest) = after-2.1.1 in
+    let after-3 : Stands program t3.pc (D ++ rest) = subst (λ q. Stands program q (D ++ rest)) (sym l.behind) (stands-back program m.pc C (D ++ rest) p all) in
+    let after-4 : Stands program t4.pc (saved y 10 18 ++ rest) = after-3.1 in
     let after-5 : Stands program t5.pc rest = subst (λ q. Stands program q rest) (sym sv.is.behind) (stands-back program t4.pc (saved y 10 18) rest pc-4 after-4) in
-    let way-2 : Way program (length C) m t2 = straight-way program C m t2 (stands-front program m.pc C (D ++ rest) all) l.straight l.goes in
-    let way-3 : Way program (length C + 1) m t3 = way-both program (length C) 1 m t2 t3 way-2 (step-way program (RegisterRegister Sub x2 x2 x6) t2 t3 after-2.0 to-3) in
-    let way-4 : Way program (length C + 1 + 1) m t4 =
-    way-both program (length C + 1) 1 m t3 t4 way-3 (straight-way program (Store Sd x2 x1 zero_immediate ∷ []) t3 t4 (after-2.1.0, tt) refl s1.goes) in
-    let way-5 : Way program (length C + 1 + 1 + length (saved y 10 18)) m t5 =
-    way-both program (length C + 1 + 1) (length (saved y 10 18)) m t4 t5 way-4
+    let way-3 : Way program (length C) m t3 = straight-way program C m t3 (stands-front program m.pc C (D ++ rest) all) l.straight l.goes in
+    let way-4 : Way program (length C + 1) m t4 =
+    way-both program (length C) 1 m t3 t4 way-3 (straight-way program (Store Sd x2 x1 zero_immediate ∷ []) t3 t4 (after-3.0, tt) refl s1.goes) in
+    let way-5 : Way program (length C + 1 + length (saved y 10 18)) m t5 =
+    way-both program (length C + 1) (length (saved y 10 18)) m t4 t5 way-4
     (straight-way program (saved y 10 18) t4 t5 (stands-front program t4.pc (saved y 10 18) rest after-4) sv.is.straight sv.is.goes) in
-    let count : length (frame_taken y bytes) ≡ length C + suc (suc (length (saved y 10 18))) = length-append C D in
-    let same : (r : ℕ) → r ≢ 2 → r ≢ 6 → r ≢ 7 → t3.registers r ≡ m.registers r =
-    λ r two six seven. written-elsewhere t2.registers 2 (2 ^ 32 + base) r two ∙ l.keeps r six seven in
+    let count : length (frame_taken y bytes) ≡ length C + suc (length (saved y 10 18)) = length-append C D in
+    let same : (r : ℕ) → r ≢ 2 → r ≢ 6 → r ≢ 7 → t3.registers r ≡ m.registers r = λ r two six seven. l.keeps r two seven in
     record {
       after = t5;
-      steps = length C + 1 + 1 + length (saved y 10 18);
+      steps = length C + 1 + length (saved y 10 18);
       way = way-5;
-      few = omega (arith, saved-count y 10 18, short-count x6 bytes);
+      few = omega (arith, saved-count y 10 18, down-count bytes);
       some = omega arith;
-      pointer = sv.is.registers 2 ∙ written-there t2.registers 2 (2 ^ 32 + base) (λ z. omega (arith, z));
+      pointer = sv.is.registers 2 ∙ l.gives;
       others = λ r two six seven. sv.is.registers r ∙ same r two six seven;
       region = sv.is.region ∙ l.region;
       long = sv.is.long ∙ (s1.long ∙ ap length l.private);
@@ -377,6 +366,6 @@ takes-frame program y bytes top rest m p two-is least room within most region th
       kept = λ r h k used.
           sv.words r h (omega (arith, k)) used
           ∙ ap low (same r (λ z. omega (arith, z, h)) (λ z. omega (arith, z, h)) (λ z. omega (arith, z, h)));
-      pc = pc-frame m.pc (length C) t2.pc t3.pc t4.pc t5.pc (length (saved y 10 18)) l.behind refl refl sv.is.behind ∙ ap (λ n. low (m.pc + 4 * n)) (sym count);
+      pc = pc-frame m.pc (length C) t3.pc t4.pc t5.pc (length (saved y 10 18)) l.behind refl sv.is.behind ∙ ap (λ n. low (m.pc + 4 * n)) (sym count);
       there = after-5;
     }

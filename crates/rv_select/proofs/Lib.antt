@@ -41,6 +41,7 @@ pub mod Layouts
 pub mod Bodies
 pub mod Askings
 pub mod Kept
+pub mod Pointers
 pub mod Enters
 pub mod Passes
 pub mod Quits

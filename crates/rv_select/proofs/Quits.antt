@@ -8,15 +8,16 @@ use Rattle.rv_isa.specs.declared.operation.LoadOp.TheVariants.{Ld}
 use Rattle.rv_isa.specs.declared.operation.RegisterOp.TheVariants.{Add}
 use Rattle.rv_machine.specs.Word.{low}
 use Rattle.rv_machine.specs.Machine.{State, GoesOn, act, at_with}
-use Rattle.rv_operators.specs.Codes.{x0, x5, x6, zero_immediate}
+use Rattle.rv_operators.specs.Codes.{x0, x5, zero_immediate}
 use Rattle.rv_operators.specs.Runs.{Stands}
-use Rattle.rv_select.specs.Numbers.{constant, immediate_of, register_of, short_constant}
+use Rattle.rv_select.specs.Numbers.{constant, immediate_of, register_of}
 use Rattle.rv_select.specs.Places.{Layout, private_word, uses}
 use Rattle.rv_select.specs.Shapes.{x2, x8}
-use Rattle.rv_select.specs.Entering.{kept_offset, left, put_back, region_given, x1}
+use Rattle.rv_select.specs.Entering.{kept_offset, left, pointer_up, put_back, region_given, x1}
 use Rattle.rv_select.proofs.Enters.{Placed, pc-one, placed-still, used-count, zero-sum}
 use Rattle.rv_select.proofs.Kept.{PutBack, load-word, puts-back}
-use Rattle.rv_select.proofs.Numbers.{constant-count, constant-loads, extended-small, short-count, short-loads}
+use Rattle.rv_select.proofs.Numbers.{constant-count, constant-loads}
+use Rattle.rv_select.proofs.Pointers.{goes-up, up-count}
 use Rattle.rv_select.proofs.Straight.{Loads, low-below, low-small, written-elsewhere, written-there}
 use Rattle.rv_select.proofs.Ways.{Way, stands-back, stands-front, step-way, straight-way, way-both}
 
@@ -44,10 +45,6 @@ put-back-count y (suc n) x = used-count (uses y x) (Load Ld (register_of x) x2 (
 even-target : (x link : ℕ) → x ≡ link → link % 2 ≡ 0 → link < 2 ^ 64 → low (x + 0) - low (x + 0) % 2 ≡ link
 unfolding low
 even-target x link e even small = omega arith
-
-sum-small : (x base bytes : ℕ) → x ≡ 2 ^ 32 + base → base + bytes < 2 ^ 63 → low (x + bytes) ≡ 2 ^ 32 + (base + bytes)
-unfolding low
-sum-small x base bytes e h = omega arith
 
 -- the frame in the region is given back
 gives-region : (program : List (Option Instr)) (frame under : ℕ) (rest : List Instr) (m : State) → m.pc < 2 ^ 64 → m.registers 8 ≡ under →
@@ -89,8 +86,8 @@ pub quits : (program : List (Option Instr)) (y : Layout) (bytes base under frame
 quits program y bytes base under frame link m p two-is eight-is small least within most region link-is even link-small there =
     let A : List Instr = put_back y 10 18 in
     let B : List Instr = region_given frame in
-    let C : List Instr = short_constant x6 bytes in
-    let F : List Instr = RegisterRegister Add x2 x2 x6 ∷ Jalr x0 x1 zero_immediate ∷ [] in
+    let C : List Instr = pointer_up bytes in
+    let F : List Instr = Jalr x0 x1 zero_immediate ∷ [] in
     let E : List Instr = C ++ F in
     let t1 : State = at_with m (low (m.pc + 4)) 1 (private_word m base) in
     let to-1 : act (Load Ld x1 x2 zero_immediate) m ≡ GoesOn t1 =
@@ -107,45 +104,37 @@ quits program y bytes base under frame link m p two-is eight-is small least with
     small after-2 in
     let t3 : State = l.after in
     let pc-3 : t3.pc < 2 ^ 64 = subst (λ q. q < 2 ^ 64) (sym l.pc) (low-below (t2.pc + 4 * length B)) in
-    let k : Loads 6 C t3 bytes = subst (λ v. Loads 6 C t3 v) (extended-small bytes (omega arith)) (short-loads x6 t3 bytes (λ z. omega (arith, z))) in
-    let t5 : State = k.after in
-    let two-5 : t5.registers 2 ≡ 2 ^ 32 + base =
-    k.keeps 2 (λ z. omega (arith, z)) (λ z. omega (arith, z))
-    ∙ (l.keeps 2 (λ z. omega (arith, z)) (λ z. omega (arith, z)) (λ z. omega (arith, z)) (λ z. omega (arith, z)) ∙ (pb.outside 2 (inl (omega arith)) ∙ (written-elsewhere m.registers 1 (private_word m base) 2 (λ z. omega (arith, z)) ∙ two-is))) in
-    let t6 : State = at_with t5 (low (t5.pc + 4)) 2 (2 ^ 32 + (base + bytes)) in
-    let to-6 : act (RegisterRegister Add x2 x2 x6) t5 ≡ GoesOn t6 =
-    ap (λ v. GoesOn (at_with t5 (low (t5.pc + 4)) 2 (low (t5.registers 2 + v)))) k.gives
-    ∙ ap (λ v. GoesOn (at_with t5 (low (t5.pc + 4)) 2 v)) (sum-small (t5.registers 2) base bytes two-5 (omega arith)) in
+    let two-3 : t3.registers 2 ≡ 2 ^ 32 + base =
+    l.keeps 2 (λ z. omega (arith, z)) (λ z. omega (arith, z)) (λ z. omega (arith, z)) (λ z. omega (arith, z))
+    ∙ (pb.outside 2 (inl (omega arith)) ∙ (written-elsewhere m.registers 1 (private_word m base) 2 (λ z. omega (arith, z)) ∙ two-is)) in
+    let k : Loads 2 C t3 (2 ^ 32 + (base + bytes)) = goes-up bytes base t3 two-3 (omega (arith, within, most)) in
+    let t6 : State = k.after in
     let one-6 : t6.registers 1 ≡ link =
-    written-elsewhere t5.registers 2 (2 ^ 32 + (base + bytes)) 1 (λ z. omega (arith, z)) ∙ (k.keeps 1 (λ z. omega (arith, z)) (λ z. omega (arith, z))
+    k.keeps 1 (λ z. omega (arith, z)) (λ z. omega (arith, z))
     ∙ (l.keeps 1 (λ z. omega (arith, z)) (λ z. omega (arith, z)) (λ z. omega (arith, z)) (λ z. omega (arith, z))
-    ∙ (pb.outside 1 (inl (omega arith)) ∙ (written-there m.registers 1 (private_word m base) (λ z. omega (arith, z)) ∙ link-is)))) in
+    ∙ (pb.outside 1 (inl (omega arith)) ∙ (written-there m.registers 1 (private_word m base) (λ z. omega (arith, z)) ∙ link-is))) in
     let t7 : State = at_with t6 (low (t6.registers 1 + 0) - low (t6.registers 1 + 0) % 2) 0 (low (t6.pc + 4)) in
-    let after-5 : Stands program t5.pc F = subst (λ q. Stands program q F) (sym k.behind) (stands-back program t3.pc C F pc-3 l.there) in
+    let after-6 : Stands program t6.pc F = subst (λ q. Stands program q F) (sym k.behind) (stands-back program t3.pc C F pc-3 l.there) in
     let way-3 : Way program (1 + length A + l.steps) m t3 =
     way-both program (1 + length A) l.steps m t2 t3
     (way-both program 1 (length A) m t1 t2 (step-way program (Load Ld x1 x2 zero_immediate) m t1 there.0 to-1)
     (straight-way program A t1 t2 (stands-front program t1.pc A (B ++ E) all-1) pb.straight pb.goes)) l.way in
-    let way-5 : Way program (1 + length A + l.steps + length C) m t5 =
-    way-both program (1 + length A + l.steps) (length C) m t3 t5 way-3
-    (straight-way program C t3 t5 (stands-front program t3.pc C F l.there) k.straight k.goes) in
-    let way-7 : Way program (1 + length A + l.steps + length C + 1 + 1) m t7 =
-    way-both program (1 + length A + l.steps + length C + 1) 1 m t6 t7
-    (way-both program (1 + length A + l.steps + length C) 1 m t5 t6 way-5 (step-way program (RegisterRegister Add x2 x2 x6) t5 t6 after-5.0 to-6))
-    (step-way program (Jalr x0 x1 zero_immediate) t6 t7 after-5.1.0 refl) in
+    let way-6 : Way program (1 + length A + l.steps + length C) m t6 =
+    way-both program (1 + length A + l.steps) (length C) m t3 t6 way-3
+    (straight-way program C t3 t6 (stands-front program t3.pc C F l.there) k.straight k.goes) in
+    let way-7 : Way program (1 + length A + l.steps + length C + 1) m t7 =
+    way-both program (1 + length A + l.steps + length C) 1 m t6 t7 way-6 (step-way program (Jalr x0 x1 zero_immediate) t6 t7 after-6.0 refl) in
     let other : (r : ℕ) → r ≢ 2 → r ≢ 5 → r ≢ 6 → r ≢ 7 → r ≢ 8 → t6.registers r ≡ t2.registers r =
-    λ r two five six seven eight.
-    written-elsewhere t5.registers 2 (2 ^ 32 + (base + bytes)) r two ∙ (k.keeps r six seven ∙ l.keeps r five six seven eight) in
+    λ r two five six seven eight. k.keeps r two seven ∙ l.keeps r five six seven eight in
     record {
       after = t7;
-      steps = 1 + length A + l.steps + length C + 1 + 1;
+      steps = 1 + length A + l.steps + length C + 1;
       way = way-7;
-      few = omega (arith, put-back-count y 10 18, l.few, short-count x6 bytes);
+      few = omega (arith, put-back-count y 10 18, l.few, up-count bytes);
       some = omega arith;
       pc = even-target (t6.registers 1) link one-6 even link-small;
-      pointer = written-there t5.registers 2 (2 ^ 32 + (base + bytes)) (λ z. omega (arith, z));
-      eight =
-          written-elsewhere t5.registers 2 (2 ^ 32 + (base + bytes)) 8 (λ z. omega (arith, z)) ∙ (k.keeps 8 (λ z. omega (arith, z)) (λ z. omega (arith, z)) ∙ l.eight);
+      pointer = k.gives;
+      eight = k.keeps 8 (λ z. omega (arith, z)) (λ z. omega (arith, z)) ∙ l.eight;
       there = λ r h g used.
           other r (λ z. omega (arith, z, h)) (λ z. omega (arith, z, h)) (λ z. omega (arith, z, h)) (λ z. omega (arith, z, h)) (λ z. omega (arith, z, h)) ∙ pb.there r h (omega (arith, g)) used;
       unused = λ r h g used.

@@ -17,19 +17,20 @@ use Rattle.tac_form.specs.declared.tac.Instruction.TheVariants.{Call}
 use Rattle.tac_form.specs.Fits.{area_fits}
 use Rattle.tac_form.specs.Weights.{words_of}
 use Rattle.tac_form.specs.declared.tac.Part.{Part}
-use Rattle.rv_operators.specs.Codes.{x0, x5, x6, zero_immediate}
-use Rattle.rv_select.specs.Numbers.{below_zero, constant, lower_of, register_of, short_constant}
+use Rattle.rv_operators.specs.Codes.{x0, x5, zero_immediate}
+use Rattle.rv_select.specs.Numbers.{below_zero, constant, lower_of, register_of}
 use Rattle.rv_select.specs.Places.{Layout, home_of}
 use Rattle.rv_select.specs.Shapes.{far_part, framed, limit_found, place_number, x2, x7, x8, x10, x11}
-use Rattle.rv_select.specs.Entering.{arguments_stored, entered, frame_taken, frames_given, region_given, region_taken, stack_tested, x1, most_arguments, place_given, put_back, received, receiving, result_put, result_words, saved, size_in, stack_branch, stored_below}
+use Rattle.rv_select.specs.Entering.{arguments_stored, entered, frame_taken, frames_given, region_given, region_taken, stack_tested, x1, most_arguments, place_given, pointer_down, pointer_up, put_back, received, receiving, result_put, result_words, saved, size_in, stack_branch, stored_below}
 use Rattle.rv_select.specs.Calls.{call_begun, call_ended, called, call_jump, depth_tested, jump_unless_last, one_more, part_taken, passed}
 use Rattle.rv_select.specs.Frames.{CallsKeepWithin, FramesKeepWithin, ParametersKeepWithin}
 use Rattle.rv_select.proofs.Copies.{size-small}
 use Rattle.rv_select.proofs.Enters.{saved-count}
 use Rattle.rv_select.proofs.Frames.{framed-count}
 use Rattle.rv_select.proofs.Homes.{put-few}
-use Rattle.rv_select.proofs.Numbers.{constant-count, short-count}
+use Rattle.rv_select.proofs.Numbers.{constant-count}
 use Rattle.rv_select.proofs.Passes.{below-count, part-count}
+use Rattle.rv_select.proofs.Pointers.{down-count, up-count}
 use Rattle.rv_select.proofs.Quits.{put-back-count}
 use Rattle.rv_select.proofs.Weights.{to-count}
 use Rattle.rv_select.proofs.Jumps.{last-count, last-few}
@@ -94,14 +95,14 @@ frames-within code y setting bytes at last v =
     let place : length (place_given code.frame code.place) ≤ 8 = place-count code.frame code.place in
     let begins : length (arguments_stored n 0 ++ place_given code.frame code.place) ≤ 8 + 8 =
     both (arguments_stored n 0) (place_given code.frame code.place) 8 8 eight place in
-    let sized : length (short_constant x6 bytes) ≤ 2 = short-count x6 bytes in
     let keeps : length (saved y 10 18) ≤ 10 = saved-count y 10 18 in
-    let taken : length (short_constant x6 bytes) + (2 + length (saved y 10 18)) ≤ 14 = omega (arith, sized, keeps) in
-    let enters : length (entered y bytes code.frame) ≤ 18 + 14 =
-    both (region_taken code.frame) (frame_taken y bytes) 18 14 (region-taken-count code.frame) (omega (arith, length-append (short_constant x6 bytes) (RegisterRegister Sub x2 x2 x6 ∷ Store Sd x2 x1 zero_immediate ∷ saved y 10 18), taken)) in
+    let enters : length (entered y bytes code.frame) ≤ 18 + (3 + 11) =
+    both (region_taken code.frame) (frame_taken y bytes) 18 (3 + 11) (region-taken-count code.frame)
+    (both (pointer_down bytes) (Store Sd x2 x1 zero_immediate ∷ saved y 10 18) 3 11 (down-count bytes) (omega (arith, keeps))) in
     let backs : length (put_back y 10 18) ≤ 10 = put-back-count y 10 18 in
-    let gives : length (frames_given bytes code.frame) ≤ 9 + 4 =
-    both (region_given code.frame) (short_constant x6 bytes ++ (RegisterRegister Add x2 x2 x6 ∷ Jalr x0 x1 zero_immediate ∷ [])) 9 4 (region-given-count code.frame) (omega (arith, length-append (short_constant x6 bytes) (RegisterRegister Add x2 x2 x6 ∷ Jalr x0 x1 zero_immediate ∷ []), sized)) in
+    let gives : length (frames_given bytes code.frame) ≤ 9 + (3 + 1) =
+    both (region_given code.frame) (pointer_up bytes ++ Jalr x0 x1 zero_immediate ∷ []) 9 (3 + 1) (region-given-count code.frame)
+    (both (pointer_up bytes) (Jalr x0 x1 zero_immediate ∷ []) 3 1 (up-count bytes) (omega arith)) in
     let leaves : length (put_back y 10 18 ++ frames_given bytes code.frame) ≤ 10 + 13 = both (put_back y 10 18) (frames_given bytes code.frame) 10 13 backs gives in (
       omega (arith, begins, enters, leaves),
       both (part_taken y x10 v) (jump_unless_last setting.short setting.next (at + 4 * length (part_taken y x10 v)) last) 8 2 (part-count y x10 v)

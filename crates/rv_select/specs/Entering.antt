@@ -3,8 +3,9 @@ use Rattle.std.specs.Prelude.{ℕ, zero, suc, ◌+◌, ◌-◌, ◌*◌, ◌^◌
 use Rattle.std.proofs.Common.{lit≤}
 use Rattle.tl_base.specs.declared.place.Place.{Place}
 use Rattle.rv_isa.specs.declared.instr.Instr.{Instr}
-use Rattle.rv_isa.specs.declared.instr.Instr.TheVariants.{Jalr, Branch, Load, Store, RegisterRegister}
+use Rattle.rv_isa.specs.declared.instr.Instr.TheVariants.{Jalr, Branch, Load, Store, RegisterImmediate, RegisterRegister}
 use Rattle.rv_isa.specs.declared.operation.BranchCondition.TheVariants.{Geu}
+use Rattle.rv_isa.specs.declared.operation.ImmediateOp.TheVariants.{Addi}
 use Rattle.rv_isa.specs.declared.operation.RegisterOp.TheVariants.{Add, Sub}
 use Rattle.rv_isa.specs.declared.operation.LoadOp.TheVariants.{Ld}
 use Rattle.rv_isa.specs.declared.operation.StoreOp.TheVariants.{Sd}
@@ -14,7 +15,7 @@ use Rattle.tac_form.specs.declared.tac.Destination.{Destination}
 use Rattle.tac_form.specs.declared.tac.Destination.TheVariants.{Temp, Area}
 use Rattle.tac_form.specs.declared.tac.Tac.{Tac}
 use Rattle.tac_form.specs.Weights.{kept_bytes, most_moved}
-use Rattle.rv_operators.specs.Codes.{x0, x5, x6, zero_immediate}
+use Rattle.rv_operators.specs.Codes.{x0, x5, zero_immediate}
 use Rattle.rv_select.specs.Numbers.{below_zero, constant, immediate_of, lower_of, register_of, short_constant}
 use Rattle.rv_select.specs.Places.{Layout, uses}
 use Rattle.rv_select.specs.Shapes.{far_part, fault_call, framed, limit_found, moved, over, place_number, put_at, to_area, x2, x4, x7, x8, x11}
@@ -62,10 +63,20 @@ abbrev pub region_taken : (frame : ℕ) → List Instr
 region_taken zero = []
 region_taken (suc n) = stack_tested (suc n) ++ RegisterRegister Sub x8 x8 x5 ∷ []
 
--- that in private memory goes down, and what is kept for the caller is stored
+-- The pointer of the frame in private memory goes down or up by the bytes of a frame, in one word where an immediate holds them.
+abbrev pub pointer_down : (bytes : ℕ) → List Instr
+pointer_down bytes =
+    if nat_le bytes 2048 then RegisterImmediate Addi x2 x2 (below_zero (bytes - 1)) ∷ []
+    else short_constant x7 bytes ++ RegisterRegister Sub x2 x2 x7 ∷ []
+
+abbrev pub pointer_up : (bytes : ℕ) → List Instr
+pointer_up bytes =
+    if nat_le bytes 2047 then RegisterImmediate Addi x2 x2 (immediate_of bytes) ∷ []
+    else short_constant x7 bytes ++ RegisterRegister Add x2 x2 x7 ∷ []
+
+-- the frame in private memory goes down, and what is kept for the caller is stored
 abbrev pub frame_taken : Layout → (bytes : ℕ) → List Instr
-frame_taken y bytes =
-    short_constant x6 bytes ++ (RegisterRegister Sub x2 x2 x6 ∷ Store Sd x2 x1 zero_immediate ∷ saved y 10 18)
+frame_taken y bytes = pointer_down bytes ++ (Store Sd x2 x1 zero_immediate ∷ saved y 10 18)
 
 -- how a function is entered by a call, whose frames have so many bytes in private memory and in the region
 abbrev pub entered : Layout → (bytes frame : ℕ) → List Instr
@@ -108,8 +119,7 @@ region_given (suc n) = constant x5 (suc n) ++ RegisterRegister Add x8 x8 x5 ∷ 
 
 -- back to the caller, with the result in x10
 abbrev pub frames_given : (bytes frame : ℕ) → List Instr
-frames_given bytes frame =
-    region_given frame ++ (short_constant x6 bytes ++ (RegisterRegister Add x2 x2 x6 ∷ Jalr x0 x1 zero_immediate ∷ []))
+frames_given bytes frame = region_given frame ++ (pointer_up bytes ++ Jalr x0 x1 zero_immediate ∷ [])
 
 abbrev pub left : Layout → (bytes frame : ℕ) → List Instr
 left y bytes frame = Load Ld x1 x2 zero_immediate ∷ (put_back y 10 18 ++ frames_given bytes frame)

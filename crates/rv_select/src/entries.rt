@@ -2,13 +2,15 @@
 
 ghost use Rattle.std.specs.Prelude.{◌≡◌, ◌*◌, ◌+◌, ◌^◌, ◌<◌, ◌≤◌, [], ◌∷◌, ◌++◌, map, length, IfOk, IsTrue, OnOk};
 ghost use Rattle.rv_isa.specs.Table.{word_of};
-ghost use Rattle.rv_select.specs.Entering.{arguments_stored, begun, entered, frame_taken, frames_given, kept_offset, left, most_arguments, place_given, put_back, put_back_one, received, received_one, region_given, region_taken, result_put, saved, saved_one, size_in, stack_branch, stack_tested, stored_below};
-ghost use Rattle.rv_select.specs.Numbers.{constant, register_of};
+ghost use Rattle.rv_isa.specs.declared.instr.Instr.TheVariants.{RegisterImmediate, RegisterRegister};
+ghost use Rattle.rv_isa.specs.declared.operation.ImmediateOp.TheVariants.{Addi};
+ghost use Rattle.rv_select.specs.Entering.{arguments_stored, begun, entered, frame_taken, frames_given, kept_offset, left, most_arguments, place_given, pointer_down, pointer_up, put_back, put_back_one, received, received_one, region_given, region_taken, result_put, saved, saved_one, size_in, stack_branch, stack_tested, stored_below};
+ghost use Rattle.rv_select.specs.Numbers.{constant, register_of, short_constant};
 ghost use Rattle.rv_select.specs.Places.{is_register, uses, with_homes};
-ghost use Rattle.rv_select.specs.Shapes.{place_number, to_area, x11};
+ghost use Rattle.rv_select.specs.Shapes.{place_number, to_area, x2, x7, x11};
 
 use crate::emit::{
-    X0, X2, X5, X6, X7, push_constant, push_far, push_frame_load, push_moved, push_put,
+    X0, X2, X5, X7, push_constant, push_far, push_frame_load, push_moved, push_put,
     push_short_constant, put,
 };
 use crate::instructions::{X4, X8, X11, place_number, push_fault_call};
@@ -16,7 +18,9 @@ use crate::moving::push_to_area;
 use crate::operands::{below_zero, immediate, lower, offset, register, upper};
 use crate::outputs::push_limit_found;
 use reg_alloc::Home;
-use rv_isa::{BranchCondition, Immediate, Instr, LoadOp, Register, RegisterOp, StoreOp};
+use rv_isa::{
+    BranchCondition, Immediate, ImmediateOp, Instr, LoadOp, Register, RegisterOp, StoreOp,
+};
 use tac_form::{Destination, Tac};
 use terra_words::FaultKind;
 use tl_base::{NoMemory, Place};
@@ -195,20 +199,66 @@ fn push_region_taken(code: &mut Vec<u32>, frame: u64) -> Result<(), NoMemory>
     )
 }
 
-/// The frame in private memory goes down, and what is kept for the caller is stored.
-fn push_frame_taken(code: &mut Vec<u32>, homes: &[Option<Home>], bytes: u64) -> Result<(), NoMemory>
-    ensures { OnOk result (code.new.items ≡ code.old.items ++ map word_of (frame_taken (with_homes homes.now) bytes)) }
+/// x2 gets its own word and an immediate's.
+fn push_pointer_moved(code: &mut Vec<u32>, imm: Immediate) -> Result<(), NoMemory>
+    ensures { OnOk result (code.new.items ≡ code.old.items ++ map word_of (RegisterImmediate Addi x2 x2 imm ∷ [])) }
 {
-    push_short_constant(code, X6, bytes)?;
+    put(
+        code,
+        Instr::RegisterImmediate {
+            op: ImmediateOp::Addi,
+            rd: X2,
+            rs1: X2,
+            imm,
+        },
+    )
+}
+
+/// x2 gets what an operator makes of its own word and so many bytes, for which an immediate is too short.
+fn push_pointer_far(code: &mut Vec<u32>, op: RegisterOp, bytes: u64) -> Result<(), NoMemory>
+    ensures { OnOk result (code.new.items ≡ code.old.items ++ map word_of (short_constant x7 bytes ++ RegisterRegister op x2 x2 x7 ∷ [])) }
+{
+    push_short_constant(code, X7, bytes)?;
     put(
         code,
         Instr::RegisterRegister {
-            op: RegisterOp::Sub,
+            op,
             rd: X2,
             rs1: X2,
-            rs2: X6,
+            rs2: X7,
         },
-    )?;
+    )
+}
+
+/// The pointer of the frame goes down by so many bytes.
+fn push_pointer_down(code: &mut Vec<u32>, bytes: u64) -> Result<(), NoMemory>
+    requires { 1 ≤ bytes }
+    ensures { OnOk result (code.new.items ≡ code.old.items ++ map word_of (pointer_down bytes)) }
+{
+    if bytes <= 2048 {
+        push_pointer_moved(code, below_zero(bytes - 1))
+    } else {
+        push_pointer_far(code, RegisterOp::Sub, bytes)
+    }
+}
+
+/// It goes up by so many bytes.
+fn push_pointer_up(code: &mut Vec<u32>, bytes: u64) -> Result<(), NoMemory>
+    ensures { OnOk result (code.new.items ≡ code.old.items ++ map word_of (pointer_up bytes)) }
+{
+    if bytes <= 2047 {
+        push_pointer_moved(code, immediate(bytes))
+    } else {
+        push_pointer_far(code, RegisterOp::Add, bytes)
+    }
+}
+
+/// The frame in private memory goes down, and what is kept for the caller is stored.
+fn push_frame_taken(code: &mut Vec<u32>, homes: &[Option<Home>], bytes: u64) -> Result<(), NoMemory>
+    requires { 1 ≤ bytes }
+    ensures { OnOk result (code.new.items ≡ code.old.items ++ map word_of (frame_taken (with_homes homes.now) bytes)) }
+{
+    push_pointer_down(code, bytes)?;
     put(
         code,
         Instr::Store {
@@ -228,6 +278,7 @@ pub(crate) fn push_entered(
     bytes: u64,
     frame: u64,
 ) -> Result<(), NoMemory>
+    requires { 1 ≤ bytes }
     ensures { OnOk result (code.new.items ≡ code.old.items ++ map word_of (entered (with_homes homes.now) bytes frame)) }
 {
     push_region_taken(code, frame)?;
@@ -280,16 +331,7 @@ fn push_frames_given(code: &mut Vec<u32>, bytes: u64, frame: u64) -> Result<(), 
     ensures { OnOk result (code.new.items ≡ code.old.items ++ map word_of (frames_given bytes frame)) }
 {
     push_region_given(code, frame)?;
-    push_short_constant(code, X6, bytes)?;
-    put(
-        code,
-        Instr::RegisterRegister {
-            op: RegisterOp::Add,
-            rd: X2,
-            rs1: X2,
-            rs2: X6,
-        },
-    )?;
+    push_pointer_up(code, bytes)?;
     put(
         code,
         Instr::Jalr {

@@ -310,7 +310,8 @@ fn push_call_head(
     words: u64,
     bytes: u64,
 ) -> Result<(), NoMemory>
-    requires { words < 2 ^ 63 }
+    requires words { words < 2 ^ 63 }
+    requires bytes { 1 ≤ bytes }
     ensures { OnOk result (code.new.items ≡ code.old.items ++ map word_of (entered (layout_with tac.now homes.now) bytes tac.now.frame ++ received (layout_with tac.now homes.now) tac.now.areas words tac.now.parameters)) }
 {
     push_entered(code, homes, bytes, tac.frame)?;
