@@ -1,6 +1,6 @@
 -- Lowered code calls no other functions than its term does, with as many arguments.
 use Rattle.std.proofs.Common.{◌≡◌, ℕ, suc, ◌+◌, Bool, true, false, List, [], ◌∷◌, ◌++◌, length, map, Option, Some, None, refl, sym, ap, subst}
-use Rattle.std.specs.Prelude.{◌-◌, ◌^◌, nat_eq, nat_le, if◌then◌else◌}
+use Rattle.std.specs.Prelude.{nat_eq, nat_le, if◌then◌else◌}
 use Rattle.tl_base.specs.declared.place.Place.{Place}
 use Rattle.tl_base.specs.declared.ids.TypeId.{TypeId}
 use Rattle.tl_base.specs.declared.ids.FnId.{FnId}
@@ -28,7 +28,7 @@ use Rattle.tac_form.specs.declared.tac.Spot.{Spot}
 use Rattle.tac_form.specs.declared.tac.Spot.TheVariants as spots
 use Rattle.tac_lower.specs.Items.{Item, does, ends, Ending, skips, tests, repeats, repeats_unless, leaves, gives, fails, count_ends, loop_of}
 use Rattle.tac_lower.specs.Pieces.{Used, nothing_used, with_temp, with_area, Piece, known, doing, then_piece, taken, Result, a_word, an_area, an_offset, no_word, word_of, part_of, parts_of, address_of, word_at, result_at, rest, whole_word, number_of, is_bool, given, compute, copied, located, loaded_bit, loaded_area, loaded_word, loaded, stored_part, stored, placed, Holder, in_temp, at_offset, Holders, holder_of, Around, declare_at, declare, declare_all, first_of}
-use Rattle.tac_lower.specs.Lowering.{cut, is_whole, Counting, is_one, either_way, with_step, body_piece, reached, variable, entry, element, extracted, constructed, call, operation, target_at, aimed, Target, to_temp, to_place, assigned, assigned_all, passed_over, choice, counting, runs, counted_on, while_loop, piece, pieces, targets, one, all, around, ending, received}
+use Rattle.tac_lower.specs.Lowering.{cut, is_whole, Counting, is_one, either_way, with_step, body_piece, reached, variable, entry, element, form_of, turned_over, extracted, constructed, call, operation, target_at, aimed, Target, to_temp, to_place, assigned, assigned_all, passed_over, choice, counting, runs, counted_on, while_loop, piece, pieces, targets, one, all, around, ending, received}
 
 -- An instruction calls no other functions than these with so many arguments, and none that is a value; and what follows does so too.
 abbrev pub before_rest : (In : FnId → ℕ → Type 0) → Instruction → Type 0 → Type 0
@@ -217,13 +217,13 @@ module _ (In : FnId → ℕ → Type 0) where
   operation-names c at of operations.Not ts vs u h = by (nat_eq of.0 boolean.0)
     where
       by : (b : Bool) → Names (if b then compute operators.Xor whole_word (word_at vs 0) (Constant 1) u
-          else compute operators.Xor (number_of c.types of) (word_at vs 0) (Constant (2 ^ 64 - 1)) u).code
+          else turned_over (number_of c.types of) (word_at vs 0) u).code
       by true = tt
       by false = tt
   operation-names c at of (operations.Binary op) ts vs u h = by (divides op)
     where
       by : (b : Bool) → Names (then_piece (if b then doing (tt {0}) (TestDivisor at (word_at vs 1)) u else known (tt {0}) u)
-          (λ t u'. compute op (number_of c.types (type_at ts 0)) (word_at vs 0) (word_at vs 1) u')).code
+          (λ t u'. compute op (form_of op (number_of c.types (type_at ts 0)) (word_at vs 1)) (word_at vs 0) (word_at vs 1) u')).code
       by true = tt
       by false = tt
   operation-names c at of operations.StepForward ts vs u h = tt

@@ -1,6 +1,6 @@
 -- Lowered code of typed functions has at most 136 private bytes for each typed node, and 65,536 more.
 use Rattle.std.proofs.Common.{◌≡◌, ℕ, suc, ◌+◌, ◌*◌, ◌≤◌, ◌⊎◌, inl, inr, Bool, true, false, List, [], ◌∷◌, length, map, Option, Some, None, refl, sym, ap, ◌∙◌, arith, length-append}
-use Rattle.std.specs.Prelude.{◌^◌, ◌-◌, not, nat_eq, fold, if◌then◌else◌}
+use Rattle.std.specs.Prelude.{not, nat_eq, fold, if◌then◌else◌}
 use Rattle.std.proofs.lemmas.Bool.{and_parts}
 use Rattle.tl_base.specs.declared.place.Place.{Place}
 use Rattle.tl_base.specs.declared.ids.TypeId.{TypeId}
@@ -32,7 +32,7 @@ use Rattle.tac_form.specs.declared.tac.Spot.{Spot}
 use Rattle.tac_form.specs.declared.tac.Spot.TheVariants as spots
 use Rattle.tac_form.specs.Weights.{private_bytes}
 use Rattle.tac_lower.specs.Pieces.{Used, nothing_used, with_temp, with_area, Piece, known, doing, then_piece, taken, Result, a_word, an_area, an_offset, no_word, word_of, address_of, word_at, result_at, rest, whole_word, number_of, is_bool, given, compute, copied, located, loaded_bit, loaded_area, loaded_word, loaded, stored_part, stored, placed, Holder, in_temp, at_offset, Holders, holder_of, Around, declare_at, declare, declare_all, first_of}
-use Rattle.tac_lower.specs.Lowering.{cut, is_whole, reached, variable, entry, element, extracted, constructed, call, call_value, signature_in, operation, target_at, aimed, Target, to_temp, to_place, assigned, assigned_all, Counting, counting, is_one, either_way, runs, piece, pieces, targets, one, all, around, received, code_of, unreached, are_narrow, parameter_types, lowered}
+use Rattle.tac_lower.specs.Lowering.{cut, is_whole, reached, variable, entry, element, form_of, turned_over, extracted, constructed, call, call_value, signature_in, operation, target_at, aimed, Target, to_temp, to_place, assigned, assigned_all, Counting, counting, is_one, either_way, runs, piece, pieces, targets, one, all, around, received, code_of, unreached, are_narrow, parameter_types, lowered}
 use Rattle.tac_lower.specs.Needs.{GoodHome}
 use Rattle.tac_lower.proofs.Homes.{Homes, homes-of, halves}
 use Rattle.tac_lower.proofs.Typing.{no, three, four, five, struct-aggregate, Asked}
@@ -189,13 +189,14 @@ module _ (store : Contents) (entries : List FnId) (homes : List Home) where
   operation-bytes at of operations.Not ts ks vs u m h s = by (nat_eq of.0 boolean.0) (slack-small the_value types of m s)
     where
       by : (b : Bool) → m ≤ 24 → bytes (if b then compute operators.Xor whole_word (word_at vs 0) (Constant 1) u
-          else compute operators.Xor (number_of types of) (word_at vs 0) (Constant (2 ^ 64 - 1)) u).used + m ≤ bytes u + 128
+          else turned_over (number_of types of) (word_at vs 0) u).used + m ≤ bytes u + 128
       by true z = omega (arith, z)
       by false z = omega (arith, z)
   operation-bytes at of (operations.Binary op) ts ks vs u m h s = by (divides op) (slack-small the_value types of m s)
     where
       by : (b : Bool) → m ≤ 24 → bytes (then_piece (if b then doing (tt {0}) (TestDivisor at (word_at vs 1)) u else known (tt {0}) u)
-          (λ t u'. compute op (number_of types (type_at ts 0)) (word_at vs 0) (word_at vs 1) u')).used + m ≤ bytes u + 128
+          (λ t u'. compute op (form_of op (number_of types (type_at ts 0)) (word_at vs 1)) (word_at vs 0) (word_at vs 1) u')).used + m
+          ≤ bytes u + 128
       by true z = omega (arith, z)
       by false z = omega (arith, z)
   operation-bytes at of operations.StepForward ts ks vs u m h s = let z = slack-small the_value types of m s in omega (arith, z)

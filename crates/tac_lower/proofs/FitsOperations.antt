@@ -34,7 +34,7 @@ use Rattle.tac_form.specs.Fits.{operand_fits, place_fits, area_there, part_fits,
 use Rattle.tac_form.specs.Flow as flow
 use Rattle.tac_lower.specs.Items.{does}
 use Rattle.tac_lower.specs.Pieces.{Used, with_temp, with_area, Piece, known, doing, then_piece, Result, a_word, an_area, an_offset, no_word, word_of, whole_word, long, number_of, compute, stored, parts_of, word_at, result_at, rest, Around}
-use Rattle.tac_lower.specs.Lowering.{cut, fitted, is_whole, binary, difference, extracted, constructed, operation, call, call_value, signature_in}
+use Rattle.tac_lower.specs.Lowering.{cut, fitted, is_whole, binary, difference, form_of, turned_form, turned_over, extracted, constructed, operation, call, call_value, signature_in}
 use Rattle.terra_meaning.specs.Frames.{Home}
 use Rattle.tac_lower.specs.Needs.{HasNumber, IsWide, EntriesFit, NumberUnless, BinaryNeeds, is_comparison}
 use Rattle.tac_lower.proofs.Words.{number-small}
@@ -89,17 +89,18 @@ module _ (types : List TypeForm) (tac : Tac) where
   binary-ok {P = P} at t form op x y u place plain hx hy = by (divides op)
     where
       by : (b : Bool) → pieces_fit.Ok types tac P u (then_piece (if b then doing (tt {0}) (TestDivisor at y) u else known (tt {0}) u)
-          (λ t1 u'. compute op form x y u')) (pieces_fit.Gives types tac the_value t (then_piece (if b then doing (tt {0})
+          (λ t1 u'. compute op (form_of op form y) x y u')) (pieces_fit.Gives types tac the_value t (then_piece (if b then doing (tt {0})
           (TestDivisor at y) u else known (tt {0}) u)
-          (λ t1 u'. compute op form x y u')).used)
+          (λ t1 u'. compute op (form_of op form y) x y u')).used)
       by true =
-          pieces_fit.then-ok types tac {R = λ b. Unit {0}} (doing (tt {0}) (TestDivisor at y) u) (compute op form x y u)
+          pieces_fit.then-ok types tac {R = λ b. Unit {0}} (doing (tt {0}) (TestDivisor at y) u) (compute op (form_of op form y) x y u)
           (pieces_fit.doing-ok types tac (λ b. Unit {0}) tt (TestDivisor at y) u (λ h. and_from (place_fits at)
           (operand_fits tac y) place (hy h)) (λ h. tt))
-          (pieces_fit.compute-ok types tac (pieces_fit.Gives types tac the_value t (with_temp u)) op form x y u (λ h. hx h.0)
+          (pieces_fit.compute-ok types tac (pieces_fit.Gives types tac the_value t (with_temp u)) op (form_of op form y) x y u (λ h. hx h.0)
           (λ h. hy h.0) (λ o f. (f, plain)))
-      by false = pieces_fit.compute-ok types tac (pieces_fit.Gives types tac the_value t (with_temp u)) op form x y u hx hy (λ o f.
-          (f, plain))
+      by false =
+          pieces_fit.compute-ok types tac (pieces_fit.Gives types tac the_value t (with_temp u)) op (form_of op form y) x y u hx hy
+          (λ o f. (f, plain))
 
   pub extracted-ok : {P : Type 0} (s t : TypeId) (offset : ℕ) (r : Result) (u : Used) → bytes_at types t ≤ 128 →
       is_aggregate types s ≡ true → offset + bytes_at types t ≤ bytes_at types s → (P → pieces_fit.Gives types tac the_value s u r) →
@@ -211,15 +212,14 @@ module _ (types : List TypeForm) (tac : Tac) where
       not-ok plain = by (nat_eq t.0 boolean.0)
         where
           by : (b : Bool) → pieces_fit.Ok types tac P u (if b then compute operators.Xor whole_word (word_at rs 0) (Constant 1) u
-              else compute operators.Xor (number_of types t) (word_at rs 0) (Constant (2 ^ 64 - 1)) u)
+              else turned_over (number_of types t) (word_at rs 0) u)
               (pieces_fit.Gives types tac the_value t (if b then compute operators.Xor whole_word (word_at rs 0) (Constant 1) u
-              else compute operators.Xor (number_of types t) (word_at rs 0) (Constant (2 ^ 64 - 1)) u).used)
+              else turned_over (number_of types t) (word_at rs 0) u).used)
           by true = pieces_fit.compute-ok types tac W operators.Xor whole_word (word_at rs 0) (Constant 1) u (word 0) (λ h. refl) (λ o f.
               (f, plain))
           by false =
-              pieces_fit.compute-ok types tac W operators.Xor (number_of types t) (word_at rs 0) (Constant (2 ^ 64 - 1)) u (word 0)
-              (λ h. refl)
-              (λ o f. (f, plain))
+              pieces_fit.compute-ok types tac W operators.Xor (turned_form (number_of types t)) (word_at rs 0) (Constant (2 ^ 64 - 1)) u
+              (word 0) (λ h. refl) (λ o f. (f, plain))
 
       convert-ok : is_aggregate types t ≡ false → Fit operations.Convert
       convert-ok plain = by (nat_eq t.0 boolean.0)
@@ -356,7 +356,7 @@ module _ (types : List TypeForm) (tac : Tac) where
     operation-ok at t (operations.Binary op) ts rs u place narrow usable h x =
         let n = operation-needs store are entries few (operations.Binary op) ts t usable h in
         binary-ok at t (number_of types (type_at ts 0)) op (word_at rs 0) (word_at rs 1) u place
-        (binary-plain (is_comparison op) (type_at ts 0) t n) (λ y. pieces_fit.words-fit types tac ts u rs 0 (x y))
+        (binary-plain (is_comparison op) (type_at ts 0) t n.0) (λ y. pieces_fit.words-fit types tac ts u rs 0 (x y))
         (λ y. pieces_fit.words-fit types tac ts u rs 1 (x y))
     operation-ok at t operations.StepForward ts rs u place narrow usable h x =
         let n = operation-needs store are entries few operations.StepForward ts t usable h in

@@ -39,7 +39,7 @@ use Rattle.tac_form.specs.Live as live
 use Rattle.tac_form.specs.Live.{is_written, before_step, before_exit, at_step, at_place, read_within}
 use Rattle.tac_form.specs.Flow as flow
 use Rattle.tac_lower.specs.Pieces.{Used, with_temp, with_area, Piece, known, doing, following, then_piece, taken, Result, a_word, an_area, an_offset, no_word, word_of, part_of, parts_of, address_of, result_at, word_at, rest, long, whole_word, number_of, is_bool, compute, copied, located, loaded_bit, loaded_number, loaded_word, loaded, stored_part, stored, placed, Holder, in_temp, at_offset, Holders, holder_of, bound, Around, declare_at, declare, declare_all, first_of}
-use Rattle.tac_lower.specs.Lowering.{cut, fitted, is_whole, reached, variable, entry, element, binary, difference, extracted, constructed, signature_in, call, call_value, operation, Target, to_temp, to_place, target_at, aimed, assigned_all, Counting, is_one, either_way, runs}
+use Rattle.tac_lower.specs.Lowering.{cut, fitted, is_whole, reached, variable, entry, element, binary, difference, form_of, turned_form, turned_over, extracted, constructed, signature_in, call, call_value, operation, Target, to_temp, to_place, target_at, aimed, assigned_all, Counting, is_one, either_way, runs}
 use Rattle.tac_lower.proofs.Places.{Point, step_on, start_of, after, after-append, DoesAt, EndsAt, HasAt, has-front, has-back}
 
 abbrev pub before : ℕ → ℕ
@@ -374,14 +374,15 @@ module _ (blocks : List Block) (t : ℕ) where
   binary-clean {P = P} at form op x y u f g = by (divides op)
     where
       by : (b : Bool) → Clean P (then_piece (if b then doing (tt {0}) (TestDivisor at y) u else known (tt {0}) u)
-          (λ t1 u'. compute op form x y u')) FreeResult
+          (λ t1 u'. compute op (form_of op form y) x y u')) FreeResult
       by true =
-          then-clean {R = λ b. Unit {0}} (doing (tt {0}) (TestDivisor at y) u) (compute op form x y u)
+          then-clean {R = λ b. Unit {0}} (doing (tt {0}) (TestDivisor at y) u) (compute op (form_of op form y) x y u)
           (doing-clean (λ b. Unit {0}) (tt {0}) (TestDivisor at y) u (λ h. lacks-word y (g h)) (λ h w. tt))
-          (compute-clean op form x y u (λ h. f h.0) (λ h. g h.0))
+          (compute-clean op (form_of op form y) x y u (λ h. f h.0) (λ h. g h.0))
       by false =
-          then-clean {R = λ b. Unit {0}} (known (tt {0}) u) (compute op form x y u) (known-clean (λ b. Unit {0}) (tt {0}) u (λ h. tt))
-          (compute-clean op form x y u (λ h. f h.0) (λ h. g h.0))
+          then-clean {R = λ b. Unit {0}} (known (tt {0}) u) (compute op (form_of op form y) x y u)
+          (known-clean (λ b. Unit {0}) (tt {0}) u (λ h. tt))
+          (compute-clean op (form_of op form y) x y u (λ h. f h.0) (λ h. g h.0))
 
   extracted-clean : {P : Type 0} (types : List TypeForm) (of : TypeId) (offset : ℕ) (r : Result) (u : Used) →
       Clean P (extracted types of offset r u) FreeResult
@@ -447,9 +448,10 @@ module _ (blocks : List Block) (t : ℕ) where
     not-clean = by (nat_eq of.0 boolean.0)
       where
         by : (b : Bool) → Clean (FreeAll rs) (if b then compute operators.Xor whole_word (word_at rs 0) (Constant 1) u
-            else compute operators.Xor (number_of forms_of of) (word_at rs 0) (Constant (2 ^ 64 - 1)) u) FreeResult
+            else turned_over (number_of forms_of of) (word_at rs 0) u) FreeResult
         by true = compute-clean operators.Xor whole_word (word_at rs 0) (Constant 1) u (word 0) (λ h. tt)
-        by false = compute-clean operators.Xor (number_of forms_of of) (word_at rs 0) (Constant (2 ^ 64 - 1)) u (word 0) (λ h. tt)
+        by false =
+            compute-clean operators.Xor (turned_form (number_of forms_of of)) (word_at rs 0) (Constant (2 ^ 64 - 1)) u (word 0) (λ h. tt)
 
     convert-clean : Fit operations.Convert
     convert-clean = by (nat_eq of.0 boolean.0)

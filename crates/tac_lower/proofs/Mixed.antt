@@ -116,17 +116,17 @@ ready = (
         refl,
         (
           (
-            (tt, (tt, (refl, ((refl, refl), tt)), refl), (tt, (refl, ((refl, refl), tt)), refl), refl, refl, refl),
-            ((((tt, (refl, ((refl, refl), tt)), (tt, refl)), tt), (refl, tt), refl), tt),
-            ((((tt, (refl, (refl, tt)), (tt, refl)), tt), (refl, tt), refl), tt),
+            (tt, (tt, (refl, ((refl, refl), tt)), (refl, λ e. refl)), (tt, (refl, ((refl, refl), tt)), (refl, λ e. refl)), refl, refl, refl),
+            ((((tt, (refl, ((refl, refl), tt)), ((tt, refl), λ e. refl)), tt), (refl, tt), refl), tt),
+            ((((tt, (refl, (refl, tt)), ((tt, refl), λ e. refl)), tt), (refl, tt), refl), tt),
           ),
           (
             (
               (
-                (((tt, (refl, ((refl, refl), tt)), (tt, refl)), tt), (refl, tt), refl),
-                (((tt, (refl, ((refl, refl), tt)), refl), (refl, tt)), tt),
+                (((tt, (refl, ((refl, refl), tt)), ((tt, refl), λ e. refl)), tt), (refl, tt), refl),
+                (((tt, (refl, ((refl, refl), tt)), (refl, λ e. refl)), (refl, tt)), tt),
               ),
-              (tt, ((tt, (refl, ((refl, refl), tt)), (tt, refl)), ((refl, refl), tt)), refl),
+              (tt, ((tt, (refl, ((refl, refl), tt)), ((tt, refl), λ e. refl)), ((refl, refl), tt)), (refl, λ e. refl)),
             ),
             tt,
           ),

@@ -8,6 +8,7 @@ use Rattle.tl_base.specs.declared.ids.FnId.{FnId}
 use Rattle.lua_value.specs.declared.primitive.Primitive.{Primitive}
 use Rattle.lua_value.specs.declared.primitive.Primitive.TheVariants as primitives
 use Rattle.terra_words.specs.declared.words.BinaryOperator.{BinaryOperator}
+use Rattle.terra_words.specs.declared.words.BinaryOperator.TheVariants as operators
 use Rattle.terra_words.specs.Words.{flag}
 use Rattle.terra_words.specs.Runs.{word}
 use Rattle.terra_types.specs.declared.types.Integer.TheVariants.{Int64}
@@ -30,7 +31,7 @@ use Rattle.terra_meaning.specs.Values.{form_at, bytes_at, is_aggregate, target_o
 use Rattle.terra_meaning.specs.Frames.{Home, frame_of}
 use Rattle.terra_meaning.specs.Meaning.{Wanted, the_value, the_address, constant, position_of, types_of, type_at, in_expression, in_list, in_statement, in_block}
 use Rattle.tac_lower.specs.Lowering.{type_of_name, are_narrow}
-use Rattle.tac_lower.specs.Needs.{HasNumber, IsWanted, IsWide, Begins, DeclaresWell, is_comparison, BinaryNeeds, PrimitiveNeeds, NumberUnless, EntriesFit, CallNeeds, OperationNeeds, in_loop, Needs, NeedsAll, NeedsTargets, NeedsOne, NeedsBlock, BodyNeeds}
+use Rattle.tac_lower.specs.Needs.{HasNumber, IsWanted, IsWide, Begins, DeclaresWell, is_comparison, joins_bits, BinaryNeeds, PrimitiveNeeds, NumberUnless, EntriesFit, CallNeeds, OperationNeeds, in_loop, Needs, NeedsAll, NeedsTargets, NeedsOne, NeedsBlock, BodyNeeds}
 use Rattle.tac_lower.proofs.Words.{wrapped-zero}
 use Rattle.tac_lower.proofs.Homes.{Homes, homes-of, declared-takes, declared-operation, halves, second-half, in-scope, behind-both}
 use Rattle.tac_lower.proofs.Typing.{no, three, four, five, same-id, same-ids, names-are, types-are, with-names, after-one, after-all, in-names, integer-number, pointer-number, value-by, address-fits, int64-fits, word-value, pointer-wide, points-pointer, bool-again, nil-value, function-value, position-few, entries-aggregate, struct-aggregate, callee-form, compares-are, conversion, declared-count, outside-let, Asked, value-asked}
@@ -107,6 +108,28 @@ module _ (store : Contents) (are : AreTypes store.types) (entries : List FnId) (
       by false h =
           let p = three (typing.is_integer store a) (same of a) (if typing.shifts op then typing.is_integer store b else same a b) h in
           (integer-number (form_at types a) p.0, sym (same-id of a p.1))
+
+  one-type : (a b of : TypeId) → (typing.is_integer store a && same of a && same a b) ≡ true → b ≡ a
+  one-type a b of h = sym (same-id a b (three (typing.is_integer store a) (same of a) (same a b) h).2)
+
+  -- the operands of an operator on bits have one type
+  bits-need : (op : BinaryOperator) (a b of : TypeId) → typing.binary_typed store op a b of ≡ true → joins_bits op ≡ true → b ≡ a
+  bits-need operators.Xor a b of h e = one-type a b of h
+  bits-need operators.And a b of h e = one-type a b of h
+  bits-need operators.Or a b of h e = one-type a b of h
+  bits-need operators.Add a b of h e = absurd (no e)
+  bits-need operators.Subtract a b of h e = absurd (no e)
+  bits-need operators.Multiply a b of h e = absurd (no e)
+  bits-need operators.Divide a b of h e = absurd (no e)
+  bits-need operators.Modulo a b of h e = absurd (no e)
+  bits-need operators.ShiftLeft a b of h e = absurd (no e)
+  bits-need operators.ShiftRight a b of h e = absurd (no e)
+  bits-need operators.Equal a b of h e = absurd (no e)
+  bits-need operators.NotEqual a b of h e = absurd (no e)
+  bits-need operators.Less a b of h e = absurd (no e)
+  bits-need operators.LessEqual a b of h e = absurd (no e)
+  bits-need operators.Greater a b of h e = absurd (no e)
+  bits-need operators.GreaterEqual a b of h e = absurd (no e)
 
   number-unless : (of : TypeId) → ((b : Bool) → same of boolean ≡ b → b ≡ false → HasNumber (form_at types of)) →
       NumberUnless types (nat_eq of.0 boolean.0) of
@@ -199,7 +222,8 @@ module _ (store : Contents) (are : AreTypes store.types) (entries : List FnId) (
       let p = three (typing.has_operands 1 (t ∷ ts)) (same t of) (typing.is_integer store of || same of boolean) h in
       (same-id t of p.1, not-needs of p.2)
   operation-needs (operations.Binary op) ts of usable h =
-      binary-needs op (type_at ts 0) (typing.second_type ts) of (and_parts (typing.has_operands 2 ts) _ h).1
+      let p = (and_parts (typing.has_operands 2 ts) _ h).1 in
+      (binary-needs op (type_at ts 0) (typing.second_type ts) of p, bits-need op (type_at ts 0) (typing.second_type ts) of p)
   operation-needs operations.StepForward ts of usable h =
       step-needs (typing.first_type ts) (typing.second_type ts) of (and_parts (typing.has_operands 2 ts) _ h).1
   operation-needs operations.StepBack ts of usable h =

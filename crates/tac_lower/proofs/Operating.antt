@@ -1,6 +1,6 @@
 -- Operations: what each needs of its types, and that its code does what it means. Calls are a premise here.
 use Rattle.std.proofs.Common.{◌≡◌, ℕ, ◌+◌, ◌≤◌, Bool, true, false, List, [], ◌∷◌, length, replicate, refl, sym, ap, ◌∙◌, subst, arith}
-use Rattle.std.specs.Prelude.{◌^◌, ◌-◌, nat_eq, nat_lt, if◌then◌else◌}
+use Rattle.std.specs.Prelude.{◌-◌, nat_eq, nat_lt, if◌then◌else◌}
 use Rattle.std.proofs.lemmas.List.{length-replicate}
 use Rattle.tl_base.specs.declared.place.Place.{Place}
 use Rattle.tl_base.specs.declared.ids.TypeId.{TypeId}
@@ -21,13 +21,13 @@ use Rattle.terra_meaning.specs.Running.{State, Got, Gives}
 use Rattle.terra_meaning.specs.Meaning.{Call, the_value, type_at, operated}
 use Rattle.tac_form.specs.declared.tac.Operand.TheVariants.{Constant}
 use Rattle.tac_lower.specs.Pieces.{Used, Piece, Result, a_word, an_area, an_offset, no_word, word_at, result_at, Holders, Around, whole_word, number_of, compute}
-use Rattle.tac_lower.specs.Lowering.{fitted, operation, extracted, are_narrow}
+use Rattle.tac_lower.specs.Lowering.{fitted, operation, turned_over, extracted, are_narrow}
 pub use Rattle.tac_lower.specs.Needs.{NumberUnless, OperationNeeds}
 use Rattle.tac_lower.proofs.Standing.{Setting, Private, Means}
 use Rattle.tac_lower.proofs.Simulates.{Fact, one_of, all_of, AllMean, Sim}
 use Rattle.tac_lower.proofs.Words.{value-small}
 use Rattle.tac_lower.proofs.Writes.{grown-temp, known_sim}
-use Rattle.tac_lower.proofs.Operators.{negate_sim, fitted_sim}
+use Rattle.tac_lower.proofs.Operators.{value-again, negate_sim, fitted_sim}
 use Rattle.tac_lower.proofs.Shorts.{bit-of-bool}
 use Rattle.tac_lower.proofs.Fors.{Begins, first-value}
 use Rattle.tac_lower.proofs.Targets.{first-mean}
@@ -61,7 +61,7 @@ module _ (z : Setting) (n : ℕ) (st : Contents) (entries : List FnId) (homes : 
     where
       code : Bool → Piece Result
       code b = if b then compute operators.Xor whole_word (word_at rs 0) (Constant 1) u
-          else compute operators.Xor (number_of z.types of) (word_at rs 0) (Constant (2 ^ 64 - 1)) u
+          else turned_over (number_of z.types of) (word_at rs 0) u
 
       by : (b : Bool) → nat_eq of.0 boolean.0 ≡ b → NumberUnless z.types b of →
           Sim z n names scope (all_of ts rs vs ∷ facts) u (code b)
@@ -80,9 +80,9 @@ module _ (z : Setting) (n : ℕ) (st : Contents) (entries : List FnId) (homes : 
         grown = grown-temp u;
         over = λ t lt away. away;
         run = λ out at k s has whole_ fine knows less.
-            (not_number_sim z n names scope facts u of ts rs vs h
-            (value-small z.types of (value_at vs 0) (first-value z scope u of ts rs vs k begins knows.0))).run out at k s has whole_ fine
-            knows less;
+            let value = first-value z scope u of ts rs vs k begins knows.0 in
+            (not_number_sim z n names scope facts u of ts rs vs h (value-again z.types of (value_at vs 0) value)
+            (value-small z.types of (value_at vs 0) value)).run out at k s has whole_ fine knows less;
       }
 
   conversion_sim : NumberUnless z.types (nat_eq of.0 boolean.0) of → Does operations.Convert
@@ -162,7 +162,7 @@ module _ (z : Setting) (n : ℕ) (st : Contents) (entries : List FnId) (homes : 
   operation_sim names scope facts u at of operations.Not ts rs vs needs =
       not_sim z n st entries homes call turns CallNeeds names scope facts u at of ts rs vs needs.0 needs.1
   operation_sim names scope facts u at of (operations.Binary op) ts rs vs needs =
-      operator_sim z n names scope facts u of ts rs vs at op (type_at ts 0) needs
+      operator_sim z n names scope facts u of ts rs vs at op needs.0 needs.1
   operation_sim names scope facts u at of operations.StepForward ts rs vs needs =
       forward_sim z n names scope facts u of ts rs vs (bytes_at z.types (target_of z.types of)) needs
   operation_sim names scope facts u at of operations.StepBack ts rs vs needs =

@@ -1,9 +1,7 @@
 -- The rest of the operations on words: `not`, conversions to bools, steps of pointers, differences, operators, and primitives.
 use Rattle.std.proofs.Common.{◌≡◌, ◌≢◌, ℕ, zero, suc, ◌+◌, ◌*◌, ◌<◌, ◌≤◌, Bool, true, false, ℤ, pos, negsuc, List, [], ◌∷◌, ◌++◌, length, Option, Some, None, refl, sym, ap, ◌∙◌, subst, arith}
-use Rattle.std.specs.Prelude.{◌^◌, ◌-◌, ◌%◌, not, nat_eq, nat_le, nat_lt, if◌then◌else◌, bit_xor, bit_and}
-use Rattle.std.specs.Int.Bits.{xor_add_and}
+use Rattle.std.specs.Prelude.{◌^◌, ◌-◌, ◌%◌, not, nat_eq, nat_le, nat_lt, if◌then◌else◌}
 use Rattle.std.proofs.lemmas.Bool.{eqb-true, lt-ltb, leb-true}
-use Rattle.std.proofs.lemmas.Nat.{and_mask}
 use Rattle.tl_base.specs.declared.place.Place.{Place}
 use Rattle.tl_base.specs.declared.ids.TypeId.{TypeId}
 use Rattle.lua_value.specs.declared.primitive.Primitive.{Primitive}
@@ -25,21 +23,24 @@ use Rattle.terra_meaning.specs.Values.{form_at, width_of, IsValue}
 use Rattle.terra_meaning.specs.Running.{State, Got, Gives, Ends, fault}
 use Rattle.terra_meaning.specs.Meaning as meaning
 use Rattle.terra_meaning.specs.Meaning.{the_value, type_at}
+use Rattle.tac_form.specs.declared.tac.Number.{Number}
+use Rattle.tac_form.specs.declared.tac.Operand.{Operand}
 use Rattle.tac_form.specs.declared.tac.Operand.TheVariants.{Temp, Constant}
 use Rattle.tac_form.specs.declared.tac.Instruction.{Instruction}
 use Rattle.tac_form.specs.declared.tac.Instruction.TheVariants.{TestDivisor, PutByte, Write, Alloc}
 use Rattle.tac_form.specs.Flow as flow
 use Rattle.tac_form.specs.Flow.{Goes, fetched}
 use Rattle.tac_lower.specs.Pieces.{Used, with_temp, Piece, known, doing, Result, a_word, word_of, word_at, no_word, Holders, number_in, number_of, whole_word, long, compute}
-use Rattle.tac_lower.specs.Lowering.{binary, step, difference, primitive}
-pub use Rattle.tac_lower.specs.Needs.{IsWide, is_comparison, BinaryNeeds, PrimitiveNeeds}
+use Rattle.tac_lower.specs.Lowering.{binary, step, difference, primitive, form_of, stays_within, turned_form, turned_over}
+pub use Rattle.tac_lower.specs.Needs.{IsWide, is_comparison, joins_bits, BinaryNeeds, PrimitiveNeeds}
 use Rattle.tac_lower.proofs.Places.{Point, after}
-use Rattle.tac_lower.proofs.Standing.{Setting, Private, stands, operand-is, Fine, Comes, Leaves}
+use Rattle.tac_lower.proofs.Standing.{Setting, Private, stands, word_in, operand-is, Fine, Grown, Comes, Leaves}
 use Rattle.tac_lower.proofs.Simulates.{Fact, one_of, all_of, AllMean, Knows, Sim, then_sim}
 use Rattle.tac_lower.proofs.Words.{width_by, wrapped-small, HasNumber}
-use Rattle.tac_lower.proofs.Writes.{nat_eq-ne, puts_sim, PassesOr, passes_sim}
+use Rattle.tac_lower.proofs.Writes.{grown-temp, nat_eq-ne, puts_sim, PassesOr, passes_sim}
 use Rattle.tac_lower.proofs.Loads.{sim_as, compute_sim}
-use Rattle.tac_lower.proofs.Operators.{first-word, second-word, both-words, good-number, number-width_at, binary_sim}
+use Rattle.tac_lower.proofs.Images.{IsWord, is-word, same-as-long, complement-is}
+use Rattle.tac_lower.proofs.Operators.{first-word, second-word, both-words, first-again, second-again, first-small, good-number, number-width_at, binary_sim}
 use Rattle.tac_lower.proofs.Reaches.{added, multiplied}
 use Rattle.tac_lower.proofs.Counts.{good-flag}
 
@@ -61,16 +62,6 @@ rest-of-bit : (x : ℕ) → x < 2 → (b : Bool) × (1 - x ≡ flag b)
 rest-of-bit zero lt = (true, refl)
 rest-of-bit (suc zero) lt = (false, refl)
 rest-of-bit (suc (suc m)) lt = absurd (omega (arith, lt))
-
-all-bits : (x : ℕ) → x < 2 ^ 64 → bit_xor x (2 ^ 64 - 1) ≡ 2 ^ 64 - 1 - x
-all-bits x lt =
-    let e : bit_and x (2 ^ 64 - 1) ≡ x % 2 ^ 64 = and_mask x 64 in
-    let sum = xor_add_and x (2 ^ 64 - 1) in
-    omega (arith, lt, e, sum)
-
-complement-is : (w : Width) (x : ℕ) → x < 2 ^ 64 → applied w operators.Xor x (2 ^ 64 - 1) ≡ complemented w x
-unfolding applied complemented
-complement-is w x lt = ap (wrapped w) (all-bits x lt)
 
 complement-wrapped : (w : Width) (x : ℕ) → complemented w x ≡ wrapped w (2 ^ 64 - 1 - x)
 unfolding complemented
@@ -158,6 +149,20 @@ same-sign (forms.Function params result) = refl
 same-sign (forms.Array t m) = refl
 same-sign (forms.Struct number place layout) = refl
 
+-- the form that an operator is taken at has the same sign
+form-sign : (op : BinaryOperator) (form : Number) (y : Operand) → (form_of op form y).signed ≡ form.signed
+form-sign op form y = by (stays_within op form y)
+  where
+    by : (b : Bool) → (if b then long form.signed else form).signed ≡ form.signed
+    by true = refl
+    by false = refl
+
+-- a word of a type with numbers is one of its form
+word-at : (z : Setting) (of : TypeId) (x : ℕ) → HasNumber (form_at z.types of) → wrapped (width_of z.types of) x ≡ x →
+    IsWord (number_of z.types of) x
+word-at z of x numbers again =
+    is-word (number_of z.types of) x (subst (λ w. wrapped w x ≡ x) (sym (number-width_at z of numbers)) again)
+
 long-small : (op : BinaryOperator) (x y : ℕ) → is_comparison op ≡ false → applied long_width op x y < 2 ^ 64
 long-small op x y e = applied-word long_width op x y (λ m. m < 2 ^ 64) e (λ m. wrapped-small (forms.Integer Int64) m)
 
@@ -214,13 +219,14 @@ module _ (z : Setting) (n : ℕ) (names : List TypedName) (scope : Holders) (fac
       (λ u1 k knows. (first-word z scope u1 ts rs vs k knows.0, refl)) refl (ap word (flipped x0 lt))
       (subst (λ m. IsValue z.types of (word m)) (sym b.1) (good-flag z of b.0 form))
 
-  pub not_number_sim : HasNumber (form_at z.types of) → x0 < 2 ^ 64 →
-      Sim z n names scope all u (compute operators.Xor (number_of z.types of) (word_at rs 0) (Constant (2 ^ 64 - 1)) u)
+  pub not_number_sim : HasNumber (form_at z.types of) → wrapped (width_of z.types of) x0 ≡ x0 → x0 < 2 ^ 64 →
+      Sim z n names scope all u (turned_over (number_of z.types of) (word_at rs 0) u)
       (λ s. Gives (word (complemented (width_of z.types of) x0)) s) names scope (λ w. one_of the_value of (a_word (Temp u.temps)) w)
-  not_number_sim numbers lt =
-      compute_sim u the_value of operators.Xor (number_of z.types of) (word_at rs 0) (Constant (2 ^ 64 - 1)) x0 (2 ^ 64 - 1)
+  not_number_sim numbers again lt =
+      let form = number_of z.types of in
+      compute_sim u the_value of operators.Xor (turned_form form) (word_at rs 0) (Constant (2 ^ 64 - 1)) x0 (2 ^ 64 - 1)
       (word (complemented (width_of z.types of) x0)) (λ u1 k knows. (first-word z scope u1 ts rs vs k knows.0, refl)) refl
-      (ap word (complement-is (flow.width_of (number_of z.types of)) x0 lt ∙ ap (λ w. complemented w x0) (number-width_at z of numbers)))
+      (ap word (complement-is form x0 (word-at z of x0 numbers again) lt ∙ ap (λ w. complemented w x0) (number-width_at z of numbers)))
       (subst (λ m. IsValue z.types of (word m)) (sym (complement-wrapped (width_of z.types of) x0))
       (good-number z of (Temp u.temps) (2 ^ 64 - 1 - x0) numbers))
 
@@ -304,9 +310,15 @@ module _ (z : Setting) (n : ℕ) (names : List TypedName) (scope : Holders) (fac
 
   -- an operator
 
-  binary-result : (place : Place) (op : BinaryOperator) (first : TypeId) →
+  abbrev first : TypeId
+  first = type_at ts 0
+
+  abbrev form : BinaryOperator → Number
+  form op = form_of op (number_of z.types first) (word_at rs 1)
+
+  binary-result : (place : Place) (op : BinaryOperator) →
       a_word (Temp u.temps) ≡ (binary place (number_of z.types first) op (word_at rs 0) (word_at rs 1) u).result
-  binary-result place op first = by (divides op)
+  binary-result place op = by (divides op)
     where
       by : (b : Bool) →
           a_word (Temp u.temps) ≡ a_word
@@ -314,28 +326,52 @@ module _ (z : Setting) (n : ℕ) (names : List TypedName) (scope : Holders) (fac
       by true = refl
       by false = refl
 
-  pub operator_sim : (place : Place) (op : BinaryOperator) (first : TypeId) → BinaryNeeds z.types (is_comparison op) first of →
+  binary-grown : (place : Place) (op : BinaryOperator) →
+      Grown u (binary place (number_of z.types first) op (word_at rs 0) (word_at rs 1) u).used
+  binary-grown place op = by (divides op)
+    where
+      by : (b : Bool) → Grown u (with_temp (if b then doing (tt {0}) (TestDivisor place (word_at rs 1)) u else known (tt {0}) u).used)
+      by true = grown-temp u
+      by false = grown-temp u
+
+  -- the operator of the code gives the same: operands are words of their types, and a constant is the second one
+  same-applied : (op : BinaryOperator) (k : Private) → HasNumber (form_at z.types first) → (joins_bits op ≡ true → type_at ts 1 ≡ first) →
+      AllMean z scope u ts rs vs k → applied (flow.width_of (form op)) op x0 x1 ≡ applied (width_of z.types first) op x0 x1
+  same-applied op k numbers one knows =
+      same-as-long op (number_of z.types first) (word_at rs 1) x0 x1
+      (word-at z first x0 numbers (first-again z scope u ts rs vs k knows)) (first-small z scope u ts rs vs k knows)
+      (λ e. word-at z first x1 numbers
+      (subst (λ t. wrapped (width_of z.types t) x1 ≡ x1) (one e) (second-again z scope u ts rs vs k knows)))
+      (λ c e. ap (word_in k) (sym e) ∙ second-word z scope u ts rs vs k knows)
+      ∙ ap (λ w. applied w op x0 x1) (number-width_at z first numbers)
+
+  pub operator_sim : (place : Place) (op : BinaryOperator) → BinaryNeeds z.types (is_comparison op) first of →
+      (joins_bits op ≡ true → type_at ts 1 ≡ first) →
       Sim z n names scope all u (binary place (number_of z.types first) op (word_at rs 0) (word_at rs 1) u)
       (meaning.binary place (width_of z.types first) op x0 x1) names scope
       (λ w. one_of the_value of (binary place (number_of z.types first) op (word_at rs 0) (word_at rs 1) u).result w)
-  operator_sim place op first needs =
+  operator_sim place op needs one =
       subst (λ r. Sim z n names scope all u (binary place (number_of z.types first) op (word_at rs 0) (word_at rs 1) u)
-      (meaning.binary place (width_of z.types first) op x0 x1) names scope (λ w. one_of the_value of r w)) (binary-result place op first)
+      (meaning.binary place (width_of z.types first) op x0 x1) names scope (λ w. one_of the_value of r w)) (binary-result place op)
       (by (is_comparison op) refl needs)
     where
       by : (b : Bool) → is_comparison op ≡ b → BinaryNeeds z.types b first of →
           Sim z n names scope all u (binary place (number_of z.types first) op (word_at rs 0) (word_at rs 1) u)
           (meaning.binary place (width_of z.types first) op x0 x1) names scope (λ w. one_of the_value of (a_word (Temp u.temps)) w)
-      by true e form =
+      by true e bool =
           binary_sim u place of first op ts rs vs
-          (compared-by (flow.width_of (number_of z.types first)) (width_of z.types first) op x0 x1 e (same-sign (form_at z.types first)))
-          (applied-bit (width_of z.types first) op x0 x1 (λ m. IsValue z.types of (word m)) e (λ b. good-flag z of b form))
-      by false e h =
-          binary_sim u place of first op ts rs vs
-          (ap (λ w. applied w op x0 x1) (number-width_at z first h.0))
-          (subst (λ t. IsValue z.types t (word (applied (width_of z.types first) op x0 x1))) h.1
-          (applied-word (width_of z.types first) op x0 x1 (λ m. IsValue z.types first (word m)) e
-          (λ m. good-number z first (Temp u.temps) m h.0)))
+          (compared-by (flow.width_of (form op)) (width_of z.types first) op x0 x1 e
+          (form-sign op (number_of z.types first) (word_at rs 1) ∙ same-sign (form_at z.types first)))
+          (applied-bit (width_of z.types first) op x0 x1 (λ m. IsValue z.types of (word m)) e (λ b. good-flag z of b bool))
+      by false e h = record {
+        grown = binary-grown place op;
+        over = λ t lt away. away;
+        run = λ out at k s has whole_ fine knows less.
+            (binary_sim u place of first op ts rs vs (same-applied op k h.0 one knows.0)
+            (subst (λ t. IsValue z.types t (word (applied (width_of z.types first) op x0 x1))) h.1
+            (applied-word (width_of z.types first) op x0 x1 (λ m. IsValue z.types first (word m)) e
+            (λ m. good-number z first (Temp u.temps) m h.0)))).run out at k s has whole_ fine knows less;
+      }
 
   -- primitives
 

@@ -9,12 +9,13 @@ use Rattle.terra_words.specs.declared.words.BinaryOperator.TheVariants as operat
 use Rattle.terra_words.specs.declared.words.FaultKind.TheVariants.{DivZero}
 use Rattle.terra_words.specs.declared.words.Width.{Width}
 use Rattle.terra_words.specs.Words.{wrapped, applied, negated, divides}
-use Rattle.terra_words.specs.Runs.{Value, word, number, value_at}
+use Rattle.terra_words.specs.Runs.{Value, word, bytes, number, value_at}
 use Rattle.terra_term.specs.declared.lists.TypedName.{TypedName}
-use Rattle.terra_meaning.specs.Values.{form_at, width_of}
+use Rattle.terra_types.specs.declared.types.TypeForm.{TypeForm}
+use Rattle.terra_meaning.specs.Values.{form_at, width_of, IsValue}
 use Rattle.terra_meaning.specs.Running.{State, Got, Gives, fault}
 use Rattle.terra_meaning.specs.Meaning as meaning
-use Rattle.terra_meaning.specs.Meaning.{Wanted, the_value, the_address}
+use Rattle.terra_meaning.specs.Meaning.{Wanted, the_value, the_address, type_at}
 use Rattle.tac_form.specs.declared.tac.Size.{Size}
 use Rattle.tac_form.specs.declared.tac.Size.TheVariants.{One, Two, Four, Eight}
 use Rattle.tac_form.specs.declared.tac.Number.{Number}
@@ -24,10 +25,10 @@ use Rattle.tac_form.specs.declared.tac.Instruction.TheVariants.{TestDivisor}
 use Rattle.tac_form.specs.Flow as flow
 use Rattle.tac_form.specs.Flow.{Goes, Stops, act}
 use Rattle.tac_lower.specs.Pieces.{Used, Piece, known, doing, then_piece, Result, a_word, an_area, an_offset, word_of, word_at, Holders, number_of, compute}
-use Rattle.tac_lower.specs.Lowering.{cut, fitted, is_whole, binary}
+use Rattle.tac_lower.specs.Lowering.{cut, fitted, is_whole, binary, form_of}
 use Rattle.tac_lower.proofs.Standing.{Setting, Private, stands, one-step, word_in, operand-is, Good, Own}
 use Rattle.tac_lower.proofs.Simulates.{Fact, nothing, one_of, all_of, AllMean, Sim, then_sim}
-use Rattle.tac_lower.proofs.Words.{wrapped-again, value-small, HasNumber, number-width}
+use Rattle.tac_lower.proofs.Words.{wrapped-again, wrapped-zero, value-small, HasNumber, number-width}
 use Rattle.tac_lower.proofs.Writes.{grown-temp, same-self, passes_sim, known_sim}
 use Rattle.tac_lower.proofs.Loads.{compute_sim, word-is, is-value, load-number, AreWords}
 
@@ -55,6 +56,29 @@ second-word z scope u (t ∷ ts) (r ∷ rs) [] k h = absurd h
 pub both-words : (z : Setting) (scope : Holders) (facts : List Fact) (ts : List TypeId) (rs : List Result) (vs : List Value) →
     AreWords z scope (all_of ts rs vs ∷ facts) (word_at rs 0) (word_at rs 1) (number (value_at vs 0)) (number (value_at vs 1))
 both-words z scope facts ts rs vs = λ u k knows. (first-word z scope u ts rs vs k knows.0, second-word z scope u ts rs vs k knows.0)
+
+-- the words of operands are words of their types
+pub value-again : (types : List TypeForm) (t : TypeId) (v : Value) → IsValue types t v → wrapped (width_of types t) (number v) ≡ number v
+value-again types t (word x) h = h.1
+value-again types t (bytes bs) h = wrapped-zero (form_at types t)
+
+pub first-again : (z : Setting) (scope : Holders) (u : Used) (ts : List TypeId) (rs : List Result) (vs : List Value) (k : Private) →
+    AllMean z scope u ts rs vs k → wrapped (width_of z.types (type_at ts 0)) (number (value_at vs 0)) ≡ number (value_at vs 0)
+first-again z scope u [] [] [] k h = wrapped-zero (form_at z.types (type_at [] 0))
+first-again z scope u (t ∷ ts) (r ∷ rs) (v ∷ vs) k h = value-again z.types t v (is-value z t r v h.0.good)
+first-again z scope u [] [] (v ∷ vs) k h = absurd h
+first-again z scope u [] (r ∷ rs) vs k h = absurd h
+first-again z scope u (t ∷ ts) [] vs k h = absurd h
+first-again z scope u (t ∷ ts) (r ∷ rs) [] k h = absurd h
+
+pub second-again : (z : Setting) (scope : Holders) (u : Used) (ts : List TypeId) (rs : List Result) (vs : List Value) (k : Private) →
+    AllMean z scope u ts rs vs k → wrapped (width_of z.types (type_at ts 1)) (number (value_at vs 1)) ≡ number (value_at vs 1)
+second-again z scope u [] [] [] k h = wrapped-zero (form_at z.types (type_at [] 0))
+second-again z scope u (t ∷ ts) (r ∷ rs) (v ∷ vs) k h = first-again z scope u ts rs vs k h.1
+second-again z scope u [] [] (v ∷ vs) k h = absurd h
+second-again z scope u [] (r ∷ rs) vs k h = absurd h
+second-again z scope u (t ∷ ts) [] vs k h = absurd h
+second-again z scope u (t ∷ ts) (r ∷ rs) [] k h = absurd h
 
 -- a word of a type with numbers, wrapped to its width
 pub good-number : (z : Setting) (of : TypeId) (o : Operand) (m : ℕ) → HasNumber (form_at z.types of) → Good z the_value of (a_word o)
@@ -102,7 +126,7 @@ convert_sim {z} {n} {names} {scope} {facts} u of ts rs vs h =
     (good-number z of (Temp u.temps) (number (value_at vs 0)) h)
 
 -- the first value is a word of 64 bits, and what gives its word is kept
-first-small : (z : Setting) (scope : Holders) (u : Used) (ts : List TypeId) (rs : List Result) (vs : List Value) (k : Private) →
+pub first-small : (z : Setting) (scope : Holders) (u : Used) (ts : List TypeId) (rs : List Result) (vs : List Value) (k : Private) →
     AllMean z scope u ts rs vs k → number (value_at vs 0) < 2 ^ 64
 first-small z scope u [] [] [] k h = omega arith
 first-small z scope u (t ∷ ts) (r ∷ rs) (v ∷ vs) k h = value-small z.types t v (is-value z t r v h.0.good)
@@ -181,11 +205,11 @@ fitted_sim {z} {n} {names} {scope} {facts} u of ts rs vs h = whole (is_whole (nu
           good = good-number z of (word_at rs 0) x h;
         })
 
--- an operator on two words, whose divisor is tested before; `told` says that it means the same at the width of three-address code
+-- an operator on two words, whose divisor is tested before; `told` says that it means the same at the width that its code has
 pub binary_sim : {z : Setting} {n : ℕ} {names : List TypedName} {scope : Holders} {facts : List Fact} (u : Used) (place : Place)
     (of first : TypeId) (op : BinaryOperator) (ts : List TypeId) (rs : List Result) (vs : List Value) →
-    applied (flow.width_of (number_of z.types first)) op (number (value_at vs 0)) (number (value_at vs 1)) ≡ applied
-    (width_of z.types first) op (number (value_at vs 0)) (number (value_at vs 1)) →
+    applied (flow.width_of (form_of op (number_of z.types first) (word_at rs 1))) op (number (value_at vs 0)) (number (value_at vs 1))
+    ≡ applied (width_of z.types first) op (number (value_at vs 0)) (number (value_at vs 1)) →
     Good z the_value of (a_word (Temp u.temps))
     (word (applied (width_of z.types first) op (number (value_at vs 0)) (number (value_at vs 1)))) →
     Sim z n names scope (all_of ts rs vs ∷ facts) u (binary place (number_of z.types first) op (word_at rs 0) (word_at rs 1) u)
@@ -203,7 +227,7 @@ binary_sim {z} {n} {names} {scope} {facts} u place of first op ts rs vs told goo
     w = width_of z.types first
 
     form : Number
-    form = number_of z.types first
+    form = form_of op (number_of z.types first) (word_at rs 1)
 
     code : Bool → Piece Result
     code d = then_piece (if d then doing (tt {0}) (TestDivisor place (word_at rs 1)) u else known (tt {0}) u)

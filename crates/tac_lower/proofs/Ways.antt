@@ -1,6 +1,6 @@
 -- Each way round the flow graph of lowered code counts: code leaves no loop that isn't there, skips go on, and ways back count.
 use Rattle.std.proofs.Common.{◌≡◌, ℕ, suc, ◌+◌, ◌<◌, Bool, true, false, List, [], ◌∷◌, ◌++◌, length, map, Option, Some, None, refl, sym, ap, ◌∙◌, subst, arith}
-use Rattle.std.specs.Prelude.{◌&&◌, ◌||◌, ◌-◌, ◌^◌, nat_eq, nat_lt, if◌then◌else◌}
+use Rattle.std.specs.Prelude.{◌&&◌, ◌||◌, nat_eq, nat_lt, if◌then◌else◌}
 use Rattle.std.proofs.lemmas.Bool.{lt-ltb}
 use Rattle.tl_base.specs.declared.place.Place.{Place}
 use Rattle.tl_base.specs.declared.ids.TypeId.{TypeId}
@@ -32,7 +32,7 @@ use Rattle.tac_form.specs.declared.tac.Block.{Block}
 use Rattle.tac_form.specs.Fits.{Counted, blocks_count}
 use Rattle.tac_lower.specs.Items.{Item, does, ends, Ending, skips, tests, repeats, repeats_unless, leaves, gives, fails, count_ends, loop_of, exit_of, Draft, empty_draft, with_item, with_items}
 use Rattle.tac_lower.specs.Pieces.{Used, with_temp, with_area, Piece, known, doing, then_piece, taken, Result, a_word, an_area, an_offset, no_word, word_of, part_of, address_of, word_at, result_at, rest, whole_word, number_of, is_bool, given, compute, copied, located, loaded_bit, loaded_area, loaded_word, loaded, stored_part, stored, placed, Holder, in_temp, at_offset, Holders, holder_of, Around, declare_at, declare, declare_all, first_of}
-use Rattle.tac_lower.specs.Lowering.{cut, is_whole, reached, variable, entry, element, extracted, constructed, call, call_value, signature_in, operation, target_at, aimed, Target, to_temp, to_place, assigned, assigned_all, passed_over, choice, counting, runs, counted_on, while_loop, piece, pieces, targets, one, all, around, ending, received, code_of, unreached, are_narrow, parameter_types, lowered}
+use Rattle.tac_lower.specs.Lowering.{cut, is_whole, reached, variable, entry, element, form_of, turned_over, extracted, constructed, call, call_value, signature_in, operation, target_at, aimed, Target, to_temp, to_place, assigned, assigned_all, passed_over, choice, counting, runs, counted_on, while_loop, piece, pieces, targets, one, all, around, ending, received, code_of, unreached, are_narrow, parameter_types, lowered}
 use Rattle.tac_lower.specs.Needs.{Needs, NeedsAll, NeedsTargets, NeedsOne, NeedsBlock, BodyNeeds, in_let, declared_names, names_after, names_after_one, OperationNeeds, CallNeeds}
 
 -- code that doesn't leave a loop around it
@@ -182,13 +182,13 @@ operation-stays c at of operations.Negate ts vs u = tt
 operation-stays c at of operations.Not ts vs u = by (nat_eq of.0 boolean.0)
   where
     by : (b : Bool) → Stays (if b then compute operators.Xor whole_word (word_at vs 0) (Constant 1) u
-        else compute operators.Xor (number_of c.types of) (word_at vs 0) (Constant (2 ^ 64 - 1)) u).code
+        else turned_over (number_of c.types of) (word_at vs 0) u).code
     by true = tt
     by false = tt
 operation-stays c at of (operations.Binary op) ts vs u = by (divides op)
   where
     by : (b : Bool) → Stays (then_piece (if b then doing (tt {0}) (TestDivisor at (word_at vs 1)) u else known (tt {0}) u)
-        (λ t u'. compute op (number_of c.types (type_at ts 0)) (word_at vs 0) (word_at vs 1) u')).code
+        (λ t u'. compute op (form_of op (number_of c.types (type_at ts 0)) (word_at vs 1)) (word_at vs 0) (word_at vs 1) u')).code
     by true = tt
     by false = tt
 operation-stays c at of operations.StepForward ts vs u = tt

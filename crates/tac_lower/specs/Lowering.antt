@@ -1,5 +1,5 @@
 -- The code of a typed term, by recursion on the term, as the meaning of terms goes.
-use Rattle.std.specs.Prelude.{ℕ, suc, ◌+◌, ◌-◌, ◌^◌, Bool, true, false, ◌&&◌, nat_eq, nat_le, if◌then◌else◌, List, [], ◌∷◌, ◌++◌, length, Option, Some, None, map}
+use Rattle.std.specs.Prelude.{ℕ, suc, ◌+◌, ◌-◌, ◌^◌, Bool, true, false, not, ◌&&◌, nat_eq, nat_le, nat_lt, if◌then◌else◌, List, [], ◌∷◌, ◌++◌, length, Option, Some, None, map}
 use Rattle.tl_base.specs.declared.place.Place.{Place}
 use Rattle.tl_base.specs.declared.ids.TypeId.{TypeId}
 use Rattle.tl_base.specs.declared.ids.FnId.{FnId}
@@ -67,8 +67,32 @@ element size from index u =
 abbrev tested_divisor : Place → BinaryOperator → Operand → Used → Piece (Unit {0})
 tested_divisor at op y u = if divides op then doing tt (TestDivisor at y) u else known tt u
 
+-- Whether an operator of 64 bits leaves, of words of a width as they stand there, a word of the width, whose other bits are zeros or
+-- copies of its sign. Of numbers with a sign the quotient may lie outside: the least one by -1. A shift goes by the low bits of its
+-- count, which are the same where it is below the bits.
+abbrev pub stays_within : BinaryOperator → Number → Operand → Bool
+stays_within operators.And number y = true
+stays_within operators.Or number y = true
+stays_within operators.Xor number y = true
+stays_within operators.Divide number y = not number.signed
+stays_within operators.Modulo number y = true
+stays_within operators.ShiftRight number (Constant count) = nat_lt count (width_of number).bits
+stays_within _ number y = false
+
+-- the numbers that an operator is of: those of 64 bits where they do, since of these nothing is cut
+abbrev pub form_of : BinaryOperator → Number → Operand → Number
+form_of op number y = if stays_within op number y then long number.signed else number
+
 abbrev pub binary : Place → Number → BinaryOperator → Operand → Operand → Used → Piece Result
-binary at number op x y u = then_piece (tested_divisor at op y u) (λ t u'. compute op number x y u')
+binary at number op x y u = then_piece (tested_divisor at op y u) (λ t u'. compute op (form_of op number y) x y u')
+
+-- All bits of a word turned over. Of a number with a sign those above the width are too, and none is cut; of one without the
+-- word of the width's bits alone may be longer than the cut.
+abbrev pub turned_form : Number → Number
+turned_form number = if number.signed then long true else number
+
+abbrev pub turned_over : Number → Operand → Used → Piece Result
+turned_over number x u = compute operators.Xor (turned_form number) x (Constant (2 ^ 64 - 1)) u
 
 abbrev pub step : (size : ℕ) → BinaryOperator → Operand → Operand → Used → Piece Result
 step size op x y u =
@@ -130,7 +154,7 @@ operation c at of operations.Negate ts vs u =
     compute operators.Subtract (number_of c.types of) (Constant 0) (word_at vs 0) u
 operation c at of operations.Not ts vs u =
     if nat_eq of.0 boolean.0 then compute operators.Xor whole_word (word_at vs 0) (Constant 1) u
-    else compute operators.Xor (number_of c.types of) (word_at vs 0) (Constant (2 ^ 64 - 1)) u
+    else turned_over (number_of c.types of) (word_at vs 0) u
 operation c at of (operations.Binary op) ts vs u =
     binary at (number_of c.types (type_at ts 0)) op (word_at vs 0) (word_at vs 1) u
 operation c at of operations.StepForward ts vs u =

@@ -99,6 +99,13 @@ is_comparison operators.Greater = true
 is_comparison operators.GreaterEqual = true
 is_comparison _ = false
 
+-- the operators on the bits of two words of one type
+abbrev pub joins_bits : BinaryOperator → Bool
+joins_bits operators.Xor = true
+joins_bits operators.And = true
+joins_bits operators.Or = true
+joins_bits _ = false
+
 -- a comparison gives a bool, and another operator a value of its first operand's type
 abbrev pub BinaryNeeds : List TypeForm → Bool → TypeId → TypeId → Type 0
 BinaryNeeds types true first of = form_at types of ≡ forms.Bool
@@ -129,7 +136,8 @@ CallNeeds store f ts of =
 abbrev pub OperationNeeds : List TypeForm → (FnId → List TypeId → TypeId → Type 0) → Operation → List TypeId → TypeId → Type 0
 OperationNeeds types Called operations.Negate ts of = HasNumber (form_at types of)
 OperationNeeds types Called operations.Not ts of = Begins of ts × NumberUnless types (nat_eq of.0 boolean.0) of
-OperationNeeds types Called (operations.Binary op) ts of = BinaryNeeds types (is_comparison op) (type_at ts 0) of
+OperationNeeds types Called (operations.Binary op) ts of =
+    BinaryNeeds types (is_comparison op) (type_at ts 0) of × (joins_bits op ≡ true → type_at ts 1 ≡ type_at ts 0)
 OperationNeeds types Called operations.StepForward ts of = IsWide types of
 OperationNeeds types Called operations.StepBack ts of = IsWide types of
 OperationNeeds types Called operations.Difference ts of = (bytes_at types (target_of types (type_at ts 0)) ≢ 0) × IsWide types of

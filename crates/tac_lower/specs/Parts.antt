@@ -1,5 +1,5 @@
 -- Parts of the definitions by names of their own, as the code has functions for them. A view of the code: nothing is promised here.
-use Rattle.std.specs.Prelude.{◌≡◌, ℕ, ◌-◌, ◌^◌, nat_eq, if◌then◌else◌, List, [], Option, Some, None}
+use Rattle.std.specs.Prelude.{◌≡◌, ℕ, nat_eq, if◌then◌else◌, List, [], Option, Some, None}
 use Rattle.tl_base.specs.declared.place.Place.{Place}
 use Rattle.tl_base.specs.declared.ids.TypeId.{TypeId}
 use Rattle.tl_base.specs.declared.ids.FnId.{FnId}
@@ -14,7 +14,7 @@ use Rattle.tac_form.specs.declared.tac.Operand.TheVariants.{Constant}
 use Rattle.tac_form.specs.declared.tac.Signature.{Signature}
 use Rattle.tac_form.specs.declared.tac.Spot.{Spot}
 use Rattle.tac_lower.specs.Pieces.{Used, Piece, Result, Holders, known, taken, then_piece, compute, copied, destination, number_of, stored, whole_word, word_of}
-use Rattle.tac_lower.specs.Lowering.{to_temp, to_place, aimed, call, call_value, fitted, signature_in}
+use Rattle.tac_lower.specs.Lowering.{to_temp, to_place, aimed, call, call_value, fitted, signature_in, turned_over}
 
 abbrev pub placed_word : List TypeForm → TypeId → Spot → Result → Used → Piece (Unit {0})
 placed_word types of to r u =
@@ -23,7 +23,7 @@ placed_word types of to r u =
 abbrev pub negated : List TypeForm → TypeId → Operand → Used → Piece Result
 negated types of x u =
     if nat_eq of.0 boolean.0 then compute operators.Xor whole_word x (Constant 1) u
-    else compute operators.Xor (number_of types of) x (Constant (2 ^ 64 - 1)) u
+    else turned_over (number_of types of) x u
 
 abbrev pub converted : List TypeForm → TypeId → Operand → Used → Piece Result
 converted types of x u =

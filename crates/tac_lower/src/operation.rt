@@ -4,7 +4,7 @@ ghost use Rattle.std.specs.Prelude.{◌≡◌, map, IfOk};
 ghost use Rattle.terra_words.specs.Words.{divides};
 ghost use Rattle.terra_meaning.specs.Values.{form_at};
 ghost use Rattle.terra_meaning.specs.Meaning.{type_at};
-ghost use Rattle.tac_lower.specs.Lowering.{binary, construct, constructed, cut, difference, extracted, fitted, operation, primitive, signature_in, step};
+ghost use Rattle.tac_lower.specs.Lowering.{binary, construct, constructed, cut, difference, extracted, fitted, form_of, operation, primitive, signature_in, stays_within, step, turned_over};
 ghost use Rattle.tac_lower.specs.Data.{result_of};
 ghost use Rattle.tac_lower.specs.Works.{Gave, Put};
 ghost use Rattle.tac_lower.specs.Parts.{called, called_value, converted, negated, no_signature};
@@ -107,8 +107,16 @@ fn not(types: &Types, of: TypeId, x: Operand, work: &mut Work) -> Result<Value, 
             work,
         );
     }
+    turned_over(number_of(types, of), x, work)
+}
+
+/// All bits of a word turned over. With a sign those above the form's are copies of it as before, and none is cut.
+fn turned_over(number: Number, x: Operand, work: &mut Work) -> Result<Value, NoMemory>
+    ensures { Gave result_of result work.old work.new (turned_over number x work.old.used) }
+{
+    let form = if number.signed { long(true) } else { number };
     let ones = Operand::Constant(u64::MAX);
-    compute(BinaryOperator::Xor, number_of(types, of), x, ones, work)
+    compute(BinaryOperator::Xor, form, x, ones, work)
 }
 
 /// A word as one of a type. A bool is true where the word isn't zero.
@@ -153,6 +161,33 @@ fn divides(operator: BinaryOperator) -> bool
     matches!(operator, BinaryOperator::Divide | BinaryOperator::Modulo)
 }
 
+/// Whether an operator of 64 bits leaves a word of the form, of such words. The least number divided by -1 is none, and a shift takes
+/// the same count where it is below the bits.
+fn stays_within(operator: BinaryOperator, number: Number, y: Operand) -> bool
+    ensures { result ≡ stays_within operator number y }
+{
+    match operator {
+        BinaryOperator::And | BinaryOperator::Or | BinaryOperator::Xor => true,
+        BinaryOperator::Modulo => true,
+        BinaryOperator::Divide => !number.signed,
+        BinaryOperator::ShiftRight => match y {
+            Operand::Constant(count) => count < width_of(number).bits,
+            Operand::Temp(_) => false,
+        },
+        _ => false,
+    }
+}
+
+/// The form that an operator is taken at: one of 64 bits where it may be, since nothing is cut off there.
+fn form_of(operator: BinaryOperator, number: Number, y: Operand) -> Number
+    ensures { result ≡ form_of operator number y }
+{
+    if stays_within(operator, number, y) {
+        return long(number.signed);
+    }
+    number
+}
+
 /// An operator on two words. The divisor is tested behind both.
 fn binary(
     at: Place,
@@ -167,7 +202,7 @@ fn binary(
     if divides(operator) {
         work.put(Instruction::TestDivisor(at, y))?;
     }
-    compute(operator, number, x, y, work)
+    compute(operator, form_of(operator, number, y), x, y, work)
 }
 
 /// A pointer moved by so many elements of a size.
