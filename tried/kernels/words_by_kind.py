@@ -1,7 +1,7 @@
 #!/usr/bin/env python3
 """words_by_kind.py PROGRAM [-v]: the words of `kernel` of each of bench/compared's kernels by what they are, beside -O0 and -O1 of gcc."""
 import os, re, subprocess, sys, collections, tempfile
-TOP = os.environ.get("TOP", "/work/clones/kern")
+TOP = os.environ.get("TOP", "/work/clones/land")
 K = ["recursion", "sums", "dot_product", "byte_loop", "gcd", "matrix_product", "bit_trick", "copies", "checksum", "queens"]
 FLAGS = ["-march=rv64im", "-mabi=lp64", "-ffreestanding", "-nostdlib", "-static", "-Wl,-e,main"]
 
