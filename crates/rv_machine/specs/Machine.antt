@@ -1,6 +1,7 @@
 -- What the machine does: its state, each instruction, one step and a run. Addresses and the program counter wrap at 2 ^ 64. The
 -- rows are those of the RISC-V Unprivileged ISA manual, chapters "RV32I", "RV64I" and "M".
-use Rattle.std.specs.Prelude.{ℕ, zero, suc, ◌+◌, ◌-◌, ◌*◌, ◌/◌, ◌%◌, ◌^◌, Bool, ◌&&◌, nat_eq, nat_lt, nat_le, if◌then◌else◌, List, [], ◌++◌, length, Option, Some, None, slice_get, slice_index}
+use Rattle.std.specs.Prelude.{ℕ, zero, suc, ◌+◌, ◌-◌, ◌*◌, ◌/◌, ◌%◌, ◌^◌, Bool, ◌&&◌, nat_eq, nat_lt, nat_le, if◌then◌else◌, List, [], ◌++◌}
+use Rattle.std.specs.Prelude.{length, Option, Some, None, slice_get, slice_index}
 use Rattle.terra_memory.specs.Numbers.{low_bytes, overwritten}
 use Rattle.rv_isa.specs.declared.operand.Register.{Register}
 use Rattle.rv_isa.specs.declared.operand.UpperImmediate.{UpperImmediate}
@@ -8,7 +9,8 @@ use Rattle.rv_isa.specs.declared.operand.BranchOffset.{BranchOffset}
 use Rattle.rv_isa.specs.declared.operation.LoadOp.{LoadOp}
 use Rattle.rv_isa.specs.declared.operation.StoreOp.{StoreOp}
 use Rattle.rv_isa.specs.declared.instr.Instr.{Instr}
-use Rattle.rv_isa.specs.declared.instr.Instr.TheVariants.{Lui, Auipc, Jal, Jalr, Branch, Load, Store, RegisterImmediate, Shift, Addiw, ShiftWord, RegisterRegister, RegisterRegisterWord, Fence, Ecall, Ebreak}
+use Rattle.rv_isa.specs.declared.instr.Instr.TheVariants.{Lui, Auipc, Jal, Jalr, Branch, Load, Store, RegisterImmediate, Shift, Addiw}
+use Rattle.rv_isa.specs.declared.instr.Instr.TheVariants.{ShiftWord, RegisterRegister, RegisterRegisterWord, Fence, Ecall, Ebreak}
 use Rattle.rv_machine.specs.declared.memory.Place.{Place}
 use Rattle.rv_machine.specs.declared.memory.Place.TheVariants.{Region, Private}
 use Rattle.rv_machine.specs.declared.stops.MachineKind.{MachineKind}

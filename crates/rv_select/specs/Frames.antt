@@ -1,5 +1,6 @@
 -- What the code that enters and leaves functions promises.
-use Rattle.std.specs.Prelude.{◌≡◌, Bool, ◌≢◌, ℕ, IsTrue, ◌∷◌, suc, ◌+◌, ◌-◌, ◌*◌, ◌/◌, ◌%◌, ◌^◌, ◌<◌, ◌≤◌, true, List, [], length, take, drop, Option, Some, None, slice_get, if◌then◌else◌}
+use Rattle.std.specs.Prelude.{◌≡◌, Bool, ◌≢◌, ℕ, IsTrue, ◌∷◌, suc, ◌+◌, ◌-◌, ◌*◌, ◌/◌, ◌%◌, ◌^◌, ◌<◌, ◌≤◌, true, List, [], length, take}
+use Rattle.std.specs.Prelude.{drop, Option, Some, None, slice_get, if◌then◌else◌}
 use Rattle.std.specs.List.{list_all}
 use Rattle.tl_base.specs.declared.ids.FnId.{FnId}
 use Rattle.tl_base.specs.declared.place.Place.{Place}
@@ -24,7 +25,8 @@ use Rattle.tac_form.specs.declared.tac.Part.{Part}
 use Rattle.tac_form.specs.declared.tac.Part.TheVariants as parts
 use Rattle.rv_operators.specs.Runs.{Stands}
 use Rattle.rv_select.specs.declared.settings.Setting.{Setting}
-use Rattle.rv_select.specs.Places.{AreBytes, Holds, IsFirst, IsHeld, IsRead, Keeps, Layout, World, area_offset, frame_bytes, layout_of, link_in, private_word, uses, value_in}
+use Rattle.rv_select.specs.Places.{AreBytes, Holds, IsFirst, IsHeld, IsRead, Keeps, Layout, World, area_offset, frame_bytes, layout_of}
+use Rattle.rv_select.specs.Places.{link_in, private_word, uses, value_in}
 use Rattle.rv_select.specs.Shapes.{place_number}
 use Rattle.rv_select.specs.Steps.{Ends}
 use Rattle.rv_select.specs.Entering.{begun, entered, kept_offset, left, received, receiving, words_offset}

@@ -10,7 +10,8 @@
 -- each of x18 to x27, in which a function that uses one keeps its caller's word; then the slots, a word each; then 128 bytes for each
 -- area; and at its end the words of the parameters, which the caller stores below its own frame, the first uppermost. These are
 -- slots too, of the temporaries that take them.
-use Rattle.std.specs.Prelude.{◌≡◌, ℕ, ◌+◌, ◌*◌, ◌^◌, ◌<◌, ◌≤◌, Bool, true, false, ◌&&◌, ◌||◌, nat_eq, nat_le, nat_lt, List, take, drop, length, Option, Some, None, slice_get, IsTrue, ◌⊎◌, [], ◌∷◌, if◌then◌else◌}
+use Rattle.std.specs.Prelude.{◌≡◌, ℕ, ◌+◌, ◌*◌, ◌^◌, ◌<◌, ◌≤◌, Bool, true, false, ◌&&◌, ◌||◌, nat_eq, nat_le, nat_lt, List, take, drop}
+use Rattle.std.specs.Prelude.{length, Option, Some, None, slice_get, IsTrue, ◌⊎◌, [], ◌∷◌, if◌then◌else◌}
 use Rattle.std.specs.List.{list_any}
 use Rattle.reg_alloc.specs.declared.assignment.Home.{Home}
 use Rattle.reg_alloc.specs.declared.assignment.Home.TheVariants.{Register, Slot}

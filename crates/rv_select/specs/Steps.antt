@@ -1,6 +1,7 @@
 -- What the code of an instruction promises: one step of three-address code is at least one and at most its weight of the
 -- machine's steps, and the machine holds afterwards what three-address code sees then.
-use Rattle.std.specs.Prelude.{◌≡◌, Bool, ℕ, ◌+◌, ◌*◌, ◌^◌, ◌<◌, ◌≤◌, ◌%◌, List, [], ◌++◌, length, Option, Some, None, slice_get, IsTrue, ◌⊎◌}
+use Rattle.std.specs.Prelude.{◌≡◌, Bool, ℕ, ◌+◌, ◌*◌, ◌^◌, ◌<◌, ◌≤◌, ◌%◌, List, [], ◌++◌, length, Option, Some, None, slice_get, IsTrue}
+use Rattle.std.specs.Prelude.{◌⊎◌}
 use Rattle.std.specs.List.{list_all}
 use Rattle.tl_base.specs.declared.place.Place.{Place}
 use Rattle.rv_isa.specs.declared.instr.Instr.{Instr}

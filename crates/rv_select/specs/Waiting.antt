@@ -1,5 +1,6 @@
 -- A program of several functions in the machine, and what the machine holds for the calls that wait.
-use Rattle.std.specs.Prelude.{◌≡◌, ◌≢◌, ℕ, zero, suc, ◌+◌, ◌*◌, ◌%◌, ◌^◌, ◌<◌, ◌≤◌, if◌then◌else◌, List, [], ◌∷◌, ◌++◌, length, take, drop, Option, Some, None, slice_get, IsTrue}
+use Rattle.std.specs.Prelude.{◌≡◌, ◌≢◌, ℕ, zero, suc, ◌+◌, ◌*◌, ◌%◌, ◌^◌, ◌<◌, ◌≤◌, if◌then◌else◌, List, [], ◌∷◌, ◌++◌, length, take, drop}
+use Rattle.std.specs.Prelude.{Option, Some, None, slice_get, IsTrue}
 use Rattle.tl_base.specs.declared.ids.FnId.{FnId}
 use Rattle.tl_base.specs.declared.place.Place.{Place}
 use Rattle.rv_isa.specs.declared.instr.Instr.{Instr}
@@ -22,7 +23,8 @@ use Rattle.tac_form.specs.Live.{InUse}
 use Rattle.tac_form.specs.Fits.{Counted, Fits}
 use Rattle.tac_form.specs.Weights.{most_moved}
 use Rattle.rv_operators.specs.Runs.{Stands}
-use Rattle.rv_select.specs.Places.{AreBytes, HasHome, Holds, IsHeld, Keeps, Layout, area_offset, frame_bytes, home_of, layout_of, link_in, private_word, uses, word_at}
+use Rattle.rv_select.specs.Places.{AreBytes, HasHome, Holds, IsHeld, Keeps, Layout, area_offset, frame_bytes, home_of, layout_of, link_in}
+use Rattle.rv_select.specs.Places.{private_word, uses, word_at}
 use Rattle.rv_select.specs.declared.pairs.Reads.{Reads}
 use Rattle.rv_select.specs.Pairs.{plain_of, reads_of}
 use Rattle.rv_select.specs.Shapes.{held_after, start_of}

@@ -4,7 +4,8 @@ ghost use Rattle.std.specs.Prelude.{◌≡◌, ◌+◌, ◌^◌, ◌≤◌, [], 
 ghost use Rattle.rv_isa.specs.Table.{word_of};
 ghost use Rattle.rv_operators.specs.Codes.{x6};
 ghost use Rattle.rv_select.specs.Places.{with_homes};
-ghost use Rattle.rv_select.specs.Compared.{below_condition, both_taken, compared, compared_shape, condition_of, first_of, first_register, least_condition, left_of};
+ghost use Rattle.rv_select.specs.Compared.{below_condition, both_taken, compared, compared_shape, condition_of, first_of, first_register};
+ghost use Rattle.rv_select.specs.Compared.{least_condition, left_of};
 ghost use Rattle.rv_select.specs.Compared.{operands_taken, right_of, second_of, second_register, unless_zero};
 ghost use Rattle.rv_select.specs.Settings.{follower};
 ghost use Rattle.rv_select.specs.Shapes.{first_taken, start_of, taken};

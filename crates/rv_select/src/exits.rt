@@ -1,13 +1,15 @@
 // The words of exits of blocks.
 
-ghost use Rattle.std.specs.Prelude.{◌≡◌, ◌*◌, ◌+◌, ◌%◌, ◌^◌, ◌<◌, ◌≤◌, [], ◌∷◌, ◌++◌, map, length, false, if◌then◌else◌, IsTrue, IfOk, OnOk};
+ghost use Rattle.std.specs.Prelude.{◌≡◌, ◌*◌, ◌+◌, ◌%◌, ◌^◌, ◌<◌, ◌≤◌, [], ◌∷◌, ◌++◌, map, length, false, if◌then◌else◌, IsTrue, IfOk};
+ghost use Rattle.std.specs.Prelude.{OnOk};
 ghost use Rattle.rv_isa.specs.declared.instr.Instr.TheVariants.{Auipc, Branch, Jal, Jalr};
 ghost use Rattle.rv_isa.specs.Table.{word_of};
 ghost use Rattle.rv_operators.specs.Codes.{x0, x5};
 ghost use Rattle.rv_select.specs.Numbers.{lower_of, upper_of};
 ghost use Rattle.rv_select.specs.Places.{with_homes};
 ghost use Rattle.rv_select.specs.Settings.{falls, follower};
-ghost use Rattle.rv_select.specs.Shapes.{branch_bytes, branch_offset, branched, branched_bytes, chosen, distance, exit_shape, first_taken, has_exit_shape, jump, jump_offset, negated, start_of};
+ghost use Rattle.rv_select.specs.Shapes.{branch_bytes, branch_offset, branched, branched_bytes, chosen, distance, exit_shape, first_taken};
+ghost use Rattle.rv_select.specs.Shapes.{has_exit_shape, jump, jump_offset, negated, start_of};
 
 use crate::emit::{X0, X5, put};
 use crate::instructions::{push_failed, push_first};

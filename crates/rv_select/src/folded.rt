@@ -7,7 +7,8 @@ ghost use Rattle.rv_isa.specs.declared.operation.RegisterOp.TheVariants as ops;
 ghost use Rattle.rv_isa.specs.Table.{word_of};
 ghost use Rattle.tac_form.specs.Flow.{width_of};
 ghost use Rattle.rv_operators.specs.Codes.{cut, one_immediate, x0, x5};
-ghost use Rattle.rv_select.specs.Folded.{by_number, count_of, differing, folded, is_folded, is_near, is_power, opposite, shift_down, shift_for, shifted_up, sum_of, test_of, turned_round, word_count_of};
+ghost use Rattle.rv_select.specs.Folded.{by_number, count_of, differing, folded, is_folded, is_near, is_power, opposite, shift_down};
+ghost use Rattle.rv_select.specs.Folded.{shift_for, shifted_up, sum_of, test_of, turned_round, word_count_of};
 
 use crate::emit::{X0, X5, put};
 use crate::instructions::{bytes_of, width_of};

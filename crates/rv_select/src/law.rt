@@ -1,7 +1,8 @@
 // What the code of instructions promises. Each function does nothing, and its clause is a law.
 
 ghost use Rattle.rv_select.specs.Compared.{ComparesAreCarried, ComparesKeepWithin};
-ghost use Rattle.rv_select.specs.Frames.{CallsAreBegun, CallsKeepWithin, FramesKeepWithin, FunctionsAreEntered, FunctionsAreLeft, ParametersAreReceived, ParametersKeepWithin};
+ghost use Rattle.rv_select.specs.Frames.{CallsAreBegun, CallsKeepWithin, FramesKeepWithin, FunctionsAreEntered, FunctionsAreLeft};
+ghost use Rattle.rv_select.specs.Frames.{ParametersAreReceived, ParametersKeepWithin};
 ghost use Rattle.rv_select.specs.Waiting.{CallersGoOnWaiting};
 ghost use Rattle.rv_select.specs.Whole.{EntriesAreCarried, ProgramsAreCarried, RunsAreCarried, StepsAreCarried};
 ghost use Rattle.rv_select.specs.Steps.{ExitsAreCarried, ExitsKeepWithin, InstructionsAreCarried, ShapesKeepWithin};

@@ -4,7 +4,8 @@ ghost use Rattle.std.specs.Prelude.{◌≡◌, ◌*◌, ◌+◌, ◌≤◌, ◌+
 ghost use Rattle.rv_isa.specs.Table.{word_of};
 ghost use Rattle.rv_operators.specs.Codes.{x5, x6};
 ghost use Rattle.rv_select.specs.Places.{with_homes};
-ghost use Rattle.rv_select.specs.Shapes.{all_carried, bytes_moved, carried, carried_eights, carried_if, carried_rest, from_area, some_moved, to_area};
+ghost use Rattle.rv_select.specs.Shapes.{all_carried, bytes_moved, carried, carried_eights, carried_if, carried_rest, from_area};
+ghost use Rattle.rv_select.specs.Shapes.{some_moved, to_area};
 
 use crate::emit::{X0, X5, X6, X7, push_moved, put};
 use crate::instructions::{push_area_address, push_reached};

@@ -3,7 +3,8 @@
 ghost use Rattle.std.specs.Prelude.{◌≡◌, [], ◌∷◌, ◌++◌, map, OnOk};
 ghost use Rattle.rv_isa.specs.Table.{word_of};
 ghost use Rattle.rv_select.specs.Places.{with_homes};
-ghost use Rattle.rv_select.specs.Shapes.{allocated, byte_put, byte_stored, byte_taken, byte_written, bytes_given, heap_aligned, limit_found, range_call, range_tested, range_written, taken, write_call, x11, x12};
+ghost use Rattle.rv_select.specs.Shapes.{allocated, byte_put, byte_stored, byte_taken, byte_written, bytes_given, heap_aligned};
+ghost use Rattle.rv_select.specs.Shapes.{limit_found, range_call, range_tested, range_written, taken, write_call, x11, x12};
 
 use crate::emit::{X0, X2, X5, X6, X7, push_constant, push_moved, push_put, push_taken, put};
 use crate::instructions::{

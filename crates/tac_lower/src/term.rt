@@ -7,7 +7,8 @@ ghost use Rattle.tac_lower.specs.Data.{result_of, target_of, want_of};
 ghost use Rattle.tac_lower.specs.Pieces.{taken};
 ghost use Rattle.tac_lower.specs.Lowering.{opposite};
 ghost use Rattle.tac_lower.specs.Works.{Declared, Gave, Passed, itself};
-ghost use Rattle.tac_lower.specs.Views.{all_of, both_tree, choice_tree, either_tree, for_of, if_tree, one_at, one_of, piece_at, piece_of, pieces_of, repeat_tree, target_at, targets_of, while_tree};
+ghost use Rattle.tac_lower.specs.Views.{all_of, both_tree, choice_tree, either_tree, for_of, if_tree, one_at, one_of, piece_at, piece_of};
+ghost use Rattle.tac_lower.specs.Views.{pieces_of, repeat_tree, target_at, targets_of, while_tree};
 
 use crate::around::Around;
 use crate::assigning::{assigned_all, held_target};

@@ -1,6 +1,7 @@
 // Code in progress.
 
-ghost use Rattle.std.specs.Prelude.{◌≡◌, ◌<◌, ◌++◌, ◌∷◌, ◌+◌, ◌-◌, [], List, drop, length, map, option_map, slice_get, take, IfOk, IfSome, OnOk};
+ghost use Rattle.std.specs.Prelude.{◌≡◌, ◌<◌, ◌++◌, ◌∷◌, ◌+◌, ◌-◌, [], List, drop, length, map, option_map, slice_get, take, IfOk, IfSome};
+ghost use Rattle.std.specs.Prelude.{OnOk};
 ghost use Rattle.tac_lower.specs.Items as items;
 ghost use Rattle.tac_lower.specs.Items.{count_ends, does, ends, loop_of, repeats, repeats_unless};
 ghost use Rattle.tac_lower.specs.Pieces.{bound, holder_of, with_area, with_temp};
