@@ -112,7 +112,8 @@ abbrev pub exit_code : Layout → Setting → (held : Option ℕ) → (at : ℕ)
 exit_code y setting held at starts last (Return v) = returned y setting held at last v
 exit_code y setting held at starts last e = exit_shape y setting held at starts e
 
-abbrev pub instructions_code : Layout → (sizes : List ℕ) → (places : FnId → ℕ) → (at : ℕ) → (held : Option ℕ) → List Instruction → List Instr
+abbrev pub instructions_code : Layout → (sizes : List ℕ) → (places : FnId → ℕ) → (at : ℕ) → (held : Option ℕ) → List Instruction →
+    List Instr
 instructions_code y sizes places at held [] = []
 instructions_code y sizes places at held (i ∷ is) =
     instruction_code y sizes places at held i
@@ -185,7 +186,8 @@ last_address y code at = at + 4 * (length (head_code y code) + blocks_length y c
 -- The code of a function that stands at an address, by the addresses at which functions are entered.
 abbrev pub body_code : Layout → Tac → (places : FnId → ℕ) → (at : ℕ) → List Instr
 body_code y code places at =
-    blocks_code y code.areas places (start_of (block_starts y code at)) (last_address y code at) (at + 4 * length (head_code y code)) code.blocks
+    blocks_code y code.areas places (start_of (block_starts y code at)) (last_address y code at) (at + 4 * length (head_code y code))
+    code.blocks
 
 abbrev pub function_code : Layout → Tac → (places : FnId → ℕ) → (at : ℕ) → List Instr
 function_code y code places at = head_code y code ++ (body_code y code places at ++ left y (frame_bytes y) code.frame)

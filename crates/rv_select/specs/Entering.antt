@@ -115,8 +115,8 @@ abbrev pub receiving : List Destination → ℕ
 receiving [] = 0
 receiving (d ∷ ds) = 3 + result_words d + receiving ds
 
--- Whether a parameter is taken from its word: into an area, or to a home that lies before all these words. Where its temporary's home is one
--- of them the word is there already, and where it has none nothing asks for it.
+-- Whether a parameter is taken from its word: into an area, or to a home that lies before all these words. Where its temporary's home
+-- is one of them the word is there already, and where it has none nothing asks for it.
 abbrev pub is_before : (last : ℕ) → Option (Option Home) → Bool
 is_before last (Some (Some (homes.Register x))) = true
 is_before last (Some (Some (homes.Slot k))) = nat_lt (slot_offset k) last

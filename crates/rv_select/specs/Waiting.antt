@@ -126,7 +126,8 @@ pub record Waiting (p : Program) (image : Image) (most : ℕ) (c : Caller) (dept
   pub returns : link ≡ place_in p image code (image c.waits.function) c.waits.block before
       + 4 * length (call_begun (layout_of code (image c.waits.function).homes) (held_in code c.waits.block before) place arguments) + 8
   pub values : (t : ℕ) → InUse (graph_of code) c.waits.block c.waits.at t → destination_write c.to ≢ Some t →
-      HasHome (layout_of code (image c.waits.function).homes) t → word_at base m (home_of (layout_of code (image c.waits.function).homes) t) ≡ c.waits.temps t
+      HasHome (layout_of code (image c.waits.function).homes) t → word_at base m (home_of (layout_of code (image c.waits.function).homes) t)
+      ≡ c.waits.temps t
   pub words : (t : ℕ) → InUse (graph_of code) c.waits.block c.waits.at t → destination_write c.to ≢ Some t → c.waits.temps t < 2 ^ 64
   pub areas : (n : ℕ) → n < length code.areas →
       take (length (c.waits.areas n)) (drop (base + area_offset (layout_of code (image c.waits.function).homes) n) m.private) ≡
@@ -161,7 +162,8 @@ pub record StandsIn (p : Program) (image : Image) (program : List (Option Instr)
   pub frame : s.here.base + code.frame ≤ end_address s.region
   pub region : length s.region.bytes ≡ size
   pub room : HasRoom most (length s.callers) base
-  pub waits : Waits p image most size s.callers (link_in (layout_of code (image s.here.function).homes) base m) (base + frame_bytes (layout_of code (image s.here.function).homes))
+  pub waits : Waits p image most size s.callers (link_in (layout_of code (image s.here.function).homes) base m)
+      (base + frame_bytes (layout_of code (image s.here.function).homes))
       (s.here.base + code.frame) (restored (layout_of code (image s.here.function).homes) base m)
 
 -- The machine comes, in at most so many steps and in at least as many as three-address code takes counts, of which it had so many left, to

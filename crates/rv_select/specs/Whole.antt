@@ -146,8 +146,8 @@ EntriesAreCarried =
     (enter code.place f (Some code) (map word arguments) (end_address region) [] (before_entry f region n))
 
 -- A whole run of a program, from the machine's start at the count n: it ends as that of three-address code does, with the same output, in
--- at most n + 1 times the words that a function may have. Where three-address code needs more counts than n, the machine has written the same
--- output in at least n steps, and goes on.
+-- at most n + 1 times the words that a function may have. Where three-address code needs more counts than n, the machine has written
+-- the same output in at least n steps, and goes on.
 abbrev pub ProgramsAreCarried : Type 0
 ProgramsAreCarried =
     (p : Program) (image : Image) (program : List (Option Instr)) (most words memory n : ℕ) (statics : List ℕ) (f : FnId) (code : Tac)

@@ -65,7 +65,8 @@ fn give_homes(
     parameters: &[Destination],
 )
     requires { first < 2 ^ 58 }
-    ensures { given.new ≡ if_small (is_small first (length parameters.now)) first parameters.now (with_given homes.now given.old temps.now) }
+    ensures { given.new ≡ if_small (is_small first (length parameters.now)) first parameters.now
+        (with_given homes.now given.old temps.now) }
 {
     give_all(given, homes, temps);
     if is_small(first, parameters.len()) {

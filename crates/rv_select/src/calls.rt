@@ -199,7 +199,8 @@ fn push_all_passed(
     held: Option<u64>,
     arguments: &[Part],
 ) -> Result<(), NoMemory>
-    ensures { OnOk result (code.new.items ≡ code.old.items ++ map word_of (passed (with_homes homes.now) held 0 arguments.now ++ one_more)) }
+    ensures { OnOk result (code.new.items ≡ code.old.items
+        ++ map word_of (passed (with_homes homes.now) held 0 arguments.now ++ one_more)) }
 {
     push_passed(code, homes, held, 0, arguments)?;
     push_one_more(code)

@@ -21,8 +21,8 @@ use terra_words::BinaryOperator;
 use tl_base::NoMemory;
 
 /// The words of a block's last instruction, a comparison, and of its exit, a branch on the comparison's result, where x5 may hold the
-/// word of a temporary, by the setting in which they stand, their address and those at which the blocks begin. They serve where the result is read by that branch alone: where its
-/// temporary is live at the begin of neither block. No home gets the result then.
+/// word of a temporary, by the setting in which they stand, their address and those at which the blocks begin. They serve where the
+/// result is read by that branch alone: where its temporary is live at the begin of neither block. No home gets the result then.
 ///
 /// Where `select` finds such a block, it calls this in place of `push_instruction` for the last instruction and of `push_exit`; the
 /// law `compares_are_carried` is for both steps at once, and `compares_keep_within` bounds the words. Any other block is as before.
@@ -41,7 +41,8 @@ pub fn push_compared(
     second: Edge,
 ) -> Result<(), NoMemory>
     requires { at + 256 ≤ 2 ^ 30 }
-    ensures { OnOk result (code.new.items ≡ code.old.items ++ map word_of (compared_shape (with_homes homes.now) setting held at (start_of starts.now) operator form a b first second)) }
+    ensures { OnOk result (code.new.items ≡ code.old.items
+        ++ map word_of (compared_shape (with_homes homes.now) setting held at (start_of starts.now) operator form a b first second)) }
 {
     let words = push_counted(code, homes, held, a, b)?;
     let to = start_of(starts, first.block);
@@ -182,7 +183,8 @@ fn push_test(
     second: u64,
 ) -> Result<(), NoMemory>
     requires { at + 12 ≤ 2 ^ 32 }
-    ensures { OnOk result (code.new.items ≡ code.old.items ++ map word_of (compared setting.near setting.short follows signed operator a b at first second)) }
+    ensures { OnOk result (code.new.items ≡ code.old.items
+        ++ map word_of (compared setting.near setting.short follows signed operator a b at first second)) }
 {
     let condition = condition_of(signed, operator);
     push_chosen(

@@ -271,7 +271,8 @@ pub(crate) fn push_frame_address(
     rd: Register,
     offset: u64,
 ) -> Result<(), NoMemory>
-    ensures { OnOk result (code.new.items ≡ code.old.items ++ map word_of (framed (λ r far. instrs.RegisterImmediate immediates.Addi rd r far) offset)) }
+    ensures { OnOk result (code.new.items ≡ code.old.items
+        ++ map word_of (framed (λ r far. instrs.RegisterImmediate immediates.Addi rd r far) offset)) }
 {
     if offset <= 2047 {
         return put(

@@ -495,7 +495,8 @@ fn push_received_one(
     parameter: Destination,
     at: u64,
 ) -> Result<(), NoMemory>
-    ensures { OnOk result (code.new.items ≡ code.old.items ++ map word_of (received_one (with_homes homes.now) sizes.now last parameter at)) }
+    ensures { OnOk result (code.new.items ≡ code.old.items
+        ++ map word_of (received_one (with_homes homes.now) sizes.now last parameter at)) }
 {
     if !is_received(homes, last, parameter)? {
         return Ok(());

@@ -33,7 +33,8 @@ pub fn push_exit(
 ) -> Result<(), NoMemory>
     requires shape { IsTrue (has_exit_shape exit.now) }
     requires near { at + 256 ≤ 2 ^ 30 }
-    ensures { OnOk result (code.new.items ≡ code.old.items ++ map word_of (exit_shape (with_homes homes.now) setting held at (start_of starts.now) exit.now)) }
+    ensures { OnOk result (code.new.items ≡ code.old.items
+        ++ map word_of (exit_shape (with_homes homes.now) setting held at (start_of starts.now) exit.now)) }
 {
     match exit {
         Exit::Jump(edge) => { push_edge(code, setting, *edge, at, start_of(starts, edge.block)) }
@@ -67,7 +68,8 @@ fn push_edge(
     to: u64,
 ) -> Result<(), NoMemory>
     requires { at ≤ 2 ^ 32 }
-    ensures { OnOk result (code.new.items ≡ code.old.items ++ map word_of (if falls setting.next edge then [] else jump setting.short at to)) }
+    ensures { OnOk result (code.new.items ≡ code.old.items
+        ++ map word_of (if falls setting.next edge then [] else jump setting.short at to)) }
 {
     if falls(setting.next, edge) {
         return Ok(());
@@ -275,7 +277,8 @@ pub(crate) fn push_chosen(
     second: u64,
 ) -> Result<(), NoMemory>
     requires { at + 12 ≤ 2 ^ 32 }
-    ensures { OnOk result (code.new.items ≡ code.old.items ++ map word_of (chosen setting.near setting.short follows condition rs1 rs2 at first second)) }
+    ensures { OnOk result (code.new.items ≡ code.old.items
+        ++ map word_of (chosen setting.near setting.short follows condition rs1 rs2 at first second)) }
 {
     let Setting { near, short, .. } = setting;
     match follows {

@@ -237,7 +237,8 @@ fn push_differing(code: &mut Vec<u32>, number: u64) -> Result<(), NoMemory>
 }
 
 fn push_equal(code: &mut Vec<u32>, number: u64) -> Result<(), NoMemory>
-    ensures { OnOk result (code.new.items ≡ code.old.items ++ map word_of (differing number ++ instrs.RegisterImmediate immediates.Sltiu x5 x5 one_immediate ∷ [])) }
+    ensures { OnOk result (code.new.items ≡ code.old.items
+        ++ map word_of (differing number ++ instrs.RegisterImmediate immediates.Sltiu x5 x5 one_immediate ∷ [])) }
 {
     push_differing(code, number)?;
     put(
@@ -252,7 +253,8 @@ fn push_equal(code: &mut Vec<u32>, number: u64) -> Result<(), NoMemory>
 }
 
 fn push_not_equal(code: &mut Vec<u32>, number: u64) -> Result<(), NoMemory>
-    ensures { OnOk result (code.new.items ≡ code.old.items ++ map word_of (differing number ++ instrs.RegisterRegister ops.Sltu x5 x0 x5 ∷ [])) }
+    ensures { OnOk result (code.new.items ≡ code.old.items
+        ++ map word_of (differing number ++ instrs.RegisterRegister ops.Sltu x5 x0 x5 ∷ [])) }
 {
     push_differing(code, number)?;
     put(

@@ -140,7 +140,8 @@ fn push_computed(
     a: Operand,
     b: Operand,
 ) -> Result<(), NoMemory>
-    ensures { OnOk result (code.new.items ≡ code.old.items ++ map word_of (computed (with_homes homes.now) held temp operator (width_of form) a b)) }
+    ensures { OnOk result (code.new.items ≡ code.old.items
+        ++ map word_of (computed (with_homes homes.now) held temp operator (width_of form) a b)) }
 {
     if is_turned(held, operator, b) {
         push_operated(code, homes, held, temp, operator, form, b, a)
@@ -161,7 +162,8 @@ fn push_operated_second(
     form: Number,
     a: Operand,
 ) -> Result<(), NoMemory>
-    ensures { OnOk result (code.new.items ≡ code.old.items ++ map word_of (operated_second (with_homes homes.now) held temp operator (width_of form) a)) }
+    ensures { OnOk result (code.new.items ≡ code.old.items
+        ++ map word_of (operated_second (with_homes homes.now) held temp operator (width_of form) a)) }
 {
     push_moved(code, X6, X5)?;
     push_first(code, homes, held, a)?;
@@ -180,7 +182,8 @@ fn push_operated(
     a: Operand,
     b: Operand,
 ) -> Result<(), NoMemory>
-    ensures { OnOk result (code.new.items ≡ code.old.items ++ map word_of (operated (with_homes homes.now) held temp operator (width_of form) a b)) }
+    ensures { OnOk result (code.new.items ≡ code.old.items
+        ++ map word_of (operated (with_homes homes.now) held temp operator (width_of form) a b)) }
 {
     push_first(code, homes, held, a)?;
     push_applied(code, homes, operator, form, b)?;
@@ -248,7 +251,9 @@ fn push_with_constant(
     form: Number,
     number: u64,
 ) -> Result<(), NoMemory>
-    ensures { OnOk result (code.new.items ≡ code.old.items ++ map word_of (if is_folded operator number then folded (width_of form) operator number else constant x6 number ++ code_of (width_of form) operator)) }
+    ensures { OnOk result (code.new.items ≡ code.old.items
+        ++ map word_of (if is_folded operator number then folded (width_of form) operator number else constant x6 number
+        ++ code_of (width_of form) operator)) }
 {
     if is_folded(operator, number) {
         push_folded(code, operator, form, number)
@@ -592,7 +597,8 @@ fn push_loaded(
 
 /// x5 gets the number at the address in x5.
 fn push_load(code: &mut Vec<u32>, form: Number) -> Result<(), NoMemory>
-    ensures { OnOk result (code.new.items ≡ code.old.items ++ word_of (instrs.Load (load_of form.signed form.size) x5 x5 zero_immediate) ∷ []) }
+    ensures { OnOk result (code.new.items ≡ code.old.items
+        ++ word_of (instrs.Load (load_of form.signed form.size) x5 x5 zero_immediate) ∷ []) }
 {
     put(
         code,

@@ -98,8 +98,8 @@ pub fn entries_are_carried()
     ensures { EntriesAreCarried }
 {}
 
-/// The run of a program in the machine, from its start, ends as that of three-address code does at a count, with the same output, in at most
-/// as many times a function's words as one more than the count.
+/// The run of a program in the machine, from its start, ends as that of three-address code does at a count, with the same output, in
+/// at most as many times a function's words as one more than the count.
 pub fn programs_are_carried()
     ensures { ProgramsAreCarried }
 {}

@@ -66,8 +66,10 @@ fn push_called(
     callee: FnId,
     arguments: &[Part],
 ) -> Result<(), NoMemory>
-    ensures code { OnOk result (code.new.items ≡ code.old.items ++ map word_of (called (with_homes homes.now) sizes.now (λ f. 0) (4 * length code.old.items) held to at callee arguments.now)) }
-    ensures calls { OnOk result (calls.new.items ≡ calls.old.items ++ instruction_calls (with_homes homes.now) (length code.old.items) held (instructions.Call to at callee arguments.now)) }
+    ensures code { OnOk result (code.new.items ≡ code.old.items
+        ++ map word_of (called (with_homes homes.now) sizes.now (λ f. 0) (4 * length code.old.items) held to at callee arguments.now)) }
+    ensures calls { OnOk result (calls.new.items ≡ calls.old.items
+        ++ instruction_calls (with_homes homes.now) (length code.old.items) held (instructions.Call to at callee arguments.now)) }
 {
     push_call_begun(code, homes, held, at, arguments)?;
     push_jump_to(code, calls, callee)?;
@@ -84,8 +86,10 @@ fn push_one(
     instruction: &Instruction,
 ) -> Result<(), NoMemory>
     requires { IsTrue (has_code instruction.now) }
-    ensures code { OnOk result (code.new.items ≡ code.old.items ++ map word_of (instruction_code (with_homes homes.now) sizes.now (λ f. 0) (4 * length code.old.items) held instruction.now)) }
-    ensures calls { OnOk result (calls.new.items ≡ calls.old.items ++ instruction_calls (with_homes homes.now) (length code.old.items) held instruction.now) }
+    ensures code { OnOk result (code.new.items ≡ code.old.items
+        ++ map word_of (instruction_code (with_homes homes.now) sizes.now (λ f. 0) (4 * length code.old.items) held instruction.now)) }
+    ensures calls { OnOk result (calls.new.items ≡ calls.old.items
+        ++ instruction_calls (with_homes homes.now) (length code.old.items) held instruction.now) }
 {
     match instruction {
         Instruction::Call(to, at, callee, arguments) => push_called(
@@ -112,8 +116,10 @@ fn push_all(
     instructions: &[Instruction],
 ) -> Result<Option<u64>, NoMemory>
     requires { IsTrue (list_all has_code instructions.now) }
-    ensures code { OnOk result (code.new.items ≡ code.old.items ++ map word_of (instructions_code (with_homes homes.now) sizes.now (λ f. 0) (4 * length code.old.items) None instructions.now)) }
-    ensures calls { OnOk result (calls.new.items ≡ calls.old.items ++ instructions_calls (with_homes homes.now) sizes.now (length code.old.items) None instructions.now) }
+    ensures code { OnOk result (code.new.items ≡ code.old.items
+        ++ map word_of (instructions_code (with_homes homes.now) sizes.now (λ f. 0) (4 * length code.old.items) None instructions.now)) }
+    ensures calls { OnOk result (calls.new.items ≡ calls.old.items
+        ++ instructions_calls (with_homes homes.now) sizes.now (length code.old.items) None instructions.now) }
     ensures held { IfOk result (λ held. held ≡ held_behind None instructions.now) }
 {
     let mut held = None;
@@ -134,7 +140,8 @@ fn push_jump_here(code: &mut Vec<u32>, short: bool, to: u64) -> Result<(), NoMem
 
 /// A jump to the code that leaves the function, unless that stands behind.
 fn push_jump_unless_last(code: &mut Vec<u32>, setting: Setting, last: u64) -> Result<(), NoMemory>
-    ensures { OnOk result (code.new.items ≡ code.old.items ++ map word_of (jump_unless_last setting.short setting.next (4 * length code.old.items) last)) }
+    ensures { OnOk result (code.new.items ≡ code.old.items
+        ++ map word_of (jump_unless_last setting.short setting.next (4 * length code.old.items) last)) }
 {
     match setting.next {
         Some(_) => push_jump_here(code, setting.short, last),
@@ -151,7 +158,8 @@ fn push_returned(
     part: Part,
     last: u64,
 ) -> Result<(), NoMemory>
-    ensures { OnOk result (code.new.items ≡ code.old.items ++ map word_of (returned (with_homes homes.now) setting held (4 * length code.old.items) last part)) }
+    ensures { OnOk result (code.new.items ≡ code.old.items
+        ++ map word_of (returned (with_homes homes.now) setting held (4 * length code.old.items) last part)) }
 {
     push_given(code, homes, held, part)?;
     push_jump_unless_last(code, setting, last)
@@ -168,7 +176,8 @@ fn push_end(
     exit: &Exit,
 ) -> Result<(), NoMemory>
     requires { IsTrue (has_exit_code exit.now) }
-    ensures { OnOk result (code.new.items ≡ code.old.items ++ map word_of (exit_code (with_homes homes.now) setting held (4 * length code.old.items) (start_of starts.now) last exit.now)) }
+    ensures { OnOk result (code.new.items ≡ code.old.items
+        ++ map word_of (exit_code (with_homes homes.now) setting held (4 * length code.old.items) (start_of starts.now) last exit.now)) }
 {
     match exit {
         Exit::Return(part) => push_returned(code, homes, setting, held, *part, last),
@@ -191,7 +200,9 @@ fn push_block_end(
     exit: &Exit,
 ) -> Result<(), NoMemory>
     requires { IsTrue (has_exit_code exit.now) }
-    ensures { OnOk result (code.new.items ≡ code.old.items ++ map word_of (end_code (with_homes homes.now) setting held (4 * length code.old.items) (start_of starts.now) last pair exit.now)) }
+    ensures { OnOk result (code.new.items ≡ code.old.items
+        ++ map word_of (end_code (with_homes homes.now) setting held (4 * length code.old.items) (start_of starts.now) last pair
+        exit.now)) }
 {
     match pair {
         Some(pair) => push_pair(code, homes, setting, held, starts, pair),
@@ -209,7 +220,8 @@ fn push_pair(
     starts: &[u64],
     pair: Pair,
 ) -> Result<(), NoMemory>
-    ensures { OnOk result (code.new.items ≡ code.old.items ++ map word_of (pair_code (with_homes homes.now) setting held (4 * length code.old.items) (start_of starts.now) pair)) }
+    ensures { OnOk result (code.new.items ≡ code.old.items
+        ++ map word_of (pair_code (with_homes homes.now) setting held (4 * length code.old.items) (start_of starts.now) pair)) }
 {
     let at = address(code)?;
     push_compared(
@@ -242,8 +254,12 @@ fn push_block(
     block: &Block,
 ) -> Result<(), NoMemory>
     requires { IsTrue (block_has_code block.now) }
-    ensures code { OnOk result (code.new.items ≡ code.old.items ++ map word_of (block_code (with_reads homes.now reads.now extent) sizes.now (λ f. 0) (start_of starts.now) last (4 * length code.old.items) rest block.now)) }
-    ensures calls { OnOk result (calls.new.items ≡ calls.old.items ++ instructions_calls (with_reads homes.now reads.now extent) sizes.now (length code.old.items) None (plain_of reads.now block.now)) }
+    ensures code { OnOk result (code.new.items ≡ code.old.items
+        ++ map word_of (block_code (with_reads homes.now reads.now extent) sizes.now (λ f. 0) (start_of starts.now) last
+        (4 * length code.old.items) rest block.now)) }
+    ensures calls { OnOk result (calls.new.items ≡ calls.old.items
+        ++ instructions_calls (with_reads homes.now reads.now extent) sizes.now (length code.old.items) None
+        (plain_of reads.now block.now)) }
 {
     let pair = pair_of(reads, block);
     let plain = plain_of(block.instructions.as_slice(), pair);
@@ -266,9 +282,13 @@ fn push_blocks(
     blocks: &[Block],
 ) -> Result<(), NoMemory>
     requires { IsTrue (list_all block_has_code blocks.now) }
-    ensures code { OnOk result (code.new.items ≡ code.old.items ++ map word_of (blocks_code (with_reads homes.now reads.now extent) sizes.now (λ f. 0) (start_of starts.now) last (4 * length code.old.items) blocks.now)) }
-    ensures calls { OnOk result (calls.new.items ≡ calls.old.items ++ blocks_calls (with_reads homes.now reads.now extent) sizes.now (length code.old.items) blocks.now) }
-    ensures begins { OnOk result (begins.new.items ≡ begins.old.items ++ starts_from (with_reads homes.now reads.now extent) sizes.now (4 * length code.old.items) blocks.now) }
+    ensures code { OnOk result (code.new.items ≡ code.old.items
+        ++ map word_of (blocks_code (with_reads homes.now reads.now extent) sizes.now (λ f. 0) (start_of starts.now) last
+        (4 * length code.old.items) blocks.now)) }
+    ensures calls { OnOk result (calls.new.items ≡ calls.old.items
+        ++ blocks_calls (with_reads homes.now reads.now extent) sizes.now (length code.old.items) blocks.now) }
+    ensures begins { OnOk result (begins.new.items ≡ begins.old.items
+        ++ starts_from (with_reads homes.now reads.now extent) sizes.now (4 * length code.old.items) blocks.now) }
 {
     let mut rest = blocks.len() as u64;
     for block in blocks {
@@ -320,7 +340,9 @@ fn push_call_head(
     requires extent { extent ≡ extent_of tac.now }
     requires words { words < 2 ^ 63 }
     requires bytes { 1 ≤ bytes }
-    ensures { OnOk result (code.new.items ≡ code.old.items ++ map word_of (entered (layout_with tac.now homes.now) bytes tac.now.frame ++ received (layout_with tac.now homes.now) tac.now.areas words tac.now.parameters)) }
+    ensures { OnOk result (code.new.items ≡ code.old.items
+        ++ map word_of (entered (layout_with tac.now homes.now) bytes tac.now.frame
+        ++ received (layout_with tac.now homes.now) tac.now.areas words tac.now.parameters)) }
 {
     push_entered(code, homes, extent, bytes, tac.frame)?;
     push_received(
@@ -372,9 +394,13 @@ fn push_body(
     requires has_code { IsTrue (all_has_code tac.now) }
     requires reads { reads.now ≡ reads_of tac.now }
     requires extent { extent ≡ extent_of tac.now }
-    ensures code { OnOk result (code.new.items ≡ code.old.items ++ map word_of (blocks_code (layout_with tac.now homes.now) tac.now.areas (λ f. 0) (start_of starts.now) last (4 * length code.old.items) tac.now.blocks)) }
-    ensures calls { OnOk result (calls.new.items ≡ calls.old.items ++ blocks_calls (layout_with tac.now homes.now) tac.now.areas (length code.old.items) tac.now.blocks) }
-    ensures begins { OnOk result (begins.new.items ≡ begins.old.items ++ starts_from (layout_with tac.now homes.now) tac.now.areas (4 * length code.old.items) tac.now.blocks) }
+    ensures code { OnOk result (code.new.items ≡ code.old.items
+        ++ map word_of (blocks_code (layout_with tac.now homes.now) tac.now.areas (λ f. 0) (start_of starts.now) last
+        (4 * length code.old.items) tac.now.blocks)) }
+    ensures calls { OnOk result (calls.new.items ≡ calls.old.items
+        ++ blocks_calls (layout_with tac.now homes.now) tac.now.areas (length code.old.items) tac.now.blocks) }
+    ensures begins { OnOk result (begins.new.items ≡ begins.old.items
+        ++ starts_from (layout_with tac.now homes.now) tac.now.areas (4 * length code.old.items) tac.now.blocks) }
 {
     push_blocks(
         code,

@@ -40,7 +40,8 @@ pub(crate) fn operation(
     values: &[Value],
     work: &mut Work,
 ) -> Result<Value, NoMemory>
-    ensures { Gave result_of result work.old work.new (operation (around_of around.now) at of done.now operands.now (map result_of values.now) work.old.used) }
+    ensures { Gave result_of result work.old work.new
+        (operation (around_of around.now) at of done.now operands.now (map result_of values.now) work.old.used) }
 {
     let types = around.types();
     let first = type_at(operands, 0);
@@ -256,7 +257,8 @@ fn construct(
     values: &[Value],
     work: &mut Work,
 ) -> Result<Value, NoMemory>
-    ensures { Gave result_of result work.old work.new (construct types.now size offsets.now operands.now (map result_of values.now) work.old.used) }
+    ensures { Gave result_of result work.old work.new
+        (construct types.now size offsets.now operands.now (map result_of values.now) work.old.used) }
 {
     let n = work.area(size)?;
     work.put(Instruction::Clear(n, size))?;
