@@ -36,6 +36,7 @@ use Rattle.lua_model.specs.Loops.{turn, over, after_turn, while_test, repeat_tes
 use Rattle.lua_model.specs.Loops.{list_next}
 use Rattle.lua_model.specs.Statements.{block_plan, arms_plan}
 use Rattle.lua_model.specs.Meaning.{job_plan, first_plan, close}
+use Rattle.lua_eval.specs.Waits.{waited}
 use Rattle.lua_eval.specs.declared.frame.LuaFrame.{LuaFrame}
 use Rattle.lua_eval.specs.declared.frame.LuaFrame.TheVariants as frames
 use Rattle.lua_eval.specs.declared.frame.OneFrame.{OneFrame}
@@ -169,6 +170,7 @@ with_all items (alls.Stores ns scope us vs left) dropped = stores items ns.now s
 with_all items (alls.Name n function scope) dropped = define_name items n function scope
 with_all items (alls.Listed n names scope f state out) vs = listed n names.now scope f state vs out
 with_all items alls.Done dropped = fell
+with_all items (alls.Wait wait scope) vs = waited wait scope vs fell
 
 -- ---- ends
 

@@ -58,7 +58,7 @@ pub fn node<'a>(
             }
             None => {
                 let globals = Value::Table(GLOBALS);
-                let step = read_named(
+                read_named(
                     frames,
                     heap,
                     budget,
@@ -66,8 +66,7 @@ pub fn node<'a>(
                     text.as_bytes(),
                     *place,
                     scope.call,
-                )?;
-                Ok(step)
+                )
             }
         },
         Node::Numeral(_, text) => Ok(Step::Return(End::One(numeral(text)))),
@@ -77,10 +76,9 @@ pub fn node<'a>(
             Ok(Step::Return(End::One(value)))
         }
         Node::Expression(place, expression) => {
-            let step = evaluate_quickly(
+            evaluate_quickly(
                 tree, slots, frames, heap, budget, expression, node, *place, scope,
-            )?;
-            Ok(step)
+            )
         }
         Node::Statement(_, _) => Ok(Step::Return(End::One(Value::Nil))),
         Node::TerraExpression(_, _) => Ok(Step::Return(End::One(Value::Nil))),
@@ -122,10 +120,9 @@ fn evaluate_quickly<'a>(
     match expression_at_once(tree, slots, heap, budget, expression, &scope) {
         Some(value) => Ok(Step::Return(End::One(value))),
         None => {
-            let step = evaluate_further(
+            evaluate_further(
                 tree, slots, frames, heap, budget, expression, node, place, scope,
-            )?;
-            Ok(step)
+            )
         }
     }
 }
@@ -151,7 +148,7 @@ fn evaluate_further<'a>(
 {
     match expression {
         Expression::Call(function, arguments) => {
-            let step = evaluate_call(
+            evaluate_call(
                 tree,
                 slots,
                 frames,
@@ -161,13 +158,9 @@ fn evaluate_further<'a>(
                 arguments.as_slice(),
                 place,
                 scope,
-            )?;
-            Ok(step)
+            )
         }
-        _ => {
-            let step = evaluate(tree, frames, heap, expression, node, place, scope)?;
-            Ok(step)
-        }
+        _ => { evaluate(tree, frames, heap, expression, node, place, scope) }
     }
 }
 
@@ -195,10 +188,9 @@ fn evaluate_call<'a>(
         Some(value) => {
             let none = Values::new(heap.allocator());
             let then = Then::Call(value, place);
-            let step = list(
+            list(
                 tree, slots, frames, heap, budget, arguments, scope, none, then,
-            )?;
-            Ok(step)
+            )
         }
         None => {
             let frame = CallFrame::Function(arguments, place, scope);

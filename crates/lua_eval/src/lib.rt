@@ -44,6 +44,7 @@
 #![tactic(auto)]
 
 pub mod assignments;
+pub mod calling;
 pub mod calls;
 pub mod cells;
 pub mod code;
@@ -58,9 +59,13 @@ pub mod machine;
 pub mod operators;
 pub mod quick;
 pub mod raise;
+pub mod running;
 pub mod statements;
+pub mod storing;
 pub mod tables;
+pub mod turns;
 pub mod values;
+pub mod waiting;
 
 pub use frame::LuaFrame;
 pub use lua::Lua;

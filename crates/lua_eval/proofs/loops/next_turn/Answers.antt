@@ -5,15 +5,16 @@ use Rattle.lua_value.specs.Numbers.{number_from}
 use Rattle.lua_model.specs.Plans.{LuaPlan}
 use Rattle.lua_model.specs.Loops.{count_from}
 use Rattle.lua_eval.proofs.Below.{moved}
+use Rattle.lua_eval.proofs.Passing.{if-ok}
 use Rattle.lua_eval.proofs.loops.next_turn.Goals as goal
 
-pub returns-in_ok-step-in-While-clause-means : goal.returns-in_ok-step-in-While-clause-means
-returns-in_ok-step-in-While-clause-means c =
-    rw c.in-While.is (c.in_ok-step-in-While.ensures.means (items_of c.args.tree.now) c.args.heap.now c.args.budget.now)
+pub returns-in-While-clause-means : goal.returns-in-While-clause-means
+returns-in-While-clause-means c =
+    rw c.in-While.is (if-ok c.while_test.result c.while_test.ensures.means (λ v it. it (items_of c.args.tree.now) c.args.heap.now c.args.budget.now))
 
-pub returns-in_ok-step-in-Repeat-clause-means : goal.returns-in_ok-step-in-Repeat-clause-means
-returns-in_ok-step-in-Repeat-clause-means c =
-    rw c.in-Repeat.is (c.in_ok-step-in-Repeat.ensures.means (items_of c.args.tree.now) c.args.heap.now c.args.budget.now)
+pub returns-in-Repeat-clause-means : goal.returns-in-Repeat-clause-means
+returns-in-Repeat-clause-means c =
+    rw c.in-Repeat.is (if-ok c.repeat_test.result c.repeat_test.ensures.means (λ v it. it (items_of c.args.tree.now) c.args.heap.now c.args.budget.now))
 
 pub returns-in-Counted-clause-means : goal.returns-in-Counted-clause-means
 returns-in-Counted-clause-means c =

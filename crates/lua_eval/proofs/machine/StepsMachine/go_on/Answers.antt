@@ -1,12 +1,12 @@
-use Rattle.tl_tree.specs.Arena.{items_of}
 use Rattle.lua_table.specs.Heap.{shallower}
 use Rattle.lua_table.proofs.Keeping.{keeps_shallower}
 use Rattle.lua_eval.proofs.Keeping.{kept_as}
+use Rattle.lua_eval.proofs.Passing.{if-ok}
 use Rattle.lua_eval.proofs.machine.StepsMachine.go_on.Goals as goal
 
-pub returns-in_ok-step-in-Block-clause-means : goal.returns-in_ok-step-in-Block-clause-means
-returns-in_ok-step-in-Block-clause-means c =
-    rw c.in-Block.is (c.in_ok-step-in-Block.ensures.means (items_of c.args.self.now.tree.now) c.args.heap.now c.args.budget.now)
+pub returns-in-Block-clause-means : goal.returns-in-Block-clause-means
+returns-in-Block-clause-means c =
+    rw c.in-Block.is (if-ok c.after_statement.result c.after_statement.ensures.means (λ v it. it))
 
 pub returns-in-Library-clause-kept : goal.returns-in-Library-clause-kept
 returns-in-Library-clause-kept c =

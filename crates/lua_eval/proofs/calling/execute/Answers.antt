@@ -1,0 +1,59 @@
+use Rattle.std.proofs.Common.{◌≡◌, sym, [], ◌∷◌, ap, ◌∙◌}
+use Rattle.tl_base.specs.Layer.{state}
+use Rattle.tl_base.specs.Plan.{run}
+use Rattle.tl_tree.specs.Arena.{items_of}
+use Rattle.lua_table.specs.Heap.{shallower}
+use Rattle.lua_table.specs.LuaState.{LuaState}
+use Rattle.lua_table.proofs.Keeping.{keeps_shallower, keeps_then}
+use Rattle.lua_model.specs.declared.end.End.{End}
+use Rattle.lua_model.specs.declared.end.End.TheVariants.{Many}
+use Rattle.lua_model.specs.Calls.{leave, returned}
+use Rattle.lua_model.specs.Plans.{LuaPlan}
+use Rattle.lua_eval.proofs.Below.{jobs_of}
+use Rattle.lua_eval.proofs.Keeping.{kept_as}
+use Rattle.lua_eval.proofs.calling.execute.Goals as goal
+
+pub returns-then-ended-clause-passes : goal.returns-then-ended-clause-passes
+returns-then-ended-clause-passes c = λ go later.
+    let a = c.args in
+    let items = items_of a.tree.now in
+    let t = c.run.new.heap in
+    let mid = c.run.new.budget in
+    let k : End → LuaPlan = λ r. leave (returned r) go in
+    c.in_ok-halt.ensures.passes [] k later
+    ∙ ap (λ (p : LuaPlan). run (jobs_of items) p (state t mid) later) (c.ended.ensures c.if-ended.true a.scope [] k)
+    ∙ ap (λ (w : LuaState). run (jobs_of items) (go (Many [])) (state w mid) later) (sym c.end_call.ensures)
+
+pub returns-in-Some-clause-passes : goal.returns-in-Some-clause-passes
+returns-in-Some-clause-passes c = λ go later.
+    let a = c.args in
+    let items = items_of a.tree.now in
+    let t = c.run.new.heap in
+    let left = c.ending.new.budget in
+    let value = c.in-Some.value in
+    let k : End → LuaPlan = λ r. leave (returned r) go in
+    let ended : c.end_call-in-Some.new.self ≡ shallower t = rw c.in-Some.ensures.same at c.end_call-in-Some.ensures in
+    c.in_ok-halt.ensures.passes [] k later
+    ∙ c.in-Some.ensures.found [] k later
+    ∙ ap (λ (w : LuaState). run (jobs_of items) (go (Many (value ∷ []))) (state w left) later) (sym ended)
+
+pub returns-in-None-clause-passes : goal.returns-in-None-clause-passes
+returns-in-None-clause-passes c = λ go later.
+    let k : End → LuaPlan = λ r. leave (returned r) go in
+    rw c.in-None.ensures.none (rw c.in-None.ensures.same (c.in_ok-halt.ensures.passes [] k later))
+
+pub returns-then-ended-clause-kept : goal.returns-then-ended-clause-kept
+returns-then-ended-clause-kept c =
+    let t = c.run.new.heap in
+    let u = c.end_call.new.self in
+    keeps_then c.args.heap.now t u c.in_ok-halt.ensures.kept (kept_as t u (shallower t) c.end_call.ensures (keeps_shallower t))
+
+pub returns-in-Some-clause-kept : goal.returns-in-Some-clause-kept
+returns-in-Some-clause-kept c =
+    let t = c.run.new.heap in
+    let u = c.end_call-in-Some.new.self in
+    keeps_then c.args.heap.now t u c.in_ok-halt.ensures.kept
+    (kept_as t u (shallower t) (rw c.in-Some.ensures.same at c.end_call-in-Some.ensures) (keeps_shallower t))
+
+pub returns-in-None-clause-kept : goal.returns-in-None-clause-kept
+returns-in-None-clause-kept c = rw c.in-None.ensures.same c.in_ok-halt.ensures.kept
