@@ -60,6 +60,7 @@ pub trait Depth {
 pub struct Leaf;
 
 impl Depth for Leaf {
+    #[inline(always)]
     fn find<'a>(
         tree: &'a Tree<'a>,
         slots: &Slots,
@@ -82,6 +83,7 @@ impl Depth for Leaf {
 }
 
 /// The value of a leaf.
+#[inline(always)]
 fn leaf_value<'a>(
     tree: &'a Tree<'a>,
     slots: &Slots,
@@ -106,6 +108,7 @@ fn leaf_value<'a>(
 }
 
 /// The value of nil, `true` or `false`.
+#[inline]
 fn constant(expression: &Expression) -> Option<Value>
     ensures { IfSome result (λ value. (items : Items) (n : ids.NodeId) (place : places.Place) (scope : scopes.Scope)
         (s : LuaState) (left : ℕ) →
