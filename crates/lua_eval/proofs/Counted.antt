@@ -1,10 +1,10 @@
 -- Turns of a numeric `for` that were done at once, and what is behind them.
-use Rattle.std.proofs.Common.{◌≡◌, ℕ, ◌-◌, ◌≤◌, ℤ, List, [], ◌∷◌, ◌++◌, sym, ap, ◌∙◌, Some}
+use Rattle.std.proofs.Common.{◌≡◌, ℕ, ◌-◌, ◌≤◌, ℤ, List, sym, ap, ◌∙◌, Some}
 use Rattle.tl_base.specs.declared.ids.NodeId.{NodeId}
 use Rattle.tl_base.specs.declared.ids.EnvId.{EnvId}
 use Rattle.tl_base.specs.declared.place.Place.{Place}
-use Rattle.tl_base.specs.Layer.{State, state}
-use Rattle.tl_base.specs.Plan.{Run, Give, then_do, run, run_job}
+use Rattle.tl_base.specs.Layer.{state}
+use Rattle.tl_base.specs.Plan.{run, run_job}
 use Rattle.tl_base.proofs.Plans.{run_job-is, paid-enough}
 use Rattle.tl_base.proofs.Steps.{then_do-give}
 use Rattle.tl_tree.specs.declared.node.Statement.{Statement}
@@ -20,22 +20,13 @@ use Rattle.lua_model.specs.declared.job.Job.{Job}
 use Rattle.lua_model.specs.declared.job.Job.TheVariants as jobs
 use Rattle.lua_model.specs.declared.job.Loop.TheVariants as loops
 use Rattle.lua_model.specs.declared.end.End.{End}
-use Rattle.lua_model.specs.declared.question.LuaQuestion.{LuaQuestion}
-use Rattle.lua_model.specs.declared.question.LuaAnswer.{LuaAnswer}
 use Rattle.lua_model.specs.declared.scope.Scope.{Scope}
 use Rattle.lua_model.specs.Loops.{turn, after_turn, turn_block, turn_plan, with_variable}
-use Rattle.lua_model.specs.Plans.{LuaPlan, on_fell, statements, within}
-use Rattle.lua_model.specs.Meaning.{LuaGiven, job_plan}
-use Rattle.lua_model.proofs.Composing.{LuaCourse, then_twice, on_fell_then, run_statements}
+use Rattle.lua_model.specs.Plans.{LuaPlan, statements, within}
+use Rattle.lua_model.specs.Meaning.{job_plan}
 use Rattle.lua_eval.specs.AtOnce.{Becomes}
-use Rattle.lua_eval.specs.Frames.{after}
-use Rattle.lua_eval.specs.Running.{halt_plan}
-use Rattle.lua_eval.specs.Steps.{LuaStep, Goes}
 use Rattle.lua_eval.specs.Turns.{counted_plan, IsCounted, IsBlock}
-use Rattle.lua_eval.specs.declared.frame.LuaFrame.{LuaFrame}
-use Rattle.lua_eval.specs.declared.running.Halt.{Halt}
-use Rattle.lua_eval.specs.declared.running.Halt.TheVariants as halts
-use Rattle.lua_eval.proofs.Below.{jobs_of, below}
+use Rattle.lua_eval.proofs.Below.{jobs_of}
 
 -- a node whose statement is a numeric `for`
 pub counted_at : (items : Items) (n block : NodeId) (place : Place) (st : Statement)

@@ -1,17 +1,12 @@
 -- Statements that were executed at once, and what is behind them.
-use Rattle.std.proofs.Common.{◌≡◌, ℕ, ◌-◌, ◌≤◌, List, [], ◌∷◌, ◌++◌, sym, ap, ◌∙◌, Some}
+use Rattle.std.proofs.Common.{◌≡◌, ℕ, ◌-◌, List, [], ◌∷◌, sym, ap, ◌∙◌, Some}
 use Rattle.std.proofs.lemmas.List.{append-nil}
 use Rattle.tl_base.specs.declared.ids.NodeId.{NodeId}
 use Rattle.tl_base.specs.declared.ids.EnvId.{EnvId}
-use Rattle.tl_base.specs.declared.place.Place.{Place}
-use Rattle.tl_base.specs.Layer.{State, state}
-use Rattle.tl_base.specs.Plan.{Run, Give, Do, then_do, run, run_job}
-use Rattle.tl_base.proofs.Plans.{run_job-is, paid-enough}
+use Rattle.tl_base.specs.Layer.{state}
+use Rattle.tl_base.specs.Plan.{Run, Give, then_do, run}
 use Rattle.tl_tree.specs.declared.node.Statement.{Statement}
 use Rattle.tl_tree.specs.Code.{Items, statements_at}
-use Rattle.tl_tree.specs.Item.{Item}
-use Rattle.tl_tree.specs.Item as kept
-use Rattle.tl_tree.specs.Nodes.{item_at}
 use Rattle.lua_value.specs.declared.value.Value.{Value}
 use Rattle.lua_table.specs.LuaState.{LuaState}
 use Rattle.lua_table.specs.Heap.{next_env, with_env}
@@ -22,12 +17,8 @@ use Rattle.lua_model.specs.declared.question.LuaQuestion.{LuaQuestion}
 use Rattle.lua_model.specs.declared.question.LuaAnswer.{LuaAnswer}
 use Rattle.lua_model.specs.declared.scope.Scope.{Scope}
 use Rattle.lua_model.specs.Plans.{LuaPlan, on_fell, statements, within}
-use Rattle.lua_model.specs.Statements.{statement_of, statement_plan, block_plan}
-use Rattle.lua_model.specs.Meaning.{LuaGiven, job_plan}
-use Rattle.lua_model.proofs.Composing.{run_statements}
+use Rattle.lua_model.specs.Statements.{block_plan}
 use Rattle.lua_eval.specs.AtOnce.{EndsAtOnce, Becomes}
-use Rattle.lua_eval.specs.Running.{entered_plan}
-use Rattle.lua_eval.specs.declared.running.Entered.{Entered}
 use Rattle.lua_eval.proofs.Below.{jobs_of}
 
 -- a statement that emitted nothing, with those behind it
@@ -38,32 +29,6 @@ pub statement_passes : (items : Items) (n : NodeId) (ns : List NodeId) (scope : 
 statement_passes items n ns scope out go s t left mid h = λ later.
     ap (λ (o : Run LuaState LuaQuestion LuaAnswer End).
     then_do o (λ r. run (jobs_of items) (on_fell r out go (λ all. statements ns scope all go)))) (h later)
-    ∙ ap (λ (vs : List Value). run (jobs_of items) (statements ns scope vs go) (state t mid) later) (append-nil out)
-
--- a statement whose unit is paid, and what is left of it
-pub statement_entered : (items : Items) (n : NodeId) (scope : Scope) (place : Place) (st : Statement) (entered : Entered) (go : End → LuaPlan)
-    (s t : LuaState) (left mid : ℕ)
-    → item_at items n ≡ kept.Statement place st → 1 ≤ left
-    → Becomes items (statement_of items st n place scope) s (left - 1) (entered_plan entered scope Give) t mid
-    → Becomes items (Do (jobs.Statement n scope) go) s left (entered_plan entered scope go) t mid
-statement_entered items n scope place st entered go s t left mid is enough h = λ later.
-    ap (λ (o : Run LuaState LuaQuestion LuaAnswer End). then_do o (λ r. run (jobs_of items) (go r)))
-    (run_job-is (job_plan items) (jobs.Statement n scope) (state s left) later
-    ∙ paid-enough 1 (state s left) (λ w. run (jobs_of items) (statement_plan items (item_at items n) n scope) w later) enough
-    ∙ ap (λ (i : Item). run (jobs_of items) (statement_plan items i n scope) (state s (left - 1)) later) is
-    ∙ h later)
-    ∙ sym (run_statements (jobs_of items) entered.list.now (within scope entered.env) [] go (state t mid) later)
-
--- what is left of a statement is nothing, and those behind it follow
-pub entered_whole : (items : Items) (n : NodeId) (ns : List NodeId) (scope : Scope) (out : List Value) (go : End → LuaPlan)
-    (s t : LuaState) (left mid : ℕ) (entered : Entered)
-    → entered.list.now ≡ []
-    → ((k : End → LuaPlan) → Becomes items (Do (jobs.Statement n scope) k) s left (entered_plan entered scope k) t mid)
-    → Becomes items (statements (n ∷ ns) scope out go) s left (statements ns scope out go) t mid
-entered_whole items n ns scope out go s t left mid entered none h = λ later.
-    let k : End → LuaPlan = λ r. on_fell r out go (λ all. statements ns scope all go) in
-    h k later
-    ∙ ap (λ (ms : List NodeId). run (jobs_of items) (statements ms (within scope entered.env) [] k) (state t mid) later) none
     ∙ ap (λ (vs : List Value). run (jobs_of items) (statements ns scope vs go) (state t mid) later) (append-nil out)
 
 -- a block that is entered, of whose statements some were executed

@@ -33,11 +33,9 @@ pub mod Choices
 pub mod Spots
 -- Stores that ask no handler.
 pub mod Storing
--- What is left of statements, of which some were executed at once.
-pub mod Running
--- What is left of calls, of which some was done at once.
-pub mod Called
--- What is left of statements, with the calls that they make.
+-- What is evaluated and executed ahead of the machine.
+pub mod Ahead
+-- What statements make of a heap, by the values of an expression.
 pub mod Waiting
 -- What is left of a numeric `for`, of which some turns were done at once.
 pub mod Turns

@@ -15,7 +15,7 @@ ghost use Rattle.lua_eval.specs.Slots.{ArePaths};
 ghost use Rattle.lua_eval.specs.Steps.{Goes};
 ghost use Rattle.tl_base.specs.Plan.{Give};
 
-use crate::calling::{call_at_once, called_on};
+use crate::ahead::{DEPTH, Rest, called_on, enter};
 use crate::cells::{declare_all, with_cells};
 use crate::code::{Parts, block_statements, function_parts};
 use crate::frame::LuaFrame;
@@ -140,8 +140,9 @@ pub fn enter_closure<'a>(
 {
     if may_call(heap) {
         let args = args.as_slice();
-        let called = call_at_once(tree, slots, heap, budget, closure, args, place)?;
-        called_on(frames, heap, called)
+        let mut rest = Rest::new(heap.allocator());
+        let called = enter(tree, slots, heap, budget, DEPTH, closure, args, place, &mut rest)?;
+        called_on(frames, heap, called, rest)
     } else {
         let step = raise(heap, budget, place, Fault::StackOverflow)?;
         Ok(step)

@@ -14,13 +14,13 @@ ghost use Rattle.lua_eval.specs.Frames.{with_left, with_value, with_call};
 ghost use Rattle.lua_eval.specs.CallPlans.{call_plan};
 ghost use Rattle.lua_eval.specs.Steps.{Goes};
 
+use crate::ahead::expression as expression_ahead;
 use crate::cells::{local, values_from};
 use crate::code::name;
 use crate::fields::{GLOBALS, read, read_named};
 use crate::frame::{CallFrame, LuaFrame, OneFrame, Then, ValueFrame};
 use crate::lists::list;
 use crate::operators::{operate, operate_one, whole};
-use crate::quick::{at_once, expression_at_once};
 use crate::raise::{LuaStep, text_value};
 use crate::tables::fields;
 use crate::values::{copy, one};
@@ -76,8 +76,8 @@ pub fn node<'a>(
             Ok(Step::Return(End::One(value)))
         }
         Node::Expression(place, expression) => {
-            evaluate_quickly(
-                tree, slots, frames, heap, budget, expression, node, *place, scope,
+            expression_ahead(
+                tree, slots, frames, heap, budget, expression, node, *place, &scope,
             )
         }
         Node::Statement(_, _) => Ok(Step::Return(End::One(Value::Nil))),
@@ -98,111 +98,9 @@ pub fn numeral(text: &str) -> Value
     }
 }
 
-/// Evaluates an expression that is no name, number or text, at once where that is possible.
-fn evaluate_quickly<'a>(
-    tree: &'a Tree<'a>,
-    slots: &Slots,
-    frames: &mut Vec<LuaFrame<'a>>,
-    heap: &mut Heap,
-    budget: &mut Budget,
-    expression: &'a Expression,
-    node: NodeId,
-    place: Place,
-    scope: Scope,
-) -> Result<LuaStep, NoMemory>
-    requires { ArePaths (items_of tree.now) slots.now }
-    ensures means { IfOk result (λ step.
-        Goes (items_of tree.now) frames.old.items
-        (plans.expression_plan (items_of tree.now) expression.now node place scope)
-        heap.old budget.old frames.new.items step heap.new budget.new) }
-    ensures kept { OnOk result (KeepsHeap heap.old heap.new) }
-{
-    match expression_at_once(tree, slots, heap, budget, expression, &scope) {
-        Some(value) => Ok(Step::Return(End::One(value))),
-        None => {
-            evaluate_further(
-                tree, slots, frames, heap, budget, expression, node, place, scope,
-            )
-        }
-    }
-}
-
-/// Evaluates an expression that isn't evaluated at once.
-fn evaluate_further<'a>(
-    tree: &'a Tree<'a>,
-    slots: &Slots,
-    frames: &mut Vec<LuaFrame<'a>>,
-    heap: &mut Heap,
-    budget: &mut Budget,
-    expression: &'a Expression,
-    node: NodeId,
-    place: Place,
-    scope: Scope,
-) -> Result<LuaStep, NoMemory>
-    requires { ArePaths (items_of tree.now) slots.now }
-    ensures means { IfOk result (λ step.
-        Goes (items_of tree.now) frames.old.items
-        (plans.expression_plan (items_of tree.now) expression.now node place scope)
-        heap.old budget.old frames.new.items step heap.new budget.new) }
-    ensures kept { OnOk result (KeepsHeap heap.old heap.new) }
-{
-    match expression {
-        Expression::Call(function, arguments) => {
-            evaluate_call(
-                tree,
-                slots,
-                frames,
-                heap,
-                budget,
-                *function,
-                arguments.as_slice(),
-                place,
-                scope,
-            )
-        }
-        _ => { evaluate(tree, frames, heap, expression, node, place, scope) }
-    }
-}
-
-#[tactic(auto, using(tl_base::proofs::Steps::pushes))]
-/// Evaluates the function of a call, at once where that is possible, and goes on with the arguments.
-fn evaluate_call<'a>(
-    tree: &'a Tree<'a>,
-    slots: &Slots,
-    frames: &mut Vec<LuaFrame<'a>>,
-    heap: &mut Heap,
-    budget: &mut Budget,
-    function: NodeId,
-    arguments: &'a [NodeId],
-    place: Place,
-    scope: Scope,
-) -> Result<LuaStep, NoMemory>
-    requires { ArePaths (items_of tree.now) slots.now }
-    ensures means { IfOk result (λ step.
-        Goes (items_of tree.now) frames.old.items
-        (call_plan (items_of tree.now) function arguments.now place scope)
-        heap.old budget.old frames.new.items step heap.new budget.new) }
-    ensures kept { OnOk result (KeepsHeap heap.old heap.new) }
-{
-    match at_once(tree, slots, heap, budget, function, &scope) {
-        Some(value) => {
-            let none = Values::new(heap.allocator());
-            let then = Then::Call(value, place);
-            list(
-                tree, slots, frames, heap, budget, arguments, scope, none, then,
-            )
-        }
-        None => {
-            let frame = CallFrame::Function(arguments, place, scope);
-            frames.push(LuaFrame::One(OneFrame::Call(frame)))?;
-            Ok(Step::Enter(Job::Expression(function, scope)))
-        }
-    }
-}
-
 #[tactic(auto, using(tl_base::proofs::Steps::pushes))]
 /// Evaluates an expression that is no name, number or text.
-fn evaluate<'a>(
+pub fn evaluate<'a>(
     tree: &'a Tree<'a>,
     frames: &mut Vec<LuaFrame<'a>>,
     heap: &mut Heap,

@@ -43,8 +43,8 @@
 //! `lua_table::proofs::Keeping`.
 #![tactic(auto)]
 
+pub mod ahead;
 pub mod assignments;
-pub mod calling;
 pub mod calls;
 pub mod cells;
 pub mod code;
@@ -59,7 +59,6 @@ pub mod machine;
 pub mod operators;
 pub mod quick;
 pub mod raise;
-pub mod running;
 pub mod statements;
 pub mod storing;
 pub mod tables;

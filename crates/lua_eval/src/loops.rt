@@ -16,13 +16,13 @@ ghost use Rattle.lua_eval.specs.Frames.{first_count, next_turn, with_loop};
 ghost use Rattle.lua_eval.specs.Slots.{ArePaths};
 ghost use Rattle.lua_eval.specs.Steps.{Goes, Does};
 
+use crate::ahead::proceed;
 use crate::calls::call;
 use crate::cells::{declare, declare_all};
 use crate::code::block_statements;
 use crate::frame::{AllFrame, LoopFrame, LuaFrame, OneFrame, TurnFrame};
 use crate::raise::{LuaStep, raise};
 use crate::values::{copy, split_values, two};
-use crate::waiting::proceed;
 use lua_model::{Caller, End, Job, Loop, Scope};
 use lua_ops::{Fault, operand};
 use lua_table::Heap;

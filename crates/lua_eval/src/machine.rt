@@ -15,6 +15,7 @@ ghost use Rattle.lua_eval.specs.Slots.{ArePaths};
 ghost use Rattle.lua_eval.specs.Frames.{lua_rules, with_one, with_all, next_turn, is_go};
 ghost use Rattle.lua_eval.specs.Steps.{Goes};
 
+use crate::ahead::proceed;
 use crate::assignments::{define_name, stores, targets, with_target};
 use crate::calls::{call, call_closure, statements};
 use crate::code::block_statements;
@@ -28,7 +29,7 @@ use crate::statements::{block, statement, target, with_statement};
 use crate::tables::{store_values, with_field};
 use crate::turns::begin_turn;
 use crate::values::{append, one, split_values};
-use crate::waiting::{proceed, take_all};
+use crate::waiting::take_all;
 use lua_model::{Caller, End, Job, LuaAnswer, LuaEnd, LuaJob, LuaQuestion, Scope};
 use lua_table::Heap;
 use lua_value::{Value, Values};

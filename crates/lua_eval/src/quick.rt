@@ -239,7 +239,7 @@ fn both<'a, D: Depth>(
 }
 
 /// The result of an operator between two values, where it is no handler's answer.
-fn calculate(heap: &mut Heap, op: BinaryOperator, a: Value, b: Value) -> Option<Value>
+pub fn calculate(heap: &mut Heap, op: BinaryOperator, a: Value, b: Value) -> Option<Value>
     ensures value { IfSome result (λ value. (items : Items) (place : places.Place) (outer : Option places.Place) (left : ℕ) →
         Goes items [] (plans.operate items op a b place outer) heap.old left [] (Return (One value)) heap.old left) }
     ensures same { heap.new ≡ heap.old }
@@ -294,7 +294,7 @@ fn unary<'a, D: Depth>(
 }
 
 /// The result of an operator before a value, where it is no handler's answer.
-fn calculate_one(heap: &mut Heap, op: UnaryOperator, a: Value) -> Option<Value>
+pub fn calculate_one(heap: &mut Heap, op: UnaryOperator, a: Value) -> Option<Value>
     ensures value { IfSome result (λ value. (items : Items) (place : places.Place) (outer : Option places.Place) (left : ℕ) →
         Goes items [] (plans.unary_at items op a place outer) heap.old left [] (Return (One value)) heap.old left) }
     ensures same { heap.new ≡ heap.old }
@@ -381,7 +381,7 @@ fn select<'a, D: Depth>(
 }
 
 /// What a table has under a name, where that isn't nil.
-fn named_field(heap: &Heap, object: Value, name: &[u8]) -> Option<Value>
+pub fn named_field(heap: &Heap, object: Value, name: &[u8]) -> Option<Value>
     ensures { IfSome result (λ value. (items : Items) (place : places.Place) (outer : Option places.Place) (left : ℕ) →
         Goes items [] (with_text_of name.now (λ key. read object key place outer give))
         heap.now left [] (Return (One value)) heap.now left) }
@@ -396,7 +396,7 @@ fn named_field(heap: &Heap, object: Value, name: &[u8]) -> Option<Value>
 }
 
 /// What a table has under a key, where that isn't nil.
-fn field(heap: &Heap, object: Value, key: Value) -> Option<Value>
+pub fn field(heap: &Heap, object: Value, key: Value) -> Option<Value>
     ensures { IfSome result (λ value. (items : Items) (place : places.Place) (outer : Option places.Place) (left : ℕ) →
         Goes items [] (read object key place outer give) heap.now left [] (Return (One value)) heap.now left) }
 {
@@ -435,32 +435,6 @@ pub fn at_once<'a>(
     ensures same { heap.new ≡ heap.old }
 {
     match Quick::find(tree, slots, heap, node, scope, budget.left()) {
-        Some(found) => {
-            spend(budget, found.left);
-            Some(found.value)
-        }
-        None => None,
-    }
-}
-
-/// Evaluates an expression at once that is no name, number or text, whose unit is paid, and pays for what is in it, where
-/// that is possible.
-pub fn expression_at_once<'a>(
-    tree: &'a Tree<'a>,
-    slots: &Slots,
-    heap: &mut Heap,
-    budget: &mut Budget,
-    expression: &'a Expression,
-    scope: &Scope,
-) -> Option<Value>
-    requires { ArePaths (items_of tree.now) slots.now }
-    ensures found { IfSome result (λ value. (n : ids.NodeId) (place : places.Place) →
-        Goes (items_of tree.now) [] (expression_plan (items_of tree.now) expression.now n place scope.now)
-        heap.old budget.old [] (Return (One value)) heap.old budget.new) }
-    ensures none { IfNone result (budget.new ≡ budget.old) }
-    ensures same { heap.new ≡ heap.old }
-{
-    match compound::<Inner>(tree, slots, heap, expression, scope, budget.left()) {
         Some(found) => {
             spend(budget, found.left);
             Some(found.value)

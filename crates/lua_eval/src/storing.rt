@@ -30,7 +30,7 @@ fn takes_field(heap: &Heap, table: TableId, key: Value) -> bool
 }
 
 /// Holds where a store in a spot asks no handler. It may also be false where none is asked.
-fn takes(heap: &Heap, spot: Spot) -> bool
+pub fn takes(heap: &Heap, spot: Spot) -> bool
     ensures { result ≡ true → takes heap.now spot ≡ true }
 {
     match spot {

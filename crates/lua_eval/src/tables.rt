@@ -60,7 +60,7 @@ pub enum FieldKind {
 }
 
 /// What the field is that a node is.
-fn field_kind(node: &Node<'_>) -> FieldKind
+pub fn field_kind(node: &Node<'_>) -> FieldKind
     ensures { result ≡ kind_of_field (item_of node.now) }
 {
     match node {
@@ -206,7 +206,7 @@ fn named_field<'a>(
 }
 
 /// The number behind another. No tree has so many fields that there is none.
-fn following(number: u64) -> Result<u64, NoMemory>
+pub fn following(number: u64) -> Result<u64, NoMemory>
     ensures { IfOk result (λ next. next ≡ number + 1) }
 {
     match number.checked_add(1) {

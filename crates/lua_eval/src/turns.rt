@@ -1,6 +1,6 @@
 // Turns of a numeric `for` that are done at once, as far as their statements are.
 
-ghost use Rattle.std.specs.Prelude.{◌≡◌, ℕ, ℤ, List, ◌+ℤ◌, IfSome, IfOk, OnOk};
+ghost use Rattle.std.specs.Prelude.{◌≡◌, ℕ, ℤ, List, [], ◌+ℤ◌, IfSome, IfOk, OnOk};
 ghost use Rattle.tl_tree.specs.Arena.{items_of};
 ghost use Rattle.tl_tree.specs.Code.{Items};
 ghost use Rattle.tl_tree.specs.Nodes.{item_at};
@@ -11,18 +11,20 @@ ghost use Rattle.lua_table.specs.LuaState.{LuaState};
 ghost use Rattle.lua_table.specs.Keeping.{KeepsHeap};
 ghost use Rattle.lua_model.specs.declared.scope.Scope as scopes;
 ghost use Rattle.lua_model.specs.Loops as plans;
-ghost use Rattle.lua_eval.specs.AtOnce.{Becomes};
 ghost use Rattle.lua_eval.specs.Slots.{ArePaths};
 ghost use Rattle.lua_eval.specs.Steps.{Goes};
-ghost use Rattle.lua_eval.specs.Turns.{counted_plan, turned_plan, IsCounted, IsBlock};
+ghost use Rattle.lua_eval.specs.Turns.{counted_plan, Turns, IsCounted, IsBlock};
+ghost use Rattle.lua_eval.specs.declared.ahead.Rest as rests;
+ghost use Rattle.lua_model.specs.Plans.{LuaPlan};
 
+use crate::ahead::{DEPTH, Ran, Rest, statements, stop_on};
 use crate::cells::declare;
 use crate::code::block_statements;
 use crate::frame::{LuaFrame, TurnFrame};
 use crate::loops::{following, runs, turn, within};
 use crate::quick::spend;
 use crate::raise::LuaStep;
-use crate::waiting::{Stop, ended, run_calls, stop_on};
+use crate::values::one;
 use lua_model::{End, Job, Loop, Scope};
 use lua_table::Heap;
 use lua_value::{Number, Value, Values};
@@ -57,8 +59,12 @@ pub enum Turned<'a> {
     Over,
     /// The turn with this number is next.
     Before(Number),
-    /// This is left of the statements of the turn with this number, in this environment.
-    Inside(Stop<'a>, EnvId, Number),
+    /// A statement returned no value.
+    Nothing,
+    /// A statement returned one value.
+    Gave(Value),
+    /// A statement of the turn with this number stopped in this environment, with these behind it.
+    Inside(&'a [NodeId], EnvId, Number),
 }
 
 /// The number of the turn that is next, where that is all that is left.
@@ -73,8 +79,10 @@ fn next_of(turned: &Turned<'_>) -> Option<Number>
 
 /// What comes behind a whole turn.
 fn behind<'a>(at: Number, limit: Number, by: Number) -> Turned<'a>
-    ensures { (n : ids.NodeId) (scope : scopes.Scope) (out : List value_types.Value) →
-        plans.count_from n scope (number_from (at +ℤ by)) limit by out ≡ turned_plan result n scope limit by out }
+    ensures { (items : Items) (n : ids.NodeId) (scope : scopes.Scope) (out : List value_types.Value) (rest : rests.Rest)
+        (s : LuaState) (left : ℕ) →
+        Turns items (plans.count_from n scope (number_from (at +ℤ by)) limit by out) s left
+        result n scope limit by out rest s left }
 {
     match following(&at, &by) {
         Some(next) => {
@@ -100,22 +108,25 @@ fn do_turn<'a>(
     at: Number,
     limit: Number,
     by: Number,
+    rest: &mut Rest<'a>,
 ) -> Result<Turned<'a>, NoMemory>
     requires { ArePaths (items_of tree.now) slots.now }
+    requires empty { rest.old.frames.items ≡ [] }
     ensures passes { IfOk result (λ turned. (out : List value_types.Value) →
-        Becomes (items_of tree.now) (counted_plan (items_of tree.now) block node scope.now at limit by out) heap.old budget.old
-        (turned_plan turned node scope.now limit by out) heap.new budget.new) }
+        Turns (items_of tree.now) (counted_plan (items_of tree.now) block node scope.now at limit by out) heap.old budget.old
+        turned node scope.now limit by out rest.new heap.new budget.new) }
     ensures kept { OnOk result (KeepsHeap heap.old heap.new) }
 {
     let env = heap.new_env(node, Some(scope.env))?;
     declare(heap, env, Value::Number(at))?;
     let inner = within(*scope, env);
     let list = block_statements(tree, block);
-    let stop = run_calls(tree, slots, heap, budget, list, &inner)?;
-    if ended(&stop) {
-        return Ok(behind(at, limit, by));
+    match statements(tree, slots, heap, budget, DEPTH, list, &inner, rest)? {
+        Ran::Fell => Ok(behind(at, limit, by)),
+        Ran::Nothing => Ok(Turned::Nothing),
+        Ran::Gave(value) => Ok(Turned::Gave(value)),
+        Ran::Stopped(left) => Ok(Turned::Inside(left, env, at)),
     }
-    Ok(Turned::Inside(stop, env, at))
 }
 
 /// Does turns at once, from the one with this number on, which is paid for.
@@ -130,17 +141,21 @@ fn turns<'a>(
     first: Number,
     limit: Number,
     by: Number,
+    rest: &mut Rest<'a>,
 ) -> Result<Turned<'a>, NoMemory>
     requires slots { ArePaths (items_of tree.now) slots.now }
     requires counted { IsCounted (items_of tree.now) node block }
+    requires empty { rest.old.frames.items ≡ [] }
     ensures passes { IfOk result (λ turned. (out : List value_types.Value) →
-        Becomes (items_of tree.now) (counted_plan (items_of tree.now) block node scope.now first limit by out) heap.old budget.old
-        (turned_plan turned node scope.now limit by out) heap.new budget.new) }
+        Turns (items_of tree.now) (counted_plan (items_of tree.now) block node scope.now first limit by out) heap.old budget.old
+        turned node scope.now limit by out rest.new heap.new budget.new) }
     ensures kept { OnOk result (KeepsHeap heap.old heap.new) }
 {
     let mut at = first;
     'turns: for _ in 0..budget.left() {
-        let turned = do_turn(tree, slots, heap, budget, block, node, scope, at, limit, by)?;
+        let turned = do_turn(
+            tree, slots, heap, budget, block, node, scope, at, limit, by, rest,
+        )?;
         match next_of(&turned) {
             None => return Ok(turned),
             Some(next) => {
@@ -153,7 +168,9 @@ fn turns<'a>(
             }
         }
     }
-    let last = do_turn(tree, slots, heap, budget, block, node, scope, at, limit, by)?;
+    let last = do_turn(
+            tree, slots, heap, budget, block, node, scope, at, limit, by, rest,
+        )?;
     Ok(last)
 }
 
@@ -179,10 +196,11 @@ pub fn counted<'a>(
         heap.old budget.old frames.new.items step heap.new budget.new) }
     ensures kept { OnOk result (KeepsHeap heap.old heap.new) }
 {
+    let mut rest = Rest::new(heap.allocator());
     let turned = turns(
-        tree, slots, heap, budget, block, node, &scope, at, limit, by,
+        tree, slots, heap, budget, block, node, &scope, at, limit, by, &mut rest,
     )?;
-    turn_on(frames, heap, turned, node, scope, limit, by, out)
+    turn_on(frames, heap, turned, node, scope, limit, by, out, rest)
 }
 
 #[tactic(auto, using(tl_base::proofs::Steps::pushes))]
@@ -196,9 +214,11 @@ fn turn_on<'a>(
     limit: Number,
     by: Number,
     out: Values,
+    rest: Rest<'a>,
 ) -> Result<LuaStep, NoMemory>
-    ensures means { IfOk result (λ step. (items : Items) (s : LuaState) (left : ℕ) →
-        Goes items frames.old.items (turned_plan turned.entry node scope limit by out) s left frames.new.items step s left) }
+    ensures means { IfOk result (λ step. (items : Items) (plan : LuaPlan) (s s2 : LuaState) (left left2 : ℕ) →
+        Turns items plan s left turned.entry node scope limit by out rest.entry s2 left2 →
+        Goes items frames.old.items plan s left frames.new.items step s2 left2) }
 {
     match turned {
         Turned::Over => Ok(Step::Return(End::Fell(out))),
@@ -208,9 +228,19 @@ fn turn_on<'a>(
             Loop::Counted(at, limit, by),
             out,
         ))),
-        Turned::Inside(stop, env, at) => {
-            frames.push(LuaFrame::Turn(node, scope, TurnFrame::Counted(at, limit, by)))?;
-            stop_on(frames, heap, stop, within(scope, env), out)
+        Turned::Nothing => {
+            let none = Values::new(heap.allocator());
+            Ok(Step::Return(End::Returned(none, out)))
+        }
+        Turned::Gave(value) => {
+            let values = one(heap.allocator(), value)?;
+            Ok(Step::Return(End::Returned(values, out)))
+        }
+        Turned::Inside(left, env, at) => {
+            let mut rest = rest;
+            rest.wait(LuaFrame::Block(left, within(scope, env), out))?;
+            rest.wait(LuaFrame::Turn(node, scope, TurnFrame::Counted(at, limit, by)))?;
+            stop_on(frames, rest)
         }
     }
 }

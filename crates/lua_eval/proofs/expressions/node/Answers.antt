@@ -64,9 +64,9 @@ returns-in-Expression-clause-means c =
     let m = c.in-Expression in
     let items = items_of a.tree.now in
     let e : item_at items a.node ≡ kept.Expression m.place m.expression = search rules in
-    if-ok c.evaluate_quickly.result c.evaluate_quickly.ensures.means (λ v it. node_goes items a.frames.now.items c.evaluate_quickly.new.frames.items (kept.Expression m.place m.expression) a.node a.scope
-    (expression_plan items m.expression a.node m.place a.scope) a.heap.now a.heap.now c.evaluate_quickly.new.heap
-    a.budget.now c.evaluate_quickly.new.budget v e refl refl it)
+    if-ok c.expression_ahead.result c.expression_ahead.ensures.means (λ v it. node_goes items a.frames.now.items c.expression_ahead.new.frames.items (kept.Expression m.place m.expression) a.node a.scope
+    (expression_plan items m.expression a.node m.place a.scope) a.heap.now a.heap.now c.expression_ahead.new.heap
+    a.budget.now c.expression_ahead.new.budget v e refl refl it)
 
 pub returns-in-Statement-clause-means : goal.returns-in-Statement-clause-means
 returns-in-Statement-clause-means c =
