@@ -5,6 +5,8 @@ pub mod Numbers
 pub mod Uses
 pub mod Agreeing
 pub mod Turns
+pub mod Ranks
+pub mod Climbing
 pub mod Parts
 pub mod AgreeingStatements
 pub mod StatementTurns

@@ -640,7 +640,7 @@ impl<'a> Parser<'a> {
 
     /// tblock ["in" texp], behind "quote"
     #[cycle(parser)]
-    #[tactic(auto, using(crate::proofs::Failing::failing_same, crate::proofs::TerraStatementParts::quoted_code_part), unfolding(crate::specs::TerraStatements::quoted_code_at))]
+    #[tactic(auto, using(crate::proofs::TerraStatementParts::quoted_code), unfolding(crate::specs::TerraStatements::quoted_code_at))]
     pub(crate) fn quoted_code(&mut self, levels: u32) -> Result<NodeId, SyntaxError>
         requires { Ready self.old }
         ensures ok { IfOk result (λ r. TookTree self.old self.new (part_at levels parts.QuotedCode (tokens_left self.old)) r) }

@@ -1,4 +1,4 @@
-use Rattle.std.proofs.Common.{◌≡◌, ℕ, ◌<◌, refl, arith, sym, ap, subst, ◌∙◌, cond, Bool, List, [], ◌∷◌, ◌++◌, length}
+use Rattle.std.proofs.Common.{◌≡◌, ℕ, ◌<◌, ◌≤◌, refl, arith, sym, ap, subst, ◌∙◌, cond, Bool, List, [], ◌∷◌, ◌++◌, length}
 use Rattle.tl_base.specs.declared.ids.NodeId.{NodeId}
 use Rattle.tl_tree.specs.declared.mode.Shape.{Shape}
 use Rattle.tl_tree.specs.Tokens.{Token}
@@ -9,8 +9,8 @@ use Rattle.tl_tree.specs.Grammar.{Outcome, Took, ◌>>=◌, down}
 use Rattle.tl_tree.specs.Forms.{Chained, chained}
 use Rattle.tl_tree.specs.LuaStatements.{Sequence}
 use Rattle.tl_parse.specs.Parsing.{token_of, tokens_left, items_of}
-use Rattle.tl_parse.specs.Expressions.{Suffixed, attached, shape_of, suffixes_at, expressions_at, more_expressions_at, more_at, binary_at}
-use Rattle.tl_parse.specs.Expressions.{field_at, fields_at, more_fields_at}
+use Rattle.tl_parse.specs.Expressions.{Suffixed, attached, shape_of, suffixes_at, expressions_at, more_expressions_at, ranks_at, binary_at, field_at, fields_at, more_fields_at}
+use Rattle.tl_parse.specs.Ranks.{rank_at}
 use Rattle.tl_parse.specs.Statements.{arms_at, more_arms_at, variable_at, settle_at, more_statements_at}
 use Rattle.tl_parse.specs.TerraExpressions.{TerraSuffixed, terra_attached, terra_shape_of, terra_suffixes_at, terra_applied_at}
 use Rattle.tl_parse.specs.TerraExpressions.{terra_expressions_at, more_terra_expressions_at, terra_more_at, terra_binary_at}
@@ -19,9 +19,10 @@ use Rattle.tl_parse.specs.TerraStatements.{terra_parameter_at, terra_parameters_
 use Rattle.tl_parse.specs.TerraStatements.{more_terra_statements_at}
 use Rattle.tl_parse.specs.Entries.{more_entries_at}
 use Rattle.tl_parse.proofs.Uses.{operator_with}
-use Rattle.tl_parse.proofs.Turns.{suffix_shorter, suffixes_go, operation_shorter, operations_go, expressions_go, fields_go}
+use Rattle.tl_parse.proofs.Turns.{suffix_shorter, suffixes_go, expressions_go, fields_go}
 use Rattle.tl_parse.proofs.Failing.{fails_same}
-use Rattle.tl_parse.proofs.Parts.{fields_part, inner_product, inner_sum, inner_comparison, inner_conjunction, inner_disjunction}
+use Rattle.tl_parse.proofs.Parts.{fields_part}
+use Rattle.tl_parse.proofs.Climbing.{begins_on, ranked_below, climbs_on, one_more_shorter}
 use Rattle.tl_parse.proofs.TerraParts as terra_parts
 use Rattle.tl_parse.proofs.StatementTurns.{arms_go, block_goes, settles_on}
 use Rattle.tl_parse.proofs.Looping.{listing_first, listing_next, numbers_next, targets_begin, targets_next, names_begin, names_next}
@@ -43,8 +44,14 @@ pub binary-more-smaller : goal.binary-more-smaller
 binary-more-smaller t c =
     let o = c.in-Ok-one_more.ensures.ok in
     let x = c.in-Ok-one_more.x in
+    let rank = c.next_rank-rank.result in
+    let below = ranked_below c.more.from c.args.ranks (tokens_left c.more.self) (sym c.next_is_ranked.ensures ∙ c.more-test.true) in
+    let high : rank_at (tokens_left c.more.self) < c.args.ranks = below.1 in
+    let same : rank ≡ rank_at (tokens_left c.more.self) = c.next_rank-rank.ensures in
+    let most : c.args.ranks ≤ 6 = c.requires.some in
+    let small : rank < 6 = omega arith in
     subst (λ (ts : List Token). length ts < length (tokens_left c.more.self)) (sym c.in-Ok-operation.ensures.ok.pushed.rest)
-    (operation_shorter c.args.levels c.args.precedence c.args.mode c.more.a.left (operator_with (token_of x.0) (chained o.tree x.1.left x.1.shape)) (tokens_left c.more.self) (tokens_left c.one_more.new.self) o.took)
+    (one_more_shorter c.args.levels rank c.args.mode c.more.a.left (operator_with (token_of x.0) (chained o.tree x.1.left x.1.shape)) (tokens_left c.more.self) (tokens_left c.one_more.new.self) small o.took)
 
 pub call_or_assignment-more-init : goal.call_or_assignment-more-init
 call_or_assignment-more-init t c =
@@ -216,7 +223,9 @@ binary-more-init t c =
     let o = c.in-Ok.ensures.ok in
     record {
       tree = o.tree;
-      goes_on = ap (λ (o : Outcome Chained). o >>= λ a rest. more_at c.args.levels c.args.precedence c.args.mode a rest) o.took;
+      goes_on =
+          ap (λ (o : Outcome Chained). o >>= λ a rest. ranks_at c.args.levels c.args.ranks 0 c.args.mode a rest) o.took
+          ∙ begins_on c.args.levels c.args.ranks c.args.mode (chained o.tree c.in-Ok.x.left c.in-Ok.x.shape) (tokens_left c.unary.new.self);
       finish = o.finish;
       ready = o.ready;
       items = o.items;
@@ -346,40 +355,10 @@ pub initialisers-more-preserved : goal.initialisers-more-preserved
 initialisers-more-preserved t c = grind (arith, initialisers_go)
 
 pub binary-more-preserved : goal.binary-more-preserved
-binary-more-preserved t c = grind (arith, operations_go)
+binary-more-preserved t c = grind (arith, climbs_on)
 
 pub terra_binary-more-preserved : goal.terra_binary-more-preserved
 terra_binary-more-preserved t c = grind (arith, terra_operations_go)
-
-pub inner-returns-in-Product-clause-ok : goal.inner-returns-in-Product-clause-ok
-inner-returns-in-Product-clause-ok t c = grind (arith, inner_product)
-
-pub inner-returns-in-Product-clause-err : goal.inner-returns-in-Product-clause-err
-inner-returns-in-Product-clause-err t c = grind (arith, inner_product, fails_same)
-
-pub inner-returns-in-Sum-clause-ok : goal.inner-returns-in-Sum-clause-ok
-inner-returns-in-Sum-clause-ok t c = grind (arith, inner_sum)
-
-pub inner-returns-in-Sum-clause-err : goal.inner-returns-in-Sum-clause-err
-inner-returns-in-Sum-clause-err t c = grind (arith, inner_sum, fails_same)
-
-pub inner-returns-in-Comparison-clause-ok : goal.inner-returns-in-Comparison-clause-ok
-inner-returns-in-Comparison-clause-ok t c = grind (arith, inner_comparison)
-
-pub inner-returns-in-Comparison-clause-err : goal.inner-returns-in-Comparison-clause-err
-inner-returns-in-Comparison-clause-err t c = grind (arith, inner_comparison, fails_same)
-
-pub inner-returns-in-Conjunction-clause-ok : goal.inner-returns-in-Conjunction-clause-ok
-inner-returns-in-Conjunction-clause-ok t c = grind (arith, inner_conjunction)
-
-pub inner-returns-in-Conjunction-clause-err : goal.inner-returns-in-Conjunction-clause-err
-inner-returns-in-Conjunction-clause-err t c = grind (arith, inner_conjunction, fails_same)
-
-pub inner-returns-in-Disjunction-clause-ok : goal.inner-returns-in-Disjunction-clause-ok
-inner-returns-in-Disjunction-clause-ok t c = grind (arith, inner_disjunction)
-
-pub inner-returns-in-Disjunction-clause-err : goal.inner-returns-in-Disjunction-clause-err
-inner-returns-in-Disjunction-clause-err t c = grind (arith, inner_disjunction, fails_same)
 
 pub terra_inner-returns-in-Power-clause-ok : goal.terra_inner-returns-in-Power-clause-ok
 terra_inner-returns-in-Power-clause-ok t c = grind (arith, terra_parts.inner_power)
