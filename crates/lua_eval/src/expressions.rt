@@ -14,7 +14,7 @@ ghost use Rattle.lua_eval.specs.Frames.{with_left, with_value, with_call};
 ghost use Rattle.lua_eval.specs.CallPlans.{call_plan};
 ghost use Rattle.lua_eval.specs.Steps.{Goes};
 
-use crate::cells::{local, values_from};
+use crate::cells::values_from;
 use crate::code::name;
 use crate::fields::{GLOBALS, read, read_named};
 use crate::frame::{CallFrame, LuaFrame, OneFrame, Then, ValueFrame};
@@ -25,6 +25,7 @@ use crate::raise::{LuaStep, text_value};
 use crate::tables::fields;
 use crate::values::{copy, one};
 use lua_model::{End, Job, LuaQuestion, Scope};
+use lua_table::cells::local;
 use lua_table::{Closure, Heap};
 use lua_value::{Value, Values};
 use tl_base::{Budget, NoMemory, NodeId, Place, Step};

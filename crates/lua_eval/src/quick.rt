@@ -20,13 +20,13 @@ ghost use Rattle.lua_eval.specs.Slots.{ArePaths};
 ghost use Rattle.lua_eval.specs.Steps.{Goes};
 ghost use Rattle.lua_eval.specs.AtOnce.{EndsAtOnce};
 
-use crate::cells::local;
 use crate::code::name;
 use crate::expressions::numeral;
 use crate::operators::{Operation, operation_of, whole};
 use lua_model::Scope;
 use lua_ops::{Arithmetic, Outcome};
 use lua_table::Heap;
+use lua_table::cells::local;
 use lua_value::Value;
 use tl_base::{Budget, NodeId, Text};
 use tl_rename::Slots;
