@@ -23,7 +23,7 @@ use crate::operators::{operate, operate_one, whole};
 use crate::quick::{at_once, expression_at_once};
 use crate::raise::{LuaStep, text_value};
 use crate::tables::fields;
-use crate::values::{copy, one};
+use crate::values::one;
 use lua_model::{End, Job, LuaQuestion, Scope};
 use lua_table::cells::local;
 use lua_table::{Closure, Heap};
@@ -414,7 +414,7 @@ pub fn with_call<'a>(
             Ok(step)
         }
         CallFrame::Method(node, arguments, place, scope) => {
-            let frame = CallFrame::MethodOf(copy(&value), *arguments, *place, *scope);
+            let frame = CallFrame::MethodOf(value.copy(), *arguments, *place, *scope);
             frames.push(LuaFrame::One(OneFrame::Call(frame)))?;
             let found = read_named(
                 frames,
@@ -428,7 +428,7 @@ pub fn with_call<'a>(
             Ok(found)
         }
         CallFrame::MethodOf(object, arguments, place, scope) => {
-            let first = one(heap.allocator(), copy(object))?;
+            let first = one(heap.allocator(), object.copy())?;
             let then = Then::Call(value, *place);
             let step = list(
                 tree, slots, frames, heap, budget, *arguments, *scope, first, then,

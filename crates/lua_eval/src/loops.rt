@@ -20,7 +20,7 @@ use crate::cells::{declare, declare_all};
 use crate::code::block_statements;
 use crate::frame::{AllFrame, LoopFrame, LuaFrame, OneFrame, TurnFrame};
 use crate::raise::{LuaStep, raise};
-use crate::values::{copy, split_values, two};
+use crate::values::{split_values, two};
 use lua_model::{Caller, End, Job, Loop, Scope};
 use lua_ops::{Fault, operand};
 use lua_table::Heap;
@@ -56,8 +56,8 @@ pub fn list_next<'a>(
         heap.old budget.old frames.new.items step heap.new budget.new) }
     ensures kept { OnOk result (KeepsHeap heap.old heap.new) }
 {
-    let args = two(heap.allocator(), copy(&state), control)?;
-    let callee = copy(&function);
+    let args = two(heap.allocator(), state.copy(), control)?;
+    let callee = function.copy();
     frames.push(LuaFrame::All(AllFrame::Listed(node, names, scope, function, state, out)))?;
     let step = call(
         tree,
@@ -354,7 +354,7 @@ pub fn next_turn<'a>(
             Ok(count_from(node, scope, next, *limit, *step, out))
         }
         TurnFrame::Listed(names, place, function, state, control) => {
-            let (function, state, control) = (copy(function), copy(state), copy(control));
+            let (function, state, control) = (function.copy(), state.copy(), control.copy());
             let step = list_next(
                 tree, frames, heap, budget, node, names, *place, scope, function, state, control,
                 out,
