@@ -26,7 +26,7 @@ use crate::loops::{listed, next_turn, turn, with_loop};
 use crate::raise::LuaStep;
 use crate::statements::{block, statement, target, with_statement};
 use crate::tables::{store_values, with_field};
-use crate::values::{append, one, split_values};
+use crate::values::{one, split_values};
 use lua_model::{Caller, End, Job, LuaAnswer, LuaEnd, LuaJob, LuaQuestion, Scope};
 use lua_table::Heap;
 use lua_value::{Value, Values};
@@ -137,7 +137,7 @@ fn with_all<'a>(
     match frame {
         AllFrame::Last(frame) => {
             let mut values = frame.values;
-            append(&mut values, more.as_slice())?;
+            values.push_all(more.as_slice())?;
             let step = with_list(
                 tree,
                 slots,
@@ -156,7 +156,7 @@ fn with_all<'a>(
         }
         AllFrame::Target(rest, all, values, scope, before) => {
             let mut held = before;
-            append(&mut held, more.as_slice())?;
+            held.push_all(more.as_slice())?;
             let step = targets(
                 tree, slots, frames, heap, budget, rest, all, values, scope, held,
             )?;
@@ -310,16 +310,16 @@ fn after_statement<'a>(
     let mut out = before;
     match end {
         End::Fell(more) => {
-            append(&mut out, more.as_slice())?;
+            out.push_all(more.as_slice())?;
             let step = statements(frames, rest, scope, out)?;
             Ok(step)
         }
         End::Broke(more) => {
-            append(&mut out, more.as_slice())?;
+            out.push_all(more.as_slice())?;
             Ok(Step::Return(End::Broke(out)))
         }
         End::Returned(values, more) => {
-            append(&mut out, more.as_slice())?;
+            out.push_all(more.as_slice())?;
             Ok(Step::Return(End::Returned(values, out)))
         }
         End::Raised(value, place) => Ok(Step::Return(End::Raised(value, place))),

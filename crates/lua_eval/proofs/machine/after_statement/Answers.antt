@@ -13,10 +13,10 @@ returns-in-Fell c = record {
       let a = c.args in
       let more = c.as_slice.result.now in
       let go : List Value → LuaPlan = λ all. statements a.rest.now a.scope all Give in
-      moved items a.frames.now.items c.statements.new.frames.items (on_fell a.end a.before Give go) (go c.append.new.values)
+      moved items a.frames.now.items c.statements.new.frames.items (on_fell a.end a.before Give go) (go c.push_all.new.self)
       s s s left left c.in_ok-step-in-Fell.step
       (ap (λ (r : End). on_fell r a.before Give go) c.in-Fell.is
-      ∙ ap go (sym (c.in_ok-append-in-Fell.ensures ∙ ap (λ (vs : List Value). a.before ++ vs) c.as_slice.ensures))) refl
+      ∙ ap go (sym (c.in_ok-push_all-in-Fell.ensures.ok ∙ ap (λ (vs : List Value). a.before ++ vs) c.as_slice.ensures))) refl
       (c.in_ok-step-in-Fell.ensures.means items s left);
 }
 
