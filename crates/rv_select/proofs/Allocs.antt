@@ -285,6 +285,7 @@ heap-holds y Used w base x m n p h k region private three begun limited small = 
 heap-keeps : (y : Layout) (base : ℕ) (m n : State) → ((r : ℕ) → r ≢ 3 → r ≢ 5 → r ≢ 6 → r ≢ 7 → n.registers r ≡ m.registers r) → n.private ≡ m.private → Keeps y base m n
 heap-keeps y base m n k private = record {
   registers = λ r l u. k r (lasts-not r 3 l refl) (lasts-not r 5 l refl) (lasts-not r 6 l refl) (lasts-not r 7 l refl);
+  link = k 1 (λ z. omega (arith, z)) (λ z. omega (arith, z)) (λ z. omega (arith, z)) (λ z. omega (arith, z));
   long = ap length private;
   outside = λ at c b o. ap (λ z. take c (drop at z)) private;
 }

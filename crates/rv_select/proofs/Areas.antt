@@ -155,6 +155,7 @@ area-holds y Used Next w base n bs m z p h f there s small = record {
 pub area-keeps : (y : Layout) (base n : ℕ) (bs : List ℕ) (m z : State) → n < y.areas → AreaSet y base n bs m z → Keeps y base m z
 area-keeps y base n bs m z there s = record {
   registers = λ r l u. s.keeps r (lasts-not r 5 l refl) (lasts-not r 6 l refl) (lasts-not r 7 l refl);
+  link = s.keeps 1 (λ z. omega (arith, z)) (λ z. omega (arith, z)) (λ z. omega (arith, z));
   long = s.long;
   outside = λ at k b o. s.outside at k (⊎_elim (λ l. inl (omega (arith, l))) (λ l. inr (omega (arith, l, there))) o);
 }

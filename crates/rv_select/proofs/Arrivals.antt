@@ -13,7 +13,7 @@ use Rattle.tac_form.specs.Flow as tac
 use Rattle.tac_form.specs.Flow.{Activation, operand, value_of, values_of}
 use Rattle.rv_machine.specs.Word.{low}
 use Rattle.rv_machine.specs.Machine.{State}
-use Rattle.rv_select.specs.Places.{AreBytes, Holds, Keeps, Layout, World, area_offset, frame_bytes, private_word, uses}
+use Rattle.rv_select.specs.Places.{AreBytes, Holds, Keeps, Layout, World, area_offset, frame_bytes, link_in, private_word, uses}
 use Rattle.rv_select.specs.Steps.{world_of}
 use Rattle.rv_select.specs.Entering.{kept_offset}
 use Rattle.rv_select.specs.Frames.{Enters, HasWords, IsPartRead, IsWordOf, LiesAt, part_value, seen, without_words}
@@ -22,9 +22,9 @@ use Rattle.rv_select.proofs.Backs.{part-is}
 use Rattle.rv_select.proofs.Callings.{Begun, JumpedTo}
 use Rattle.rv_select.proofs.Returns.{if-is}
 use Rattle.rv_select.proofs.Straight.{low-small}
-use Rattle.rv_select.proofs.Waits.{SameAbove, lasting}
+use Rattle.rv_select.proofs.Waits.{SameAbove, lasting, link-same}
 
--- A call has entered its function: the frame below the caller's has the return address and what is kept for the caller.
+-- A call has entered its function, with its return address: the frame below the caller's has what is kept for the caller.
 pub record InFunction (z : Layout) (base bottom placed depth link : ℕ) (m n : State) : Type 0 where
   pub pointer : n.registers 2 ≡ 2 ^ 32 + bottom
   pub eight : n.registers 8 ≡ placed
@@ -34,7 +34,7 @@ pub record InFunction (z : Layout) (base bottom placed depth link : ℕ) (m n : 
   pub region : n.region ≡ m.region
   pub long : length n.private ≡ length m.private
   pub bytes : AreBytes m.private → AreBytes n.private
-  pub link_is : private_word n bottom ≡ link
+  pub link_is : link_in z bottom n ≡ link
   pub kept : (r : ℕ) → 18 ≤ r → r < 28 → m.registers r < 2 ^ 64 →
       (if uses z r then private_word n (bottom + kept_offset r) else n.registers r) ≡ m.registers r
   pub above : (at k : ℕ) → base ≤ at → take k (drop at n.private) ≡ take k (drop at m.private)
@@ -57,7 +57,10 @@ enters-call program y z base bytes frame placed target to link w at ps rest m b 
   region = e.region ∙ (j.region ∙ b.region);
   long = e.long ∙ (ap length j.private ∙ b.long);
   bytes = λ are. e.bytes (subst AreBytes (sym j.private) (b.bytes are));
-  link_is = e.link ∙ (ap low (j.link ∙ link-is) ∙ low-small link small);
+  link_is = sym (if-is z.extent.calls link (private_word e.after (base - bytes)) (e.after.registers 1)
+      (λ u. sym (e.link u ∙ (ap low (j.link ∙ link-is) ∙ low-small link small)))
+      (λ u. sym (e.others 1 (λ q. omega (arith, q)) (λ q. omega (arith, q)) (λ q. omega (arith, q)) (λ q. omega (arith, q))
+      (λ q. omega (arith, q)) ∙ (j.link ∙ link-is))));
   kept = λ r lo hi few.
       sym (if-is (uses z r) (m.registers r) (private_word e.after (base - bytes + kept_offset r)) (e.after.registers r)
       (λ u. sym (e.kept r lo hi u ∙ (ap low (before r lo hi) ∙ low-small (m.registers r) few)))
@@ -99,8 +102,9 @@ same-after z base bottom placed depth link m n q f k below = record {
     unused r lo hi few u = sym (ap (λ c. if c then private_word n (bottom + kept_offset r) else n.registers r) u) ∙ f.kept r lo hi few
 
 pub link-after : (z : Layout) (base bottom placed depth link : ℕ) (m n q : State) → InFunction z base bottom placed depth link m n →
-    Keeps (without_words z) bottom n q → private_word q bottom ≡ link
-link-after z base bottom placed depth link m n q f k = ap number_of (k.outside bottom 8 (omega arith) (inl (omega arith))) ∙ f.link_is
+    Keeps (without_words z) bottom n q → link_in z bottom q ≡ link
+link-after z base bottom placed depth link m n q f k =
+    link-same z bottom n q (ap number_of (k.outside bottom 8 (omega arith) (inl (omega arith)))) k.link ∙ f.link_is
 
 -- the parts' words, as the function finds them, and the areas that they point to
 pub has-words : (y : Layout) (base : ℕ) (s : tac.State) (bottom last top i : ℕ) (ds : List Destination) (ps : List Part) (n : State) →

@@ -33,7 +33,7 @@ use Rattle.rv_machine.specs.declared.stops.Stop.TheVariants as stops
 use Rattle.rv_operators.specs.Runs.{Stands}
 use Rattle.rv_select.specs.Pairs.{pair_of, plain_of, reads_of}
 use Rattle.rv_select.specs.Asked.{exit_asks}
-use Rattle.rv_select.specs.Places.{AreBytes, HasHome, Holds, Housed, IsHeld, Layout, World, area_offset, frame_bytes, home_of, layout_of, private_word}
+use Rattle.rv_select.specs.Places.{AreBytes, HasHome, Holds, Housed, IsHeld, Layout, World, area_offset, frame_bytes, home_of, layout_of, link_in, private_word}
 use Rattle.rv_select.specs.Shapes.{put_at}
 use Rattle.rv_select.specs.Steps.{Comes, world_of}
 use Rattle.rv_select.specs.Calls.{blocks_length, call_begun, call_ended, call_jump, head_code, last_address}
@@ -52,7 +52,7 @@ use Rattle.rv_select.proofs.Receives.{housed-fewer}
 use Rattle.rv_select.proofs.Returns.{BackIn, HeldIn, Resumes, UsedBut, back-holds, goes-back, resumes}
 use Rattle.rv_select.proofs.Stands.{AtExit, AtPlace, at-plain-exit, at-instruction, both-true, exit-within, instruction-within, the-function, within-parts}
 use Rattle.rv_select.proofs.Reached.{short-bytes}
-use Rattle.rv_select.proofs.Waits.{SameAbove, restored-same, waits-keeps, waits-same, waits-within}
+use Rattle.rv_select.proofs.Waits.{SameAbove, link-kept, restored-same, waits-keeps, waits-same, waits-within}
 use Rattle.rv_select.proofs.Ways.{Way, near-same, way-both, way-none}
 
 -- at address 0 the run is over
@@ -147,7 +147,8 @@ put-result : (p : Program) (image : Image) (program : List (Option Instr)) (most
     target ≡ place_in p image code (image a.function) a.block a.at → held_in code a.block a.at ≡ held →
     a.at ≤ length (plain_in (reads_of code) (slice_get code.blocks a.block)) →
     a.base + code.frame ≤ end_address s.region → length s.region.bytes ≡ size → HasRoom most (length cs) up →
-    Waits p image most size cs (private_word n up) (up + frame_bytes (layout_of code (image a.function).homes)) (a.base + code.frame)
+    Waits p image most size cs (link_in (layout_of code (image a.function).homes) up n)
+    (up + frame_bytes (layout_of code (image a.function).homes)) (a.base + code.frame)
     (restored (layout_of code (image a.function).homes) up n) →
     Arrives p image program most size (36 + more) s.left [] (record s { here = record a { temps = temps; areas = areas }; callers = cs }) m
 put-result p image program most size linked s a temps areas cs code up k more target held m n function way some few c five to-is held-is
@@ -288,7 +289,10 @@ to-caller p image program most size linked s a to v temps areas cs up over link 
         rest in
         let one : up + frame_bytes yc ≤ length M.private = whole.0 in
         let two : over + W.code.frame ≤ 2 ^ 30 + size = whole.1 in
-        let word : private_word r.after up ≡ private_word M up = ap number_of (same.private up 8 (omega arith)) in
+        let word : link_in yc up r.after ≡ private_word M up =
+        link-kept W.code (image a.function).homes a.block W.before W.block (Call to W.place W.callee W.arguments) up r.after W.in_function
+        (plain-get (pair_of (reads_of W.code) W.block) W.block.instructions W.before (Call to W.place W.callee W.arguments) W.in_block) refl
+        ∙ ap number_of (same.private up 8 (omega arith)) in
         let held : Holds yc (UsedBut U to) w up r.after =
         back-holds p image program most (length cs) link up over (record { waits = a; to = to }) w M r.after linked W same
         (after-held program yc (UsedBut U to) s a (length cs) up over link v up R M n b r)
@@ -296,7 +300,7 @@ to-caller p image program most size linked s a to v temps areas cs up over link 
         (subst AreBytes (sym r.private) b.are_bytes)
         (subst (λ z. z < 2 ^ 64) (sym r.pc) (low-word (n.pc + 4 * 2)))
         (r.same 2 (λ e. omega (arith, e)) (λ e. omega (arith, e)) ∙ b.pointer) in
-        let waits : Waits p image most size cs (private_word r.after up) (up + frame_bytes yc) (over + W.code.frame)
+        let waits : Waits p image most size cs (link_in yc up r.after) (up + frame_bytes yc) (over + W.code.frame)
         (restored yc up r.after) =
         subst (λ z. Waits p image most size cs z (up + frame_bytes yc) (over + W.code.frame) (restored yc up r.after)) (sym word)
         (waits-same p image program most size cs (private_word M up) (up + frame_bytes yc) (over + W.code.frame) (restored yc up M)
@@ -317,7 +321,7 @@ to-caller p image program most size linked s a to v temps areas cs up over link 
         (ap (λ z. held_in W.code a.block z) W.at ∙ bc.held)
         (subst (λ z. z ≤ length (plain_in (reads_of W.code) (slice_get W.code.blocks a.block))) (sym W.at) bc.before_end)
         (frame-within s.region.bytes over W.code.frame W.placed_is sized two) sized W.room
-        (subst (λ z. Waits p image most size cs (private_word r.after up) (up + frame_bytes yc) (z + W.code.frame)
+        (subst (λ z. Waits p image most size cs (link_in yc up r.after) (up + frame_bytes yc) (z + W.code.frame)
         (restored yc up r.after)) (sym W.placed_is) waits)
 
 -- a word goes to a temporary
@@ -525,7 +529,7 @@ return-steps p image program most size linked s base m x block v in-f in-b alone
     last-small : (n : ℕ) → n + 256 ≤ 2 ^ 30 → n < 2 ^ 30
     last-small n e = omega (arith, e)
 
-    back : (link : ℕ) → private_word m base ≡ link → link % 2 ≡ 0 → link < 2 ^ 64 →
+    back : (link : ℕ) → link_in (layout_of x.code (image s.here.function).homes) base m ≡ link → link % 2 ≡ 0 → link < 2 ^ 64 →
         BackIn program (layout_of x.code (image s.here.function).homes) (frame_bytes (layout_of x.code (image s.here.function).homes)) base
         (s.here.base + x.code.frame) link
         (part_value (layout_of x.code (image s.here.function).homes) base (world_of s) v) m
@@ -553,8 +557,8 @@ return-steps p image program most size linked s base m x block v in-f in-b alone
         (placed-small (s.here.base + x.code.frame) (length s.region.bytes) x.frame x.holds.lawful.sized.2) e even small here.stands f.leaves
 
     go : (cs : List Caller) → s.callers ≡ cs →
-        Waits p image most size cs (private_word m base) (base + frame_bytes (layout_of x.code (image s.here.function).homes))
-        (s.here.base + x.code.frame)
+        Waits p image most size cs (link_in (layout_of x.code (image s.here.function).homes) base m)
+        (base + frame_bytes (layout_of x.code (image s.here.function).homes)) (s.here.base + x.code.frame)
         (restored (layout_of x.code (image s.here.function).homes) base m) →
         Stepped p image program most size (return_most cs) s m (give p (value_of s v) cs s)
     go [] e w =
@@ -573,4 +577,5 @@ return-steps p image program most size linked s base m x block v in-f in-b alone
         rw found
         (to-one p image program most size linked s base m (layout_of x.code (image s.here.function).homes)
         (InUse (graph_of x.code) s.here.block s.here.at) x.code.frame x.holds x.frame x.region
-        c.waits c.to cs v (private_word m base) (ap length e) reads w.0 w.1 (λ even small. back (private_word m base) refl even small))
+        c.waits c.to cs v (link_in (layout_of x.code (image s.here.function).homes) base m) (ap length e) reads w.0 w.1
+        (λ even small. back (link_in (layout_of x.code (image s.here.function).homes) base m) refl even small))

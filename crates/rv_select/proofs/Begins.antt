@@ -424,9 +424,11 @@ module _ (p : Program) (image : Image) (program : List (Option Instr)) (most n :
     region = en.region;
     long = en.long;
     bytes = en.bytes;
-    link_is = en.link ∙ (ap low
-        (b.others 1 (λ z. omega (arith, z)) (λ z. omega (arith, z)) (λ z. omega (arith, z)) (λ z. omega (arith, z)) (λ z. omega (arith, z))
-        ∙ x.link) ∙ low-small 0 (omega arith));
+    link_is = sym (if-is (layout_of code (image f).homes).extent.calls 0
+        (private_word en.after ((length m.private) - (frame_bytes (layout_of code (image f).homes)))) (en.after.registers 1)
+        (λ u. sym (en.link u ∙ (ap low no-link ∙ low-small 0 (omega arith))))
+        (λ u. sym (en.others 1 (λ z. omega (arith, z)) (λ z. omega (arith, z)) (λ z. omega (arith, z)) (λ z. omega (arith, z))
+        (λ z. omega (arith, z)) ∙ no-link)));
     kept = λ r lo hi few.
         sym (if-is (uses (layout_of code (image f).homes) r) (b.after.registers r)
         (private_word en.after ((length m.private) - (frame_bytes (layout_of code (image f).homes)) + kept_offset r))
@@ -438,6 +440,11 @@ module _ (p : Program) (image : Image) (program : List (Option Instr)) (most n :
         (higher (length m.private) (frame_bytes (layout_of code (image f).homes)) a
         (bytes-least (length (asked_homes code (image f).homes)) (length code.areas) (length code.parameters)) fit.0 o);
   }
+    where
+      no-link : b.after.registers 1 ≡ 0
+      no-link =
+          b.others 1 (λ z. omega (arith, z)) (λ z. omega (arith, z)) (λ z. omega (arith, z)) (λ z. omega (arith, z)) (λ z. omega (arith, z))
+          ∙ x.link
 
   lands-in : (b : AtEntry program code (place_number code.place) (length code.parameters) m)
       (en : Enters program (layout_of code (image f).homes) ((length m.private) - (frame_bytes (layout_of code (image f).homes)))

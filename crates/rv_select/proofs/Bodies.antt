@@ -23,7 +23,7 @@ use Rattle.rv_select.specs.declared.settings.Extent.{Extent}
 use Rattle.rv_select.specs.declared.settings.Setting.{Setting}
 use Rattle.rv_select.specs.Settings.{setting_of}
 use Rattle.rv_select.specs.Asked.{asked_homes}
-use Rattle.rv_select.specs.Places.{Layout, extent_of, frame_bytes, layout_with, with_homes, with_reads}
+use Rattle.rv_select.specs.Places.{Layout, extent_of, frame_bytes, layout_with, with_extent, with_homes, with_reads}
 use Rattle.rv_select.specs.Shapes.{start_of}
 use Rattle.rv_select.specs.Entering.{begun, entered, left, received, words_offset}
 use Rattle.rv_select.specs.Calls.{IsSelected, block_code, block_has_code, block_starts, blocks_calls, blocks_code, body_code, call_begun, call_ended, call_jump, called, end_code, function_calls, function_code, has_code, has_exit_code, head_code, held_behind, instruction_code, instructions_code, last_address, starts_from}
@@ -51,7 +51,7 @@ one-called r y sizes to at f arguments given i n held old new e g h =
     (subst (λ z. OnOk r (new ≡ old ++ map word_of (called y sizes (λ g. 0) n to at f z))) g h)
 
 abbrev of_nothing : Extent
-of_nothing = record { near = false; short = false; blocks = 0 }
+of_nothing = record { near = false; short = false; blocks = 0; calls = false }
 
 -- the code of blocks depends on how often temporaries are read, and that of their instructions doesn't
 pub plain-code : (h : List (Option Home)) (reads : List Reads) (extent : Extent) (sizes : List ℕ) (at : ℕ) (is : List Instruction) →
@@ -93,17 +93,18 @@ block-turn r h reads extent setting sizes starts last rest b is plain pair held 
     ∙ (ap (λ q. end_code y setting (held_behind None (plain_of reads b)) (4 * length mid) starts last q b.exit) o
     ∙ ap (λ q. end_code y q (held_behind None (plain_of reads b)) (4 * length mid) starts last (pair_of reads b) b.exit) u))) g)
 
-pub call-head : {A E : Type 0} (r : Result A E) (code : Tac) (h : List (Option Home)) (words bytes : ℕ) (sizes : List ℕ) (ds : List Destination) (old mid new : List ℕ) →
-    sizes ≡ code.areas → ds ≡ code.parameters →
-    mid ≡ old ++ map word_of (entered (with_homes h) bytes code.frame) →
+pub call-head : {A E : Type 0} (r : Result A E) (code : Tac) (h : List (Option Home)) (extent : Extent) (words bytes : ℕ) (sizes : List ℕ)
+    (ds : List Destination) (old mid new : List ℕ) → extent ≡ extent_of code → sizes ≡ code.areas → ds ≡ code.parameters →
+    mid ≡ old ++ map word_of (entered (with_extent h extent) bytes code.frame) →
     OnOk r (new ≡ mid ++ map word_of (received (with_homes h) sizes words ds)) →
     OnOk r (new ≡ old ++ map word_of (entered (layout_with code h) bytes code.frame ++ received (layout_with code h) code.areas words code.parameters))
-call-head r code h words bytes sizes ds old mid new w v e g =
+call-head r code h extent words bytes sizes ds old mid new u w v e g =
     let same : received (with_homes h) sizes words ds ≡ received (layout_with code h) code.areas words code.parameters =
     ap (λ z. received (with_homes h) z words ds) w ∙ (ap (λ z. received (with_homes h) code.areas words z) v
     ∙ received-same h 0 0 (length code.areas) (length code.parameters) [] (reads_of code) of_nothing (extent_of code) code.areas words code.parameters) in
     turn r old mid new (entered (layout_with code h) bytes code.frame) (received (layout_with code h) code.areas words code.parameters)
-    (entered (layout_with code h) bytes code.frame ++ received (layout_with code h) code.areas words code.parameters) refl e
+    (entered (layout_with code h) bytes code.frame ++ received (layout_with code h) code.areas words code.parameters) refl
+    (e ∙ ap (λ z. old ++ map word_of (entered (with_extent h z) bytes code.frame)) u)
     (subst (λ z. OnOk r (new ≡ mid ++ map word_of z)) same g)
 
 pub body-code : {A E : Type 0} (r : Result A E) (code : Tac) (h : List (Option Home)) (reads : List Reads) (extent : Extent) (sizes : List ℕ)
@@ -202,10 +203,12 @@ head-whole code h words frame old mid new w f e g =
     (g ∙ (ap (λ z. mid ++ map word_of (entered y z code.frame ++ received y code.areas words code.parameters)) f
     ∙ ap (λ z. mid ++ map word_of (entered y (frame_bytes y) code.frame ++ received y code.areas z code.parameters)) w))
 
-pub left-whole : (code : Tac) (h : List (Option Home)) (frame : ℕ) (body whole : List ℕ) → frame ≡ frame_bytes (layout_with code h) →
-    whole ≡ body ++ map word_of (left (with_homes h) frame code.frame) →
+pub left-whole : (code : Tac) (h : List (Option Home)) (extent : Extent) (frame : ℕ) (body whole : List ℕ) → extent ≡ extent_of code →
+    frame ≡ frame_bytes (layout_with code h) → whole ≡ body ++ map word_of (left (with_extent h extent) frame code.frame) →
     whole ≡ body ++ map word_of (left (layout_with code h) (frame_bytes (layout_with code h)) code.frame)
-left-whole code h frame body whole f e = e ∙ ap (λ z. body ++ map word_of (left (layout_with code h) z code.frame)) f
+left-whole code h extent frame body whole u f e =
+    e ∙ (ap (λ z. body ++ map word_of (left (with_extent h z) frame code.frame)) u
+    ∙ ap (λ z. body ++ map word_of (left (layout_with code h) z code.frame)) f)
 
 -- what is given with the homes that the code asks for
 pub selected-by : (code : Tac) (h homes : List (Option Home)) (selected : Code) → h ≡ asked_homes code homes →

@@ -30,7 +30,7 @@ use Rattle.rv_machine.specs.Machine.{State, run_of}
 use Rattle.rv_operators.specs.Runs.{Stands}
 use Rattle.rv_select.specs.Pairs.{pair_of, plain_of, reads_of}
 use Rattle.rv_select.specs.Asked.{asked_homes}
-use Rattle.rv_select.specs.Places.{HasHome, Holds, Housed, Layout, World, area_offset, frame_bytes, home_of, layout_of, private_word}
+use Rattle.rv_select.specs.Places.{HasHome, Holds, Housed, Layout, World, area_offset, frame_bytes, home_of, layout_of, link_in, private_word}
 use Rattle.rv_select.specs.Shapes.{place_number, start_of}
 use Rattle.rv_select.specs.Steps.{Ends, world_of}
 use Rattle.rv_select.specs.Calls.{block_starts, blocks_length, call_begun, call_ended, call_jump, head_code, instruction_code, last_address, starts_from}
@@ -50,7 +50,7 @@ use Rattle.rv_select.proofs.Lives.{housed, read-live, step-in-graph, use-follows
 use Rattle.rv_select.proofs.Moves.{value-small}
 use Rattle.rv_select.proofs.Receives.{parameters-received}
 use Rattle.rv_select.proofs.Stands.{AtPlace, Within, at-instruction, both-true, instruction-within, list-all-get, the-function, within-parts}
-use Rattle.rv_select.proofs.Waits.{SameAbove, restored-same, same-home, waits-same}
+use Rattle.rv_select.proofs.Waits.{SameAbove, link-kept, restored-same, same-home, waits-same}
 use Rattle.rv_select.proofs.Ways.{Way, way-both}
 
 -- what a call passes is in use before it
@@ -246,7 +246,7 @@ lands p image program most size bound linked s base m x block to place f argumen
         (place_in p image x.code (image s.here.function) s.here.block s.here.at + 4 * length
         (call_begun (layout_of x.code (image s.here.function).homes) place arguments) + 8) m n r.after inside r.keeps (least base fit)
         in
-        let word : private_word r.after (base - (frame_bytes (layout_of callee (image f).homes))) ≡
+        let word : link_in (layout_of callee (image f).homes) (base - (frame_bytes (layout_of callee (image f).homes))) r.after ≡
         (place_in p image x.code (image s.here.function) s.here.block s.here.at + 4 * length
         (call_begun (layout_of x.code (image s.here.function).homes) place arguments) + 8) =
         link-after (layout_of callee (image f).homes) base (base - (frame_bytes (layout_of callee (image f).homes)))
@@ -262,7 +262,10 @@ lands p image program most size bound linked s base m x block to place f argumen
         place f arguments (place_in p image x.code (image s.here.function) s.here.block s.here.at + 4 * length
         (call_begun (layout_of x.code (image s.here.function).homes) place arguments) + 8) in-f in-b refl same in
         let first : private_word (restored (layout_of callee (image f).homes) (base - (frame_bytes (layout_of callee (image f).homes)))
-        r.after) base ≡ private_word m base = ap number_of (same.private base 8 (omega arith)) in
+        r.after) base ≡ link_in (layout_of x.code (image s.here.function).homes) base m =
+        ap number_of (same.private base 8 (omega arith))
+        ∙ sym (link-kept x.code (image s.here.function).homes s.here.block s.here.at block (Call to place f arguments) base m in-f
+        (plain-get (pair_of (reads_of x.code) block) block.instructions s.here.at (Call to place f arguments) in-b) refl) in
         let others : Waits p image most size s.callers
         (private_word (restored (layout_of callee (image f).homes) (base - (frame_bytes (layout_of callee (image f).homes))) r.after)
         base) (base + frame_bytes (layout_of x.code (image s.here.function).homes)) (s.here.base + x.code.frame)
@@ -272,7 +275,7 @@ lands p image program most size bound linked s base m x block to place f argumen
         (s.here.base + x.code.frame)
         (restored (layout_of x.code (image s.here.function).homes) base
         (restored (layout_of callee (image f).homes) (base - (frame_bytes (layout_of callee (image f).homes))) r.after))) (sym first)
-        (waits-same p image program most size s.callers (private_word m base)
+        (waits-same p image program most size s.callers (link_in (layout_of x.code (image s.here.function).homes) base m)
         (base + frame_bytes (layout_of x.code (image s.here.function).homes)) (s.here.base + x.code.frame)
         (restored (layout_of x.code (image s.here.function).homes) base m)
         (restored (layout_of x.code (image s.here.function).homes) base

@@ -22,14 +22,14 @@ use Rattle.rv_select.specs.Numbers.{constant, immediate_of, register_of, upper_o
 use Rattle.rv_select.specs.Places.{AreBytes, Layout, private_word, uses}
 use Rattle.rv_select.specs.Shapes.{fault_call, limit_found, place_number, two, x2, x4, x7, x8, x10, x17}
 use Rattle.rv_select.specs.Steps.{Ends}
-use Rattle.rv_select.specs.Entering.{frame_taken, if_used, kept_offset, pointer_down, region_taken, saved, stack_branch, stack_tested, x1}
+use Rattle.rv_select.specs.Entering.{frame_taken, if_used, kept_offset, link_saved, pointer_down, region_taken, saved, stack_branch, stack_tested, x1}
 use Rattle.rv_select.proofs.Allocs.{less, right-two}
 use Rattle.rv_select.proofs.Faults.{branch-way, later-ends, small-load, throws}
 use Rattle.terra_memory.specs.Numbers.{number_of}
 use Rattle.rv_select.proofs.Homes.{word_stored}
-use Rattle.rv_select.proofs.Kept.{Saved, Stored, saves, stored-one, word-stored}
+use Rattle.rv_select.proofs.Kept.{Saved, Stored, saves, stored-none, stored-one, word-stored}
 use Rattle.rv_select.proofs.Numbers.{constant-count, constant-loads}
-use Rattle.rv_select.proofs.Pointers.{down-count, goes-down}
+use Rattle.rv_select.proofs.Pointers.{down-count, down-some, goes-down}
 use Rattle.rv_select.proofs.Straight.{Loads, loads-both, loads-one, low-below, low-small, written-elsewhere, written-there}
 use Rattle.rv_select.proofs.Ways.{Near, Way, at_pc, low-none, near-both, near-pc, stands-back, stands-front, step-way, straight-way, throw-step, way-both, way-none}
 
@@ -294,7 +294,7 @@ pub record Taken (program : List (Option Instr)) (y : Layout) (bytes base : ℕ)
   pub long : length after.private ≡ length m.private
   pub bytes_are : AreBytes m.private → AreBytes after.private
   pub above : (at n : ℕ) → base + 88 ≤ at → take n (drop at after.private) ≡ take n (drop at m.private)
-  pub link : private_word after base ≡ low (m.registers 1)
+  pub link : y.extent.calls ≡ true → private_word after base ≡ low (m.registers 1)
   pub kept : (r : ℕ) → 18 ≤ r → r < 28 → uses y r ≡ true → private_word after (base + kept_offset r) ≡ low (m.registers r)
   pub pc : after.pc ≡ low (m.pc + 4 * length (frame_taken y bytes))
   pub there : Stands program after.pc rest
@@ -302,6 +302,10 @@ pub record Taken (program : List (Option Instr)) (y : Layout) (bytes base : ℕ)
 pub used-count : (b : Bool) (i : Instr) (is : List Instr) (n : ℕ) → length is ≤ n → length (if_used b i ++ is) ≤ suc n
 used-count true i is n h = omega arith
 used-count false i is n h = omega arith
+
+pub one-if : (b : Bool) (i : Instr) → length (if_used b i) ≤ 1
+one-if true i = omega arith
+one-if false i = omega arith
 
 pub saved-count : (y : Layout) (n x : ℕ) → length (saved y n x) ≤ n
 saved-count y zero x = omega arith
@@ -311,9 +315,24 @@ pub zero-sum : (x base : ℕ) → x ≡ 2 ^ 32 + base → base < 2 ^ 63 → low 
 unfolding low
 zero-sum x base e h = omega arith
 
-pc-frame : (p n c d e k : ℕ) → c ≡ low (p + 4 * n) → d ≡ low (c + 4) → e ≡ low (d + 4 * k) → e ≡ low (p + 4 * (n + suc k))
+pc-frame : (p n j k c d e : ℕ) → c ≡ low (p + 4 * n) → d ≡ low (c + 4 * j) → e ≡ low (d + 4 * k) → e ≡ low (p + 4 * (n + (j + k)))
 unfolding low
-pc-frame p n c d e k i j o = omega arith
+pc-frame p n j k c d e a b o = omega arith
+
+-- The return address is kept in the frame, where the function makes calls.
+record LinkSaved (calls : Bool) (base : ℕ) (m : State) : Type 0 where
+  after : State
+  is : Stored (if_used calls (Store Sd x2 x1 zero_immediate)) base (base + 8) m after
+  word : calls ≡ true → private_word after base ≡ low (m.registers 1)
+
+saves-link : (calls : Bool) (base : ℕ) (m : State) → m.pc < 2 ^ 64 → m.registers 2 ≡ 2 ^ 32 + base → base < 2 ^ 63 → base + 8 ≤ length m.private →
+    length m.region ≤ 67108864 → LinkSaved calls base m
+saves-link false base m p two small room region = record { after = m; is = stored-none base (base + 8) m p; word = λ z. cc }
+saves-link true base m p two small room region = record {
+  after = word_stored m base (m.registers 1);
+  is = stored-one m x2 x1 zero_immediate base (m.registers 1) (zero-sum (m.registers 2) base two small) refl region room;
+  word = λ z. word-stored m.private base (m.registers 1) room;
+}
 
 pub takes-frame : (program : List (Option Instr)) (y : Layout) (bytes top : ℕ) (rest : List Instr) (m : State) → m.pc < 2 ^ 64 →
     m.registers 2 ≡ 2 ^ 32 + top → 88 ≤ bytes → bytes ≤ top →
@@ -326,46 +345,54 @@ takes-frame program y bytes top rest m p two-is least room within most region th
     let t3 : State = l.after in
     let region-3 : length t3.region ≤ 67108864 = subst (λ z. length z ≤ 67108864) (sym l.region) region in
     let room-3 : base + 8 ≤ length t3.private = subst (λ z. base + 8 ≤ length z) (sym l.private) (omega arith) in
-    let s1 : Stored (Store Sd x2 x1 zero_immediate ∷ []) base (base + 8) t3 _ =
-    stored-one t3 x2 x1 zero_immediate base (t3.registers 1) (zero-sum (t3.registers 2) base l.gives (omega arith)) refl region-3 room-3 in
-    let t4 : State = word_stored t3 base (t3.registers 1) in
-    let pc-4 : t4.pc < 2 ^ 64 = low-below (t3.pc + 4) in
+    let pc-3 : t3.pc < 2 ^ 64 = subst (λ q. q < 2 ^ 64) (sym l.behind) (low-below (m.pc + 4 * length C)) in
+    let K : List Instr = link_saved y in
+    let s1 : LinkSaved y.extent.calls base t3 = saves-link y.extent.calls base t3 pc-3 l.gives (omega arith) room-3 region-3 in
+    let t4 : State = s1.after in
+    let pc-4 : t4.pc < 2 ^ 64 = subst (λ q. q < 2 ^ 64) (sym s1.is.behind) (low-below (t3.pc + 4 * length K)) in
+    let region-4 : length t4.region ≤ 67108864 = subst (λ z. length z ≤ 67108864) (sym s1.is.region) region-3 in
     let sv : Saved y 10 18 base t4 =
-    saves y 10 18 base t4 pc-4 l.gives (omega arith) (omega arith)
-    (subst (λ z. base + 88 ≤ z) (sym (s1.long ∙ ap length (l.private))) (omega arith)) (subst (λ z. z ≤ 603979776) (sym (s1.long ∙ ap length (l.private))) most) region-3 in
+    saves y 10 18 base t4 pc-4 (s1.is.registers 2 ∙ l.gives) (omega arith) (omega arith)
+    (subst (λ z. base + 88 ≤ z) (sym (s1.is.long ∙ ap length (l.private))) (omega arith))
+    (subst (λ z. z ≤ 603979776) (sym (s1.is.long ∙ ap length (l.private))) most) region-4 in
     let t5 : State = sv.after in
-    let D : List Instr = Store Sd x2 x1 zero_immediate ∷ saved y 10 18 in
-    let all : Stands program m.pc (C ++ (D ++ rest)) = subst (λ z. Stands program m.pc z) (append_assoc C D rest) there in
-    let after-3 : Stands program t3.pc (D ++ rest) = subst (λ q. Stands program q (D ++ rest)) (sym l.behind) (stands-back program m.pc C (D ++ rest) p all) in
-    let after-4 : Stands program t4.pc (saved y 10 18 ++ rest) = after-3.1 in
+    let S : List Instr = saved y 10 18 in
+    let all : Stands program m.pc (C ++ ((K ++ S) ++ rest)) = subst (λ z. Stands program m.pc z) (append_assoc C (K ++ S) rest) there in
+    let after-3 : Stands program t3.pc (K ++ (S ++ rest)) =
+    subst (λ z. Stands program t3.pc z) (append_assoc K S rest)
+    (subst (λ q. Stands program q ((K ++ S) ++ rest)) (sym l.behind) (stands-back program m.pc C ((K ++ S) ++ rest) p all)) in
+    let after-4 : Stands program t4.pc (S ++ rest) =
+    subst (λ q. Stands program q (S ++ rest)) (sym s1.is.behind) (stands-back program t3.pc K (S ++ rest) pc-3 after-3) in
     let after-5 : Stands program t5.pc rest = subst (λ q. Stands program q rest) (sym sv.is.behind) (stands-back program t4.pc (saved y 10 18) rest pc-4 after-4) in
-    let way-3 : Way program (length C) m t3 = straight-way program C m t3 (stands-front program m.pc C (D ++ rest) all) l.straight l.goes in
-    let way-4 : Way program (length C + 1) m t4 =
-    way-both program (length C) 1 m t3 t4 way-3 (straight-way program (Store Sd x2 x1 zero_immediate ∷ []) t3 t4 (after-3.0, tt) refl s1.goes) in
-    let way-5 : Way program (length C + 1 + length (saved y 10 18)) m t5 =
-    way-both program (length C + 1) (length (saved y 10 18)) m t4 t5 way-4
+    let way-3 : Way program (length C) m t3 = straight-way program C m t3 (stands-front program m.pc C ((K ++ S) ++ rest) all) l.straight l.goes in
+    let way-4 : Way program (length C + length K) m t4 =
+    way-both program (length C) (length K) m t3 t4 way-3
+    (straight-way program K t3 t4 (stands-front program t3.pc K (S ++ rest) after-3) s1.is.straight s1.is.goes) in
+    let way-5 : Way program (length C + length K + length S) m t5 =
+    way-both program (length C + length K) (length S) m t4 t5 way-4
     (straight-way program (saved y 10 18) t4 t5 (stands-front program t4.pc (saved y 10 18) rest after-4) sv.is.straight sv.is.goes) in
-    let count : length (frame_taken y bytes) ≡ length C + suc (length (saved y 10 18)) = length-append C D in
+    let count : length (frame_taken y bytes) ≡ length C + (length K + length S) =
+    length-append C (K ++ S) ∙ ap (λ n. length C + n) (length-append K S) in
     let same : (r : ℕ) → r ≢ 2 → r ≢ 6 → r ≢ 7 → t3.registers r ≡ m.registers r = λ r two six seven. l.keeps r two seven in
     record {
       after = t5;
-      steps = length C + 1 + length (saved y 10 18);
+      steps = length C + length K + length S;
       way = way-5;
-      few = omega (arith, saved-count y 10 18, down-count bytes);
-      some = omega arith;
-      pointer = sv.is.registers 2 ∙ l.gives;
-      others = λ r two six seven. sv.is.registers r ∙ same r two six seven;
-      region = sv.is.region ∙ l.region;
-      long = sv.is.long ∙ (s1.long ∙ ap length l.private);
-      bytes_are = λ b. sv.is.bytes (s1.bytes (subst AreBytes (sym l.private) b));
+      few = omega (arith, saved-count y 10 18, down-count bytes, one-if y.extent.calls (Store Sd x2 x1 zero_immediate));
+      some = omega (arith, down-some bytes);
+      pointer = sv.is.registers 2 ∙ (s1.is.registers 2 ∙ l.gives);
+      others = λ r two six seven. sv.is.registers r ∙ (s1.is.registers r ∙ same r two six seven);
+      region = sv.is.region ∙ (s1.is.region ∙ l.region);
+      long = sv.is.long ∙ (s1.is.long ∙ ap length l.private);
+      bytes_are = λ b. sv.is.bytes (s1.is.bytes (subst AreBytes (sym l.private) b));
       above = λ at n h.
-          sv.is.outside at n (inr (omega (arith, h))) ∙ (s1.outside at n (inr (omega (arith, h))) ∙ ap (λ z. take n (drop at z)) l.private);
-      link =
+          sv.is.outside at n (inr (omega (arith, h))) ∙ (s1.is.outside at n (inr (omega (arith, h))) ∙ ap (λ z. take n (drop at z)) l.private);
+      link = λ calls.
           ap number_of (sv.is.outside base 8 (inl (omega arith)))
-          ∙ (word-stored t3.private base (t3.registers 1) room-3 ∙ ap low (same 1 (λ z. omega (arith, z)) (λ z. omega (arith, z)) (λ z. omega (arith, z))));
+          ∙ (s1.word calls ∙ ap low (same 1 (λ z. omega (arith, z)) (λ z. omega (arith, z)) (λ z. omega (arith, z))));
       kept = λ r h k used.
           sv.words r h (omega (arith, k)) used
-          ∙ ap low (same r (λ z. omega (arith, z, h)) (λ z. omega (arith, z, h)) (λ z. omega (arith, z, h)));
-      pc = pc-frame m.pc (length C) t3.pc t4.pc t5.pc (length (saved y 10 18)) l.behind refl sv.is.behind ∙ ap (λ n. low (m.pc + 4 * n)) (sym count);
+          ∙ ap low (s1.is.registers r ∙ same r (λ z. omega (arith, z, h)) (λ z. omega (arith, z, h)) (λ z. omega (arith, z, h)));
+      pc = pc-frame m.pc (length C) (length K) (length S) t3.pc t4.pc t5.pc l.behind s1.is.behind sv.is.behind ∙ ap (λ n. low (m.pc + 4 * n)) (sym count);
       there = after-5;
     }

@@ -111,6 +111,7 @@ lasts-not r n h f e = let g : is_lasting r ≡ false = ap is_lasting e ∙ f in 
 pub near-keeps : (y : Layout) (base : ℕ) (m n : State) → Near m n → Keeps y base m n
 near-keeps y base m n s = record {
   registers = λ r l u. s.keeps r (lasts-not r 5 l refl) (lasts-not r 6 l refl) (lasts-not r 7 l refl);
+  link = s.keeps 1 (λ z. omega (arith, z)) (λ z. omega (arith, z)) (λ z. omega (arith, z));
   long = ap length s.private;
   outside = λ at k b o. ap (λ z. take k (drop at z)) s.private;
 }
@@ -118,6 +119,7 @@ near-keeps y base m n s = record {
 pub keeps-both : (y : Layout) (base : ℕ) (m n r : State) → Keeps y base m n → Keeps y base n r → Keeps y base m r
 keeps-both y base m n r h k = record {
   registers = λ x l u. k.registers x l u ∙ h.registers x l u;
+  link = k.link ∙ h.link;
   long = k.long ∙ h.long;
   outside = λ at c b o. k.outside at c b o ∙ h.outside at c b o;
 }
@@ -129,6 +131,7 @@ used-register y h r i f e = let g : IsHome y (homes.Register r) = subst (IsHome 
 put-keeps : (y : Layout) (base : ℕ) (code : List Instr) (m : State) (h : Home) (p : Puts y base code m h) → IsHome y h → Keeps y base m p.after
 put-keeps y base code m h p i = record {
   registers = λ r l u. p.keeps r (lasts-not r 7 l refl) (used-register y h r i u);
+  link = p.keeps 1 (λ z. omega (arith, z)) (λ e. let g : IsHome y (homes.Register 1) = subst (IsHome y) e i in omega (arith, g.0));
   long = p.memory.long;
   outside = λ at n b o. p.memory.outside at n (⊎_elim (λ l. inl (omega (arith, l))) (λ l. inr (omega (arith, l))) o);
 }

@@ -117,6 +117,13 @@ down-count bytes = either (nat_le bytes 2048)
     either true = omega arith
     either false = omega (arith, length-append (short_constant x7 bytes) (RegisterRegister Sub x2 x2 x7 ∷ []), short-count x7 bytes)
 
+pub down-some : (bytes : ℕ) → 1 ≤ length (pointer_down bytes)
+down-some bytes = either (nat_le bytes 2048)
+  where
+    either : (b : Bool) → 1 ≤ length (if b then RegisterImmediate Addi x2 x2 (below_zero (bytes - 1)) ∷ [] else short_constant x7 bytes ++ RegisterRegister Sub x2 x2 x7 ∷ [])
+    either true = omega arith
+    either false = omega (arith, length-append (short_constant x7 bytes) (RegisterRegister Sub x2 x2 x7 ∷ []))
+
 pub up-count : (bytes : ℕ) → length (pointer_up bytes) ≤ 3
 up-count bytes = either (nat_le bytes 2047)
   where

@@ -1,24 +1,25 @@
 -- How functions are left.
-use Rattle.std.proofs.Common.{◌≡◌, ◌≢◌, ℕ, zero, suc, ◌+◌, ◌-◌, ◌*◌, ◌%◌, ◌^◌, ◌<◌, ◌≤◌, true, false, List, [], ◌∷◌, ◌++◌, length, append_assoc, Option, refl, sym, ap, ◌∙◌, subst, ⊎_elim, inl, inr, arith}
-use Rattle.std.specs.Prelude.{◌⊎◌}
+use Rattle.std.proofs.Common.{◌≡◌, ◌≢◌, ℕ, zero, suc, ◌+◌, ◌-◌, ◌*◌, ◌%◌, ◌^◌, ◌<◌, ◌≤◌, Bool, true, false, List, [], ◌∷◌, ◌++◌, length, take, drop, append_assoc, Option, refl, sym, ap, ◌∙◌, subst, ⊎_elim, inl, inr, arith}
+use Rattle.std.specs.Prelude.{◌⊎◌, if◌then◌else◌}
 use Rattle.std.proofs.lemmas.List.{length-append}
 use Rattle.rv_isa.specs.declared.instr.Instr.{Instr}
 use Rattle.rv_isa.specs.declared.instr.Instr.TheVariants.{Jalr, Load, RegisterRegister}
 use Rattle.rv_isa.specs.declared.operation.LoadOp.TheVariants.{Ld}
 use Rattle.rv_isa.specs.declared.operation.RegisterOp.TheVariants.{Add}
+use Rattle.terra_memory.specs.Numbers.{number_of}
 use Rattle.rv_machine.specs.Word.{low}
 use Rattle.rv_machine.specs.Machine.{State, GoesOn, act, at_with}
 use Rattle.rv_operators.specs.Codes.{x0, x5, zero_immediate}
 use Rattle.rv_operators.specs.Runs.{Stands}
 use Rattle.rv_select.specs.Numbers.{constant, immediate_of, register_of}
-use Rattle.rv_select.specs.Places.{Layout, private_word, uses}
+use Rattle.rv_select.specs.Places.{Layout, link_in, private_word, uses}
 use Rattle.rv_select.specs.Shapes.{x2, x8}
-use Rattle.rv_select.specs.Entering.{kept_offset, left, pointer_up, put_back, region_given, x1}
-use Rattle.rv_select.proofs.Enters.{Placed, pc-one, placed-still, used-count, zero-sum}
+use Rattle.rv_select.specs.Entering.{if_used, kept_offset, left, link_put_back, pointer_up, put_back, region_given, x1}
+use Rattle.rv_select.proofs.Enters.{Placed, one-if, pc-one, placed-still, used-count, zero-sum}
 use Rattle.rv_select.proofs.Kept.{PutBack, load-word, puts-back}
 use Rattle.rv_select.proofs.Numbers.{constant-count, constant-loads}
 use Rattle.rv_select.proofs.Pointers.{goes-up, up-count}
-use Rattle.rv_select.proofs.Straight.{Loads, low-below, low-small, written-elsewhere, written-there}
+use Rattle.rv_select.proofs.Straight.{Loads, loads-as, loads-one, low-below, low-here, low-small, written-elsewhere, written-there}
 use Rattle.rv_select.proofs.Ways.{Way, stands-back, stands-front, step-way, straight-way, way-both}
 
 -- A function is left: both frames are given back, its caller's registers are as it found them, and the machine goes on where the
@@ -80,68 +81,104 @@ gives-region program (suc n) under rest m p eight small there =
       there = behind.1;
     }
 
+-- The return address is in x1, where it is put back if the function makes calls.
+loads-link : (calls : Bool) (base link : ℕ) (m : State) → m.pc < 2 ^ 64 → m.registers 2 ≡ 2 ^ 32 + base → base < 2 ^ 63 → base + 8 ≤ length m.private →
+    length m.region ≤ 67108864 → (if calls then private_word m base else m.registers 1) ≡ link →
+    Loads 1 (if_used calls (Load Ld x1 x2 zero_immediate)) m link
+loads-link true base link m p two small room region is =
+    loads-as 1 (private_word m base) link (Load Ld x1 x2 zero_immediate ∷ []) m is
+    (loads-one (Load Ld x1 x2 zero_immediate) m 1 (private_word m base) (λ z. omega (arith, z)) refl
+    (load-word m x1 x2 zero_immediate base (zero-sum (m.registers 2) base two small) region room))
+loads-link false base link m p two small room region is = record {
+  after = m;
+  goes = refl;
+  gives = is;
+  behind = low-here m.pc p;
+  keeps = λ r one seven. refl;
+  region = refl;
+  private = refl;
+  straight = refl;
+}
+
+-- registers that calls keep are none of the low ones
+not-low : (r : ℕ) → 18 ≤ r → (r ≢ 1) × (r ≢ 2) × (r ≢ 5) × (r ≢ 6) × (r ≢ 7) × (r ≢ 8)
+not-low r h = (
+  λ z. omega (arith, z, h),
+  λ z. omega (arith, z, h),
+  λ z. omega (arith, z, h),
+  λ z. omega (arith, z, h),
+  λ z. omega (arith, z, h),
+  λ z. omega (arith, z, h),
+)
+
 pub quits : (program : List (Option Instr)) (y : Layout) (bytes base under frame link : ℕ) (m : State) → m.pc < 2 ^ 64 → m.registers 2 ≡ 2 ^ 32 + base → m.registers 8 ≡ under →
     under + frame < 2 ^ 63 → 88 ≤ bytes → base + bytes ≤ length m.private → length m.private ≤ 603979776 → length m.region ≤ 67108864 →
-    private_word m base ≡ link → link % 2 ≡ 0 → link < 2 ^ 64 → Stands program m.pc (left y bytes frame) → Quit program y bytes base (under + frame) link m
+    link_in y base m ≡ link → link % 2 ≡ 0 → link < 2 ^ 64 → Stands program m.pc (left y bytes frame) → Quit program y bytes base (under + frame) link m
 quits program y bytes base under frame link m p two-is eight-is small least within most region link-is even link-small there =
     let A : List Instr = put_back y 10 18 in
     let B : List Instr = region_given frame in
     let C : List Instr = pointer_up bytes in
     let F : List Instr = Jalr x0 x1 zero_immediate ∷ [] in
     let E : List Instr = C ++ F in
-    let t1 : State = at_with m (low (m.pc + 4)) 1 (private_word m base) in
-    let to-1 : act (Load Ld x1 x2 zero_immediate) m ≡ GoesOn t1 =
-    load-word m x1 x2 zero_immediate base (zero-sum (m.registers 2) base two-is (omega arith)) region (omega arith) in
-    let pc-1 : t1.pc < 2 ^ 64 = low-below (m.pc + 4) in
+    let L : List Instr = link_put_back y in
+    let lk : Loads 1 L m link = loads-link y.extent.calls base link m p two-is (omega arith) (omega arith) region link-is in
+    let t1 : State = lk.after in
+    let pc-1 : t1.pc < 2 ^ 64 = subst (λ q. q < 2 ^ 64) (sym lk.behind) (low-below (m.pc + 4 * length L)) in
+    let two-1 : t1.registers 2 ≡ 2 ^ 32 + base = lk.keeps 2 (λ z. omega (arith, z)) (λ z. omega (arith, z)) ∙ two-is in
+    let within-1 : base + 88 ≤ length t1.private = subst (λ z. base + 88 ≤ length z) (sym lk.private) (omega arith) in
     let pb : PutBack y 10 18 base t1 =
-    puts-back y 10 18 base t1 pc-1 (written-elsewhere m.registers 1 (private_word m base) 2 (λ z. omega (arith, z)) ∙ two-is) (omega arith) (omega arith) (omega arith) most region in
+    puts-back y 10 18 base t1 pc-1 two-1 (omega arith) (omega arith) within-1 (subst (λ z. length z ≤ 603979776) (sym lk.private) most)
+    (subst (λ z. length z ≤ 67108864) (sym lk.region) region) in
     let t2 : State = pb.after in
     let pc-2 : t2.pc < 2 ^ 64 = subst (λ q. q < 2 ^ 64) (sym pb.behind) (low-below (t1.pc + 4 * length A)) in
-    let all-1 : Stands program t1.pc (A ++ (B ++ E)) = there.1 in
+    let all-1 : Stands program t1.pc (A ++ (B ++ E)) =
+    subst (λ q. Stands program q (A ++ (B ++ E))) (sym lk.behind) (stands-back program m.pc L (A ++ (B ++ E)) p there) in
     let after-2 : Stands program t2.pc (B ++ E) = subst (λ q. Stands program q (B ++ E)) (sym pb.behind) (stands-back program t1.pc A (B ++ E) pc-1 all-1) in
     let l : Placed program B E 9 (under + frame) t2 =
-    gives-region program frame under E t2 pc-2 (pb.outside 8 (inl (omega arith)) ∙ (written-elsewhere m.registers 1 (private_word m base) 8 (λ z. omega (arith, z)) ∙ eight-is))
+    gives-region program frame under E t2 pc-2 (pb.outside 8 (inl (omega arith)) ∙ (lk.keeps 8 (λ z. omega (arith, z)) (λ z. omega (arith, z)) ∙ eight-is))
     small after-2 in
     let t3 : State = l.after in
     let pc-3 : t3.pc < 2 ^ 64 = subst (λ q. q < 2 ^ 64) (sym l.pc) (low-below (t2.pc + 4 * length B)) in
     let two-3 : t3.registers 2 ≡ 2 ^ 32 + base =
     l.keeps 2 (λ z. omega (arith, z)) (λ z. omega (arith, z)) (λ z. omega (arith, z)) (λ z. omega (arith, z))
-    ∙ (pb.outside 2 (inl (omega arith)) ∙ (written-elsewhere m.registers 1 (private_word m base) 2 (λ z. omega (arith, z)) ∙ two-is)) in
+    ∙ (pb.outside 2 (inl (omega arith)) ∙ two-1) in
     let k : Loads 2 C t3 (2 ^ 32 + (base + bytes)) = goes-up bytes base t3 two-3 (omega (arith, within, most)) in
     let t6 : State = k.after in
     let one-6 : t6.registers 1 ≡ link =
     k.keeps 1 (λ z. omega (arith, z)) (λ z. omega (arith, z))
     ∙ (l.keeps 1 (λ z. omega (arith, z)) (λ z. omega (arith, z)) (λ z. omega (arith, z)) (λ z. omega (arith, z))
-    ∙ (pb.outside 1 (inl (omega arith)) ∙ (written-there m.registers 1 (private_word m base) (λ z. omega (arith, z)) ∙ link-is))) in
+    ∙ (pb.outside 1 (inl (omega arith)) ∙ lk.gives)) in
     let t7 : State = at_with t6 (low (t6.registers 1 + 0) - low (t6.registers 1 + 0) % 2) 0 (low (t6.pc + 4)) in
     let after-6 : Stands program t6.pc F = subst (λ q. Stands program q F) (sym k.behind) (stands-back program t3.pc C F pc-3 l.there) in
-    let way-3 : Way program (1 + length A + l.steps) m t3 =
-    way-both program (1 + length A) l.steps m t2 t3
-    (way-both program 1 (length A) m t1 t2 (step-way program (Load Ld x1 x2 zero_immediate) m t1 there.0 to-1)
+    let way-3 : Way program (length L + length A + l.steps) m t3 =
+    way-both program (length L + length A) l.steps m t2 t3
+    (way-both program (length L) (length A) m t1 t2
+    (straight-way program L m t1 (stands-front program m.pc L (A ++ (B ++ E)) there) lk.straight lk.goes)
     (straight-way program A t1 t2 (stands-front program t1.pc A (B ++ E) all-1) pb.straight pb.goes)) l.way in
-    let way-6 : Way program (1 + length A + l.steps + length C) m t6 =
-    way-both program (1 + length A + l.steps) (length C) m t3 t6 way-3
+    let way-6 : Way program (length L + length A + l.steps + length C) m t6 =
+    way-both program (length L + length A + l.steps) (length C) m t3 t6 way-3
     (straight-way program C t3 t6 (stands-front program t3.pc C F l.there) k.straight k.goes) in
-    let way-7 : Way program (1 + length A + l.steps + length C + 1) m t7 =
-    way-both program (1 + length A + l.steps + length C) 1 m t6 t7 way-6 (step-way program (Jalr x0 x1 zero_immediate) t6 t7 after-6.0 refl) in
+    let way-7 : Way program (length L + length A + l.steps + length C + 1) m t7 =
+    way-both program (length L + length A + l.steps + length C) 1 m t6 t7 way-6 (step-way program (Jalr x0 x1 zero_immediate) t6 t7 after-6.0 refl) in
     let other : (r : ℕ) → r ≢ 2 → r ≢ 5 → r ≢ 6 → r ≢ 7 → r ≢ 8 → t6.registers r ≡ t2.registers r =
     λ r two five six seven eight. k.keeps r two seven ∙ l.keeps r five six seven eight in
     record {
       after = t7;
-      steps = 1 + length A + l.steps + length C + 1;
+      steps = length L + length A + l.steps + length C + 1;
       way = way-7;
-      few = omega (arith, put-back-count y 10 18, l.few, up-count bytes);
+      few = omega (arith, one-if y.extent.calls (Load Ld x1 x2 zero_immediate), put-back-count y 10 18, l.few, up-count bytes);
       some = omega arith;
       pc = even-target (t6.registers 1) link one-6 even link-small;
       pointer = k.gives;
       eight = k.keeps 8 (λ z. omega (arith, z)) (λ z. omega (arith, z)) ∙ l.eight;
       there = λ r h g used.
-          other r (λ z. omega (arith, z, h)) (λ z. omega (arith, z, h)) (λ z. omega (arith, z, h)) (λ z. omega (arith, z, h)) (λ z. omega (arith, z, h)) ∙ pb.there r h (omega (arith, g)) used;
+          other r (not-low r h).1 (not-low r h).2 (not-low r h).3 (not-low r h).4 (not-low r h).5
+          ∙ (pb.there r h (omega (arith, g)) used ∙ ap (λ z. number_of (take 8 (drop (base + kept_offset r) z))) lk.private);
       unused = λ r h g used.
-          other r (λ z. omega (arith, z, h)) (λ z. omega (arith, z, h)) (λ z. omega (arith, z, h)) (λ z. omega (arith, z, h)) (λ z. omega (arith, z, h))
-          ∙ (pb.unused r used ∙ written-elsewhere m.registers 1 (private_word m base) r (λ z. omega (arith, z, h)));
+          other r (not-low r h).1 (not-low r h).2 (not-low r h).3 (not-low r h).4 (not-low r h).5
+          ∙ (pb.unused r used ∙ lk.keeps r (not-low r h).0 (not-low r h).4);
       others = λ r zero' one two five six seven eight o.
-          other r two five six seven eight ∙ (pb.outside r (⊎_elim (λ z. inl z) (λ z. inr (omega (arith, z))) o) ∙ written-elsewhere m.registers 1 (private_word m base) r one);
-      region = k.region ∙ (l.region ∙ pb.region);
-      private = k.private ∙ (l.private ∙ pb.private);
+          other r two five six seven eight ∙ (pb.outside r (⊎_elim (λ z. inl z) (λ z. inr (omega (arith, z))) o) ∙ lk.keeps r one seven);
+      region = k.region ∙ (l.region ∙ (pb.region ∙ lk.region));
+      private = k.private ∙ (l.private ∙ (pb.private ∙ lk.private));
     }

@@ -17,7 +17,7 @@ use Rattle.rv_machine.specs.Machine.{State, GoesOn, act, at_with}
 use Rattle.rv_operators.specs.Codes.{x5}
 use Rattle.rv_operators.specs.Runs.{Stands}
 use Rattle.rv_select.specs.Numbers.{below_zero}
-use Rattle.rv_select.specs.Places.{AreBytes, Holds, Housed, Layout, World, area_offset, frame_bytes, home_of, layout_of, private_word, uses}
+use Rattle.rv_select.specs.Places.{AreBytes, Holds, Housed, Layout, World, area_offset, frame_bytes, home_of, layout_of, link_in, private_word, uses}
 use Rattle.rv_select.specs.Shapes.{moved, x10}
 use Rattle.rv_select.specs.Entering.{kept_offset, left, x28}
 use Rattle.rv_select.specs.declared.settings.Setting.{Setting}
@@ -30,7 +30,7 @@ use Rattle.rv_select.proofs.Numbers.{below-is}
 use Rattle.rv_select.proofs.Passes.{IsPartRead, part-count, part_value, take-part}
 use Rattle.rv_select.proofs.Quits.{Quit, quits}
 use Rattle.rv_select.proofs.Straight.{Loads, low-small, written-elsewhere, written-there}
-use Rattle.rv_select.proofs.Waits.{SameAbove, same-home}
+use Rattle.rv_select.proofs.Waits.{SameAbove, link-same, same-home}
 use Rattle.rv_select.proofs.Ways.{Way, near-same, stands-back, stands-front, step-way, straight-way, way-both, way-none}
 
 -- The result is in x10, and the machine goes on where the return address says, with the caller's frames and registers.
@@ -87,7 +87,7 @@ last-none short (Some n) at last e = cc
 pub goes-back : (program : List (Option Instr)) (y : Layout) (Used : ℕ → Type 0) (w : World) (base frame last link from : ℕ) (v : Part)
     (m : State) (setting : Setting) → Holds y Used w base m → Housed y Used → IsPartRead y Used v →
     m.pc + 256 ≤ 2 ^ 30 → last < 2 ^ 30 → last % 2 ≡ 0 → (setting.short ≡ true → (m.pc ≤ last) × (last ≤ m.pc + 2 ^ 19)) →
-    (setting.next ≡ None → last ≡ m.pc + 4 * length (returned y setting m.pc last v)) → w.placed + frame < 2 ^ 63 → private_word m base ≡ link → link % 2 ≡ 0 →
+    (setting.next ≡ None → last ≡ m.pc + 4 * length (returned y setting m.pc last v)) → w.placed + frame < 2 ^ 63 → link_in y base m ≡ link → link % 2 ≡ 0 →
     link < 2 ^ 64 →
     Stands program m.pc (returned y setting m.pc last v) → Stands program last (left y (frame_bytes y) frame) →
     BackIn program y (frame_bytes y) base (w.placed + frame) link (part_value y base w v) m
@@ -124,7 +124,8 @@ goes-back program y Used w base frame last link from v m setting p h reads near 
     (omega arith) within
     (subst (λ z. length z ≤ 603979776) (sym private-2) p.frame.private)
     (subst (λ z. length z ≤ 67108864) (sym region-2) (region-small y Used w base m p))
-    (ap (λ z. private-of z base) private-2 ∙ link-is) even link-small
+    (link-same y base m t2 (ap (λ z. private-of z base) private-2)
+    (same-2 1 (λ z. omega (arith, z)) (λ z. omega (arith, z)) (λ z. omega (arith, z)) (λ z. omega (arith, z))) ∙ link-is) even link-small
     (subst (λ z. Stands program z (left y (frame_bytes y) frame)) (sym j.pc) leaves) in
     let other : (r : ℕ) → (r ≡ 3) ⊎ ((r ≡ 4) ⊎ (r ≡ 28)) → q.after.registers r ≡ m.registers r =
     λ r o. q.others r (not-r r 0 o refl) (not-r r 1 o refl) (not-r r 2 o refl) (not-r r 5 o refl) (not-r r 6 o refl) (not-r r 7 o refl)

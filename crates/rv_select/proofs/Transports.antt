@@ -321,6 +321,7 @@ from-area y n offset size Used Next w base most a F program m r stands there sou
           (overwritten-bytes w.region.bytes X (a - first_address) p.bytes are) (small-after (B ++ C) z e behind-all);
       keeps = record {
         registers = λ x i u. keeps x (lasts-not x 5 i refl) (lasts-not x 6 i refl) (lasts-not x 7 i refl);
+        link = keeps 1 (λ z. omega (arith, z)) (λ z. omega (arith, z)) (λ z. omega (arith, z));
         long = ap length private;
         outside = λ at k b o. ap (λ i. take k (drop at i)) private;
       };

@@ -1,14 +1,18 @@
 -- What waits goes on waiting where the words that it rests on are the same.
-use Rattle.std.proofs.Common.{◌≡◌, ℕ, ◌+◌, ◌^◌, ◌<◌, ◌≤◌, Bool, true, false, List, [], ◌∷◌, length, take, drop, Option, refl, sym, ap, ◌∙◌, subst, inl, inr, arith}
-use Rattle.std.specs.Prelude.{if◌then◌else◌, nat_le, nat_eq, ◌&&◌, ◌||◌}
+use Rattle.std.proofs.Common.{◌≡◌, ℕ, zero, suc, ◌+◌, ◌^◌, ◌<◌, ◌≤◌, Bool, true, false, List, [], ◌∷◌, length, take, drop, Option, Some, refl, sym, ap, ◌∙◌, subst, inl, inr, arith}
+use Rattle.std.specs.Prelude.{if◌then◌else◌, nat_le, nat_eq, ◌&&◌, ◌||◌, slice_get}
+use Rattle.std.specs.List.{list_any}
 use Rattle.std.proofs.lemmas.Bool.{le-leb}
 use Rattle.rv_isa.specs.declared.instr.Instr.{Instr}
 use Rattle.reg_alloc.specs.declared.assignment.Home.{Home}
 use Rattle.reg_alloc.specs.declared.assignment.Home.TheVariants as homes
 use Rattle.terra_memory.specs.Numbers.{number_of}
+use Rattle.tac_form.specs.declared.tac.Block.{Block}
+use Rattle.tac_form.specs.declared.tac.Instruction.{Instruction}
+use Rattle.tac_form.specs.declared.tac.Tac.{Tac}
 use Rattle.tac_form.specs.Flow.{Caller, Program}
 use Rattle.rv_machine.specs.Machine.{State}
-use Rattle.rv_select.specs.Places.{Housed, IsHome, Keeps, Layout, area_offset, frame_bytes, home_of, is_lasting, layout_of, private_word, slot_offset, uses, word_at}
+use Rattle.rv_select.specs.Places.{Housed, IsHome, Keeps, Layout, area_offset, frame_bytes, has_call, home_of, is_call, is_lasting, layout_of, link_in, makes_calls, private_word, slot_offset, uses, word_at}
 use Rattle.rv_select.specs.Entering.{kept_offset}
 use Rattle.rv_select.specs.Waiting.{Image, IsLinked, Waiting, Waits, restored}
 use Rattle.rv_select.proofs.Lives.{housed}
@@ -108,14 +112,45 @@ keeps-above y base m n k = record {
   long = k.long;
 }
 
+-- the return address, where its word and its register are the same
+pub link-same : (y : Layout) (base : ℕ) (m n : State) → private_word n base ≡ private_word m base → n.registers 1 ≡ m.registers 1 →
+    link_in y base n ≡ link_in y base m
+link-same y base m n e g = either y.extent.calls
+  where
+    either : (b : Bool) → (if b then private_word n base else n.registers 1) ≡ (if b then private_word m base else m.registers 1)
+    either true = e
+    either false = g
+
+-- a function with a call makes calls, and so keeps its return address in its frame
+any-at : {A : Type 0} (f : A → Bool) (xs : List A) (k : ℕ) (x : A) → slice_get xs k ≡ Some x → f x ≡ true → list_any f xs ≡ true
+any-at f [] k x e h = cc
+any-at f (z ∷ zs) zero x e h = let same : z ≡ x = cc in ap (λ b. b || list_any f zs) (ap f same ∙ h)
+any-at f (z ∷ zs) (suc k) x e h = ap (λ b. f z || b) (any-at f zs k x e h) ∙ or-true (f z)
+  where
+    or-true : (b : Bool) → (b || true) ≡ true
+    or-true true = refl
+    or-true false = refl
+
+calls-made : (code : Tac) (b k : ℕ) (block : Block) (i : Instruction) → slice_get code.blocks b ≡ Some block →
+    slice_get block.instructions k ≡ Some i → is_call i ≡ true → makes_calls code ≡ true
+unfolding makes_calls
+calls-made code b k block i e g h = any-at has_call code.blocks b block e (any-at is_call block.instructions k i g h)
+
+pub link-kept : (code : Tac) (homes : List (Option Home)) (b k : ℕ) (block : Block) (i : Instruction) (base : ℕ) (m : State) →
+    slice_get code.blocks b ≡ Some block → slice_get block.instructions k ≡ Some i → is_call i ≡ true →
+    link_in (layout_of code homes) base m ≡ private_word m base
+link-kept code homes b k block i base m e g h =
+    ap (λ c. if c then private_word m base else m.registers 1) (calls-made code b k block i e g h)
+
 pub waits-keeps : (p : Program) (image : Image) (program : List (Option Instr)) (most size : ℕ) (y : Layout) (cs : List Caller)
     (base placed : ℕ) (m n : State) → IsLinked p image program most →
-    Keeps y base m n → Waits p image most size cs (private_word m base) (base + frame_bytes y) placed (restored y base m) →
-    Waits p image most size cs (private_word n base) (base + frame_bytes y) placed (restored y base n)
+    Keeps y base m n → Waits p image most size cs (link_in y base m) (base + frame_bytes y) placed (restored y base m) →
+    Waits p image most size cs (link_in y base n) (base + frame_bytes y) placed (restored y base n)
 waits-keeps p image program most size y cs base placed m n linked k w =
-    let word : private_word n base ≡ private_word m base = ap number_of (k.outside base 8 (omega arith) (inl (omega arith))) in
+    let word : link_in y base n ≡ link_in y base m =
+    link-same y base m n (ap number_of (k.outside base 8 (omega arith) (inl (omega arith)))) k.link in
     subst (λ x. Waits p image most size cs x (base + frame_bytes y) placed (restored y base n)) (sym word)
-    (waits-same p image program most size cs (private_word m base) (base + frame_bytes y) placed (restored y base m) (restored y base n)
+    (waits-same p image program most size cs (link_in y base m) (base + frame_bytes y) placed (restored y base m) (restored y base n)
     linked (keeps-above y base m n k) w)
 
 -- all frames lie within private memory, and under the region's end

@@ -21,11 +21,11 @@ use Rattle.rv_operators.specs.Codes.{x0, x5, zero_immediate}
 use Rattle.rv_select.specs.Numbers.{below_zero, constant, lower_of, register_of}
 use Rattle.rv_select.specs.Places.{Layout, home_of}
 use Rattle.rv_select.specs.Shapes.{far_part, framed, limit_found, place_number, x2, x7, x8, x10, x11}
-use Rattle.rv_select.specs.Entering.{arguments_stored, entered, frame_taken, frames_given, region_given, region_taken, stack_tested, x1, most_arguments, place_given, pointer_down, pointer_up, put_back, received, receiving, result_put, result_words, saved, size_in, stack_branch, stored_below}
+use Rattle.rv_select.specs.Entering.{arguments_stored, entered, frame_taken, frames_given, left, link_put_back, link_saved, region_given, region_taken, stack_tested, x1, most_arguments, place_given, pointer_down, pointer_up, put_back, received, receiving, result_put, result_words, saved, size_in, stack_branch, stored_below}
 use Rattle.rv_select.specs.Calls.{call_begun, call_ended, called, call_jump, depth_tested, jump_unless_last, one_more, part_taken, passed}
 use Rattle.rv_select.specs.Frames.{CallsKeepWithin, FramesKeepWithin, ParametersKeepWithin}
 use Rattle.rv_select.proofs.Copies.{size-small}
-use Rattle.rv_select.proofs.Enters.{saved-count}
+use Rattle.rv_select.proofs.Enters.{one-if, saved-count}
 use Rattle.rv_select.proofs.Frames.{framed-count}
 use Rattle.rv_select.proofs.Homes.{put-few}
 use Rattle.rv_select.proofs.Numbers.{constant-count}
@@ -98,12 +98,15 @@ frames-within code y setting bytes at last v =
     let keeps : length (saved y 10 18) ≤ 10 = saved-count y 10 18 in
     let enters : length (entered y bytes code.frame) ≤ 18 + (3 + 11) =
     both (region_taken code.frame) (frame_taken y bytes) 18 (3 + 11) (region-taken-count code.frame)
-    (both (pointer_down bytes) (Store Sd x2 x1 zero_immediate ∷ saved y 10 18) 3 11 (down-count bytes) (omega (arith, keeps))) in
+    (both (pointer_down bytes) (link_saved y ++ saved y 10 18) 3 11 (down-count bytes)
+    (both (link_saved y) (saved y 10 18) 1 10 (one-if y.extent.calls (Store Sd x2 x1 zero_immediate)) keeps)) in
     let backs : length (put_back y 10 18) ≤ 10 = put-back-count y 10 18 in
     let gives : length (frames_given bytes code.frame) ≤ 9 + (3 + 1) =
     both (region_given code.frame) (pointer_up bytes ++ Jalr x0 x1 zero_immediate ∷ []) 9 (3 + 1) (region-given-count code.frame)
     (both (pointer_up bytes) (Jalr x0 x1 zero_immediate ∷ []) 3 1 (up-count bytes) (omega arith)) in
-    let leaves : length (put_back y 10 18 ++ frames_given bytes code.frame) ≤ 10 + 13 = both (put_back y 10 18) (frames_given bytes code.frame) 10 13 backs gives in (
+    let leaves : length (left y bytes code.frame) ≤ 1 + (10 + 13) =
+    both (link_put_back y) (put_back y 10 18 ++ frames_given bytes code.frame) 1 (10 + 13) (one-if y.extent.calls (Load Ld x1 x2 zero_immediate))
+    (both (put_back y 10 18) (frames_given bytes code.frame) 10 13 backs gives) in (
       omega (arith, begins, enters, leaves),
       both (part_taken y x10 v) (jump_unless_last setting.short setting.next (at + 4 * length (part_taken y x10 v)) last) 8 2 (part-count y x10 v)
           (omega (arith, last-count setting.short setting.next (at + 4 * length (part_taken y x10 v)) last, last-few setting.short setting.next)),

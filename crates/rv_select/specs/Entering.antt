@@ -74,9 +74,16 @@ pointer_up bytes =
     if nat_le bytes 2047 then RegisterImmediate Addi x2 x2 (immediate_of bytes) ∷ []
     else short_constant x7 bytes ++ RegisterRegister Add x2 x2 x7 ∷ []
 
+-- the return address is kept in the frame and put back, where the function makes calls
+abbrev pub link_saved : Layout → List Instr
+link_saved y = if_used y.extent.calls (Store Sd x2 x1 zero_immediate)
+
+abbrev pub link_put_back : Layout → List Instr
+link_put_back y = if_used y.extent.calls (Load Ld x1 x2 zero_immediate)
+
 -- the frame in private memory goes down, and what is kept for the caller is stored
 abbrev pub frame_taken : Layout → (bytes : ℕ) → List Instr
-frame_taken y bytes = pointer_down bytes ++ (Store Sd x2 x1 zero_immediate ∷ saved y 10 18)
+frame_taken y bytes = pointer_down bytes ++ (link_saved y ++ saved y 10 18)
 
 -- how a function is entered by a call, whose frames have so many bytes in private memory and in the region
 abbrev pub entered : Layout → (bytes frame : ℕ) → List Instr
@@ -122,7 +129,7 @@ abbrev pub frames_given : (bytes frame : ℕ) → List Instr
 frames_given bytes frame = region_given frame ++ (pointer_up bytes ++ Jalr x0 x1 zero_immediate ∷ [])
 
 abbrev pub left : Layout → (bytes frame : ℕ) → List Instr
-left y bytes frame = Load Ld x1 x2 zero_immediate ∷ (put_back y 10 18 ++ frames_given bytes frame)
+left y bytes frame = link_put_back y ++ (put_back y 10 18 ++ frames_given bytes frame)
 
 -- a register is stored so many bytes below the frame
 abbrev pub stored_below : Register → ℕ → List Instr

@@ -24,7 +24,7 @@ use Rattle.tac_form.specs.declared.tac.Part.{Part}
 use Rattle.tac_form.specs.declared.tac.Part.TheVariants as parts
 use Rattle.rv_operators.specs.Runs.{Stands}
 use Rattle.rv_select.specs.declared.settings.Setting.{Setting}
-use Rattle.rv_select.specs.Places.{AreBytes, Holds, IsRead, Keeps, Layout, World, area_offset, frame_bytes, layout_of, private_word, uses, value_in}
+use Rattle.rv_select.specs.Places.{AreBytes, Holds, IsRead, Keeps, Layout, World, area_offset, frame_bytes, layout_of, link_in, private_word, uses, value_in}
 use Rattle.rv_select.specs.Shapes.{place_number}
 use Rattle.rv_select.specs.Steps.{Ends}
 use Rattle.rv_select.specs.Entering.{begun, entered, kept_offset, left, received, receiving, words_offset}
@@ -39,8 +39,9 @@ abbrev pub IsPartRead : Layout → (ℕ → Type 0) → Part → Type 0
 IsPartRead y Used (parts.Word a) = IsRead y Used a
 IsPartRead y Used (parts.Area n) = n < y.areas
 
--- The machine enters a function whose frame in private memory begins at `base` then, and that in the region at `under`. The return address
--- and the caller's words of the registers that the function uses are kept in the frame, and all that lies above them is as it was.
+-- The machine enters a function whose frame in private memory begins at `base` then, and that in the region at `under`. The return address,
+-- where the function makes calls, and the caller's words of the registers that it uses are kept in the frame, and all that lies above them
+-- is as it was.
 pub record Enters (program : List (Option Instr)) (y : Layout) (base under target : ℕ) (m : State) : Type 0 where
   pub steps : ℕ
   pub after : State
@@ -55,7 +56,7 @@ pub record Enters (program : List (Option Instr)) (y : Layout) (base under targe
   pub long : length after.private ≡ length m.private
   pub bytes : AreBytes m.private → AreBytes after.private
   pub above : (at n : ℕ) → base + 88 ≤ at → take n (drop at after.private) ≡ take n (drop at m.private)
-  pub link : private_word after base ≡ low (m.registers 1)
+  pub link : y.extent.calls ≡ true → private_word after base ≡ low (m.registers 1)
   pub kept : (r : ℕ) → 18 ≤ r → r < 28 → uses y r ≡ true → private_word after (base + kept_offset r) ≡ low (m.registers r)
 
 -- Where the code of entering a function stands: x2 is the end of the caller's frame, x4 that of the region, x8 the caller's frame
@@ -149,7 +150,7 @@ FunctionsAreLeft =
     (IsTrue setting.short → (m.pc ≤ last) × (last ≤ m.pc + 2 ^ 19)) →
     (setting.next ≡ None → last ≡ m.pc + 4 * length (returned y setting m.pc last v)) →
     w.placed + frame < 2 ^ 63 →
-    private_word m base ≡ link → link % 2 ≡ 0 → link < 2 ^ 64 → Stands program m.pc (returned y setting m.pc last v) →
+    link_in y base m ≡ link → link % 2 ≡ 0 → link < 2 ^ 64 → Stands program m.pc (returned y setting m.pc last v) →
     Stands program last (left y (frame_bytes y) frame) →
     Returns program y base (w.placed + frame) link (part_value y base w v) m
 

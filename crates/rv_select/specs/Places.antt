@@ -1,14 +1,15 @@
 -- Where the words of an activation stand in the machine.
 --
 -- x2 has the address of the activation's frame in private memory. x3 is the end of the heap, x4 that of the region, x8 the
--- address of the frame in the region, and x28 the number of calls that wait. x18 to x27 hold temporaries. x1, x5 to x7 and x10
--- to x17 are scratch: between two instructions of three-address code they hold nothing, but for x5, which behind an instruction of a
--- block may hold the word that this one wrote. A temporary whose word is only ever taken from x5 has no home.
+-- address of the frame in the region, and x28 the number of calls that wait. x18 to x27 hold temporaries, and x1 the return address of a
+-- function that makes no calls. x5 to x7 and x10 to x17 are scratch: between two instructions of three-address code they hold nothing,
+-- but for x5, which behind an instruction of a block may hold the word that this one wrote. A temporary whose word is only ever taken from
+-- x5 has no home.
 --
--- The private frame has, from x2 upwards, the return address and a word for each of x18 to x27, in which a function that uses
--- one keeps its caller's word; then the slots, a word each; then 128 bytes for each area; and at its end the words of the
--- parameters, which the caller stores below its own frame, the first uppermost.
-use Rattle.std.specs.Prelude.{◌≡◌, ℕ, ◌+◌, ◌*◌, ◌^◌, ◌<◌, ◌≤◌, Bool, true, false, ◌&&◌, ◌||◌, nat_eq, nat_le, nat_lt, List, take, drop, length, Option, Some, None, slice_get, IsTrue, ◌⊎◌, [], ◌∷◌}
+-- The private frame has, from x2 upwards, a word for the return address, in which a function that makes calls keeps it, and a word for
+-- each of x18 to x27, in which a function that uses one keeps its caller's word; then the slots, a word each; then 128 bytes for each
+-- area; and at its end the words of the parameters, which the caller stores below its own frame, the first uppermost.
+use Rattle.std.specs.Prelude.{◌≡◌, ℕ, ◌+◌, ◌*◌, ◌^◌, ◌<◌, ◌≤◌, Bool, true, false, ◌&&◌, ◌||◌, nat_eq, nat_le, nat_lt, List, take, drop, length, Option, Some, None, slice_get, IsTrue, ◌⊎◌, [], ◌∷◌, if◌then◌else◌}
 use Rattle.std.specs.List.{list_any}
 use Rattle.reg_alloc.specs.declared.assignment.Home.{Home}
 use Rattle.reg_alloc.specs.declared.assignment.Home.TheVariants.{Register, Slot}
@@ -17,6 +18,9 @@ use Rattle.rv_machine.specs.Machine.{State}
 use Rattle.terra_memory.specs.Region.{Contents, IsLawful, end_address, heap_limit}
 use Rattle.tac_form.specs.declared.tac.Operand.{Operand}
 use Rattle.tac_form.specs.declared.tac.Operand.TheVariants.{Temp, Constant}
+use Rattle.tac_form.specs.declared.tac.Block.{Block}
+use Rattle.tac_form.specs.declared.tac.Instruction.{Instruction}
+use Rattle.tac_form.specs.declared.tac.Instruction.TheVariants.{Call}
 use Rattle.tac_form.specs.declared.tac.Tac.{Tac}
 use Rattle.tac_form.specs.Flow.{Temps, Areas}
 use Rattle.tac_form.specs.Live.{has}
@@ -34,9 +38,20 @@ is_short code = nat_lt (code_words code) (2 ^ 17)
 unfoldable pub is_near : Tac → Bool
 is_near code = nat_lt (code_words code) 1000
 
--- how long a function is, and how many blocks it has
+-- whether a function makes calls
+abbrev pub is_call : Instruction → Bool
+is_call (Call to at f arguments) = true
+is_call i = false
+
+abbrev pub has_call : Block → Bool
+has_call b = list_any is_call b.instructions
+
+unfoldable pub makes_calls : Tac → Bool
+makes_calls code = list_any has_call code.blocks
+
+-- how long a function is, how many blocks it has, and whether it makes calls
 abbrev pub extent_of : Tac → Extent
-extent_of code = record { near = is_near code; short = is_short code; blocks = length code.blocks }
+extent_of code = record { near = is_near code; short = is_short code; blocks = length code.blocks; calls = makes_calls code }
 
 -- A function's layout: the homes of its temporaries that have one, how many areas and parameters it has, how often each temporary is read,
 -- and its extent.
@@ -60,12 +75,23 @@ layout_with code homes = record {
 abbrev pub layout_of : Tac → List (Option Home) → Layout
 layout_of code homes = layout_with code (asked_homes code homes)
 
--- code of one instruction depends on the homes alone, and that of blocks on how often temporaries are read and on the extent besides
+-- Code of one instruction depends on the homes alone, that of blocks on how often temporaries are read and on the extent besides, and that
+-- which enters and leaves a function on the homes and the extent.
 abbrev pub with_homes : List (Option Home) → Layout
-with_homes homes = record { homes = homes; areas = 0; parameters = 0; reads = []; extent = record { near = false; short = false; blocks = 0 } }
+with_homes homes =
+    record {
+      homes = homes;
+      areas = 0;
+      parameters = 0;
+      reads = [];
+      extent = record { near = false; short = false; blocks = 0; calls = false };
+    }
 
 abbrev pub with_reads : List (Option Home) → List Reads → Extent → Layout
 with_reads homes reads extent = record { homes = homes; areas = 0; parameters = 0; reads = reads; extent = extent }
+
+abbrev pub with_extent : List (Option Home) → Extent → Layout
+with_extent homes extent = with_reads homes [] extent
 
 -- where slots and areas lie in the frame, and its bytes
 abbrev pub slot_offset : ℕ → ℕ
@@ -117,6 +143,10 @@ abbrev pub word_at : (base : ℕ) → State → Home → ℕ
 word_at base m (Register x) = m.registers x
 word_at base m (Slot k) = private_word m (base + slot_offset k)
 
+-- the return address of an activation
+abbrev pub link_in : Layout → (base : ℕ) → State → ℕ
+link_in y base m = if y.extent.calls then private_word m base else m.registers 1
+
 abbrev pub AreBytes : List ℕ → Type 0
 AreBytes [] = Unit {0}
 AreBytes (b ∷ bs) = (b < 256) × AreBytes bs
@@ -164,12 +194,13 @@ pub record Housed (y : Layout) (Used : ℕ → Type 0) : Type 0 where
   pub apart : (t u : ℕ) → Used t → Used u → HasHome y t → HasHome y u → home_of y t ≡ home_of y u → t ≡ u
 
 -- What callers rest on. The registers that no instruction uses as scratch are the same, those apart that the function keeps for
--- its caller; and so are the words that it keeps, and all that lies behind its frame.
+-- its caller; and so are x1, the words that it keeps, and all that lies behind its frame.
 abbrev pub is_lasting : ℕ → Bool
 is_lasting r = nat_eq r 2 || nat_le 18 r && nat_le r 27
 
 pub record Keeps (y : Layout) (base : ℕ) (m after : State) : Type 0 where
   pub registers : (r : ℕ) → IsTrue (is_lasting r) → uses y r ≡ false → after.registers r ≡ m.registers r
+  pub link : after.registers 1 ≡ m.registers 1
   pub long : length after.private ≡ length m.private
   pub outside : (at n : ℕ) → base ≤ at → (at + n ≤ base + kept_bytes) ⊎ (base + frame_bytes y ≤ at) →
       take n (drop at after.private) ≡ take n (drop at m.private)

@@ -297,7 +297,7 @@ abbrev pub byte_taken : Layout → (held : Option ℕ) → Operand → List Inst
 byte_taken y held (Temp t) = first_taken y held (Temp t)
 byte_taken y held (Constant c) = constant x5 (c % 256)
 
--- One byte is written from the word of the return address, which x6 keeps meanwhile.
+-- One byte is written from the frame's first word, which x6 keeps meanwhile.
 abbrev pub byte_stored : List Instr
 byte_stored = Load Ld x6 x2 zero_immediate ∷ Store Sb x2 x5 zero_immediate ∷ []
 

@@ -22,7 +22,7 @@ use Rattle.tac_form.specs.Live.{InUse}
 use Rattle.tac_form.specs.Fits.{Counted, Fits}
 use Rattle.tac_form.specs.Weights.{most_moved}
 use Rattle.rv_operators.specs.Runs.{Stands}
-use Rattle.rv_select.specs.Places.{AreBytes, HasHome, Holds, IsHeld, Keeps, Layout, area_offset, frame_bytes, home_of, layout_of, private_word, uses, word_at}
+use Rattle.rv_select.specs.Places.{AreBytes, HasHome, Holds, IsHeld, Keeps, Layout, area_offset, frame_bytes, home_of, layout_of, link_in, private_word, uses, word_at}
 use Rattle.rv_select.specs.declared.pairs.Reads.{Reads}
 use Rattle.rv_select.specs.Pairs.{plain_of, reads_of}
 use Rattle.rv_select.specs.Shapes.{held_after, start_of}
@@ -134,8 +134,8 @@ pub record Waiting (p : Program) (image : Image) (most : ℕ) (c : Caller) (dept
   pub placed_is : c.waits.base ≡ placed
   pub room : HasRoom most depth base
 
--- All callers wait, the last one first. The first function was entered with address 0 as the return address, under the ends of
--- private memory and of the region, which has so many bytes.
+-- All callers wait, the last one first, each with its return address in its frame. The first function was entered with address 0 as the
+-- return address, under the ends of private memory and of the region, which has so many bytes.
 abbrev pub Waits : Program → Image → (most size : ℕ) → List Caller → (link base placed : ℕ) → State → Type 0
 Waits p image most size [] link base placed m =
     (link ≡ 0) × (base ≡ length m.private) × (placed ≡ 2 ^ 30 + size)
@@ -159,7 +159,7 @@ pub record StandsIn (p : Program) (image : Image) (program : List (Option Instr)
   pub frame : s.here.base + code.frame ≤ end_address s.region
   pub region : length s.region.bytes ≡ size
   pub room : HasRoom most (length s.callers) base
-  pub waits : Waits p image most size s.callers (private_word m base) (base + frame_bytes (layout_of code (image s.here.function).homes))
+  pub waits : Waits p image most size s.callers (link_in (layout_of code (image s.here.function).homes) base m) (base + frame_bytes (layout_of code (image s.here.function).homes))
       (s.here.base + code.frame) (restored (layout_of code (image s.here.function).homes) base m)
 
 -- The machine comes, in at most so many steps and in at least as many as three-address code takes counts, of which it had so many left, to
@@ -199,5 +199,5 @@ CallersGoOnWaiting =
     (p : Program) (image : Image) (program : List (Option Instr)) (most size : ℕ) (y : Layout) (cs : List Caller) (base placed : ℕ)
     (m n : State) →
     IsLinked p image program most → Keeps y base m n →
-    Waits p image most size cs (private_word m base) (base + frame_bytes y) placed (restored y base m) →
-    Waits p image most size cs (private_word n base) (base + frame_bytes y) placed (restored y base n)
+    Waits p image most size cs (link_in y base m) (base + frame_bytes y) placed (restored y base m) →
+    Waits p image most size cs (link_in y base n) (base + frame_bytes y) placed (restored y base n)

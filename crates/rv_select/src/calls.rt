@@ -1,11 +1,12 @@
 // The words of calls and returns.
 
 ghost use Rattle.std.specs.Prelude.{◌≡◌, ◌*◌, ◌+◌, ◌^◌, ◌<◌, ◌≤◌, [], ◌∷◌, ◌++◌, map, length, IfOk, OnOk};
+ghost use Rattle.std.specs.List.{list_any};
 ghost use Rattle.rv_isa.specs.Table.{word_of};
 ghost use Rattle.rv_operators.specs.Codes.{x5};
 ghost use Rattle.rv_select.specs.Calls.{call_begun, call_ended, call_jump, called, depth_tested, one_more, part_taken, passed};
 ghost use Rattle.rv_select.specs.Entering.{result_put};
-ghost use Rattle.rv_select.specs.Places.{with_homes};
+ghost use Rattle.rv_select.specs.Places.{has_call, is_call, makes_calls, with_homes};
 ghost use Rattle.rv_select.specs.Shapes.{jump, x10};
 
 use crate::emit::{X5, push_constant, push_moved, push_taken, put};
@@ -15,9 +16,39 @@ use crate::instructions::{X10, X11, place_number, push_area_address, push_fault_
 use crate::operands::{below_zero, immediate, lower, offset, upper};
 use reg_alloc::Home;
 use rv_isa::{BranchCondition, ImmediateOp, Instr, Register};
-use tac_form::{Destination, Part};
+use tac_form::{Block, Destination, Instruction, Part, Tac};
 use terra_words::FaultKind;
 use tl_base::{NoMemory, Place};
+
+/// Whether an instruction is a call.
+fn is_call(instruction: &Instruction) -> bool
+    ensures { result ≡ is_call instruction.now }
+{
+    match instruction {
+        Instruction::Call(_, _, _, _) => true,
+        _ => false,
+    }
+}
+
+fn have_call(instructions: &[Instruction]) -> bool
+    ensures { result ≡ list_any is_call instructions.now }
+{
+    instructions.iter().any(|instruction| is_call(instruction))
+}
+
+fn has_call(block: &Block) -> bool
+    ensures { result ≡ has_call block.now }
+{
+    have_call(block.instructions.as_slice())
+}
+
+/// Whether a function makes calls. One that makes none leaves its return address in x1.
+#[tactic(auto, unfolding(crate::specs::Places::makes_calls))]
+pub(crate) fn makes_calls(tac: &Tac) -> bool
+    ensures { result ≡ makes_calls tac.now }
+{
+    tac.blocks.as_slice().iter().any(|block| has_call(block))
+}
 
 /// How many calls may wait besides the one that is made.
 const MOST_WAITING: u64 = 511;

@@ -2,11 +2,14 @@
 
 ghost use Rattle.std.specs.Prelude.{◌≡◌, ◌*◌, ◌+◌, ◌^◌, ◌<◌, ◌≤◌, [], ◌∷◌, ◌++◌, map, length, IfOk, IsTrue, OnOk};
 ghost use Rattle.rv_isa.specs.Table.{word_of};
-ghost use Rattle.rv_isa.specs.declared.instr.Instr.TheVariants.{RegisterImmediate, RegisterRegister};
+ghost use Rattle.rv_isa.specs.declared.instr.Instr.TheVariants.{Load, RegisterImmediate, RegisterRegister, Store};
 ghost use Rattle.rv_isa.specs.declared.operation.ImmediateOp.TheVariants.{Addi};
-ghost use Rattle.rv_select.specs.Entering.{arguments_stored, begun, entered, frame_taken, frames_given, kept_offset, left, most_arguments, place_given, pointer_down, pointer_up, put_back, put_back_one, received, received_one, region_given, region_taken, result_put, saved, saved_one, size_in, stack_branch, stack_tested, stored_below};
+ghost use Rattle.rv_isa.specs.declared.operation.LoadOp.TheVariants.{Ld};
+ghost use Rattle.rv_isa.specs.declared.operation.StoreOp.TheVariants.{Sd};
+ghost use Rattle.rv_operators.specs.Codes.{zero_immediate};
+ghost use Rattle.rv_select.specs.Entering.{arguments_stored, begun, entered, frame_taken, frames_given, if_used, kept_offset, left, most_arguments, place_given, pointer_down, pointer_up, put_back, put_back_one, received, received_one, region_given, region_taken, result_put, saved, saved_one, size_in, stack_branch, stack_tested, stored_below, x1};
 ghost use Rattle.rv_select.specs.Numbers.{constant, register_of, short_constant};
-ghost use Rattle.rv_select.specs.Places.{is_register, uses, with_homes};
+ghost use Rattle.rv_select.specs.Places.{is_register, uses, with_extent, with_homes};
 ghost use Rattle.rv_select.specs.Shapes.{place_number, to_area, x2, x7, x11};
 
 use crate::emit::{
@@ -17,6 +20,7 @@ use crate::instructions::{X4, X8, X11, place_number, push_fault_call};
 use crate::moving::push_to_area;
 use crate::operands::{below_zero, immediate, lower, offset, register, upper};
 use crate::outputs::push_limit_found;
+use crate::settings::Extent;
 use reg_alloc::Home;
 use rv_isa::{
     BranchCondition, Immediate, ImmediateOp, Instr, LoadOp, Register, RegisterOp, StoreOp,
@@ -253,12 +257,13 @@ fn push_pointer_up(code: &mut Vec<u32>, bytes: u64) -> Result<(), NoMemory>
     }
 }
 
-/// The frame in private memory goes down, and what is kept for the caller is stored.
-fn push_frame_taken(code: &mut Vec<u32>, homes: &[Option<Home>], bytes: u64) -> Result<(), NoMemory>
-    requires { 1 ≤ bytes }
-    ensures { OnOk result (code.new.items ≡ code.old.items ++ map word_of (frame_taken (with_homes homes.now) bytes)) }
+/// The return address is kept in the frame where the function makes calls.
+fn push_link_saved(code: &mut Vec<u32>, calls: bool) -> Result<(), NoMemory>
+    ensures { OnOk result (code.new.items ≡ code.old.items ++ map word_of (if_used calls (Store Sd x2 x1 zero_immediate))) }
 {
-    push_pointer_down(code, bytes)?;
+    if !calls {
+        return Ok(());
+    }
     put(
         code,
         Instr::Store {
@@ -267,33 +272,16 @@ fn push_frame_taken(code: &mut Vec<u32>, homes: &[Option<Home>], bytes: u64) -> 
             rs2: X1,
             offset: Immediate { value: 0 },
         },
-    )?;
-    push_saved(code, homes, KEPT, FIRST_KEPT)
+    )
 }
 
-/// The words by which a function is entered, whose frames have so many bytes in private memory and in the region.
-pub(crate) fn push_entered(
-    code: &mut Vec<u32>,
-    homes: &[Option<Home>],
-    bytes: u64,
-    frame: u64,
-) -> Result<(), NoMemory>
-    requires { 1 ≤ bytes }
-    ensures { OnOk result (code.new.items ≡ code.old.items ++ map word_of (entered (with_homes homes.now) bytes frame)) }
+/// It is put back from there.
+fn push_link_put_back(code: &mut Vec<u32>, calls: bool) -> Result<(), NoMemory>
+    ensures { OnOk result (code.new.items ≡ code.old.items ++ map word_of (if_used calls (Load Ld x1 x2 zero_immediate))) }
 {
-    push_region_taken(code, frame)?;
-    push_frame_taken(code, homes, bytes)
-}
-
-/// The words by which a function is left, with its result in x10.
-pub(crate) fn push_left(
-    code: &mut Vec<u32>,
-    homes: &[Option<Home>],
-    bytes: u64,
-    frame: u64,
-) -> Result<(), NoMemory>
-    ensures { OnOk result (code.new.items ≡ code.old.items ++ map word_of (left (with_homes homes.now) bytes frame)) }
-{
+    if !calls {
+        return Ok(());
+    }
     put(
         code,
         Instr::Load {
@@ -302,7 +290,50 @@ pub(crate) fn push_left(
             rs1: X2,
             offset: Immediate { value: 0 },
         },
-    )?;
+    )
+}
+
+/// The frame in private memory goes down, and what is kept for the caller is stored.
+fn push_frame_taken(
+    code: &mut Vec<u32>,
+    homes: &[Option<Home>],
+    extent: Extent,
+    bytes: u64,
+) -> Result<(), NoMemory>
+    requires { 1 ≤ bytes }
+    ensures { OnOk result (code.new.items ≡ code.old.items ++ map word_of (frame_taken (with_extent homes.now extent) bytes)) }
+{
+    push_pointer_down(code, bytes)?;
+    push_link_saved(code, extent.calls)?;
+    push_saved(code, homes, KEPT, FIRST_KEPT)
+}
+
+/// The words by which a function is entered, whose frames have so many bytes in private memory and in the region.
+pub(crate) fn push_entered(
+    code: &mut Vec<u32>,
+    homes: &[Option<Home>],
+    extent: Extent,
+    bytes: u64,
+    frame: u64,
+) -> Result<(), NoMemory>
+    requires { 1 ≤ bytes }
+    ensures { OnOk result (code.new.items ≡ code.old.items ++ map word_of (entered (with_extent homes.now extent) bytes frame)) }
+{
+    push_region_taken(code, frame)?;
+    push_frame_taken(code, homes, extent, bytes)
+}
+
+/// The words by which a function is left, with its result in x10.
+pub(crate) fn push_left(
+    code: &mut Vec<u32>,
+    homes: &[Option<Home>],
+    extent: Extent,
+    bytes: u64,
+    frame: u64,
+) -> Result<(), NoMemory>
+    ensures { OnOk result (code.new.items ≡ code.old.items ++ map word_of (left (with_extent homes.now extent) bytes frame)) }
+{
+    push_link_put_back(code, extent.calls)?;
     push_put_back(code, homes, KEPT, FIRST_KEPT)?;
     push_frames_given(code, bytes, frame)
 }

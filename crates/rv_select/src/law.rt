@@ -28,8 +28,9 @@ pub fn exits_are_carried()
     ensures { ExitsAreCarried }
 {}
 
-/// A function whose frame has room in the data stack's quarter is entered by a call: both its frames are taken, and the return
-/// address and what its caller rests on are kept in them. Where there is no room the run ends by a fault at the call's place.
+/// A function whose frame has room in the data stack's quarter is entered by a call: both its frames are taken, and what its caller
+/// rests on is kept in them, as is the return address if it makes calls. Where there is no room the run ends by a fault at the
+/// call's place.
 pub fn functions_are_entered()
     ensures { FunctionsAreEntered }
 {}

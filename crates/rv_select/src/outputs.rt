@@ -56,7 +56,7 @@ fn push_byte_taken(
     }
 }
 
-/// The byte in x5 is written from the word of the return address, which x6 keeps meanwhile.
+/// The byte in x5 is written from the frame's first word, which x6 keeps meanwhile.
 fn push_byte_written(code: &mut Vec<u32>) -> Result<(), NoMemory>
     ensures { OnOk result (code.new.items ≡ code.old.items ++ map word_of byte_written) }
 {
@@ -75,7 +75,7 @@ fn push_byte_written(code: &mut Vec<u32>) -> Result<(), NoMemory>
     )
 }
 
-/// x6 gets the word of the return address, whose first byte becomes that in x5.
+/// x6 gets the frame's first word, whose first byte becomes that in x5.
 fn push_byte_stored(code: &mut Vec<u32>) -> Result<(), NoMemory>
     ensures { OnOk result (code.new.items ≡ code.old.items ++ map word_of byte_stored) }
 {

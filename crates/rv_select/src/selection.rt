@@ -12,7 +12,7 @@ ghost use Rattle.rv_select.specs.Shapes.{jump, start_of};
 ghost use Rattle.tac_form.specs.declared.tac.Instruction.TheVariants as instructions;
 
 use crate::asked::asked_homes;
-use crate::calls::{push_call_begun, push_call_ended, push_call_jump, push_given};
+use crate::calls::{makes_calls, push_call_begun, push_call_ended, push_call_jump, push_given};
 use crate::compared::push_compared;
 use crate::entries::{push_begun, push_entered, push_left, push_received};
 use crate::exits::{push_exit, push_jump};
@@ -306,15 +306,17 @@ fn push_entry(code: &mut Vec<u32>, tac: &Tac) -> Result<u64, NoMemory>
 fn push_call_head(
     code: &mut Vec<u32>,
     homes: &[Option<Home>],
+    extent: Extent,
     tac: &Tac,
     words: u64,
     bytes: u64,
 ) -> Result<(), NoMemory>
+    requires extent { extent ≡ extent_of tac.now }
     requires words { words < 2 ^ 63 }
     requires bytes { 1 ≤ bytes }
     ensures { OnOk result (code.new.items ≡ code.old.items ++ map word_of (entered (layout_with tac.now homes.now) bytes tac.now.frame ++ received (layout_with tac.now homes.now) tac.now.areas words tac.now.parameters)) }
 {
-    push_entered(code, homes, bytes, tac.frame)?;
+    push_entered(code, homes, extent, bytes, tac.frame)?;
     push_received(
         code,
         homes,
@@ -332,14 +334,20 @@ struct Head {
 }
 
 /// The code that comes before the blocks of a function.
-fn push_head(code: &mut Vec<u32>, homes: &[Option<Home>], tac: &Tac) -> Result<Head, NoMemory>
+fn push_head(
+    code: &mut Vec<u32>,
+    homes: &[Option<Home>],
+    extent: Extent,
+    tac: &Tac,
+) -> Result<Head, NoMemory>
+    requires { extent ≡ extent_of tac.now }
     ensures code { OnOk result (code.new.items ≡ code.old.items ++ map word_of (head_code (layout_with tac.now homes.now) tac.now)) }
     ensures entry { IfOk result (λ head. head.entry ≡ length (begun tac.now)) }
     ensures frame { IfOk result (λ head. head.frame ≡ frame_bytes (layout_with tac.now homes.now)) }
 {
     let (words, frame) = frame_of(homes, tac)?;
     let entry = push_entry(code, tac)?;
-    push_call_head(code, homes, tac, words, frame)?;
+    push_call_head(code, homes, extent, tac, words, frame)?;
     Ok(Head { entry, frame })
 }
 
@@ -383,7 +391,7 @@ struct Places {
     last: u64,
 }
 
-/// Whether a function is near and whether it is short, and how many blocks it has.
+/// Whether a function is near and whether it is short, how many blocks it has, and whether it makes calls.
 fn extent_of(tac: &Tac) -> Extent
     ensures { result ≡ extent_of tac.now }
 {
@@ -391,6 +399,7 @@ fn extent_of(tac: &Tac) -> Extent
         near: is_near(tac),
         short: is_short(tac),
         blocks: tac.blocks.as_slice().len() as u64,
+        calls: makes_calls(tac),
     }
 }
 
@@ -411,7 +420,7 @@ fn find_places(
     let mut code = Vec::new(alloc);
     let mut calls = Vec::new(alloc);
     let mut starts = Vec::new(alloc);
-    push_head(&mut code, homes, tac)?;
+    push_head(&mut code, homes, extent, tac)?;
     push_body(
         &mut code,
         &mut calls,
@@ -444,7 +453,7 @@ pub fn select(alloc: Global, tac: &Tac, assignment: &Assignment) -> Result<Code,
     let mut words = Vec::new(alloc);
     let mut calls = Vec::new(alloc);
     let mut starts = Vec::new(alloc);
-    let head = push_head(&mut words, homes, tac)?;
+    let head = push_head(&mut words, homes, extent, tac)?;
     push_body(
         &mut words,
         &mut calls,
@@ -456,7 +465,7 @@ pub fn select(alloc: Global, tac: &Tac, assignment: &Assignment) -> Result<Code,
         &reads,
         extent,
     )?;
-    push_left(&mut words, homes, head.frame, tac.frame)?;
+    push_left(&mut words, homes, extent, head.frame, tac.frame)?;
     Ok(Code {
         words,
         calls,

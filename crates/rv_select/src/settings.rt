@@ -5,12 +5,13 @@ ghost use Rattle.rv_select.specs.Settings.{falls, follower, is_next, next_of, se
 
 use tac_form::Edge;
 
-/// Whether a function is near and whether it is short, and how many blocks it has.
+/// Whether a function is near and whether it is short, how many blocks it has, and whether it makes calls.
 #[derive(Clone, Copy, Debug, PartialEq, Eq)]
 pub struct Extent {
     pub near: bool,
     pub short: bool,
     pub blocks: u64,
+    pub calls: bool,
 }
 
 /// Where a block's end stands: whether in a near or a short function, and before which block. Behind the last block stands the code that leaves

@@ -16,7 +16,8 @@ returns-clause-selected c =
     c.push_left.new.code.items c.deref-3.result.now c.in_ok-places.places.last
     c.new-words.ensures.items (c.deref-3.ensures.value ∙ c.in_ok-places.ensures.starts) c.in_ok-places.ensures.last
     c.in_ok-head.ensures.code c.in_ok-push_body.ensures.code
-    (left-whole tac h c.in_ok-head.head.frame c.push_body.new.code.items c.push_left.new.code.items c.in_ok-head.ensures.frame c.in_ok-push_left.ensures))
+    (left-whole tac h c.extent_of-extent.result c.in_ok-head.head.frame c.push_body.new.code.items c.push_left.new.code.items
+    c.extent_of-extent.ensures c.in_ok-head.ensures.frame c.in_ok-push_left.ensures))
     (whole-calls (layout_with tac h) tac c.new-words.result.items c.push_head.new.code.items c.new-calls.result.items c.push_body.new.calls.items
     c.new-words.ensures.items c.new-calls.ensures.items c.in_ok-head.ensures.code c.in_ok-push_body.ensures.calls)
     c.in_ok-head.ensures.entry c.in_ok-head.ensures.frame
