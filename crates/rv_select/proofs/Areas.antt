@@ -36,7 +36,7 @@ use Rattle.rv_select.proofs.Small.{wrapped-small}
 use Rattle.rv_select.proofs.Straight.{Loads, Scratch, behind-both, goes-both, loads-five, loads-six, low-below, low-first}
 use Rattle.rv_select.proofs.Frames.{Reach, before-scratch, framed-count, framed-loads, framed-some, reach}
 use Rattle.rv_select.proofs.Ways.{Way, straight-way}
-use Rattle.rv_select.proofs.Homes.{operand-count, region-small, take-operand}
+use Rattle.rv_select.proofs.Homes.{operand-count, region-small, slot-apart, take-operand}
 use Rattle.rv_select.proofs.Moves.{lasts-not, scratch-holds, straight-put, wide-size}
 
 -- an area lies within the frame, and near enough
@@ -106,9 +106,12 @@ pub record AreaSet (y : Layout) (base n : ℕ) (bs : List ℕ) (m after : State)
   pub bytes : AreBytes bs
   pub whole : AreBytes after.private
 
-area-home : (y : Layout) (base n : ℕ) (bs : List ℕ) (m z : State) (h : Home) → IsHome y h → AreaSet y base n bs m z → word_at base z h ≡ word_at base m h
-area-home y base n bs m z (homes.Register x) i s = s.keeps x (λ e. omega (arith, e, i.0)) (λ e. omega (arith, e, i.0)) (λ e. omega (arith, e, i.0))
-area-home y base n bs m z (homes.Slot k) i s = ap number_of (s.outside (base + slot_offset k) 8 (inl (omega (arith, i))))
+area-home : (y : Layout) (base n : ℕ) (bs : List ℕ) (m z : State) (h : Home) → IsHome y h → n < y.areas → AreaSet y base n bs m z →
+    word_at base z h ≡ word_at base m h
+area-home y base n bs m z (homes.Register x) i l s = s.keeps x (λ e. omega (arith, e, i.0)) (λ e. omega (arith, e, i.0)) (λ e. omega (arith, e, i.0))
+area-home y base n bs m z (homes.Slot k) i l s =
+    ap number_of
+    (s.outside (base + slot_offset k) 8 (⊎_elim (λ b. inl (omega (arith, b))) (λ b. inr (omega (arith, b))) (slot-apart y k n i l)))
 
 put-here : {A : Type 0} (all : ℕ → A) (n : ℕ) (x : A) → put all n x n ≡ x
 put-here all n x = ap (λ b. if b then x else all n) (eq-eqb n n refl)
@@ -126,7 +129,7 @@ area-holds y Used Next w base n bs m z p h f there s small = record {
     bytes = s.whole;
   };
   pc = small;
-  values = λ t u k. area-home y base n bs m z (home_of y t) (h.homes t (f t u) k) s ∙ p.values t (f t u) k;
+  values = λ t u k. area-home y base n bs m z (home_of y t) (h.homes t (f t u) k) there s ∙ p.values t (f t u) k;
   words = λ t u. p.words t (f t u);
   areas = λ k l. ⊎_elim
       (λ same. subst (λ b. take (length b) (drop (base + area_offset y k) z.private) ≡ b) (sym (at-same k same)) (subst (λ j. take (length bs) (drop (base + area_offset y j) z.private) ≡ bs) (sym same) s.here))

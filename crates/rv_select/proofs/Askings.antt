@@ -6,13 +6,15 @@ use Rattle.std.proofs.lemmas.List.{append-nil, length-set, take_at}
 use Rattle.reg_alloc.specs.declared.assignment.Home.{Home}
 use Rattle.tac_form.specs.declared.tac.Instruction.{Instruction}
 use Rattle.tac_form.specs.declared.tac.Block.{Block}
+use Rattle.tac_form.specs.declared.tac.Destination.{Destination}
 use Rattle.tac_form.specs.declared.tac.Tac.{Tac}
 use Rattle.rv_select.specs.declared.pairs.Reads.{Reads}
-use Rattle.rv_select.specs.Asked.{all_ask, asked_homes, asked_of, asks, block_asks, end_asks, held_after, held_behind, home_in, with_given}
+use Rattle.rv_select.specs.Asked.{all_ask, asked_homes, asked_of, asks, block_asks, end_asks, first_word, held_after, held_behind, home_in, if_small, is_small, with_given}
 use Rattle.rv_select.specs.Pairs.{but_pair, pair_of, plain_of, reads_of}
 use Rattle.rv_select.specs.declared.pairs.Pair.{Pair}
 use Rattle.rv_select.proofs.Bodies.{plain-is}
 use Rattle.rv_select.proofs.Granted.{given-length}
+use Rattle.rv_select.proofs.Worded.{small-length}
 use Rattle.rv_select.proofs.Loops.{drop-end, drop-item, items-end}
 
 pub asks-turn : (held next : Option ℕ) (i : ℕ) (xs : List Instruction) (x : Instruction) (before between total : List ℕ) → x ≡ get_or xs i x →
@@ -40,13 +42,20 @@ block-asked reads b is plain pair held old mid new w o p e k g =
     ∙ append_assoc old (all_ask None (plain_of reads b)) (end_asks (held_behind None (plain_of reads b)) (pair_of reads b) b.exit))))
 
 -- the homes of a function, in what a vector of none becomes
-pub homes-made : (code : Tac) (reads : List Reads) (homes old new rest : List (Option Home)) (bs : List Block) (none asked temps : List ℕ) (len : ℕ) →
-    reads ≡ reads_of code → bs ≡ code.blocks → none ≡ [] → asked ≡ none ++ flat_map (block_asks reads) bs → temps ≡ asked →
-    old ≡ replicate (length homes) None → length old ≡ len → new ≡ with_given homes old temps → take len (new ++ rest) ≡ asked_homes code homes
+pub homes-made : (code : Tac) (reads : List Reads) (homes old new rest : List (Option Home)) (bs : List Block) (ds : List Destination)
+    (none asked temps : List ℕ) (first len : ℕ) →
+    reads ≡ reads_of code → bs ≡ code.blocks → ds ≡ code.parameters → first ≡ first_word code homes → none ≡ [] →
+    asked ≡ none ++ flat_map (block_asks reads) bs → temps ≡ asked →
+    old ≡ replicate (length homes) None → length old ≡ len →
+    new ≡ if_small (is_small first (length ds)) first ds (with_given homes old temps) → take len (new ++ rest) ≡ asked_homes code homes
 unfolding asked_homes asked_of
-homes-made code reads homes old new rest bs none asked temps len r b n a t o l e =
-    take_at new rest len (ap length e ∙ (given-length homes old temps ∙ l))
-    ∙ (e ∙ (ap (λ z. with_given homes z temps) o
+homes-made code reads homes old new rest bs ds none asked temps first len r b p f n a t o l e =
+    take_at new rest len
+    (ap length e ∙ (small-length (is_small first (length ds)) first ds (with_given homes old temps) ∙ (given-length homes old temps ∙ l)))
+    ∙ (e ∙ (ap (λ z. if_small (is_small z (length ds)) z ds (with_given homes old temps)) f
+    ∙ (ap (λ z. if_small (is_small (first_word code homes) (length z)) (first_word code homes) z (with_given homes old temps)) p
+    ∙ ap (if_small (is_small (first_word code homes) (length code.parameters)) (first_word code homes) code.parameters)
+    (ap (λ z. with_given homes z temps) o
     ∙ ap (with_given homes (replicate (length homes) None))
     (t ∙ (a ∙ (ap (λ z. z ++ flat_map (block_asks reads) bs) n
-    ∙ (ap (λ z. flat_map (block_asks z) bs) r ∙ ap (flat_map (block_asks (reads_of code))) b))))))
+    ∙ (ap (λ z. flat_map (block_asks z) bs) r ∙ ap (flat_map (block_asks (reads_of code))) b))))))))

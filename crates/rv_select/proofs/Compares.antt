@@ -41,9 +41,8 @@ use Rattle.rv_select.specs.Compared.{ComparesAreCarried, ComparesKeepWithin, Sta
 use Rattle.rv_select.specs.Steps.{AreFewer, Comes, Left, with_temp, world_of}
 use Rattle.rv_select.proofs.Straight.{Loads, Scratch, loads-five, loads-six, scratch-both}
 use Rattle.rv_select.proofs.Homes.{first-count, first-few, operand-count, take-first, take-operand, taken-count}
-use Rattle.rv_select.proofs.Moves.{first-small, scratch-holds, value-small}
+use Rattle.rv_select.proofs.Moves.{fewer-holds, first-small, scratch-holds, unused-holds, value-small}
 use Rattle.rv_select.proofs.Numbers.{pushed_words}
-use Rattle.rv_select.proofs.Areas.{put-other}
 use Rattle.rv_select.proofs.Lives.{housed, read-live, step-in-graph, use-follows}
 use Rattle.rv_select.proofs.Carries.{both-true, by-test, first-read, has-left, has-right, operand-read}
 use Rattle.rv_select.proofs.Leaves.{chosen-comes, edge-near, edge-reach, exit-in-graph, next-live, or-left, or-second, zero-or-more}
@@ -92,24 +91,8 @@ without Used d t = Used t × (t ≢ d)
 
 -- a temporary that isn't in use may have any word
 unread-holds : (y : Layout) (Used : ℕ → Type 0) (w : World) (base d v : ℕ) (m : State) → Holds y Used w base m → Holds y (without Used d) (with_temp w d v) base m
-unread-holds y Used w base d v m p = record {
-  frame = p.frame;
-  pc = p.pc;
-  values = λ t u k. p.values t u.0 k ∙ sym (put-other w.temps d t v u.1);
-  words = λ t u. subst (λ x. x < 2 ^ 64) (sym (put-other w.temps d t v u.1)) (p.words t u.0);
-  areas = p.areas;
-  short = p.short;
-  area_bytes = p.area_bytes;
-  region = p.region;
-  bytes = p.bytes;
-  lawful = p.lawful;
-  heap = p.heap;
-  limit = p.limit;
-  placed = p.placed;
-  above = p.above;
-  below = p.below;
-  depth = p.depth;
-}
+unread-holds y Used w base d v m p =
+    unused-holds y (without Used d) w base d v m (fewer-holds y Used (without Used d) w base m (λ t u. u.0) p) (λ t u. u.1)
 
 -- the comparison at its place
 module _ (p : Program) (code : Tac) (homes : List (Option Home)) (held : Option ℕ) (d : ℕ) (op : BinaryOperator) (form : Number) (a b : Operand) (e f : Edge) (starts : ℕ → ℕ) (s : tac.State)

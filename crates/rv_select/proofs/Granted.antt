@@ -11,9 +11,10 @@ use Rattle.tac_form.specs.declared.tac.Block.{Block}
 use Rattle.tac_form.specs.declared.tac.Tac.{Tac}
 use Rattle.tac_form.specs.Live.{has}
 use Rattle.rv_select.specs.declared.pairs.Reads.{Reads}
-use Rattle.rv_select.specs.Asked.{asked_homes, asked_of, block_asks, home_in, with_given}
+use Rattle.rv_select.specs.Asked.{asked_homes, asked_of, block_asks, first_word, home_in, if_small, is_small, with_given}
 use Rattle.rv_select.specs.Pairs.{reads_of}
 use Rattle.rv_select.specs.Places.{HasHome, is_given, layout_of}
+use Rattle.rv_select.proofs.Worded.{AreBelow, AreOwn, AtWord, set-other, small-either, small-length, small-own}
 
 -- parts of lists
 pub has-left : (xs ys : List ℕ) (t : ℕ) → has xs t ≡ true → has (xs ++ ys) t ≡ true
@@ -39,13 +40,6 @@ set-same (y ∷ xs) (suc k) x h = set-same xs k x (less (length xs) h)
   where
     less : (n : ℕ) → suc k < suc n → k < n
     less n g = omega (arith, g)
-
-set-other : {A : Type 0} (xs : List A) (k j : ℕ) (x : A) → j ≢ k → slice_get (set xs k x) j ≡ slice_get xs j
-set-other [] k j x n = refl
-set-other (y ∷ xs) zero zero x n = absurd (n refl)
-set-other (y ∷ xs) zero (suc j) x n = refl
-set-other (y ∷ xs) (suc k) zero x n = refl
-set-other (y ∷ xs) (suc k) (suc j) x n = set-other xs k j x (λ e. n (ap (λ z. suc z) e))
 
 -- what is given
 abbrev IsGiven : (homes given : List (Option Home)) → ℕ → Type 0
@@ -126,17 +120,46 @@ home-given None e = cc
 pub asked-length : (code : Tac) (homes : List (Option Home)) → length (asked_homes code homes) ≡ length homes
 unfolding asked_homes
 asked-length code homes =
-    given-length homes (replicate (length homes) None) (asked_of code) ∙ length-replicate (length homes) None
+    small-length (is_small (first_word code homes) (length code.parameters)) (first_word code homes) code.parameters
+    (with_given homes (replicate (length homes) None) (asked_of code))
+    ∙ (given-length homes (replicate (length homes) None) (asked_of code) ∙ length-replicate (length homes) None)
 
--- a home that a temporary has is that of the assignment
-pub asked-is : (code : Tac) (homes : List (Option Home)) (t : ℕ) → HasHome (layout_of code homes) t →
-    slice_get (asked_homes code homes) t ≡ slice_get homes t
-unfolding asked_homes
-asked-is code homes t h =
+-- a home that is given is that of the assignment
+given-is : (homes : List (Option Home)) (ts : List ℕ) (t : ℕ) →
+    is_given (slice_get (with_given homes (replicate (length homes) None) ts) t) ≡ true →
+    slice_get (with_given homes (replicate (length homes) None) ts) t ≡ slice_get homes t
+given-is homes ts t h =
     ⊎_elim
     (λ e. let no : true ≡ false = sym h ∙ (ap is_given e ∙ none-given (length homes) t) in cc)
     (λ g. g ∙ home-given (slice_get homes t) (sym (ap is_given g) ∙ h))
-    (given-either homes (replicate (length homes) None) (asked_of code) t)
+    (given-either homes (replicate (length homes) None) ts t)
+
+-- and one that a temporary has is that, or in place of a slot the word of a parameter
+pub asked-either : (code : Tac) (homes : List (Option Home)) (t : ℕ) → HasHome (layout_of code homes) t →
+    (slice_get (asked_homes code homes) t ≡ slice_get homes t)
+    ⊎ AtWord (first_word code homes) code.parameters homes (asked_homes code homes) t
+unfolding asked_homes
+asked-either code homes t h =
+    ⊎_elim
+    (λ e. inl (e ∙ given-is homes (asked_of code) t (ap is_given (sym e) ∙ h)))
+    (λ w.
+    let is : slice_get (with_given homes (replicate (length homes) None) (asked_of code)) t ≡ slice_get homes t =
+    given-is homes (asked_of code) t (ap is_given w.had) in
+    inr (record { slot = w.slot; behind = w.behind; had = sym is ∙ w.had; has = w.has; takes = w.takes }))
+    (small-either (is_small (first_word code homes) (length code.parameters)) (first_word code homes) code.parameters
+    (with_given homes (replicate (length homes) None) (asked_of code)) t)
+
+-- where a parameter's temporary has its own word, if it has one of these
+pub asked-own : (code : Tac) (homes : List (Option Home)) → AreBelow homes (length homes) code.parameters →
+    AreOwn (asked_homes code homes) (first_word code homes) code.parameters
+unfolding asked_homes
+asked-own code homes h =
+    small-own (is_small (first_word code homes) (length code.parameters)) (first_word code homes) code.parameters
+    (with_given homes (replicate (length homes) None) (asked_of code))
+    (λ t s g e. below s (h t s g (sym (given-is homes (asked_of code) t (ap is_given e)) ∙ e)))
+  where
+    below : (s : ℕ) → s < length homes → s < first_word code homes
+    below s l = omega (arith, l)
 
 -- and a temporary that a block asks for has one
 in-blocks : (reads : List Reads) (bs : List Block) (b : ℕ) (block : Block) (t : ℕ) → slice_get bs b ≡ Some block →
@@ -160,12 +183,19 @@ some-within n homes t e = within (slice_get homes t) refl e
     within (Some h) i e = slice_get_within homes t h i
     within None i e = cc
 
+small-given : (b : Bool) (first : ℕ) (code : Tac) (given : List (Option Home)) (t : ℕ) → is_given (slice_get given t) ≡ true →
+    is_given (slice_get (if_small b first code.parameters given) t) ≡ true
+small-given b first code given t h =
+    ⊎_elim (λ e. ap is_given e ∙ h) (λ w. ap is_given w.has) (small-either b first code.parameters given t)
+
 pub asked-has : (code : Tac) (homes : List (Option Home)) (b t : ℕ) (block : Block) → has_home homes t ≡ true → slice_get code.blocks b ≡ Some block →
     has (block_asks (reads_of code) block) t ≡ true → HasHome (layout_of code homes) t
 unfolding asked_homes asked_of
 asked-has code homes b t block home here h =
+    let asked : List ℕ = flat_map (block_asks (reads_of code)) code.blocks in
     let few : t < length (replicate (length homes) None) =
     subst (λ n. t < n) (sym (length-replicate (length homes) None)) (some-within (length homes) homes t home) in
-    ap is_given (given-has homes (replicate (length homes) None) (flat_map (block_asks (reads_of code)) code.blocks) t few
+    small-given (is_small (first_word code homes) (length code.parameters)) (first_word code homes) code (with_given homes (replicate (length homes) None) asked) t
+    (ap is_given (given-has homes (replicate (length homes) None) asked t few
     (in-blocks (reads_of code) code.blocks b block t here h))
-    ∙ some-given (length homes) (slice_get homes t) home
+    ∙ some-given (length homes) (slice_get homes t) home)

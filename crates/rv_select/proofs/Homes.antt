@@ -16,12 +16,12 @@ use Rattle.rv_machine.specs.Machine.{State, GoesOn, act, at_with, value_at, load
 use Rattle.tac_form.specs.declared.tac.Operand.{Operand}
 use Rattle.tac_form.specs.declared.tac.Operand.TheVariants.{Temp, Constant}
 use Rattle.tac_form.specs.Flow.{Temps}
-use Rattle.tac_form.specs.Weights.{constant_words, operand_words}
+use Rattle.tac_form.specs.Weights.{constant_words, kept_bytes, most_moved, operand_words}
 use Rattle.rv_operators.specs.Claims.{acts, then_on}
 use Rattle.rv_operators.specs.Codes.{x5}
 use Rattle.rv_operators.specs.Runs.{AreStraight}
 use Rattle.rv_operators.proofs.Runs.{straight-both}
-use Rattle.rv_select.specs.Places.{AreBytes, Layout, World, HasFrame, Holds, Housed, IsFirst, IsHeld, IsHome, IsRead, home_of, is_given, or_first, private_word, slot_offset, value_in, word_at}
+use Rattle.rv_select.specs.Places.{AreBytes, Layout, World, HasFrame, Holds, Housed, IsFirst, IsHeld, IsHome, IsRead, IsSlot, area_offset, frame_bytes, home_of, is_given, or_first, private_word, slot_offset, value_in, word_at}
 use Rattle.rv_select.specs.Numbers.{constant, register_of}
 use Rattle.rv_select.specs.Shapes.{first_taken, is_held, moved, put_at, put_in, put_to, taken, taken_from}
 use Rattle.rv_select.proofs.Bytes.{other-than-word, private-place, stored-length, stored-word}
@@ -30,12 +30,38 @@ use Rattle.rv_select.proofs.Straight.{Loads, behind-both, goes-both, loads-one, 
 use Rattle.rv_select.proofs.Words.{low-are-bytes, overwritten-bytes}
 use Rattle.rv_select.proofs.Frames.{Reach, framed-count, framed-loads, reach}
 
--- a slot is within private memory, and near enough
-pub slot-room : (y : Layout) (base k : ℕ) (m : State) → HasFrame y base m → k < length y.homes → base + slot_offset k + 8 ≤ length m.private
-slot-room y base k m f h = omega (arith, f.within, h)
+-- a slot is within the frame, and so within private memory, and near enough
+pub slot-within : (y : Layout) (k : ℕ) → IsSlot y k → slot_offset k + 8 ≤ frame_bytes y
+slot-within y k i = ⊎_elim (λ h. omega (arith, h)) (λ h. omega (arith, h.1)) i
 
-pub slot-near : (y : Layout) (base k : ℕ) (m : State) → HasFrame y base m → k < length y.homes → slot_offset k < 2 ^ 30
-slot-near y base k m f h = omega (arith, f.within, f.private, h)
+pub slot-room : (y : Layout) (base k : ℕ) (m : State) → HasFrame y base m → IsSlot y k → base + slot_offset k + 8 ≤ length m.private
+slot-room y base k m f i = omega (arith, f.within, slot-within y k i)
+
+pub slot-near : (y : Layout) (base k : ℕ) (m : State) → HasFrame y base m → IsSlot y k → slot_offset k < 2 ^ 30
+slot-near y base k m f i = omega (arith, f.within, f.private, slot-within y k i)
+
+-- it is apart from each area
+pub slot-apart : (y : Layout) (k n : ℕ) → IsSlot y k → n < y.areas →
+    (slot_offset k + 8 ≤ area_offset y n) ⊎ (area_offset y n + most_moved ≤ slot_offset k)
+slot-apart y k n i l = ⊎_elim (λ h. inl (omega (arith, h))) (λ h. inr (omega (arith, h.0, l))) i
+
+-- the bytes of the frame that a home takes: a register none
+abbrev pub home_first : Home → ℕ
+home_first (homes.Register x) = kept_bytes
+home_first (homes.Slot k) = slot_offset k
+
+abbrev pub home_behind : Home → ℕ
+home_behind (homes.Register x) = kept_bytes
+home_behind (homes.Slot k) = slot_offset k + 8
+
+pub home-inside : (y : Layout) (h : Home) → IsHome y h → (kept_bytes ≤ home_first h) × (home_behind h ≤ frame_bytes y)
+home-inside y (homes.Register x) i = (omega arith, omega arith)
+home-inside y (homes.Slot k) i = (omega arith, slot-within y k i)
+
+pub home-apart : (y : Layout) (h : Home) (n : ℕ) → IsHome y h → n < y.areas →
+    (home_behind h ≤ area_offset y n) ⊎ (area_offset y n + most_moved ≤ home_first h)
+home-apart y (homes.Register x) n i l = inl (omega arith)
+home-apart y (homes.Slot k) n i l = slot-apart y k n i l
 
 frame-sum : (x base offset size : ℕ) → x ≡ 2 ^ 32 + base → base + offset + 8 ≤ size → size ≤ 603979776 → low (x + offset) ≡ 2 ^ 32 + (base + offset)
 unfolding low
@@ -49,7 +75,7 @@ from-register d m x v n l u e s =
     loads-one (moved d (register_of x)) m d.number v n refl
     (ap (λ w. GoesOn (at_with m (low (m.pc + 4)) d.number w)) (ap (λ w. low (w + 0)) (r ∙ e) ∙ (ap low z ∙ low-small v s)))
 
-from-slot : (y : Layout) (d : Register) (base k : ℕ) (m : State) → d.number ≢ 0 → m.pc < 2 ^ 64 → HasFrame y base m → length m.region ≤ 67108864 → k < length y.homes →
+from-slot : (y : Layout) (d : Register) (base k : ℕ) (m : State) → d.number ≢ 0 → m.pc < 2 ^ 64 → HasFrame y base m → length m.region ≤ 67108864 → IsSlot y k →
     Loads d.number (taken_from d (homes.Slot k)) m (word_at base m (homes.Slot k))
 from-slot y d base k m n p f g h =
     let room : base + slot_offset k + 8 ≤ length m.private = slot-room y base k m f h in
@@ -187,7 +213,7 @@ pub record Puts (y : Layout) (base : ℕ) (code : List Instr) (m : State) (h : H
   pub others : (g : Home) → IsHome y g → (g ≡ h → ⊥) → word_at base after g ≡ word_at base m g
   pub keeps : (r : ℕ) → r ≢ 7 → (h ≡ homes.Register r → ⊥) → after.registers r ≡ m.registers r
   pub region : after.region ≡ m.region
-  pub memory : SameOutside (base + slot_offset 0) (base + slot_offset (length y.homes)) m after
+  pub memory : SameOutside (base + home_first h) (base + home_behind h) m after
   pub straight : AreStraight code
 
 to-register : (y : Layout) (base x : ℕ) (m : State) → 18 ≤ x → x ≤ 27 → m.registers 5 < 2 ^ 64 → Puts y base (put_to (homes.Register x)) m (homes.Register x)
@@ -220,7 +246,7 @@ abbrev pub word_stored : State → ℕ → ℕ → State
 word_stored s at x =
     record { pc = low (s.pc + 4); registers = s.registers; region = s.region; private = overwritten s.private at (low_bytes 8 x) }
 
-to-slot : (y : Layout) (base k : ℕ) (m : State) → m.pc < 2 ^ 64 → HasFrame y base m → length m.region ≤ 67108864 → k < length y.homes → m.registers 5 < 2 ^ 64 →
+to-slot : (y : Layout) (base k : ℕ) (m : State) → m.pc < 2 ^ 64 → HasFrame y base m → length m.region ≤ 67108864 → IsSlot y k → m.registers 5 < 2 ^ 64 →
     Puts y base (put_to (homes.Slot k)) m (homes.Slot k)
 to-slot y base k m p f g h s =
     let at : ℕ = base + slot_offset k in
@@ -248,7 +274,7 @@ to-slot y base k m p f g h s =
         bytes = λ b. overwritten-bytes x.at.private (low_bytes 8 (x.at.registers 5)) at (subst AreBytes (sym x.before.private) b) (low-are-bytes 8 (x.at.registers 5));
         outside = λ a n o.
             other-than-word x.at.private at (x.at.registers 5) a n (omega (arith, here))
-            (⊎_elim (λ l. inl (omega (arith, l))) (λ l. inr (omega (arith, l, h))) o)
+            (⊎_elim (λ l. inl (omega (arith, l))) (λ l. inr (omega (arith, l))) o)
             ∙ ap (λ z. take n (drop a z)) x.before.private;
       };
       straight = straight-both x.first (Store Sd x.register x5 x.far ∷ []) x.before.straight refl;

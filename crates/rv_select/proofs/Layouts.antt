@@ -33,10 +33,10 @@ pub received-same : (h : List (Option Home)) (a p b q : ℕ) (r t : List Reads) 
     received (laid h a p r v) sizes last ds ≡ received (laid h b q t o) sizes last ds
 received-same h a p b q r t v o sizes last [] = refl
 received-same h a p b q r t v o sizes last (destinations.Temp u ∷ ds) =
-    ap (λ z. received_one (laid h a p r v) sizes (destinations.Temp u) (last + 8 * length ds) ++ z)
+    ap (λ z. received_one (laid h a p r v) sizes last (destinations.Temp u) (last + 8 * length ds) ++ z)
     (received-same h a p b q r t v o sizes last ds)
 received-same h a p b q r t v o sizes last (destinations.Area n ∷ ds) =
-    ap (λ z. received_one (laid h a p r v) sizes (destinations.Area n) (last + 8 * length ds) ++ z)
+    ap (λ z. received_one (laid h a p r v) sizes last (destinations.Area n) (last + 8 * length ds) ++ z)
     (received-same h a p b q r t v o sizes last ds)
 
 passed-same : (h : List (Option Home)) (a p b q : ℕ) (r t : List Reads) (v o : Extent) (i : ℕ) (ps : List Part) → passed (laid h a p r v) i ps ≡ passed

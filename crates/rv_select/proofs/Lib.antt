@@ -23,6 +23,7 @@ pub mod Ranges
 pub mod Allocs
 pub mod Transfers
 pub mod Transports
+pub mod Worded
 pub mod Granted
 pub mod Lives
 pub mod Pairing

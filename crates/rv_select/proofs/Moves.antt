@@ -39,7 +39,7 @@ use Rattle.rv_select.proofs.Claims.{CopiesAreCarried, Gives, OperatorsAreCarried
 use Rattle.rv_select.proofs.Straight.{Loads, Scratch, behind-both, leads-scratch, loads-five, loads-six, low-below, low-here, scratch-both}
 use Rattle.rv_select.proofs.Ways.{Near, Way, scratch-near, stands-back, stands-front, straight-way, way-both}
 use Rattle.rv_select.proofs.Frames.{framed-some}
-use Rattle.rv_select.proofs.Homes.{Puts, first-count, put-count, put-home, put-is, put-none, region-small, take-first, take-operand}
+use Rattle.rv_select.proofs.Homes.{Puts, first-count, home-apart, home-inside, put-count, put-home, put-is, put-none, region-small, take-first, take-operand}
 use Rattle.rv_select.proofs.Holding.{applied-count, applied-some, folded-few, folds}
 use Rattle.rv_select.proofs.Numbers.{constant-loads}
 use Rattle.rv_select.proofs.Small.{applied-small}
@@ -133,7 +133,9 @@ put-keeps y base code m h p i = record {
   registers = λ r l u. p.keeps r (lasts-not r 7 l refl) (used-register y h r i u);
   link = p.keeps 1 (λ z. omega (arith, z)) (λ e. let g : IsHome y (homes.Register 1) = subst (IsHome y) e i in omega (arith, g.0));
   long = p.memory.long;
-  outside = λ at n b o. p.memory.outside at n (⊎_elim (λ l. inl (omega (arith, l))) (λ l. inr (omega (arith, l))) o);
+  outside = λ at n b o.
+      let inside = home-inside y h i in
+      p.memory.outside at n (⊎_elim (λ l. inl (omega (arith, l, inside.0))) (λ l. inr (omega (arith, l, inside.1))) o);
 }
 
 -- a home is none of the registers of the whole function
@@ -161,7 +163,10 @@ put-holds y Used Next w base d v code m p q h n has follows e s = record {
       (λ same. subst (λ x. put w.temps d v x < 2 ^ 64) (sym same) (subst (λ z. z < 2 ^ 64) (ap (λ b. if b then v else w.temps d) (sym (eq-eqb d d refl))) s))
       (λ other. subst (λ z. z < 2 ^ 64) (ap (λ b. if b then v else w.temps t) (sym (ne_eqb t d other))) (q.words t (before t u other)))
       (cases_eq t d);
-  areas = λ k l. p.memory.outside (base + area_offset y k) (length (w.areas k)) (inr (omega arith)) ∙ q.areas k l;
+  areas = λ k l.
+      p.memory.outside (base + area_offset y k) (length (w.areas k))
+      (⊎_elim (λ b. inr (omega (arith, b))) (λ b. inl (omega (arith, b, q.short k l)))
+      (home-apart y (home_of y d) k (h.homes d n has) l)) ∙ q.areas k l;
   short = q.short;
   area_bytes = q.area_bytes;
   bytes = q.bytes;
@@ -207,6 +212,28 @@ unput-holds y Used Next w base d v m q follows none s = record {
   where
     before : (t : ℕ) → Next t → t ≢ d → Used t
     before t u other = ⊎_elim (λ same. absurd (other same)) (λ used. used) (follows t u)
+
+-- a temporary that isn't in use gets another word
+pub unused-holds : (y : Layout) (Used : ℕ → Type 0) (w : World) (base d v : ℕ) (m : State) → Holds y Used w base m → ((t : ℕ) → Used t → t ≢ d) →
+    Holds y Used (with_temp w d v) base m
+unused-holds y Used w base d v m q other = record {
+  frame = q.frame;
+  pc = q.pc;
+  values = λ t u k. q.values t u k ∙ sym (ap (λ b. if b then v else w.temps t) (ne_eqb t d (other t u)));
+  words = λ t u. subst (λ z. z < 2 ^ 64) (ap (λ b. if b then v else w.temps t) (sym (ne_eqb t d (other t u)))) (q.words t u);
+  areas = q.areas;
+  short = q.short;
+  area_bytes = q.area_bytes;
+  bytes = q.bytes;
+  region = q.region;
+  lawful = q.lawful;
+  heap = q.heap;
+  limit = q.limit;
+  placed = q.placed;
+  above = q.above;
+  below = q.below;
+  depth = q.depth;
+}
 
 -- a put has an instruction
 pub some-put : (h : Home) → 1 ≤ length (put_to h)

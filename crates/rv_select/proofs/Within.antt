@@ -21,7 +21,7 @@ use Rattle.rv_operators.specs.Codes.{x0, x5, zero_immediate}
 use Rattle.rv_select.specs.Numbers.{below_zero, constant, lower_of, register_of}
 use Rattle.rv_select.specs.Places.{Layout, home_of}
 use Rattle.rv_select.specs.Shapes.{far_part, framed, limit_found, place_number, x2, x7, x8, x10, x11}
-use Rattle.rv_select.specs.Entering.{arguments_stored, entered, frame_taken, frames_given, left, link_put_back, link_saved, region_given, region_taken, stack_tested, x1, most_arguments, place_given, pointer_down, pointer_up, put_back, received, receiving, result_put, result_words, saved, size_in, stack_branch, stored_below}
+use Rattle.rv_select.specs.Entering.{arguments_stored, entered, frame_taken, frames_given, left, link_put_back, link_saved, region_given, region_taken, stack_tested, x1, most_arguments, place_given, pointer_down, pointer_up, put_back, received, received_one, is_received, receiving, result_put, result_words, saved, size_in, stack_branch, stored_below}
 use Rattle.rv_select.specs.Calls.{call_begun, call_ended, called, call_jump, depth_tested, jump_unless_last, one_more, part_taken, passed}
 use Rattle.rv_select.specs.Frames.{CallsKeepWithin, FramesKeepWithin, ParametersKeepWithin}
 use Rattle.rv_select.proofs.Copies.{size-small}
@@ -123,15 +123,25 @@ call-weight : (to : Destination) (place : Place) (f : FnId) (arguments : List Pa
 call-weight (Temp d) place f arguments n h = omega (arith, h)
 call-weight (Area k) place f arguments n h = omega (arith, h)
 
+received-count : (y : Layout) (sizes : List ℕ) (last : ℕ) (d : Destination) (at : ℕ) → list_all area_fits sizes ≡ true →
+    length (received_one y sizes last d at) ≤ 3 + result_words d
+received-count y sizes last d at h = either (is_received y last d)
+  where
+    A : List Instr
+    A = framed (λ r far. Load Ld x5 r far) at
+
+    B : List Instr
+    B = result_put y sizes d
+
+    either : (b : Bool) → length (if b then A ++ B else []) ≤ 3 + result_words d
+    either true = both A B 3 (result_words d) (framed-count (λ r far. Load Ld x5 r far) at) (result-count y sizes d h)
+    either false = omega arith
+
 pub parameters-within : ParametersKeepWithin
 parameters-within y sizes last [] h = omega arith
 parameters-within y sizes last (d ∷ ds) h =
-    let A = framed (λ r far. Load Ld x5 r far) (last + 8 * length ds) in
-    let B = result_put y sizes d in
-    let C = received y sizes last ds in
-    let one : length (A ++ B) ≤ 3 + result_words d = both A B 3 (result_words d)
-    (framed-count (λ r far. Load Ld x5 r far) (last + 8 * length ds)) (result-count y sizes d h) in
-    both (A ++ B) C (3 + result_words d) (receiving ds) one (parameters-within y sizes last ds h)
+    both (received_one y sizes last d (last + 8 * length ds)) (received y sizes last ds) (3 + result_words d) (receiving ds)
+    (received-count y sizes last d (last + 8 * length ds) h) (parameters-within y sizes last ds h)
 
 pub calls-within : CallsKeepWithin
 calls-within y sizes places at to place f arguments small =

@@ -1,10 +1,13 @@
 -- Which temporaries the code of a function takes from their homes. The others have none: their words are only ever taken from x5, directly
 -- behind the instructions that leave them there.
-use Rattle.std.specs.Prelude.{ℕ, Bool, true, false, ◌&&◌, if◌then◌else◌, nat_eq, List, [], ◌∷◌, ◌++◌, length, replicate, Option, Some, None, slice_get, slice_set}
+use Rattle.std.specs.Prelude.{ℕ, ◌+◌, ◌*◌, Bool, true, false, ◌&&◌, if◌then◌else◌, nat_eq, nat_le, List, [], ◌∷◌, ◌++◌, length, replicate, Option, Some, None, slice_get, slice_set}
 use Rattle.std.specs.List.{flat_map}
 use Rattle.terra_words.specs.declared.words.BinaryOperator.{BinaryOperator}
 use Rattle.terra_words.specs.declared.words.BinaryOperator.TheVariants as operators
 use Rattle.reg_alloc.specs.declared.assignment.Home.{Home}
+use Rattle.reg_alloc.specs.declared.assignment.Home.TheVariants.{Slot}
+use Rattle.tac_form.specs.declared.tac.Destination.{Destination}
+use Rattle.tac_form.specs.declared.tac.Destination.TheVariants as destinations
 use Rattle.tac_form.specs.declared.tac.Operand.{Operand}
 use Rattle.tac_form.specs.declared.tac.Operand.TheVariants.{Temp, Constant}
 use Rattle.tac_form.specs.declared.tac.Address.{Address}
@@ -18,6 +21,7 @@ use Rattle.tac_form.specs.declared.tac.Exit.TheVariants as exits
 use Rattle.tac_form.specs.declared.tac.Block.{Block}
 use Rattle.tac_form.specs.declared.tac.Tac.{Tac}
 use Rattle.tac_form.specs.Graph.{destination_write, exit_reads, instruction_reads, operand_reads}
+use Rattle.tac_form.specs.Weights.{kept_bytes}
 use Rattle.rv_select.specs.declared.pairs.Reads.{Reads}
 use Rattle.rv_select.specs.declared.pairs.Pair.{Pair}
 use Rattle.rv_select.specs.Pairs.{pair_of, plain_of, reads_of}
@@ -116,5 +120,35 @@ abbrev pub with_given : (homes given : List (Option Home)) → List ℕ → List
 with_given homes given [] = given
 with_given homes given (t ∷ ts) = with_given homes (slice_set given t (home_in (slice_get homes t))) ts
 
+-- A parameter's word stays where the caller stores it, at the end of the frame, if its temporary's home is a slot: the temporary has the
+-- slot with the number of this word then. Words have numbers from one on, behind all slots and areas, and the last parameter's is the
+-- first. Of a temporary that takes several parameters the last one's word is the home.
+abbrev pub slot_instead : (k : ℕ) → Option Home → Option Home
+slot_instead k (Some (Slot s)) = Some (Slot k)
+slot_instead k h = h
+
+abbrev pub with_word : Destination → (k : ℕ) → (given : List (Option Home)) → List (Option Home)
+with_word (destinations.Temp t) k given = slice_set given t (slot_instead k (home_in (slice_get given t)))
+with_word (destinations.Area n) k given = given
+
+abbrev pub with_words : (first : ℕ) → List Destination → (given : List (Option Home)) → List (Option Home)
+with_words first [] given = given
+with_words first (d ∷ ds) given = with_words first ds (with_word d (first + length ds) given)
+
+-- This is done where the frame has at most 2,048 bytes, each word of which one instruction reaches. In a larger one a slot may be nearer
+-- than the word.
+abbrev pub is_small : (first parameters : ℕ) → Bool
+is_small first n = nat_le (kept_bytes + 8 * (first + n)) 2048
+
+abbrev pub if_small : Bool → (first : ℕ) → List Destination → (given : List (Option Home)) → List (Option Home)
+if_small true first ds given = with_words first ds given
+if_small false first ds given = given
+
+-- the number of the first of these words, where an area has 16
+abbrev pub first_word : Tac → List (Option Home) → ℕ
+first_word code homes = length homes + 16 * length code.areas
+
 unfoldable pub asked_homes : Tac → List (Option Home) → List (Option Home)
-asked_homes code homes = with_given homes (replicate (length homes) None) (asked_of code)
+asked_homes code homes =
+    if_small (is_small (first_word code homes) (length code.parameters)) (first_word code homes) code.parameters
+    (with_given homes (replicate (length homes) None) (asked_of code))

@@ -1,5 +1,5 @@
 -- How a function is entered and left.
-use Rattle.std.specs.Prelude.{ℕ, zero, suc, ◌+◌, ◌-◌, ◌*◌, ◌^◌, slice_get, unwrap_or, Bool, true, false, nat_le, if◌then◌else◌, List, [], ◌∷◌, ◌++◌, length}
+use Rattle.std.specs.Prelude.{ℕ, zero, suc, ◌+◌, ◌-◌, ◌*◌, ◌^◌, slice_get, Option, Some, None, unwrap_or, Bool, true, false, nat_le, nat_lt, if◌then◌else◌, List, [], ◌∷◌, ◌++◌, length}
 use Rattle.std.proofs.Common.{lit≤}
 use Rattle.tl_base.specs.declared.place.Place.{Place}
 use Rattle.rv_isa.specs.declared.instr.Instr.{Instr}
@@ -11,13 +11,15 @@ use Rattle.rv_isa.specs.declared.operation.LoadOp.TheVariants.{Ld}
 use Rattle.rv_isa.specs.declared.operation.StoreOp.TheVariants.{Sd}
 use Rattle.rv_isa.specs.declared.operand.Register.{Register}
 use Rattle.terra_words.specs.declared.words.FaultKind.TheVariants.{StackFull}
+use Rattle.reg_alloc.specs.declared.assignment.Home.{Home}
+use Rattle.reg_alloc.specs.declared.assignment.Home.TheVariants as homes
 use Rattle.tac_form.specs.declared.tac.Destination.{Destination}
 use Rattle.tac_form.specs.declared.tac.Destination.TheVariants.{Temp, Area}
 use Rattle.tac_form.specs.declared.tac.Tac.{Tac}
 use Rattle.tac_form.specs.Weights.{kept_bytes, most_moved}
 use Rattle.rv_operators.specs.Codes.{x0, x5, zero_immediate}
 use Rattle.rv_select.specs.Numbers.{below_zero, constant, immediate_of, lower_of, register_of, short_constant}
-use Rattle.rv_select.specs.Places.{Layout, uses}
+use Rattle.rv_select.specs.Places.{Layout, slot_offset, uses}
 use Rattle.rv_select.specs.Shapes.{far_part, fault_call, framed, limit_found, moved, over, place_number, put_at, to_area, x2, x4, x7, x8, x11}
 
 -- the return address, and the number of calls that wait
@@ -106,18 +108,30 @@ abbrev pub result_words : Destination → ℕ
 result_words (Temp t) = 3
 result_words (Area n) = 39
 
--- the most steps in which parameters are taken, each from its word
+-- the most steps in which parameters are taken
 abbrev pub receiving : List Destination → ℕ
 receiving [] = 0
 receiving (d ∷ ds) = 3 + result_words d + receiving ds
 
+-- Whether a parameter is taken from its word: into an area, or to a home that lies before all these words. Where its temporary's home is one
+-- of them the word is there already, and where it has none nothing asks for it.
+abbrev pub is_before : (last : ℕ) → Option (Option Home) → Bool
+is_before last (Some (Some (homes.Register x))) = true
+is_before last (Some (Some (homes.Slot k))) = nat_lt (slot_offset k) last
+is_before last _ = false
+
+abbrev pub is_received : Layout → (last : ℕ) → Destination → Bool
+is_received y last (Temp t) = is_before last (slice_get y.homes t)
+is_received y last (Area n) = true
+
 -- a parameter from its word, which lies at an offset of the frame: that of an area is an address
-abbrev pub received_one : Layout → (sizes : List ℕ) → Destination → (at : ℕ) → List Instr
-received_one y sizes d at = framed (λ r far. Load Ld x5 r far) at ++ result_put y sizes d
+abbrev pub received_one : Layout → (sizes : List ℕ) → (last : ℕ) → Destination → (at : ℕ) → List Instr
+received_one y sizes last d at =
+    if is_received y last d then framed (λ r far. Load Ld x5 r far) at ++ result_put y sizes d else []
 
 abbrev pub received : Layout → (sizes : List ℕ) → (last : ℕ) → List Destination → List Instr
 received y sizes last [] = []
-received y sizes last (d ∷ ds) = received_one y sizes d (last + 8 * length ds) ++ received y sizes last ds
+received y sizes last (d ∷ ds) = received_one y sizes last d (last + 8 * length ds) ++ received y sizes last ds
 
 -- the frame in the region goes up again, and an empty one leaves x8
 abbrev pub region_given : (frame : ℕ) → List Instr

@@ -195,8 +195,8 @@ pub record Received (program : List (Option Instr)) (y : Layout) (Used : ℕ →
   pub holds : Holds y Used w base after
   pub keeps : Keeps y base m after
 
--- Words that are passed go to the homes of the temporaries that take them, and the bytes that they point to into the areas that take
--- them. Then each temporary in use where the function begins stands at its home.
+-- Words that are passed are at the homes of the temporaries that take them, or go there, and the bytes that they point to into the areas
+-- that take them. Then each temporary in use where the function begins stands at its home.
 abbrev pub ParametersAreReceived : Type 0
 ParametersAreReceived =
     (code : Tac) (homes : List (Option Home)) (program : List (Option Instr)) (values : List Value) (a : Activation) (region : Contents)

@@ -8,7 +8,8 @@
 --
 -- The private frame has, from x2 upwards, a word for the return address, in which a function that makes calls keeps it, and a word for
 -- each of x18 to x27, in which a function that uses one keeps its caller's word; then the slots, a word each; then 128 bytes for each
--- area; and at its end the words of the parameters, which the caller stores below its own frame, the first uppermost.
+-- area; and at its end the words of the parameters, which the caller stores below its own frame, the first uppermost. These are
+-- slots too, of the temporaries that take them.
 use Rattle.std.specs.Prelude.{◌≡◌, ℕ, ◌+◌, ◌*◌, ◌^◌, ◌<◌, ◌≤◌, Bool, true, false, ◌&&◌, ◌||◌, nat_eq, nat_le, nat_lt, List, take, drop, length, Option, Some, None, slice_get, IsTrue, ◌⊎◌, [], ◌∷◌, if◌then◌else◌}
 use Rattle.std.specs.List.{list_any}
 use Rattle.reg_alloc.specs.declared.assignment.Home.{Home}
@@ -130,10 +131,15 @@ is_register x _ = false
 abbrev pub uses : Layout → ℕ → Bool
 uses y x = list_any (is_register x) y.homes
 
--- a register that calls keep and that this function uses, or a slot of the frame
+-- a slot of the frame: one of those before the areas, or, behind the 16 words of each area, the word of a parameter
+abbrev pub IsSlot : Layout → ℕ → Type 0
+IsSlot y k =
+    (k < length y.homes) ⊎ ((length y.homes + 16 * y.areas ≤ k) × (k < length y.homes + 16 * y.areas + y.parameters))
+
+-- a register that calls keep and that this function uses, or a slot
 abbrev pub IsHome : Layout → Home → Type 0
 IsHome y (Register x) = (18 ≤ x) × (x ≤ 27) × IsTrue (uses y x)
-IsHome y (Slot k) = k < length y.homes
+IsHome y (Slot k) = IsSlot y k
 
 -- the word at an offset of private memory, and the word at a home, in an activation whose frame begins at an offset
 abbrev pub private_word : State → ℕ → ℕ

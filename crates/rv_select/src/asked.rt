@@ -1,8 +1,8 @@
 // Which temporaries the code of a function takes from their homes.
 
-ghost use Rattle.std.specs.Prelude.{◌≡◌, ◌++◌, IfOk, OnOk, None, replicate, slice_get, slice_set};
+ghost use Rattle.std.specs.Prelude.{◌≡◌, ◌^◌, ◌<◌, ◌++◌, IfOk, OnOk, None, length, replicate, slice_get, slice_set};
 ghost use Rattle.std.specs.List.{flat_map};
-ghost use Rattle.rv_select.specs.Asked.{address_asks, all_ask, asked_homes, asked_of, asks, block_asks, both_ask, computed_asks, end_asks, exit_asks, first_asks, held_behind, home_in, spot_asks, with_given};
+ghost use Rattle.rv_select.specs.Asked.{address_asks, all_ask, asked_homes, asked_of, asks, block_asks, both_ask, computed_asks, end_asks, exit_asks, first_asks, first_word, held_behind, home_in, if_small, is_small, slot_instead, spot_asks, with_given, with_word, with_words};
 ghost use Rattle.rv_select.specs.Pairs.{reads_of};
 ghost use Rattle.tac_form.specs.Graph.{exit_reads, instruction_reads, operand_reads, part_reads, parts_reads};
 
@@ -10,11 +10,12 @@ use crate::instructions::{held_after, is_held, is_turned};
 use crate::pairs::{Pair, Reads, pair_of, plain_of};
 use reg_alloc::Home;
 use std::alloc::Global;
-use tac_form::{Address, Block, Exit, Instruction, Operand, Part, Spot, Tac};
+use tac_form::{Address, Block, Destination, Exit, Instruction, Operand, Part, Spot, Tac};
 use terra_words::BinaryOperator;
 use tl_base::NoMemory;
 
-/// The homes of an assignment that a function's code asks for. All other temporaries have none.
+/// The homes of an assignment that a function's code asks for, and in place of a parameter's slot the word by which it is passed. All other
+/// temporaries have none.
 pub(crate) fn asked_homes(
     alloc: Global,
     tac: &Tac,
@@ -26,9 +27,24 @@ pub(crate) fn asked_homes(
 {
     let mut asked = Vec::new(alloc);
     ask_blocks(&mut asked, reads, tac.blocks.as_slice())?;
+    let first = first_word(tac, homes)?;
     let mut given = no_homes(alloc, homes.len())?;
-    give_all(&mut given, homes, &asked);
+    give_homes(&mut given, homes, &asked, first, tac.parameters.as_slice());
     Ok(given)
+}
+
+/// The number of the slot that is the last parameter's word, behind all slots and areas. No memory has a frame of 2 ^ 58 words.
+fn first_word(tac: &Tac, homes: &[Option<Home>]) -> Result<u64, NoMemory>
+    ensures number { IfOk result (λ first. first ≡ first_word tac.now homes.now) }
+    ensures few { IfOk result (λ first. first < 2 ^ 58) }
+{
+    let temps = homes.len() as u64;
+    let areas = tac.areas.as_slice().len() as u64;
+    if temps < 1 << 56 && areas < 1 << 52 {
+        Ok(temps + 16 * areas)
+    } else {
+        Err(NoMemory)
+    }
 }
 
 /// So many temporaries without a home.
@@ -36,6 +52,32 @@ fn no_homes(alloc: Global, count: usize) -> Result<Vec<Option<Home>>, NoMemory>
     ensures { IfOk result (λ given. given.items ≡ replicate count None) }
 {
     Ok(vec![in alloc; None; count]?)
+}
+
+/// Temporaries get their homes, and then parameters their words, where the frame is small.
+fn give_homes(
+    given: &mut [Option<Home>],
+    homes: &[Option<Home>],
+    temps: &[u64],
+    first: u64,
+    parameters: &[Destination],
+)
+    requires { first < 2 ^ 58 }
+    ensures { given.new ≡ if_small (is_small first (length parameters.now)) first parameters.now (with_given homes.now given.old temps.now) }
+{
+    give_all(given, homes, temps);
+    if is_small(first, parameters.len()) {
+        give_words(given, first, parameters);
+    }
+}
+
+/// Whether an instruction reaches all words of a frame, of which so many parameters' words are the last.
+fn is_small(first: u64, parameters: usize) -> bool
+    requires first { first < 2 ^ 58 }
+    requires parameters { parameters < 2 ^ 59 }
+    ensures { result ≡ is_small first parameters }
+{
+    88 + 8 * (first + parameters as u64) <= 2048
 }
 
 /// Temporaries get their homes.
@@ -50,8 +92,44 @@ fn give_all(given: &mut [Option<Home>], homes: &[Option<Home>], temps: &[u64])
 fn give(given: &mut [Option<Home>], homes: &[Option<Home>], t: u64)
     ensures { given.new ≡ slice_set given.old t (home_in (slice_get homes.now t)) }
 {
+    set_home(given, t, home_in(homes, t));
+}
+
+fn set_home(given: &mut [Option<Home>], t: u64, home: Option<Home>)
+    ensures { given.new ≡ slice_set given.old t home }
+{
     if (t as usize) < given.len() {
-        given[t as usize] = home_in(homes, t);
+        given[t as usize] = home;
+    }
+}
+
+/// Parameters get their words in place of slots, the last one that of a number.
+fn give_words(given: &mut [Option<Home>], first: u64, parameters: &[Destination])
+    requires { first < 2 ^ 58 }
+    ensures { given.new ≡ with_words first parameters.now given.old }
+{
+    if let [parameter, rest @ ..] = parameters {
+        give_word(given, *parameter, first + rest.len() as u64);
+        give_words(given, first, rest);
+    }
+}
+
+/// A parameter gets the word of a number in place of a slot.
+fn give_word(given: &mut [Option<Home>], parameter: Destination, word: u64)
+    ensures { given.new ≡ with_word parameter word given.old }
+{
+    if let Destination::Temp(temp) = parameter {
+        let home = slot_instead(word, home_in(given, temp));
+        set_home(given, temp, home);
+    }
+}
+
+fn slot_instead(word: u64, home: Option<Home>) -> Option<Home>
+    ensures { result ≡ slot_instead word home }
+{
+    match home {
+        Some(Home::Slot(_)) => Some(Home::Slot(word)),
+        _ => home,
     }
 }
 

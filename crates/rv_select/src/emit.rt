@@ -331,7 +331,7 @@ fn push_put_to(code: &mut Vec<u32>, home: Home) -> Result<(), NoMemory>
 }
 
 /// Where a slot lies in the frame, in bytes. No memory has a frame of 2 ^ 63 bytes.
-fn slot_offset(slot: u64) -> Result<u64, NoMemory>
+pub(crate) fn slot_offset(slot: u64) -> Result<u64, NoMemory>
     ensures { IfOk result (λ offset. offset ≡ slot_offset slot) }
 {
     if slot < 1 << 60 {

@@ -1,20 +1,20 @@
 // The words by which functions are entered and left.
 
-ghost use Rattle.std.specs.Prelude.{◌≡◌, ◌*◌, ◌+◌, ◌^◌, ◌<◌, ◌≤◌, [], ◌∷◌, ◌++◌, map, length, IfOk, IsTrue, OnOk};
+ghost use Rattle.std.specs.Prelude.{◌≡◌, ◌*◌, ◌+◌, ◌^◌, ◌<◌, ◌≤◌, [], ◌∷◌, ◌++◌, map, length, slice_get, IfOk, IsTrue, OnOk};
 ghost use Rattle.rv_isa.specs.Table.{word_of};
 ghost use Rattle.rv_isa.specs.declared.instr.Instr.TheVariants.{Load, RegisterImmediate, RegisterRegister, Store};
 ghost use Rattle.rv_isa.specs.declared.operation.ImmediateOp.TheVariants.{Addi};
 ghost use Rattle.rv_isa.specs.declared.operation.LoadOp.TheVariants.{Ld};
 ghost use Rattle.rv_isa.specs.declared.operation.StoreOp.TheVariants.{Sd};
 ghost use Rattle.rv_operators.specs.Codes.{zero_immediate};
-ghost use Rattle.rv_select.specs.Entering.{arguments_stored, begun, entered, frame_taken, frames_given, if_used, kept_offset, left, most_arguments, place_given, pointer_down, pointer_up, put_back, put_back_one, received, received_one, region_given, region_taken, result_put, saved, saved_one, size_in, stack_branch, stack_tested, stored_below, x1};
+ghost use Rattle.rv_select.specs.Entering.{arguments_stored, begun, entered, frame_taken, frames_given, if_used, is_before, is_received, kept_offset, left, most_arguments, place_given, pointer_down, pointer_up, put_back, put_back_one, received, received_one, region_given, region_taken, result_put, saved, saved_one, size_in, stack_branch, stack_tested, stored_below, x1};
 ghost use Rattle.rv_select.specs.Numbers.{constant, register_of, short_constant};
 ghost use Rattle.rv_select.specs.Places.{is_register, uses, with_extent, with_homes};
 ghost use Rattle.rv_select.specs.Shapes.{place_number, to_area, x2, x7, x11};
 
 use crate::emit::{
     X0, X2, X5, X7, push_constant, push_far, push_frame_load, push_moved, push_put,
-    push_short_constant, put,
+    push_short_constant, put, slot_offset,
 };
 use crate::instructions::{X4, X8, X11, place_number, push_fault_call};
 use crate::moving::push_to_area;
@@ -462,16 +462,41 @@ pub(crate) fn push_begun(code: &mut Vec<u32>, tac: &Tac) -> Result<(), NoMemory>
     push_place_given(code, tac.frame, tac.place)
 }
 
+/// Whether a parameter is taken from its word, where the words of all begin at an offset of the frame.
+fn is_received(homes: &[Option<Home>], last: u64, parameter: Destination) -> Result<bool, NoMemory>
+    ensures { IfOk result (λ received. received ≡ is_received (with_homes homes.now) last parameter) }
+{
+    match parameter {
+        Destination::Temp(temp) => is_before(homes, last, temp),
+        Destination::Area(_) => Ok(true),
+    }
+}
+
+/// Whether a temporary has a home that lies before the words of parameters.
+fn is_before(homes: &[Option<Home>], last: u64, temp: u64) -> Result<bool, NoMemory>
+    ensures { IfOk result (λ before. before ≡ is_before last (slice_get homes.now temp)) }
+{
+    match homes.get(temp as usize) {
+        Some(Some(Home::Register(_))) => Ok(true),
+        Some(Some(Home::Slot(slot))) => Ok(slot_offset(*slot)? < last),
+        _ => Ok(false),
+    }
+}
+
 /// A parameter from its word, which lies at an offset of the frame.
 fn push_received_one(
     code: &mut Vec<u32>,
     homes: &[Option<Home>],
     sizes: &[u64],
+    last: u64,
     parameter: Destination,
     at: u64,
 ) -> Result<(), NoMemory>
-    ensures { OnOk result (code.new.items ≡ code.old.items ++ map word_of (received_one (with_homes homes.now) sizes.now parameter at)) }
+    ensures { OnOk result (code.new.items ≡ code.old.items ++ map word_of (received_one (with_homes homes.now) sizes.now last parameter at)) }
 {
+    if !is_received(homes, last, parameter)? {
+        return Ok(());
+    }
     push_frame_load(code, LoadOp::Ld, X5, at)?;
     push_result_put(code, homes, sizes, parameter)
 }
@@ -515,7 +540,8 @@ pub(crate) fn push_received(
     ensures { OnOk result (code.new.items ≡ code.old.items ++ map word_of (received (with_homes homes.now) sizes.now last parameters.now)) }
 {
     if let [first, rest @ ..] = parameters {
-        push_received_one(code, homes, sizes, *first, last + 8 * rest.len() as u64)?;
+        let at = last + 8 * rest.len() as u64;
+        push_received_one(code, homes, sizes, last, *first, at)?;
         push_received(code, homes, sizes, rest, last)?;
     }
     Ok(())

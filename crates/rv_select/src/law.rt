@@ -45,7 +45,7 @@ pub fn functions_are_left()
     ensures { FunctionsAreLeft }
 {}
 
-/// The words that are passed to a function go where it takes them, and so do the bytes of areas.
+/// The words that are passed to a function are where it takes them, or go there, and so do the bytes of areas.
 pub fn parameters_are_received()
     ensures { ParametersAreReceived }
 {}

@@ -437,7 +437,7 @@ fn find_places(
 }
 
 /// The machine's code of a function by its three-address code and an assignment. Its temporaries stand where the assignment says, but for
-/// those whose words are only ever taken from x5.
+/// those whose words are only ever taken from x5, and parameters that have a slot, which stay where they are passed.
 pub fn select(alloc: Global, tac: &Tac, assignment: &Assignment) -> Result<Code, NoMemory>
     requires { IsTrue (all_has_code tac.now) }
     ensures selected { IfOk result (λ code. IsSelected tac.now assignment.now code) }
