@@ -1,12 +1,12 @@
 -- What instructions compute that hold a constant.
 use Rattle.std.proofs.Common.{◌≡◌, ℕ, ◌+◌, ◌-◌, ◌*◌, ◌/◌, ◌%◌, ◌^◌, ◌<◌, ◌≤◌, Bool, true, false, not, ◌&&◌, List, [], ◌∷◌, ◌++◌, length, refl, sym, ap, ◌∙◌, subst, ⊎_elim, arith, Option, Some, None}
 use Rattle.std.specs.Prelude.{if◌then◌else◌, nat_eq, nat_le, nat_lt, ◌||◌, bit_and, bit_or, bit_xor, int_lt}
-use Rattle.std.proofs.lemmas.Bool.{cases_eq, cases_lt, eq-eqb, le-leb, le-ltb, leb-true, lt-leb, lt-ltb, ltb-true, ne_eqb}
+use Rattle.std.proofs.lemmas.Bool.{cases_eq, cases_lt, eq-eqb, eqb-true, le-leb, le-ltb, leb-true, lt-leb, lt-ltb, ltb-true, ne_eqb}
 use Rattle.std.proofs.lemmas.List.{length-append}
 use Rattle.std.proofs.lemmas.Nat.{or_lt, xor_lt}
 use Rattle.std.proofs.Math.Nat.{div-le_self}
 use Rattle.rv_isa.specs.declared.instr.Instr.{Instr}
-use Rattle.rv_isa.specs.declared.instr.Instr.TheVariants.{Addiw, RegisterImmediate, RegisterRegister, Shift}
+use Rattle.rv_isa.specs.declared.instr.Instr.TheVariants.{Addiw, RegisterImmediate, RegisterRegister, Shift, ShiftWord}
 use Rattle.rv_isa.specs.declared.operation.ImmediateOp.{ImmediateOp}
 use Rattle.rv_isa.specs.declared.operation.ImmediateOp.TheVariants.{Addi, Slti, Sltiu, Xori, Ori, Andi}
 use Rattle.rv_isa.specs.declared.operation.RegisterOp.TheVariants.{Sltu}
@@ -15,7 +15,7 @@ use Rattle.rv_isa.specs.declared.operation.ShiftOp.{ShiftOp}
 use Rattle.rv_isa.specs.declared.operation.ShiftOp.TheVariants.{Slli, Srli, Srai}
 use Rattle.rv_machine.specs.Word.{low, word, difference, signed, extended_word}
 use Rattle.rv_machine.specs.Machine.{State, GoesOn, act, at_with}
-use Rattle.rv_machine.specs.Arithmetic.{flag, immediate_value, shift_value, shifted_left, shifted_right}
+use Rattle.rv_machine.specs.Arithmetic.{flag, immediate_value, shift_value, shifted_left, shifted_right, word_shifted_left}
 use Rattle.terra_words.specs.declared.words.Width.{Width}
 use Rattle.terra_words.specs.declared.words.BinaryOperator.{BinaryOperator}
 use Rattle.terra_words.specs.declared.words.BinaryOperator.TheVariants.{Add, Subtract, Multiply, Divide, Modulo, Xor, And, Or, ShiftLeft, ShiftRight, Equal, NotEqual, Less, LessEqual, Greater, GreaterEqual}
@@ -36,7 +36,7 @@ use Rattle.rv_operators.proofs.Values.{and-small, equal-words, other-words, sign
 use Rattle.rv_select.specs.Numbers.{below_zero, constant, immediate_of, lower_of}
 use Rattle.rv_select.specs.Places.{Layout}
 use Rattle.rv_select.specs.Shapes.{applied_to, taken}
-use Rattle.rv_select.specs.Folded.{by_number, count_if, count_of, differing, folded, is_folded, is_near, opposite, shift_down, sum_of}
+use Rattle.rv_select.specs.Folded.{by_number, count_if, count_of, differing, folded, is_folded, is_near, is_power, opposite, shift_down, shift_for, shifted_up, sum_of, word_count_if, word_count_of}
 use Rattle.rv_select.proofs.Homes.{operand-count}
 use Rattle.rv_select.proofs.Numbers.{below-is, immediate-is}
 use Rattle.rv_select.proofs.Sequences.{operator-count}
@@ -156,14 +156,52 @@ either-below false m n f g = g
 shifted-below : (x k : ℕ) → x < 2 ^ 64 → shifted_of x k < 2 ^ 64
 shifted-below x k h = either-below (is_negative x) (2 ^ 64 - 1 - (2 ^ 64 - 1 - x) / 2 ^ k) (x / 2 ^ k) (omega arith) (omega (arith, div-le_self x (2 ^ k)))
 
+word-count-if : (n : ℕ) (b : Bool) (e : nat_le n 31 ≡ b) → b ≡ true → (word_count_if n b e).count ≡ n
+word-count-if n true e h = refl
+word-count-if n false e h = cc
+
+-- a shift left multiplies
+up-32 : (k : ℕ) (s : State) → nat_le k 31 ≡ true →
+    Leads (ShiftWord Slli x5 x5 (word_count_of k) ∷ []) s (wrapped (width true 32) (s.registers 5 * 2 ^ k))
+unfolding word_shifted_left
+up-32 k s h =
+    let e : (word_count_of k).count ≡ k = word-count-if k (nat_le k 31) refl h in
+    one (ShiftWord Slli x5 x5 (word_count_of k)) s (extended_word (s.registers 5 * 2 ^ k)) _
+    (ap (λ n. GoesOn (at_with s (low (s.pc + 4)) 5 (extended_word (s.registers 5 * 2 ^ n)))) e) (wrapped-32 (s.registers 5 * 2 ^ k))
+
+up-parts : (sg : Bool) (bits k : ℕ) (s : State) → is_width bits ≡ true → k ≤ 63 →
+    Leads (Shift Slli x5 x5 (count_of k) ∷ cut (width sg bits)) s (wrapped (width sg bits) (s.registers 5 * 2 ^ k))
+up-parts sg bits k s w few =
+    let x : ℕ = s.registers 5 in
+    then-cut sg bits w (Shift Slli x5 x5 (count_of k) ∷ []) s (x * 2 ^ k)
+    (shift-low Slli k bits (x * 2 ^ k) (low (x * 2 ^ k)) s few (left-is x k) (low-word (x * 2 ^ k)) (low-bits bits w (x * 2 ^ k)))
+
+up-is : (sg : Bool) (bits k : ℕ) (s : State) → is_width bits ≡ true → k ≤ 63 →
+    Leads (shifted_up (width sg bits) k) s (wrapped (width sg bits) (s.registers 5 * 2 ^ k))
+up-is false bits k s w few = up-parts false bits k s w few
+up-is true bits k s w few = either (nat_eq bits 32 && nat_le k 31) refl
+  where
+    either : (b : Bool) → (nat_eq bits 32 && nat_le k 31) ≡ b →
+        Leads (if b then ShiftWord Slli x5 x5 (word_count_of k) ∷ [] else Shift Slli x5 x5 (count_of k) ∷ cut (width true bits)) s
+        (wrapped (width true bits) (s.registers 5 * 2 ^ k))
+    either false e = up-parts true bits k s w few
+    either true e =
+        subst (λ n. Leads (ShiftWord Slli x5 x5 (word_count_of k) ∷ []) s (wrapped (width true n) (s.registers 5 * 2 ^ k)))
+        (sym (eqb-true bits 32 (and-left (nat_eq bits 32) (nat_le k 31) e))) (up-32 k s (and-right (nat_eq bits 32) (nat_le k 31) e))
+
+multiply-is : (sg : Bool) (bits c : ℕ) (s : State) → is_width bits ≡ true → is_power c ≡ true →
+    Leads (folded (width sg bits) Multiply c) s (applied (width sg bits) Multiply (s.registers 5) c)
+unfolding applied
+multiply-is sg bits c s w p =
+    let few : shift_for c < 64 = ltb-true (shift_for c) 64 (and-left (nat_lt (shift_for c) 64) (nat_eq (2 ^ shift_for c) c) p) in
+    let same : 2 ^ shift_for c ≡ c = eqb-true (2 ^ shift_for c) c (and-right (nat_lt (shift_for c) 64) (nat_eq (2 ^ shift_for c) c) p) in
+    subst (λ n. Leads (folded (width sg bits) Multiply c) s (wrapped (width sg bits) (s.registers 5 * n))) same
+    (up-is sg bits (shift_for c) s w (omega (arith, few)))
+
 shift-left-is : (sg : Bool) (bits c : ℕ) (s : State) → is_width bits ≡ true →
     Leads (folded (width sg bits) ShiftLeft c) s (applied (width sg bits) ShiftLeft (s.registers 5) c)
 unfolding applied
-shift-left-is sg bits c s w =
-    let x : ℕ = s.registers 5 in
-    let k : ℕ = c % bits in
-    then-cut sg bits w (Shift Slli x5 x5 (count_of k) ∷ []) s (x * 2 ^ k)
-    (shift-low Slli k bits (x * 2 ^ k) (low (x * 2 ^ k)) s (few-counts bits c w) (left-is x k) (low-word (x * 2 ^ k)) (low-bits bits w (x * 2 ^ k)))
+shift-left-is sg bits c s w = up-is sg bits (c % bits) s w (few-counts bits c w)
 
 shift-right-is : (sg : Bool) (bits c : ℕ) (s : State) → is_width bits ≡ true → s.registers 5 < 2 ^ 64 →
     Leads (folded (width sg bits) ShiftRight c) s (applied (width sg bits) ShiftRight (s.registers 5) c)
@@ -307,7 +345,7 @@ by-parts sg bits c Less s w h k f = less-is sg bits c s h k f
 by-parts sg bits c GreaterEqual s w h k f = greater-equal-is sg bits c s h k f
 by-parts sg bits c LessEqual s w h k f = less-equal-is sg bits c s h (ltb-true c 2047 f)
 by-parts sg bits c Greater s w h k f = greater-is sg bits c s h (ltb-true c 2047 f)
-by-parts sg bits c Multiply s w h k f = cc
+by-parts sg bits c Multiply s w h k f = multiply-is sg bits c s w f
 by-parts sg bits c Divide s w h k f = cc
 by-parts sg bits c Modulo s w h k f = cc
 
@@ -341,13 +379,21 @@ test-few c i h = either (nat_eq c 0)
 shift-few : (op : ShiftOp) (c : ℕ) (w : Width) → Fewer 4 (Shift op x5 x5 (count_of c) ∷ cut w)
 shift-few op c w = record { few = omega (arith, (cut-short w).short); straight = (cut-short w).straight }
 
+up-few : (k : ℕ) (w : Width) → Fewer 3 (shifted_up w k)
+up-few k w =
+    either-few (w.signed && (nat_eq w.bits 32 && nat_le k 31)) 3 _ _ (record { few = omega arith; straight = refl })
+    (with-cut (Shift Slli x5 x5 (count_of k)) w (cut-short w).straight)
+
+few-more : (code : List Instr) → Fewer 3 code → Fewer 4 code
+few-more code h = let few : length code ≤ 3 = h.few in record { few = omega (arith, few); straight = h.straight }
+
 pub folded-few : (w : Width) (op : BinaryOperator) (c : ℕ) → Fewer (operator_words op) (folded w op c)
 folded-few w Add c = sum-few w c
 folded-few w Subtract c = sum-few w (opposite c)
 folded-few w Xor c = with-cut (by_number Xori c) w (cut-short w).straight
 folded-few w And c = with-cut (by_number Andi c) w (cut-short w).straight
 folded-few w Or c = with-cut (by_number Ori c) w (cut-short w).straight
-folded-few w ShiftLeft c = shift-few Slli (c % w.bits) w
+folded-few w ShiftLeft c = few-more (shifted_up w (c % w.bits)) (up-few (c % w.bits) w)
 folded-few w ShiftRight c = shift-few (shift_down w.signed) (c % w.bits) w
 folded-few w Equal c = test-few c (RegisterImmediate Sltiu x5 x5 one_immediate) refl
 folded-few w NotEqual c = test-few c (RegisterRegister Sltu x5 x0 x5) refl
@@ -355,7 +401,7 @@ folded-few w Less c = record { few = omega arith; straight = refl }
 folded-few w GreaterEqual c = record { few = omega arith; straight = refl }
 folded-few w LessEqual c = record { few = omega arith; straight = refl }
 folded-few w Greater c = record { few = omega arith; straight = refl }
-folded-few w Multiply c = record { few = omega arith; straight = refl }
+folded-few w Multiply c = up-few (shift_for c) w
 folded-few w Divide c = record { few = omega arith; straight = refl }
 folded-few w Modulo c = record { few = omega arith; straight = refl }
 
@@ -370,13 +416,16 @@ either-some false x y h k = k
 sum-some : (w : Width) (c : ℕ) → 1 ≤ length (sum_of w c)
 sum-some w c = either-some (w.signed && nat_eq w.bits 32) _ _ (omega arith) (omega arith)
 
+up-some : (k : ℕ) (w : Width) → 1 ≤ length (shifted_up w k)
+up-some k w = either-some (w.signed && (nat_eq w.bits 32 && nat_le k 31)) _ _ (omega arith) (omega arith)
+
 folded-some : (w : Width) (op : BinaryOperator) (c : ℕ) → is_folded op c ≡ true → 1 ≤ length (folded w op c)
 folded-some w Add c e = sum-some w c
 folded-some w Subtract c e = sum-some w (opposite c)
 folded-some w Xor c e = omega arith
 folded-some w And c e = omega arith
 folded-some w Or c e = omega arith
-folded-some w ShiftLeft c e = omega arith
+folded-some w ShiftLeft c e = up-some (c % w.bits) w
 folded-some w ShiftRight c e = omega arith
 folded-some w Equal c e = after-some (differing c) _ []
 folded-some w NotEqual c e = after-some (differing c) _ []
@@ -384,7 +433,7 @@ folded-some w Less c e = omega arith
 folded-some w GreaterEqual c e = omega arith
 folded-some w LessEqual c e = omega arith
 folded-some w Greater c e = omega arith
-folded-some w Multiply c e = cc
+folded-some w Multiply c e = up-some (shift_for c) w
 folded-some w Divide c e = cc
 folded-some w Modulo c e = cc
 

@@ -2,17 +2,19 @@
 use Rattle.std.specs.Prelude.{◌≡◌, ℕ, ◌+◌, ◌-◌, ◌%◌, ◌^◌, Bool, true, false, ◌&&◌, ◌||◌, nat_eq, nat_le, nat_lt, if◌then◌else◌, List, [], ◌∷◌, ◌++◌}
 use Rattle.std.proofs.Common.{lit≤, subst, sym, refl}
 use lib.Dec.{T, leb→le}
+use Rattle.std.specs.Int.Count.{count_trailing_zeros}
 use Rattle.rv_isa.specs.declared.instr.Instr.{Instr}
-use Rattle.rv_isa.specs.declared.instr.Instr.TheVariants.{Addiw, RegisterImmediate, RegisterRegister, Shift}
+use Rattle.rv_isa.specs.declared.instr.Instr.TheVariants.{Addiw, RegisterImmediate, RegisterRegister, Shift, ShiftWord}
 use Rattle.rv_isa.specs.declared.operation.ImmediateOp.{ImmediateOp}
 use Rattle.rv_isa.specs.declared.operation.ImmediateOp.TheVariants.{Addi, Slti, Sltiu, Xori, Ori, Andi}
 use Rattle.rv_isa.specs.declared.operation.RegisterOp.TheVariants.{Sltu}
 use Rattle.rv_isa.specs.declared.operation.ShiftOp.{ShiftOp}
 use Rattle.rv_isa.specs.declared.operation.ShiftOp.TheVariants.{Slli, Srli, Srai}
 use Rattle.rv_isa.specs.declared.operand.ShiftCount.{ShiftCount}
+use Rattle.rv_isa.specs.declared.operand.WordShiftCount.{WordShiftCount}
 use Rattle.terra_words.specs.declared.words.Width.{Width}
 use Rattle.terra_words.specs.declared.words.BinaryOperator.{BinaryOperator}
-use Rattle.terra_words.specs.declared.words.BinaryOperator.TheVariants.{Add, Subtract, Xor, And, Or, ShiftLeft, ShiftRight, Equal, NotEqual, Less, LessEqual, Greater, GreaterEqual}
+use Rattle.terra_words.specs.declared.words.BinaryOperator.TheVariants.{Add, Subtract, Multiply, Xor, And, Or, ShiftLeft, ShiftRight, Equal, NotEqual, Less, LessEqual, Greater, GreaterEqual}
 use Rattle.rv_operators.specs.Codes.{cut, one_immediate, x0, x5}
 use Rattle.rv_select.specs.Numbers.{lower_of}
 
@@ -32,6 +34,21 @@ count_if n false e = record { count = 0; in_range = lit≤ tt }
 abbrev pub count_of : ℕ → ShiftCount
 count_of n = count_if n (nat_le n 63) refl
 
+-- the same of 32 bits; no count is above 31
+abbrev pub word_count_if : (n : ℕ) (fits : Bool) → nat_le n 31 ≡ fits → WordShiftCount
+word_count_if n true e = record { count = n; in_range = leb→le n 31 (subst T (sym e) tt) }
+word_count_if n false e = record { count = 0; in_range = lit≤ tt }
+
+abbrev pub word_count_of : ℕ → WordShiftCount
+word_count_of n = word_count_if n (nat_le n 31) refl
+
+-- the count of the shift that multiplies by a power of two, and which numbers are one
+unfoldable pub shift_for : ℕ → ℕ
+shift_for c = count_trailing_zeros 64 c
+
+abbrev pub is_power : ℕ → Bool
+is_power c = nat_lt (shift_for c) 64 && nat_eq (2 ^ shift_for c) c
+
 -- x5 and a number
 abbrev pub by_number : ImmediateOp → ℕ → Instr
 by_number op c = RegisterImmediate op x5 x5 (lower_of c)
@@ -39,6 +56,12 @@ by_number op c = RegisterImmediate op x5 x5 (lower_of c)
 -- their sum: at 32 bits with a sign one instruction adds and cuts
 abbrev pub sum_of : Width → ℕ → List Instr
 sum_of w c = if w.signed && nat_eq w.bits 32 then Addiw x5 x5 (lower_of c) ∷ [] else by_number Addi c ∷ cut w
+
+-- x5 shifted left: at 32 bits with a sign, and by fewer, one instruction shifts and cuts
+abbrev pub shifted_up : Width → ℕ → List Instr
+shifted_up w k =
+    if w.signed && (nat_eq w.bits 32 && nat_le k 31) then ShiftWord Slli x5 x5 (word_count_of k) ∷ []
+    else Shift Slli x5 x5 (count_of k) ∷ cut w
 
 abbrev pub test_of : Bool → ImmediateOp
 test_of true = Slti
@@ -61,6 +84,7 @@ shift_down false = Srli
 abbrev pub is_folded : BinaryOperator → ℕ → Bool
 is_folded Add c = is_near c
 is_folded Subtract c = nat_lt 0 c && is_near (opposite c)
+is_folded Multiply c = is_power c
 is_folded Xor c = is_near c
 is_folded And c = is_near c
 is_folded Or c = is_near c
@@ -78,10 +102,11 @@ is_folded _ c = false
 abbrev pub folded : Width → BinaryOperator → ℕ → List Instr
 folded w Add c = sum_of w c
 folded w Subtract c = sum_of w (opposite c)
+folded w Multiply c = shifted_up w (shift_for c)
 folded w Xor c = by_number Xori c ∷ cut w
 folded w And c = by_number Andi c ∷ cut w
 folded w Or c = by_number Ori c ∷ cut w
-folded w ShiftLeft c = Shift Slli x5 x5 (count_of (c % w.bits)) ∷ cut w
+folded w ShiftLeft c = shifted_up w (c % w.bits)
 folded w ShiftRight c = Shift (shift_down w.signed) x5 x5 (count_of (c % w.bits)) ∷ cut w
 folded w Equal c = differing c ++ RegisterImmediate Sltiu x5 x5 one_immediate ∷ []
 folded w NotEqual c = differing c ++ RegisterRegister Sltu x5 x0 x5 ∷ []

@@ -1,18 +1,18 @@
 // The words of operators of x5 and a constant that instructions hold.
 
-ghost use Rattle.std.specs.Prelude.{◌≡◌, ◌+◌, ◌%◌, ◌<◌, ◌≤◌, [], ◌∷◌, ◌++◌, map, IsTrue, OnOk};
+ghost use Rattle.std.specs.Prelude.{◌≡◌, ◌+◌, ◌%◌, ◌^◌, ◌<◌, ◌≤◌, [], ◌∷◌, ◌++◌, map, IsTrue, OnOk};
 ghost use Rattle.rv_isa.specs.declared.instr.Instr.TheVariants as instrs;
 ghost use Rattle.rv_isa.specs.declared.operation.ImmediateOp.TheVariants as immediates;
 ghost use Rattle.rv_isa.specs.declared.operation.RegisterOp.TheVariants as ops;
 ghost use Rattle.rv_isa.specs.Table.{word_of};
 ghost use Rattle.tac_form.specs.Flow.{width_of};
 ghost use Rattle.rv_operators.specs.Codes.{cut, one_immediate, x0, x5};
-ghost use Rattle.rv_select.specs.Folded.{by_number, count_of, differing, folded, is_folded, is_near, opposite, shift_down, sum_of, test_of, turned_round};
+ghost use Rattle.rv_select.specs.Folded.{by_number, count_of, differing, folded, is_folded, is_near, is_power, opposite, shift_down, shift_for, shifted_up, sum_of, test_of, turned_round, word_count_of};
 
 use crate::emit::{X0, X5, put};
 use crate::instructions::{bytes_of, width_of};
 use crate::operands::lower;
-use rv_isa::{Immediate, ImmediateOp, Instr, RegisterOp, ShiftCount, ShiftOp};
+use rv_isa::{Immediate, ImmediateOp, Instr, RegisterOp, ShiftCount, ShiftOp, WordShiftCount};
 use rv_operators::push_cut;
 use tac_form::Number;
 use terra_words::BinaryOperator;
@@ -28,6 +28,7 @@ pub(crate) fn is_folded(operator: BinaryOperator, number: u64) -> bool
     match operator {
         BinaryOperator::Add => is_near(number),
         BinaryOperator::Subtract => 0 < number && is_near(opposite(number)),
+        BinaryOperator::Multiply => is_power(number),
         BinaryOperator::Xor => is_near(number),
         BinaryOperator::And => is_near(number),
         BinaryOperator::Or => is_near(number),
@@ -50,6 +51,30 @@ fn is_near(number: u64) -> bool
     number < 2048 || number >= BELOW_ZERO
 }
 
+/// Whether a number is a power of two.
+fn is_power(number: u64) -> bool
+    ensures { result ≡ is_power number }
+{
+    let count = shift_for(number);
+    count < 64 && power(count) == number
+}
+
+/// The count of the shift that multiplies by a power of two.
+#[tactic(auto, unfolding(crate::specs::Folded::shift_for))]
+fn shift_for(number: u64) -> u64
+    ensures { result ≡ shift_for number }
+{
+    number.trailing_zeros() as u64
+}
+
+/// `2 ^ count`.
+fn power(count: u64) -> u64
+    requires { count ≤ 63 }
+    ensures { result ≡ 2 ^ count }
+{
+    1 << count
+}
+
 /// What to add in place of taking away.
 fn opposite(number: u64) -> u64
     ensures { result ≡ opposite number }
@@ -70,11 +95,17 @@ pub(crate) fn push_folded(
     match operator {
         BinaryOperator::Add => push_sum(code, form, number),
         BinaryOperator::Subtract => push_sum(code, form, opposite(number)),
+        BinaryOperator::Multiply => push_shifted_up(code, form, shift_for(number)),
         BinaryOperator::Xor => push_cut_number(code, form, ImmediateOp::Xori, number),
         BinaryOperator::And => push_cut_number(code, form, ImmediateOp::Andi, number),
         BinaryOperator::Or => push_cut_number(code, form, ImmediateOp::Ori, number),
-        BinaryOperator::ShiftLeft => push_shift(code, form, ShiftOp::Slli, number),
-        BinaryOperator::ShiftRight => push_shift(code, form, shift_down(form.signed), number),
+        BinaryOperator::ShiftLeft => push_shifted_up(code, form, number % (8 * bytes_of(form.size))),
+        BinaryOperator::ShiftRight => push_shift(
+            code,
+            form,
+            shift_down(form.signed),
+            number % (8 * bytes_of(form.size)),
+        ),
         BinaryOperator::Equal => push_equal(code, number),
         BinaryOperator::NotEqual => push_not_equal(code, number),
         BinaryOperator::Less => push_number(code, test_of(form.signed), number),
@@ -131,11 +162,32 @@ fn push_sum(code: &mut Vec<u32>, form: Number, number: u64) -> Result<(), NoMemo
     }
 }
 
-/// A shift by a number of bits modulo the width.
-fn push_shift(code: &mut Vec<u32>, form: Number, op: ShiftOp, number: u64) -> Result<(), NoMemory>
-    ensures { OnOk result (code.new.items ≡ code.old.items ++ map word_of (instrs.Shift op x5 x5 (count_of (number % (width_of form).bits)) ∷ cut (width_of form))) }
+/// A shift left: at 32 bits with a sign one instruction shifts and cuts.
+fn push_shifted_up(code: &mut Vec<u32>, form: Number, bits: u64) -> Result<(), NoMemory>
+    requires { bits ≤ 63 }
+    ensures { OnOk result (code.new.items ≡ code.old.items ++ map word_of (shifted_up (width_of form) bits)) }
 {
-    let count = count_of(number % (8 * bytes_of(form.size)));
+    if form.signed && 8 * bytes_of(form.size) == 32 && bits <= 31 {
+        put(
+            code,
+            Instr::ShiftWord {
+                op: ShiftOp::Slli,
+                rd: X5,
+                rs1: X5,
+                count: word_count_of(bits),
+            },
+        )
+    } else {
+        push_shift(code, form, ShiftOp::Slli, bits)
+    }
+}
+
+/// A shift, and the cut to the width.
+fn push_shift(code: &mut Vec<u32>, form: Number, op: ShiftOp, bits: u64) -> Result<(), NoMemory>
+    requires { bits ≤ 63 }
+    ensures { OnOk result (code.new.items ≡ code.old.items ++ map word_of (instrs.Shift op x5 x5 (count_of bits) ∷ cut (width_of form))) }
+{
+    let count = count_of(bits);
     put(
         code,
         Instr::Shift {
@@ -154,6 +206,16 @@ fn count_of(number: u64) -> ShiftCount
     ensures { result.count ≡ (count_of number).count }
 {
     ShiftCount {
+        count: number as u8,
+    }
+}
+
+/// That of a shift of 32 bits.
+fn word_count_of(number: u64) -> WordShiftCount
+    requires { number ≤ 31 }
+    ensures { result.count ≡ (word_count_of number).count }
+{
+    WordShiftCount {
         count: number as u8,
     }
 }
