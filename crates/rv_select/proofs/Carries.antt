@@ -132,6 +132,12 @@ given : (written : List ℕ) {y : Layout} {program : List (Option Instr)} {Next 
     (out : List ℕ) × (written ≡ written ++ out) × (c : Comes y program Next w base weight target out m) × IsHeld (Some d) w.temps c.after
 given written g = ([], nothing-written written, g.comes, g.five)
 
+-- one that may leave it there
+told : (written : List ℕ) (held : Option ℕ) {y : Layout} {program : List (Option Instr)} {Next : ℕ → Type 0} {w : World}
+    {base weight target : ℕ} {m : State} → (c : Comes y program Next w base weight target [] m) × IsHeld held w.temps c.after →
+    (out : List ℕ) × (written ≡ written ++ out) × (c : Comes y program Next w base weight target out m) × IsHeld held w.temps c.after
+told written held g = ([], nothing-written written, g.0, g.1)
+
 carry-copy : (p : Program) (code : Tac) (homes : List (Option Home)) (held : Option ℕ) (d : ℕ) (a : Operand) (s : tac.State) (program : List (Option Instr)) (base : ℕ) (m : State) →
     StandsBefore p code homes held (Copy d a) s program base m →
     Carried (layout_of code homes) (graph_of code) program base (words_of (Copy d a)) (held_after (Copy d a)) (shape_of (layout_of code homes) held (Copy d a)) s m (step p s)
@@ -140,7 +146,7 @@ carry-copy p code homes held d a s program base m x =
     let e1 = x.function in
     let e2 = x.in_function in
     let e3 = x.in_block in
-    rw (e1, e2, e3) (given s.out (copies (layout_of code homes) held d a (used code s) (next code s) (world_of s) base program m x.stands x.five x.holds
+    rw (e1, e2, e3) (told s.out (held_after (Copy d a)) (copies (layout_of code homes) held d a (used code s) (next code s) (world_of s) base program m x.stands x.five x.holds
     (housed code homes s.here.block s.here.at x.right) (housed code homes s.here.block (suc s.here.at) x.right)
     (first-read code (layout_of code homes) held (used code s) a fit.1 (reads p code homes held (Copy d a) s program base m x)
     (λ t u. x.asked t (has-right (d ∷ []) (first_asks held a) t u)))

@@ -20,7 +20,7 @@ use Rattle.tac_form.specs.Flow.{bytes_of, put, width_of}
 use Rattle.tac_form.specs.Weights.{words_of}
 use Rattle.rv_operators.specs.Runs.{Stands}
 use Rattle.rv_select.specs.Places.{HasHome, IsFirst, IsHeld, Layout, World, Holds, Housed, IsRead, value_in}
-use Rattle.rv_select.specs.Shapes.{copied, computed, divisor_tested, is_turned, loaded, located, put_at, stored}
+use Rattle.rv_select.specs.Shapes.{copied, computed, divisor_tested, held_after, is_turned, loaded, located, put_at, stored}
 use Rattle.rv_select.specs.Steps.{AreFewer, Comes, Ends, Follows, IsPlace, behind, with_temp}
 
 -- The machine comes somewhere with the word of a temporary in x5.
@@ -34,7 +34,8 @@ CopiesAreCarried =
     (y : Layout) (held : Option ℕ) (d : ℕ) (a : Operand) (Used Next : ℕ → Type 0) (w : World) (base : ℕ) (program : List (Option Instr)) (m : State) →
     Stands program m.pc (copied y held d a) → IsHeld held w.temps m → Holds y Used w base m → Housed y Used → Housed y Next →
     IsFirst y held Used a → Next d → HasHome y d → Follows Used Next d →
-    Gives y program Next (with_temp w d (value_in w.temps a)) base (words_of (Copy d a)) (behind m (copied y held d a)) d m
+    (c : Comes y program Next (with_temp w d (value_in w.temps a)) base (words_of (Copy d a)) (behind m (copied y held d a)) [] m) ×
+    IsHeld (held_after (Copy d a)) (with_temp w d (value_in w.temps a)).temps c.after
 
 -- an operator on numbers, whose divisor isn't zero
 abbrev pub OperatorsAreCarried : Type 1

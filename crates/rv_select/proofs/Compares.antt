@@ -5,6 +5,7 @@ use Rattle.std.specs.List.{list_any}
 use Rattle.std.proofs.lemmas.Bool.{eq-eqb, ne_eqb, eqb-true}
 use Rattle.std.proofs.lemmas.List.{length-append}
 use Rattle.rv_isa.specs.declared.instr.Instr.{Instr}
+use Rattle.rv_isa.specs.declared.operand.Register.{Register}
 use Rattle.rv_isa.specs.Table.{word_of}
 use Rattle.reg_alloc.specs.declared.assignment.Home.{Home}
 use Rattle.rv_machine.specs.Word.{signed}
@@ -29,19 +30,20 @@ use Rattle.tac_form.specs.Live.{InUse, IsLive, has, read_within}
 use Rattle.tac_form.specs.Fits.{edge_fits, operand_fits}
 use Rattle.tac_form.specs.Weights as weights
 use Rattle.tac_form.specs.Weights.{exit_words, words_of}
-use Rattle.rv_operators.specs.Codes.{is_comparison, x6}
+use Rattle.rv_operators.specs.Codes.{is_comparison}
 use Rattle.rv_operators.proofs.Values.{signed-less}
 use Rattle.rv_select.specs.Asked.{first_asks}
 use Rattle.rv_select.specs.Places.{Holds, Housed, IsFirst, IsRead, Layout, World, layout_of, value_in}
 use Rattle.rv_select.specs.declared.settings.Follows.{Follows}
 use Rattle.rv_select.specs.declared.settings.Follows.TheVariants.{First, Second}
 use Rattle.rv_select.specs.Settings.{follower}
-use Rattle.rv_select.specs.Shapes.{first_taken, taken}
-use Rattle.rv_select.specs.Compared.{ComparesAreCarried, ComparesKeepWithin, StandsAtCompare, below_condition, compared, compared_shape, condition_of, least_condition, left_of, operands_taken, right_of}
+use Rattle.rv_select.specs.Compared.{ComparesAreCarried, ComparesKeepWithin, StandsAtCompare, below_condition, compared, compared_shape, condition_of, first_of, least_condition, left_of, operands_taken, right_of, second_of}
 use Rattle.rv_select.specs.Steps.{AreFewer, Comes, Left, with_temp, world_of}
 use Rattle.rv_select.proofs.Straight.{Loads, Scratch, loads-five, loads-six, scratch-both}
 use Rattle.rv_select.proofs.Homes.{first-count, first-few, operand-count, take-first, take-operand, taken-count}
 use Rattle.rv_select.proofs.Moves.{fewer-holds, first-small, scratch-holds, unused-holds, value-small}
+use Rattle.rv_select.proofs.Sides.{Sides, both-sides, sides-count, sides-few}
+use Rattle.rv_select.proofs.Moves.{first-small, value-small}
 use Rattle.rv_select.proofs.Numbers.{pushed_words}
 use Rattle.rv_select.proofs.Lives.{housed, read-live, step-in-graph, use-follows}
 use Rattle.rv_select.proofs.Carries.{both-true, by-test, first-read, has-left, has-right, operand-read}
@@ -65,25 +67,29 @@ least : (b : Bool) (x y : ℕ) → x < 2 ^ 64 → y < 2 ^ 64 → (u v : ℕ) →
 least true x y h k u v e g = ap (λ z. not (int_lt (signed z) (signed v))) e ∙ (ap (λ z. not (int_lt (signed x) (signed z))) g ∙ ap not (signed-less x y h k))
 least false x y h k u v e g = ap (λ z. not (nat_lt z v)) e ∙ ap (λ z. not (nat_lt x z)) g
 
-compare-is : (w : Width) (op : BinaryOperator) (x y : ℕ) → is_comparison op ≡ true → x < 2 ^ 64 → y < 2 ^ 64 →
-    (m : State) → m.registers 5 ≡ x → m.registers 6 ≡ y → is_taken (condition_of w.signed op) (value_at m (left_of op)) (value_at m (right_of op)) ≡ not (nat_eq (applied w op x y) 0)
+compare-is : (w : Width) (op : BinaryOperator) (x y : ℕ) → is_comparison op ≡ true → x < 2 ^ 64 → y < 2 ^ 64 → (a b : Register) →
+    (m : State) → value_at m a ≡ x → value_at m b ≡ y →
+    is_taken (condition_of w.signed op) (value_at m (left_of op a b)) (value_at m (right_of op a b)) ≡ not (nat_eq (applied w op x y) 0)
 unfolding applied
-compare-is w Equal x y c h k m e g = ap (λ v. nat_eq v (m.registers 6)) e ∙ (ap (λ v. nat_eq x v) g ∙ sym (flag-is (nat_eq x y)))
-compare-is w NotEqual x y c h k m e g = ap (λ v. not (nat_eq v (m.registers 6))) e ∙ (ap (λ v. not (nat_eq x v)) g ∙ sym (flag-is (not (nat_eq x y))))
-compare-is w Less x y c h k m e g = less w.signed x y h k (m.registers 5) (m.registers 6) e g ∙ sym (flag-is (is_less w x y))
-compare-is w Greater x y c h k m e g = less w.signed y x k h (m.registers 6) (m.registers 5) g e ∙ sym (flag-is (is_less w y x))
-compare-is w LessEqual x y c h k m e g = least w.signed y x k h (m.registers 6) (m.registers 5) g e ∙ sym (flag-is (not (is_less w y x)))
-compare-is w GreaterEqual x y c h k m e g = least w.signed x y h k (m.registers 5) (m.registers 6) e g ∙ sym (flag-is (not (is_less w x y)))
-compare-is w Add x y c h k m e g = cc
-compare-is w Subtract x y c h k m e g = cc
-compare-is w Multiply x y c h k m e g = cc
-compare-is w Divide x y c h k m e g = cc
-compare-is w Modulo x y c h k m e g = cc
-compare-is w Xor x y c h k m e g = cc
-compare-is w And x y c h k m e g = cc
-compare-is w Or x y c h k m e g = cc
-compare-is w ShiftLeft x y c h k m e g = cc
-compare-is w ShiftRight x y c h k m e g = cc
+compare-is w Equal x y c h k a b m e g = ap (λ v. nat_eq v (value_at m b)) e ∙ (ap (λ v. nat_eq x v) g ∙ sym (flag-is (nat_eq x y)))
+compare-is w NotEqual x y c h k a b m e g =
+    ap (λ v. not (nat_eq v (value_at m b))) e ∙ (ap (λ v. not (nat_eq x v)) g ∙ sym (flag-is (not (nat_eq x y))))
+compare-is w Less x y c h k a b m e g = less w.signed x y h k (value_at m a) (value_at m b) e g ∙ sym (flag-is (is_less w x y))
+compare-is w Greater x y c h k a b m e g = less w.signed y x k h (value_at m b) (value_at m a) g e ∙ sym (flag-is (is_less w y x))
+compare-is w LessEqual x y c h k a b m e g =
+    least w.signed y x k h (value_at m b) (value_at m a) g e ∙ sym (flag-is (not (is_less w y x)))
+compare-is w GreaterEqual x y c h k a b m e g =
+    least w.signed x y h k (value_at m a) (value_at m b) e g ∙ sym (flag-is (not (is_less w x y)))
+compare-is w Add x y c h k a b m e g = cc
+compare-is w Subtract x y c h k a b m e g = cc
+compare-is w Multiply x y c h k a b m e g = cc
+compare-is w Divide x y c h k a b m e g = cc
+compare-is w Modulo x y c h k a b m e g = cc
+compare-is w Xor x y c h k a b m e g = cc
+compare-is w And x y c h k a b m e g = cc
+compare-is w Or x y c h k a b m e g = cc
+compare-is w ShiftLeft x y c h k a b m e g = cc
+compare-is w ShiftRight x y c h k a b m e g = cc
 
 -- what is in use but for a temporary
 abbrev without : (ℕ → Type 0) → ℕ → ℕ → Type 0
@@ -166,15 +172,10 @@ module _ (p : Program) (code : Tac) (homes : List (Option Home)) (held : Option 
   compare-comes : (taken_it : Bool) (c : ℕ) → not (nat_eq result 0) ≡ taken_it → (if taken_it then e.block else f.block) ≡ c → (IsLive (graph_of code) c 0 d → ⊥) →
       ((q : ℕ → Bool) → q c ≡ true → list_any q (exit_next (Branch (Temp d) e f)) ≡ true) → Comes y program (InUse (graph_of code) c 0) (world_of after_it) base weight (starts c) [] m
   compare-comes taken_it c is block unread h =
-      let l : Loads 5 (first_taken y held a) m va = take-first y held used (world_of s) base m a x.five x.holds all-housed read-a in
-      let q : Holds y used (world_of s) base l.after = scratch-holds y used (world_of s) base (first_taken y held a) m l.after x.holds all-housed (loads-five (first_taken y held a) m va l) in
-      let k : Loads 6 (taken y x6 b) l.after vb =
-      take-operand y x6 used (world_of s) base l.after b (λ i. omega (arith, i)) (λ i. omega (arith, i)) q all-housed read-b in
-      let five : k.after.registers 5 ≡ va = k.keeps 5 (λ i. omega (arith, i)) (λ i. omega (arith, i)) ∙ l.gives in
-      let both : Scratch A m k.after = scratch-both (first_taken y held a) (taken y x6 b) m l.after k.after (loads-five (first_taken y held a) m va l) (loads-six (taken y x6 b) l.after vb k) in
-      let count : length A ≤ weights.operand_words a + weights.operand_words b =
-      omega (arith, length-append (first_taken y held a) (taken y x6 b), first-count y held a, operand-count y x6 b) in
-      let few : length A ≤ 16 = omega (arith, length-append (first_taken y held a) (taken y x6 b), first-few y held a, taken-count y x6 b) in
+      let k : Sides A m (first_of a) (second_of b) va vb =
+      both-sides y held used (world_of s) base m a b x.five x.holds all-housed read-a read-b in
+      let count : length A ≤ weights.operand_words a + weights.operand_words b = sides-count y held a b in
+      let few : length A ≤ 16 = sides-few y held a b in
       let o : Follows = follower x.setting.next e.block f.block in
       let C : List Instr = compared_shape y x.setting held m.pc starts op form a b e f in
       let first-next : o ≡ First → starts e.block ≡ m.pc + 4 * length C =
@@ -182,12 +183,13 @@ module _ (p : Program) (code : Tac) (homes : List (Option Home)) (held : Option 
       let second-next : o ≡ Second → starts f.block ≡ m.pc + 4 * length C =
       λ g. x.next_there f.block (follower-second x.setting.next e.block f.block g) in
       chosen-comes y (without used d) (InUse (graph_of code) c 0) (world_of after_it) base (starts e.block) (starts f.block) (starts c) weight x.setting.near x.setting.short o
-      (condition_of form.signed op) (left_of op) (right_of op) taken_it A program m k.after
-      both (unread-holds y used (world_of s) base d result m x.holds) (record { homes = λ t u k. all-housed.homes t u.0 k; apart = λ t u i j k o g. all-housed.apart t u i.0 j.0 k o g }) (next-here c unread h)
+      (condition_of form.signed op) (left_of op (first_of a) (second_of b)) (right_of op (first_of a) (second_of b)) taken_it A program m k.after
+      k.scratch (unread-holds y used (world_of s) base d result m x.holds) (record { homes = λ t u k. all-housed.homes t u.0 k; apart = λ t u i j k o g. all-housed.apart t u i.0 j.0 k o g }) (next-here c unread h)
       (omega (arith, count)) few x.near (x.blocks e.block) (x.blocks f.block) (edge-reach code starts m.pc x.setting.short e x.short_is x.reach fit-e)
       (edge-reach code starts m.pc x.setting.short f x.short_is x.reach fit-f) (edge-near code starts m.pc x.setting.near e x.near_is x.reach fit-e)
       (edge-near code starts m.pc x.setting.near f x.near_is x.reach fit-f) first-next second-next x.stands
-      (compare-is (width_of form) op va vb x.compares (first-small held used y (world_of s) base m a x.holds read-a) (value-small used y (world_of s) base m b x.holds read-b) k.after five k.gives ∙ is)
+      (compare-is (width_of form) op va vb x.compares (first-small held used y (world_of s) base m a x.holds read-a) (value-small used y (world_of s) base m b x.holds read-b)
+      (first_of a) (second_of b) k.after k.first k.second ∙ is)
       (chosen-start taken_it c block)
     where
       chosen-start : (t : Bool) (c : ℕ) → (if t then e.block else f.block) ≡ c → (if t then starts e.block else starts f.block) ≡ starts c
@@ -229,11 +231,13 @@ compares p code homes held d op form a b e f starts s program base m x =
 
 -- how many words there are
 compared-count : (y : Layout) (near short : Bool) (o : Follows) (held : Option ℕ) (signed : Bool) (op : BinaryOperator) (a b : Operand) (at first second : ℕ) →
-    length (operands_taken y held a b ++ compared near short o signed op at first second) ≡
+    length (operands_taken y held a b ++ compared near short o signed op (first_of a) (second_of b) at first second) ≡
     length (operands_taken y held a b) + chosen_words near short o
 compared-count y near short o held signed op a b at first second =
-    length-append (operands_taken y held a b) (compared near short o signed op at first second)
-    ∙ ap (λ n. length (operands_taken y held a b) + n) (chosen-count near short o (condition_of signed op) (left_of op) (right_of op) at first second)
+    let l : Register = left_of op (first_of a) (second_of b) in
+    let r : Register = right_of op (first_of a) (second_of b) in
+    length-append (operands_taken y held a b) (compared near short o signed op (first_of a) (second_of b) at first second)
+    ∙ ap (λ n. length (operands_taken y held a b) + n) (chosen-count near short o (condition_of signed op) l r at first second)
 
 pub compares-within : ComparesKeepWithin
 compares-within y setting held d op form a b e f at other starts others =
@@ -241,11 +245,11 @@ compares-within y setting held d op form a b e f at other starts others =
     let n : length (compared_shape y setting held at starts op form a b e f) ≡ length (operands_taken y held a b) + chosen_words setting.near setting.short o =
     compared-count y setting.near setting.short o held form.signed op a b (at + 4 * length (operands_taken y held a b)) (starts e.block) (starts f.block) in
     let few : chosen_words setting.near setting.short o ≤ 5 = chosen-few setting.near setting.short o in (
-      omega (arith, n, few, length-append (first_taken y held a) (taken y x6 b), first-few y held a, taken-count y x6 b),
-      omega (arith, n, few, length-append (first_taken y held a) (taken y x6 b), first-count y held a, operand-count y x6 b),
+      omega (arith, n, few, sides-few y held a b),
+      omega (arith, n, few, sides-count y held a b),
       n ∙ sym (compared-count y setting.near setting.short o held form.signed op a b (other + 4 * length (operands_taken y held a b)) (others e.block) (others f.block)),
     )
 
 pub operand_words : (old : List ℕ) (y : Layout) (held : Option ℕ) (a b : Operand) →
     (length (old ++ map word_of (operands_taken y held a b)) ≡ length old + length (operands_taken y held a b)) × (length (operands_taken y held a b) ≤ 16)
-operand_words old y held a b = (pushed_words old (operands_taken y held a b), omega (arith, length-append (first_taken y held a) (taken y x6 b), first-few y held a, taken-count y x6 b))
+operand_words old y held a b = (pushed_words old (operands_taken y held a b), sides-few y held a b)

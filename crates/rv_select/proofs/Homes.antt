@@ -23,7 +23,7 @@ use Rattle.rv_operators.specs.Runs.{AreStraight}
 use Rattle.rv_operators.proofs.Runs.{straight-both}
 use Rattle.rv_select.specs.Places.{AreBytes, Layout, World, HasFrame, Holds, Housed, IsFirst, IsHeld, IsHome, IsRead, IsSlot, area_offset, frame_bytes, home_of, is_given, or_first, private_word, slot_offset, value_in, word_at}
 use Rattle.rv_select.specs.Numbers.{constant, register_of}
-use Rattle.rv_select.specs.Shapes.{first_taken, is_held, moved, put_at, put_in, put_to, taken, taken_from}
+use Rattle.rv_select.specs.Shapes.{first_taken, is_held, moved, put_at, put_from, put_in, put_to, taken, taken_from}
 use Rattle.rv_select.proofs.Bytes.{other-than-word, private-place, stored-length, stored-word}
 use Rattle.rv_select.proofs.Numbers.{constant-count, constant-loads, one-count, register-is, small-count}
 use Rattle.rv_select.proofs.Straight.{Loads, behind-both, goes-both, loads-one, low-first, low-here, low-small, register-value, written-elsewhere, written-there}
@@ -169,9 +169,9 @@ first-count y held a = omega (arith, first-least y held a, operand-count y x5 a)
 pub first-few : (y : Layout) (held : Option ℕ) (a : Operand) → length (first_taken y held a) ≤ 8
 first-few y held a = omega (arith, first-least y held a, taken-count y x5 a)
 
-pub put-count : (h : Home) → length (put_to h) ≤ 3
-put-count (homes.Register x) = omega arith
-put-count (homes.Slot k) = framed-count (λ r offset. Store Sd r x5 offset) (slot_offset k)
+pub put-count : (a : Register) (h : Home) → length (put_from a h) ≤ 3
+put-count a (homes.Register x) = omega arith
+put-count a (homes.Slot k) = framed-count (λ r offset. Store Sd r a offset) (slot_offset k)
 
 -- where a temporary has a home, the code puts to it, and else there is none
 put-there : (o : Option (Option Home)) → is_given o ≡ true → put_in o ≡ put_to (or_first o)
@@ -194,7 +194,7 @@ pub put-few : (y : Layout) (d : ℕ) → length (put_at y d) ≤ 3
 put-few y d = either (slice_get y.homes d)
   where
     either : (o : Option (Option Home)) → length (put_in o) ≤ 3
-    either (Some (Some h)) = put-count h
+    either (Some (Some h)) = put-count x5 h
     either (Some None) = omega arith
     either None = omega arith
 
@@ -204,11 +204,11 @@ pub record SameOutside (first behind : ℕ) (m after : State) : Type 0 where
   pub bytes : AreBytes m.private → AreBytes after.private
   pub outside : (at n : ℕ) → (at + n ≤ first) ⊎ (behind ≤ at) → take n (drop at after.private) ≡ take n (drop at m.private)
 
--- Code that puts the word in x5 to a home and changes no other.
-pub record Puts (y : Layout) (base : ℕ) (code : List Instr) (m : State) (h : Home) : Type 0 where
+-- Code that puts a word to a home and changes no other.
+pub record Puts (y : Layout) (base : ℕ) (code : List Instr) (m : State) (h : Home) (v : ℕ) : Type 0 where
   pub after : State
   pub goes : acts code m ≡ GoesOn after
-  pub holds : word_at base after h ≡ m.registers 5
+  pub holds : word_at base after h ≡ v
   pub behind : after.pc ≡ low (m.pc + 4 * length code)
   pub others : (g : Home) → IsHome y g → (g ≡ h → ⊥) → word_at base after g ≡ word_at base m g
   pub keeps : (r : ℕ) → r ≢ 7 → (h ≡ homes.Register r → ⊥) → after.registers r ≡ m.registers r
@@ -216,29 +216,28 @@ pub record Puts (y : Layout) (base : ℕ) (code : List Instr) (m : State) (h : H
   pub memory : SameOutside (base + home_first h) (base + home_behind h) m after
   pub straight : AreStraight code
 
-to-register : (y : Layout) (base x : ℕ) (m : State) → 18 ≤ x → x ≤ 27 → m.registers 5 < 2 ^ 64 → Puts y base (put_to (homes.Register x)) m (homes.Register x)
-to-register y base x m l u s =
-    let z : m.registers 5 + 0 ≡ m.registers 5 = omega arith in
-    let v : low (m.registers 5 + 0) ≡ m.registers 5 = ap low z ∙ low-small (m.registers 5) s in
+to-register : (y : Layout) (base x v : ℕ) (a : Register) (m : State) → 18 ≤ x → x ≤ 27 → value_at m a ≡ v → v < 2 ^ 64 →
+    Puts y base (put_from a (homes.Register x)) m (homes.Register x) v
+to-register y base x v a m l u e s =
+    let z : v + 0 ≡ v = omega arith in
+    let same : low (value_at m a + 0) ≡ v = ap (λ w. low (w + 0)) e ∙ (ap low z ∙ low-small v s) in
     let d : (register_of x).number ≡ x = register-is x (omega arith) in
-    let k : Loads x (put_to (homes.Register x)) m (m.registers 5) =
-    loads-one (moved (register_of x) x5) m x (m.registers 5) (λ q. omega (arith, q)) refl
-    (ap (λ w. GoesOn (at_with m (low (m.pc + 4)) (register_of x).number w)) v ∙ ap (λ n. GoesOn (at_with m (low (m.pc + 4)) n (m.registers 5))) d) in
     record {
-      after = at_with m (low (m.pc + 4)) x (m.registers 5);
+      after = at_with m (low (m.pc + 4)) x v;
       goes = ap (λ n. then_on n (λ t. GoesOn t))
-          (ap (λ w. GoesOn (at_with m (low (m.pc + 4)) (register_of x).number w)) v ∙ ap (λ n. GoesOn (at_with m (low (m.pc + 4)) n (m.registers 5))) d);
-      holds = written-there m.registers x (m.registers 5) (λ q. omega (arith, q));
+          (ap (λ w. GoesOn (at_with m (low (m.pc + 4)) (register_of x).number w)) same
+          ∙ ap (λ n. GoesOn (at_with m (low (m.pc + 4)) n v)) d);
+      holds = written-there m.registers x v (λ q. omega (arith, q));
       behind = low-first m.pc;
       others = λ g i n. elsewhere g n;
-      keeps = λ r seven n. written-elsewhere m.registers x (m.registers 5) r (λ q. n (ap homes.Register (sym q)));
+      keeps = λ r seven n. written-elsewhere m.registers x v r (λ q. n (ap homes.Register (sym q)));
       region = refl;
       memory = record { long = refl; bytes = λ b. b; outside = λ at n o. refl };
       straight = refl;
     }
   where
-    elsewhere : (g : Home) → (g ≡ homes.Register x → ⊥) → word_at base (at_with m (low (m.pc + 4)) x (m.registers 5)) g ≡ word_at base m g
-    elsewhere (homes.Register z) n = written-elsewhere m.registers x (m.registers 5) z (λ q. n (ap homes.Register q))
+    elsewhere : (g : Home) → (g ≡ homes.Register x → ⊥) → word_at base (at_with m (low (m.pc + 4)) x v) g ≡ word_at base m g
+    elsewhere (homes.Register z) n = written-elsewhere m.registers x v z (λ q. n (ap homes.Register q))
     elsewhere (homes.Slot k) n = refl
 
 -- a state in which a word was stored in private memory
@@ -246,54 +245,58 @@ abbrev pub word_stored : State → ℕ → ℕ → State
 word_stored s at x =
     record { pc = low (s.pc + 4); registers = s.registers; region = s.region; private = overwritten s.private at (low_bytes 8 x) }
 
-to-slot : (y : Layout) (base k : ℕ) (m : State) → m.pc < 2 ^ 64 → HasFrame y base m → length m.region ≤ 67108864 → IsSlot y k → m.registers 5 < 2 ^ 64 →
-    Puts y base (put_to (homes.Slot k)) m (homes.Slot k)
-to-slot y base k m p f g h s =
+to-slot : (y : Layout) (base k v : ℕ) (a : Register) (m : State) → m.pc < 2 ^ 64 → HasFrame y base m → length m.region ≤ 67108864 →
+    IsSlot y k → ((n : State) → n.registers 5 ≡ m.registers 5 → value_at n a ≡ v) → v < 2 ^ 64 →
+    Puts y base (put_from a (homes.Slot k)) m (homes.Slot k) v
+to-slot y base k v a m p f g h read s =
     let at : ℕ = base + slot_offset k in
     let room : at + 8 ≤ length m.private = slot-room y base k m f h in
-    let x : Reach (λ r offset. Store Sd r x5 offset) (slot_offset k) m = reach (λ r offset. Store Sd r x5 offset) (slot_offset k) m p (slot-near y base k m f h) in
-    let five : x.at.registers 5 ≡ m.registers 5 = x.before.keeps 5 (λ q. omega (arith, q)) in
-    let after : State = word_stored x.at at (x.at.registers 5) in
-    let e : act (Store Sd x.register x5 x.far) x.at ≡ GoesOn after =
-    ap (λ a. stores x.at Sd a (x.at.registers 5)) (x.address ∙ frame-sum (m.registers 2) base (slot_offset k) (length m.private) f.pointer room f.private)
-    ∙ (ap (λ z. stores_to x.at (low_bytes 8 (x.at.registers 5)) (place_of (length z) (length x.at.private) (2 ^ 32 + at) 8)) x.before.region
-    ∙ (ap (λ z. stores_to x.at (low_bytes 8 (x.at.registers 5)) (place_of (length m.region) (length z) (2 ^ 32 + at) 8)) x.before.private
-    ∙ ap (λ z. stores_to x.at (low_bytes 8 (x.at.registers 5)) z) (private-place (length m.region) (length m.private) at g room))) in
+    let x : Reach (λ r offset. Store Sd r a offset) (slot_offset k) m =
+    reach (λ r offset. Store Sd r a offset) (slot_offset k) m p (slot-near y base k m f h) in
+    let word : value_at x.at a ≡ v = read x.at (x.before.keeps 5 (λ q. omega (arith, q))) in
+    let after : State = word_stored x.at at v in
+    let e : act (Store Sd x.register a x.far) x.at ≡ GoesOn after =
+    ap (λ z. stores x.at Sd z (value_at x.at a))
+    (x.address ∙ frame-sum (m.registers 2) base (slot_offset k) (length m.private) f.pointer room f.private)
+    ∙ (ap (λ z. stores x.at Sd (2 ^ 32 + at) z) word
+    ∙ (ap (λ z. stores_to x.at (low_bytes 8 v) (place_of (length z) (length x.at.private) (2 ^ 32 + at) 8)) x.before.region
+    ∙ (ap (λ z. stores_to x.at (low_bytes 8 v) (place_of (length m.region) (length z) (2 ^ 32 + at) 8)) x.before.private
+    ∙ ap (λ z. stores_to x.at (low_bytes 8 v) z) (private-place (length m.region) (length m.private) at g room)))) in
     let here : at + 8 ≤ length x.at.private = subst (λ z. at + 8 ≤ length z) (sym x.before.private) room in
-    subst (λ code. Puts y base code m (homes.Slot k)) (sym x.code)
+    subst (λ code. Puts y base code m (homes.Slot k) v) (sym x.code)
     (record {
       after = after;
-      goes = goes-both x.first (Store Sd x.register x5 x.far ∷ []) m x.at after x.before.goes (ap (λ n. then_on n (λ t. GoesOn t)) e);
-      holds = stored-word x.at.private at (x.at.registers 5) here (subst (λ v. v < 2 ^ 64) (sym five) s) ∙ five;
-      behind = behind-both x.first (Store Sd x.register x5 x.far ∷ []) m.pc x.at.pc after.pc x.before.behind (low-first x.at.pc);
+      goes = goes-both x.first (Store Sd x.register a x.far ∷ []) m x.at after x.before.goes (ap (λ n. then_on n (λ t. GoesOn t)) e);
+      holds = stored-word x.at.private at v here s;
+      behind = behind-both x.first (Store Sd x.register a x.far ∷ []) m.pc x.at.pc after.pc x.before.behind (low-first x.at.pc);
       others = λ o i n. elsewhere x.at x.before.keeps x.before.private here o i n;
       keeps = λ r seven n. x.before.keeps r seven;
       region = x.before.region;
       memory = record {
-        long = stored-length x.at.private at (x.at.registers 5) here ∙ ap length x.before.private;
-        bytes = λ b. overwritten-bytes x.at.private (low_bytes 8 (x.at.registers 5)) at (subst AreBytes (sym x.before.private) b) (low-are-bytes 8 (x.at.registers 5));
-        outside = λ a n o.
-            other-than-word x.at.private at (x.at.registers 5) a n (omega (arith, here))
+        long = stored-length x.at.private at v here ∙ ap length x.before.private;
+        bytes = λ b. overwritten-bytes x.at.private (low_bytes 8 v) at (subst AreBytes (sym x.before.private) b) (low-are-bytes 8 v);
+        outside = λ q n o.
+            other-than-word x.at.private at v q n (omega (arith, here))
             (⊎_elim (λ l. inl (omega (arith, l))) (λ l. inr (omega (arith, l))) o)
-            ∙ ap (λ z. take n (drop a z)) x.before.private;
+            ∙ ap (λ z. take n (drop q z)) x.before.private;
       };
-      straight = straight-both x.first (Store Sd x.register x5 x.far ∷ []) x.before.straight refl;
+      straight = straight-both x.first (Store Sd x.register a x.far ∷ []) x.before.straight refl;
     })
   where
     elsewhere : (n : State) → ((r : ℕ) → r ≢ 7 → n.registers r ≡ m.registers r) → n.private ≡ m.private → base + slot_offset k + 8 ≤ length n.private →
         (o : Home) → IsHome y o → (o ≡ homes.Slot k → ⊥) →
-        word_at base (word_stored n (base + slot_offset k) (n.registers 5)) o ≡ word_at base m o
+        word_at base (word_stored n (base + slot_offset k) v) o ≡ word_at base m o
     elsewhere n keeps same here (homes.Register z) i o = keeps z (λ q. omega (arith, q, i.0))
     elsewhere n keeps same here (homes.Slot j) i o =
         ap number_of
-        (other-than-word n.private (base + slot_offset k) (n.registers 5) (base + slot_offset j) 8 (omega (arith, here))
+        (other-than-word n.private (base + slot_offset k) v (base + slot_offset j) 8 (omega (arith, here))
         (⊎_elim (λ l. inl (omega (arith, l))) (λ l. inr (omega (arith, l, apart j o))) (cases_lt j k))
         ∙ ap (λ z. take 8 (drop (base + slot_offset j) z)) same)
       where
         apart : (j : ℕ) → (homes.Slot j ≡ homes.Slot k → ⊥) → j ≢ k
         apart j q z = q (ap homes.Slot z)
 
-pub put-home : (y : Layout) (base : ℕ) (m : State) (h : Home) → m.pc < 2 ^ 64 → HasFrame y base m → length m.region ≤ 67108864 → IsHome y h → m.registers 5 < 2 ^ 64 →
-    Puts y base (put_to h) m h
-put-home y base m (homes.Register x) p f g i s = to-register y base x m i.0 i.1 s
-put-home y base m (homes.Slot k) p f g i s = to-slot y base k m p f g i s
+pub put-home : (y : Layout) (base v : ℕ) (a : Register) (m : State) (h : Home) → m.pc < 2 ^ 64 → HasFrame y base m →
+    length m.region ≤ 67108864 → IsHome y h → ((n : State) → n.registers 5 ≡ m.registers 5 → value_at n a ≡ v) → v < 2 ^ 64 → Puts y base (put_from a h) m h v
+put-home y base v a m (homes.Register x) p f g i read s = to-register y base x v a m i.0 i.1 (read m refl) s
+put-home y base v a m (homes.Slot k) p f g i read s = to-slot y base k v a m p f g i read s

@@ -13,7 +13,7 @@ use Rattle.rv_select.specs.declared.settings.Setting.{Setting}
 use Rattle.rv_select.specs.Settings.{falls, follower, setting_of}
 use Rattle.rv_isa.specs.declared.operation.BranchCondition.TheVariants.{Ne}
 use Rattle.rv_operators.specs.Codes.{x0, x5}
-use Rattle.rv_select.specs.Compared.{condition_of, left_of, operands_taken, right_of}
+use Rattle.rv_select.specs.Compared.{condition_of, first_of, left_of, operands_taken, right_of, second_of}
 use Rattle.rv_select.specs.Pairs.{pair_of, plain_of}
 use Rattle.rv_select.specs.Places.{Layout}
 use Rattle.rv_select.specs.Shapes.{first_taken, held_after, x10}
@@ -66,11 +66,13 @@ unfolding pair_code
 end-length y setting held at other last final starts others None e = exit-length y setting held at other last final starts others e
 end-length y setting held at other last final starts others (Some pair) e =
     let T = operands_taken y held pair.a pair.b in
+    let l = left_of pair.operator (first_of pair.a) (second_of pair.b) in
+    let r = right_of pair.operator (first_of pair.a) (second_of pair.b) in
     let c = condition_of pair.form.signed pair.operator in
     let o = follower setting.next pair.first.block pair.second.block in
     same-behind T _ _
-    (chosen-count setting.near setting.short o c (left_of pair.operator) (right_of pair.operator) (at + 4 * length T) (starts pair.first.block) (starts pair.second.block)
-    ∙ sym (chosen-count setting.near setting.short o c (left_of pair.operator) (right_of pair.operator) (other + 4 * length T) (others pair.first.block)
+    (chosen-count setting.near setting.short o c l r (at + 4 * length T) (starts pair.first.block) (starts pair.second.block)
+    ∙ sym (chosen-count setting.near setting.short o c l r (other + 4 * length T) (others pair.first.block)
     (others pair.second.block)))
 
 pub instructions-length : (y : Layout) (sizes : List ℕ) (places others : FnId → ℕ) (at other : ℕ) (held : Option ℕ) (is : List Instruction) →

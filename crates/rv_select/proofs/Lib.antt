@@ -55,6 +55,7 @@ pub mod Copies
 pub mod Returns
 pub mod Entrances
 pub mod Within
+pub mod Sides
 pub mod Compares
 pub mod Weighed
 pub mod Reached

@@ -1,13 +1,14 @@
 -- Copies and operators.
-use Rattle.std.proofs.Common.{◌≡◌, ◌≢◌, ℕ, ◌+◌, ◌*◌, ◌^◌, ◌<◌, ◌≤◌, Bool, true, false, not, ◌&&◌, List, [], ◌++◌, length, take, drop, append_assoc, Option, refl, sym, ap, ◌∙◌, subst, ⊎_elim, inl, inr, arith}
+use Rattle.std.proofs.Common.{◌≡◌, ◌≢◌, ℕ, ◌+◌, ◌*◌, ◌^◌, ◌<◌, ◌≤◌, Bool, true, false, not, ◌&&◌, List, [], ◌++◌, length, take, drop, append_assoc, Option, None, Some, refl, sym, ap, ◌∙◌, subst, ⊎_elim, inl, inr, arith}
 use Rattle.std.specs.Prelude.{if◌then◌else◌, nat_eq, ◌⊎◌, IsTrue, slice_get}
-use Rattle.std.proofs.lemmas.Bool.{cases_Bool, cases_eq, eq-eqb, ne_eqb}
+use Rattle.std.proofs.lemmas.Bool.{cases_Bool, cases_eq, eq-eqb, eqb-true, ne_eqb}
 use Rattle.std.proofs.lemmas.List.{length-append}
 use Rattle.std.proofs.lemmas.Nat.{and_comm, or_comm, xor_comm}
 use Rattle.std.proofs.Math.Nat.{mul_comm}
 use Rattle.rv_isa.specs.declared.instr.Instr.{Instr}
 use Rattle.rv_isa.specs.declared.instr.Instr.TheVariants.{Store}
 use Rattle.rv_isa.specs.declared.operation.StoreOp.TheVariants.{Sd}
+use Rattle.rv_isa.specs.declared.operand.Register.{Register}
 use Rattle.reg_alloc.specs.declared.assignment.Home.{Home}
 use Rattle.reg_alloc.specs.declared.assignment.Home.TheVariants as homes
 use Rattle.terra_memory.specs.Numbers.{number_of}
@@ -26,14 +27,14 @@ use Rattle.tac_form.specs.declared.tac.Instruction.TheVariants.{Compute, Copy}
 use Rattle.tac_form.specs.Flow.{put, bytes_of, width_of}
 use Rattle.tac_form.specs.Weights.{words_of}
 use Rattle.rv_operators.specs.Claims.{Leads}
-use Rattle.rv_operators.specs.Codes.{x5, x6, code_of, is_width}
+use Rattle.rv_operators.specs.Codes.{x0, x5, x6, code_of, is_width}
 use Rattle.rv_operators.specs.Runs.{Stands}
 use Rattle.rv_operators.proofs.Operators.{computed as operator-computes}
 use Rattle.rv_operators.proofs.Short.{code-short}
 use Rattle.rv_select.specs.Places.{AreBytes, HasHome, Layout, World, Holds, Housed, IsFirst, IsHeld, IsHome, IsRead, Keeps, area_offset, frame_bytes, home_of, is_given, is_lasting, slot_offset, uses, value_in, word_at}
 use Rattle.rv_select.specs.Folded.{folded, is_folded}
 use Rattle.rv_select.specs.Numbers.{constant}
-use Rattle.rv_select.specs.Shapes.{applied_to, first_taken, is_held, is_symmetric, is_turned, operated, put_at, put_to, taken}
+use Rattle.rv_select.specs.Shapes.{applied_to, first_taken, is_held, is_symmetric, is_turned, operated, put_at, put_from, put_to, taken}
 use Rattle.rv_select.specs.Steps.{Comes, Follows, behind, with_temp}
 use Rattle.rv_select.proofs.Claims.{CopiesAreCarried, Gives, OperatorsAreCarried}
 use Rattle.rv_select.proofs.Straight.{Loads, Scratch, behind-both, leads-scratch, loads-five, loads-six, low-below, low-here, scratch-both}
@@ -128,8 +129,9 @@ keeps-both y base m n r h k = record {
 used-register : (y : Layout) (h : Home) (r : ℕ) → IsHome y h → uses y r ≡ false → h ≡ homes.Register r → ⊥
 used-register y h r i f e = let g : IsHome y (homes.Register r) = subst (IsHome y) e i in let t : uses y r ≡ true = g.2 in cc
 
-put-keeps : (y : Layout) (base : ℕ) (code : List Instr) (m : State) (h : Home) (p : Puts y base code m h) → IsHome y h → Keeps y base m p.after
-put-keeps y base code m h p i = record {
+put-keeps : (y : Layout) (base v : ℕ) (code : List Instr) (m : State) (h : Home) (p : Puts y base code m h v) →
+    IsHome y h → Keeps y base m p.after
+put-keeps y base v code m h p i = record {
   registers = λ r l u. p.keeps r (lasts-not r 7 l refl) (used-register y h r i u);
   link = p.keeps 1 (λ z. omega (arith, z)) (λ e. let g : IsHome y (homes.Register 1) = subst (IsHome y) e i in omega (arith, g.0));
   long = p.memory.long;
@@ -143,9 +145,9 @@ no-home : (y : Layout) (h : Home) (r : ℕ) → IsHome y h → (r < 18) ⊎ (27 
 no-home y h r i f e = let g : IsHome y (homes.Register r) = subst (IsHome y) e i in ⊎_elim (λ l. omega (arith, l, g.0)) (λ l. omega (arith, l, g.1)) f
 
 -- after a put, what is in use stands at its home
-put-holds : (y : Layout) (Used Next : ℕ → Type 0) (w : World) (base d v : ℕ) (code : List Instr) (m : State) (p : Puts y base code m (home_of y d)) →
-    Holds y Used w base m → Housed y Next → Next d → HasHome y d → Follows Used Next d → m.registers 5 ≡ v → v < 2 ^ 64 → Holds y Next (with_temp w d v) base p.after
-put-holds y Used Next w base d v code m p q h n has follows e s = record {
+put-holds : (y : Layout) (Used Next : ℕ → Type 0) (w : World) (base d v : ℕ) (code : List Instr) (m : State) (p : Puts y base code m (home_of y d) v) →
+    Holds y Used w base m → Housed y Next → Next d → HasHome y d → Follows Used Next d → v < 2 ^ 64 → Holds y Next (with_temp w d v) base p.after
+put-holds y Used Next w base d v code m p q h n has follows s = record {
   frame = record {
     pointer = p.keeps 2 (λ z. omega (arith, z)) (no-home y (home_of y d) 2 (h.homes d n has) (inl (omega arith))) ∙ q.frame.pointer;
     within = subst (λ z. base + frame_bytes y ≤ z) (sym p.memory.long) q.frame.within;
@@ -154,7 +156,7 @@ put-holds y Used Next w base d v code m p q h n has follows e s = record {
   };
   pc = subst (λ z. z < 2 ^ 64) (sym p.behind) (low-below (m.pc + 4 * length code));
   values = λ t u k. ⊎_elim
-      (λ same. subst (λ x. word_at base p.after (home_of y x) ≡ put w.temps d v x) (sym same) (p.holds ∙ (e ∙ sym (ap (λ b. if b then v else w.temps d) (eq-eqb d d refl)))))
+      (λ same. subst (λ x. word_at base p.after (home_of y x) ≡ put w.temps d v x) (sym same) (p.holds ∙ sym (ap (λ b. if b then v else w.temps d) (eq-eqb d d refl))))
       (λ other.
       p.others (home_of y t) (h.homes t u k) (λ g. other (h.apart t d u n k has g))
       ∙ (q.values t (before t u other) k ∙ sym (ap (λ b. if b then v else w.temps t) (ne_eqb t d other))))
@@ -236,9 +238,9 @@ unused-holds y Used w base d v m q other = record {
 }
 
 -- a put has an instruction
-pub some-put : (h : Home) → 1 ≤ length (put_to h)
-some-put (homes.Register x) = omega arith
-some-put (homes.Slot k) = framed-some (λ r offset. Store Sd r x5 offset) (slot_offset k)
+pub some-put : (a : Register) (h : Home) → 1 ≤ length (put_from a h)
+some-put a (homes.Register x) = omega arith
+some-put a (homes.Slot k) = framed-some (λ r offset. Store Sd r a offset) (slot_offset k)
 
 -- The machine comes somewhere, maybe in no steps.
 pub record Settles (y : Layout) (program : List (Option Instr)) (Next : ℕ → Type 0) (w : World) (base weight target : ℕ) (m : State) : Type 0 where
@@ -288,10 +290,10 @@ put-away y Used Next w base d v k weight target program m n p h h' u follows way
         PutsAway y program Next (with_temp w d v) base k weight target d m
     home has stands to =
         let b : List Instr = put_to (home_of y d) in
-        let r : Puts y base b n (home_of y d) =
-        put-home y base n (home_of y d) small q.frame (region-small y Used w base n q) (h'.homes d u has) (subst (λ x. x < 2 ^ 64) (sym e) l) in
-        let most : length b ≤ 3 = put-count (home_of y d) in
-        let least : 1 ≤ length b = some-put (home_of y d) in
+        let r : Puts y base b n (home_of y d) v =
+        put-home y base v x5 n (home_of y d) small q.frame (region-small y Used w base n q) (h'.homes d u has) (λ t same. same ∙ e) l in
+        let most : length b ≤ 3 = put-count x5 (home_of y d) in
+        let least : 1 ≤ length b = some-put x5 (home_of y d) in
         let whole : Way program (k + length b) m r.after =
         way-both program k (length b) m n r.after way (straight-way program b n r.after stands r.straight r.goes) in
         record {
@@ -301,8 +303,8 @@ put-away y Used Next w base d v k weight target program m n p h h' u follows way
             few = omega arith;
             runs = whole.runs;
             at = r.behind ∙ to;
-            holds = put-holds y Used Next w base d v b n r q h' u has follows e l;
-            keeps = keeps-both y base m n r.after (near-keeps y base m n near) (put-keeps y base b n (home_of y d) r (h'.homes d u has));
+            holds = put-holds y Used Next w base d v b n r q h' u has follows l;
+            keeps = keeps-both y base m n r.after (near-keeps y base m n near) (put-keeps y base v b n (home_of y d) r (h'.homes d u has));
           };
           five = r.keeps 5 (λ z. omega (arith, z)) (no-home y (home_of y d) 5 (h'.homes d u has) (inl (omega arith))) ∙ (e ∙ there);
           some = λ o. omega (arith, least);
@@ -368,12 +370,54 @@ pub first-small : (held : Option ℕ) (Used : ℕ → Type 0) (y : Layout) (w : 
 first-small held Used y w base m (Temp t) p r = p.words t r.0
 first-small held Used y w base m (Constant c) p r = r
 
-pub copies : CopiesAreCarried
-copies y held d a Used Next w base program m stands f p h h' r u has follows =
+-- a copy by x5, and one of x0
+copied-by-five : (y : Layout) (held : Option ℕ) (d : ℕ) (a : Operand) (Used Next : ℕ → Type 0) (w : World) (base : ℕ)
+    (program : List (Option Instr)) (m : State) → Stands program m.pc (first_taken y held a ++ put_at y d) → IsHeld held w.temps m → Holds y Used w base m → Housed y Used →
+    Housed y Next → IsFirst y held Used a → Next d → HasHome y d → Follows Used Next d →
+    Gives y program Next (with_temp w d (value_in w.temps a)) base (words_of (Copy d a)) (behind m (first_taken y held a ++ put_at y d)) d m
+copied-by-five y held d a Used Next w base program m stands f p h h' r u has follows =
     let A : List Instr = first_taken y held a in
     let l : Loads 5 A m (value_in w.temps a) = take-first y held Used w base m a f p h r in
     straight-put y Used Next w base d (value_in w.temps a) (words_of (Copy d a)) A program m l.after p h h' u follows
     (loads-five A m (value_in w.temps a) l) l.gives (first-small held Used y w base m a p r) (omega (arith, first-count y held a)) (inr has) stands
+
+zero-put : (y : Layout) (d weight : ℕ) (Used Next : ℕ → Type 0) (w : World) (base : ℕ) (program : List (Option Instr)) (m : State) →
+    Stands program m.pc (put_from x0 (home_of y d)) → Holds y Used w base m → Housed y Next → Next d → HasHome y d → Follows Used Next d →
+    3 ≤ weight → Comes y program Next (with_temp w d 0) base weight (behind m (put_from x0 (home_of y d))) [] m
+zero-put y d weight Used Next w base program m stands p h u has follows few =
+    let b : List Instr = put_from x0 (home_of y d) in
+    let r : Puts y base b m (home_of y d) 0 =
+    put-home y base 0 x0 m (home_of y d) p.pc p.frame (region-small y Used w base m p) (h.homes d u has) (λ n same. refl) (omega arith) in
+    let most : length b ≤ 3 = put-count x0 (home_of y d) in
+    let way : Way program (length b) m r.after = straight-way program b m r.after stands r.straight r.goes in
+    record {
+      steps = length b;
+      after = r.after;
+      some = some-put x0 (home_of y d);
+      few = omega (arith, most, few);
+      runs = way.runs;
+      at = r.behind;
+      holds = put-holds y Used Next w base d 0 b m r p h u has follows (omega arith);
+      keeps = put-keeps y base 0 b m (home_of y d) r (h.homes d u has);
+    }
+
+pub copies : CopiesAreCarried
+copies y held d (Temp t) Used Next w base program m stands f p h h' r u has follows =
+    let g = copied-by-five y held d (Temp t) Used Next w base program m stands f p h h' r u has follows in (g.comes, g.five)
+copies y held d (Constant c) Used Next w base program m stands f p h h' r u has follows = either (nat_eq c 0) refl stands
+  where
+    either : (b : Bool) → nat_eq c 0 ≡ b → Stands program m.pc (if b then put_from x0 (home_of y d) else constant x5 c ++ put_at y d) →
+        (k : Comes y program Next (with_temp w d c) base (words_of (Copy d (Constant c)))
+        (behind m (if b then put_from x0 (home_of y d) else constant x5 c ++ put_at y d)) [] m) ×
+        IsHeld (if b then None else Some d) (with_temp w d c).temps k.after
+    either false e there =
+        let g = copied-by-five y held d (Constant c) Used Next w base program m there f p h h' r u has follows in (g.comes, g.five)
+    either true e there = (
+      subst (λ v. Comes y program Next (with_temp w d v) base (words_of (Copy d (Constant c))) (behind m (put_from x0 (home_of y d))) [] m)
+          (sym (eqb-true c 0 e))
+          (zero-put y d (words_of (Copy d (Constant c))) Used Next w base program m there p h' u has follows (omega arith)),
+      tt,
+    )
 
 -- Code that comes to a word in x5.
 pub record Applies (code : List Instr) (m : State) (v : ℕ) : Type 0 where

@@ -20,10 +20,10 @@ use Rattle.tac_form.specs.Flow.{bytes_of, width_of}
 use Rattle.tac_form.specs.Weights.{operand_words, operator_words, words_of}
 use Rattle.rv_operators.specs.Codes.{x0, x5, x6, zero_immediate}
 use Rattle.rv_select.specs.Places.{Layout, area_offset, home_of}
-use Rattle.rv_select.specs.Shapes.{all_carried, applied_to, area_reached, bounds_tested, byte_taken, bytes_given, chosen, exit_shape, failed, first_taken, framed, from_area, heap_aligned, is_turned, limit_found, load_of, located, operated, over, put_at, range_tested, reached, store_of, taken, to_area, write_call, x11, x12, zeros}
+use Rattle.rv_select.specs.Shapes.{all_carried, applied_to, area_reached, bounds_tested, byte_taken, bytes_given, chosen, exit_shape, failed, first_taken, framed, from_area, heap_aligned, is_turned, is_zero, limit_found, load_of, located, operated, over, put_at, put_from, range_tested, reached, store_of, taken, to_area, write_call, x11, x12, zeros}
 use Rattle.rv_select.specs.Steps.{ExitsKeepWithin, ShapesKeepWithin}
 use Rattle.rv_select.proofs.Frames.{framed-count}
-use Rattle.rv_select.proofs.Homes.{first-count, operand-count, put-few}
+use Rattle.rv_select.proofs.Homes.{first-count, operand-count, put-count, put-few}
 use Rattle.rv_select.proofs.Holding.{applied-count}
 use Rattle.rv_select.proofs.Faults.{failed-count}
 use Rattle.rv_select.proofs.Divisors.{located-count}
@@ -62,6 +62,11 @@ to-count y n offset size h = both (area_reached y x6 n offset) (all_carried x5 x
 from-count : (y : Layout) (n offset size : ℕ) → size ≤ 128 → length (from_area y n offset size) ≤ 39
 from-count y n offset size h = both (area_reached y x6 n offset) (all_carried x6 x5 size) 3 36 (area-count y x6 n offset) (carried-count x6 x5 size h)
 
+copy-count : (y : Layout) (held : Option ℕ) (d : ℕ) (a : Operand) (zero : Bool) →
+    length (if zero then put_from x0 (home_of y d) else first_taken y held a ++ put_at y d) ≤ operand_words a + 3
+copy-count y held d a true = let h : length (put_from x0 (home_of y d)) ≤ 3 = put-count x0 (home_of y d) in omega arith
+copy-count y held d a false = both (first_taken y held a) (put_at y d) (operand_words a) 3 (first-count y held a) (put-few y d)
+
 operated-count : (y : Layout) (held : Option ℕ) (d : ℕ) (op : BinaryOperator) (form : Number) (a b : Operand) →
     length (operated y held d op (width_of form) a b) ≤ operand_words a + (operand_words b + operator_words op + 3)
 operated-count y held d op form a b =
@@ -85,7 +90,7 @@ within y held (TestDivisor at a) h =
     more (operand_words a + 12) (words_of (TestDivisor at a)) _ (omega arith)
     (both (first_taken y held a) (instrs.Branch Ne x5 x0 (over (failed DivZero at)) ∷ failed DivZero at) (operand_words a) 12 (first-count y held a)
     (one-more (instrs.Branch Ne x5 x0 (over (failed DivZero at))) (failed DivZero at) 11 (failed-count DivZero at)))
-within y held (Copy d a) h = both (first_taken y held a) (put_at y d) (operand_words a) 3 (first-count y held a) (put-few y d)
+within y held (Copy d a) h = copy-count y held d a (is_zero a)
 within y held (Locate d offset) h = both (located offset) (put_at y d) 9 3 (located-count offset) (put-few y d)
 within y held (Load d form (spots.Region at (Word a))) h =
     more (operand_words a + 15 + 4) (words_of (Load d form (spots.Region at (Word a)))) _ (omega arith)

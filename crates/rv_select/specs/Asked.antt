@@ -26,10 +26,16 @@ use Rattle.rv_select.specs.declared.pairs.Reads.{Reads}
 use Rattle.rv_select.specs.declared.pairs.Pair.{Pair}
 use Rattle.rv_select.specs.Pairs.{pair_of, plain_of, reads_of}
 
--- the temporary whose word an instruction leaves in x5: the one that it writes last, as a call does with its result
+-- a zero, which x0 holds
+abbrev pub is_zero : Operand → Bool
+is_zero (Temp t) = false
+is_zero (Constant c) = nat_eq c 0
+
+-- The temporary whose word an instruction leaves in x5: the one that it writes last, as a call does with its result. A copy of a zero
+-- leaves none there.
 abbrev pub held_after : Instruction → Option ℕ
 held_after (instructions.Compute d op form a b) = Some d
-held_after (instructions.Copy d a) = Some d
+held_after (instructions.Copy d a) = if is_zero a then None else Some d
 held_after (instructions.Locate d offset) = Some d
 held_after (instructions.Load d form spot) = Some d
 held_after (instructions.Alloc d a) = Some d

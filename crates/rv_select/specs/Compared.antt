@@ -1,5 +1,5 @@
 -- A comparison at a block's end and the branch on its result, as one branch of the machine.
-use Rattle.std.specs.Prelude.{◌≡◌, ℕ, suc, ◌+◌, ◌*◌, ◌%◌, ◌^◌, ◌<◌, ◌≤◌, Bool, true, false, IsTrue, List, ◌++◌, length, Option, Some, None, slice_get}
+use Rattle.std.specs.Prelude.{◌≡◌, ℕ, suc, ◌+◌, ◌*◌, ◌%◌, ◌^◌, ◌<◌, ◌≤◌, Bool, true, false, if◌then◌else◌, IsTrue, List, [], ◌++◌, length, Option, Some, None, slice_get}
 use Rattle.rv_isa.specs.declared.instr.Instr.{Instr}
 use Rattle.rv_isa.specs.declared.operation.BranchCondition.{BranchCondition}
 use Rattle.rv_isa.specs.declared.operation.BranchCondition.TheVariants.{Eq, Ne, Lt, Ltu, Ge, Geu}
@@ -23,14 +23,14 @@ use Rattle.tac_form.specs.Fits.{exit_fits, instruction_fits}
 use Rattle.tac_form.specs.Graph.{graph_of}
 use Rattle.tac_form.specs.Live.{InUse, IsLive}
 use Rattle.tac_form.specs.Weights.{exit_words, words_of}
-use Rattle.rv_operators.specs.Codes.{is_comparison, x5, x6}
+use Rattle.rv_operators.specs.Codes.{is_comparison, x0, x5, x6}
 use Rattle.rv_operators.specs.Runs.{Stands}
 use Rattle.rv_select.specs.declared.settings.Follows.{Follows}
 use Rattle.rv_select.specs.declared.settings.Setting.{Setting}
 use Rattle.rv_select.specs.Settings.{follower}
 use Rattle.rv_select.specs.Asked.{both_ask}
 use Rattle.rv_select.specs.Places.{HaveHomes, IsHeld, Layout, Holds, is_near, is_short, layout_of}
-use Rattle.rv_select.specs.Shapes.{chosen, first_taken, taken}
+use Rattle.rv_select.specs.Shapes.{chosen, first_taken, is_zero, taken}
 use Rattle.rv_select.specs.Steps.{IsReached, Left, world_of}
 
 -- the branches on "below" and on "not below", of numbers with a sign and without
@@ -42,7 +42,7 @@ abbrev pub least_condition : Bool → BranchCondition
 least_condition true = Ge
 least_condition false = Geu
 
--- the condition under which a comparison of x5 and x6 is true, and its registers, which change places for two of them
+-- the condition under which a comparison of two registers is true, and which of them is where: they change places for two comparisons
 abbrev pub condition_of : (signed : Bool) → BinaryOperator → BranchCondition
 condition_of signed Equal = Eq
 condition_of signed Less = below_condition signed
@@ -51,28 +51,40 @@ condition_of signed LessEqual = least_condition signed
 condition_of signed GreaterEqual = least_condition signed
 condition_of signed _ = Ne
 
-abbrev pub left_of : BinaryOperator → Register
-left_of Greater = x6
-left_of LessEqual = x6
-left_of _ = x5
+abbrev pub left_of : BinaryOperator → (a b : Register) → Register
+left_of Greater a b = b
+left_of LessEqual a b = b
+left_of _ a b = a
 
-abbrev pub right_of : BinaryOperator → Register
-right_of Greater = x5
-right_of LessEqual = x5
-right_of _ = x6
+abbrev pub right_of : BinaryOperator → (a b : Register) → Register
+right_of Greater a b = a
+right_of LessEqual a b = a
+right_of _ a b = b
 
-abbrev pub compared : (near short : Bool) → Follows → (signed : Bool) → BinaryOperator → (at first second : ℕ) → List Instr
-compared near short behind signed op at first second = chosen near short behind (condition_of signed op) (left_of op) (right_of op) at first second
+abbrev pub compared : (near short : Bool) → Follows → (signed : Bool) → BinaryOperator → (a b : Register) → (at first second : ℕ) →
+    List Instr
+compared near short behind signed op a b at first second =
+    chosen near short behind (condition_of signed op) (left_of op a b) (right_of op a b) at first second
+
+-- the operands are in x5 and x6, but a zero is in x0, which no code takes
+abbrev pub first_of : Operand → Register
+first_of a = if is_zero a then x0 else x5
+
+abbrev pub second_of : Operand → Register
+second_of b = if is_zero b then x0 else x6
+
+abbrev pub unless_zero : Operand → List Instr → List Instr
+unless_zero a code = if is_zero a then [] else code
 
 abbrev pub operands_taken : Layout → (held : Option ℕ) → (a b : Operand) → List Instr
-operands_taken y held a b = first_taken y held a ++ taken y x6 b
+operands_taken y held a b = unless_zero a (first_taken y held a) ++ unless_zero b (taken y x6 b)
 
 abbrev pub compared_shape : Layout → Setting → (held : Option ℕ) → (at : ℕ) → (starts : ℕ → ℕ) → BinaryOperator → Number →
     (a b : Operand) → (e f : Edge) → List Instr
 compared_shape y setting held at starts op form a b e f =
     operands_taken y held a b
-    ++ compared setting.near setting.short (follower setting.next e.block f.block) form.signed op (at + 4 * length (operands_taken y held a b))
-    (starts e.block) (starts f.block)
+    ++ compared setting.near setting.short (follower setting.next e.block f.block) form.signed op (first_of a) (second_of b)
+    (at + 4 * length (operands_taken y held a b)) (starts e.block) (starts f.block)
 
 -- Where a function's code stands at the last instruction of a block, a comparison, whose result the block's branch tests and nothing
 -- reads after that: its temporary is live at the begin of neither block. So no home gets it. Behind this code stands the next block.

@@ -47,7 +47,7 @@ use Rattle.rv_select.specs.declared.settings.Follows.{Follows}
 use Rattle.rv_select.specs.declared.settings.Follows.TheVariants.{Neither, First, Second}
 use Rattle.rv_select.specs.declared.settings.Setting.{Setting}
 use Rattle.rv_select.specs.Settings.{falls, follower}
-pub use Rattle.rv_select.specs.Asked.{held_after, is_held, is_symmetric, is_turned}
+pub use Rattle.rv_select.specs.Asked.{held_after, is_held, is_symmetric, is_turned, is_zero}
 use Rattle.rv_select.specs.Folded.{folded, is_folded}
 pub use Rattle.rv_select.specs.Numbers.{x7}
 use Rattle.rv_select.specs.Numbers.{constant, immediate_of, below_zero, lower_of, register_of, upper_of}
@@ -107,10 +107,13 @@ abbrev pub first_taken : Layout → (held : Option ℕ) → Operand → List Ins
 first_taken y held (Temp t) = if is_held held t then [] else taken y x5 (Temp t)
 first_taken y held (Constant c) = constant x5 c
 
--- a home gets the word in x5
+-- a home gets the word in a register, and that in x5
+abbrev pub put_from : Register → Home → List Instr
+put_from a (homes.Register x) = moved (register_of x) a ∷ []
+put_from a (homes.Slot k) = framed (λ r offset. Store Sd r a offset) (slot_offset k)
+
 abbrev pub put_to : Home → List Instr
-put_to (homes.Register x) = moved (register_of x) x5 ∷ []
-put_to (homes.Slot k) = framed (λ r offset. Store Sd r x5 offset) (slot_offset k)
+put_to h = put_from x5 h
 
 -- a temporary's home gets it, where it has one
 abbrev pub put_in : Option (Option Home) → List Instr
@@ -161,9 +164,9 @@ failed kind at = constant x11 (place_number at) ++ fault_call kind
 abbrev pub branched_over : BranchCondition → Register → Register → FaultKind → Place → List Instr
 branched_over condition a b kind at = Branch condition a b (over (failed kind at)) ∷ failed kind at
 
--- a copy, an operator, and a test of a divisor
+-- a copy, an operator, and a test of a divisor. A zero needs no register but x0
 abbrev pub copied : Layout → (held : Option ℕ) → ℕ → Operand → List Instr
-copied y held d a = first_taken y held a ++ put_at y d
+copied y held d a = if is_zero a then put_from x0 (home_of y d) else first_taken y held a ++ put_at y d
 
 -- x5 gets what an operator gives of x5 and an operand, which instructions hold where they can
 abbrev pub applied_to : Layout → Width → BinaryOperator → Operand → List Instr

@@ -2,14 +2,15 @@
 
 ghost use Rattle.std.specs.Prelude.{◌≡◌, ◌+◌, ◌^◌, ◌≤◌, [], ◌∷◌, ◌++◌, map, length, IfOk, OnOk};
 ghost use Rattle.rv_isa.specs.Table.{word_of};
+ghost use Rattle.rv_operators.specs.Codes.{x6};
 ghost use Rattle.rv_select.specs.Places.{with_homes};
-ghost use Rattle.rv_select.specs.Compared.{below_condition, compared, compared_shape, condition_of, least_condition, left_of, operands_taken, right_of};
+ghost use Rattle.rv_select.specs.Compared.{below_condition, compared, compared_shape, condition_of, first_of, least_condition, left_of, operands_taken, right_of, second_of, unless_zero};
 ghost use Rattle.rv_select.specs.Settings.{follower};
-ghost use Rattle.rv_select.specs.Shapes.{start_of};
+ghost use Rattle.rv_select.specs.Shapes.{first_taken, start_of, taken};
 
-use crate::emit::{X5, X6};
+use crate::emit::{X0, X5, X6};
 use crate::exits::{push_chosen, start_of};
-use crate::instructions::push_operands;
+use crate::instructions::{is_zero, push_first, push_second};
 use crate::settings::{Follows, Setting, follower};
 use reg_alloc::Home;
 use rv_isa::{BranchCondition, Register};
@@ -49,13 +50,15 @@ pub fn push_compared(
         follower(setting.next, first.block, second.block),
         form.signed,
         operator,
+        first_of(a),
+        second_of(b),
         at + 4 * words,
         to,
         other,
     )
 }
 
-/// x5 and x6 get operands, the first unless x5 holds it. The answer is how many words that takes.
+/// The operands to their registers. The answer is how many words that takes.
 #[tactic(auto, using(crate::proofs::Compares::operand_words))]
 fn push_counted(
     code: &mut Vec<u32>,
@@ -69,23 +72,82 @@ fn push_counted(
     ensures few { IfOk result (λ words. words ≤ 16) }
 {
     let before = code.len();
-    push_operands(code, homes, held, a, b)?;
+    push_sides(code, homes, held, a, b)?;
     Ok((code.len() - before) as u64)
 }
 
-/// The branch on a comparison of x5 and x6, and the jumps.
+fn push_sides(
+    code: &mut Vec<u32>,
+    homes: &[Option<Home>],
+    held: Option<u64>,
+    a: Operand,
+    b: Operand,
+) -> Result<(), NoMemory>
+    ensures { OnOk result (code.new.items ≡ code.old.items ++ map word_of (operands_taken (with_homes homes.now) held a b)) }
+{
+    push_first_side(code, homes, held, a)?;
+    push_second_side(code, homes, b)
+}
+
+/// x5 gets the first operand, unless x5 or x0 holds it.
+fn push_first_side(
+    code: &mut Vec<u32>,
+    homes: &[Option<Home>],
+    held: Option<u64>,
+    a: Operand,
+) -> Result<(), NoMemory>
+    ensures { OnOk result (code.new.items ≡ code.old.items ++ map word_of (unless_zero a (first_taken (with_homes homes.now) held a))) }
+{
+    if is_zero(a) {
+        Ok(())
+    } else {
+        push_first(code, homes, held, a)
+    }
+}
+
+/// x6 gets the second operand, unless x0 holds it.
+fn push_second_side(
+    code: &mut Vec<u32>,
+    homes: &[Option<Home>],
+    b: Operand,
+) -> Result<(), NoMemory>
+    ensures { OnOk result (code.new.items ≡ code.old.items ++ map word_of (unless_zero b (taken (with_homes homes.now) x6 b))) }
+{
+    if is_zero(b) {
+        Ok(())
+    } else {
+        push_second(code, homes, b)
+    }
+}
+
+/// The register of the first operand.
+fn first_of(a: Operand) -> Register
+    ensures { result ≡ first_of a }
+{
+    if is_zero(a) { X0 } else { X5 }
+}
+
+fn second_of(b: Operand) -> Register
+    ensures { result ≡ second_of b }
+{
+    if is_zero(b) { X0 } else { X6 }
+}
+
+/// The branch on a comparison of two registers, and the jumps.
 fn push_test(
     code: &mut Vec<u32>,
     setting: Setting,
     follows: Follows,
     signed: bool,
     operator: BinaryOperator,
+    a: Register,
+    b: Register,
     at: u64,
     first: u64,
     second: u64,
 ) -> Result<(), NoMemory>
     requires { at + 12 ≤ 2 ^ 32 }
-    ensures { OnOk result (code.new.items ≡ code.old.items ++ map word_of (compared setting.near setting.short follows signed operator at first second)) }
+    ensures { OnOk result (code.new.items ≡ code.old.items ++ map word_of (compared setting.near setting.short follows signed operator a b at first second)) }
 {
     let condition = condition_of(signed, operator);
     push_chosen(
@@ -93,8 +155,8 @@ fn push_test(
         setting,
         follows,
         condition,
-        left_of(operator),
-        right_of(operator),
+        left_of(operator, a, b),
+        right_of(operator, a, b),
         at,
         first,
         second,
@@ -134,20 +196,20 @@ fn least_condition(signed: bool) -> BranchCondition
 }
 
 /// The register of the left side: two comparisons turn round.
-fn left_of(operator: BinaryOperator) -> Register
-    ensures { result.number ≡ (left_of operator).number }
+fn left_of(operator: BinaryOperator, a: Register, b: Register) -> Register
+    ensures { result ≡ left_of operator a b }
 {
     match operator {
-        BinaryOperator::Greater | BinaryOperator::LessEqual => X6,
-        _ => X5,
+        BinaryOperator::Greater | BinaryOperator::LessEqual => b,
+        _ => a,
     }
 }
 
-fn right_of(operator: BinaryOperator) -> Register
-    ensures { result.number ≡ (right_of operator).number }
+fn right_of(operator: BinaryOperator, a: Register, b: Register) -> Register
+    ensures { result ≡ right_of operator a b }
 {
     match operator {
-        BinaryOperator::Greater | BinaryOperator::LessEqual => X5,
-        _ => X6,
+        BinaryOperator::Greater | BinaryOperator::LessEqual => a,
+        _ => b,
     }
 }

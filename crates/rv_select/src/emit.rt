@@ -6,11 +6,12 @@ ghost use Rattle.rv_isa.specs.declared.operation.ImmediateOp.TheVariants as imme
 ghost use Rattle.rv_isa.specs.declared.operation.RegisterOp.TheVariants as ops;
 ghost use Rattle.rv_isa.specs.declared.operation.ShiftOp.TheVariants as shifts;
 ghost use Rattle.rv_isa.specs.Table.{word_of};
+ghost use Rattle.rv_operators.specs.Codes.{x0};
 ghost use Rattle.rv_select.specs.Numbers.{constant, half, half_added, in_both, in_halves, is_twice, long_constant, short_constant};
 ghost use Rattle.rv_select.specs.Numbers.{upper_half, x7};
 ghost use Rattle.rv_machine.specs.Word.{extended_word};
 ghost use Rattle.rv_select.specs.Places.{area_offset, home_of, slot_offset, with_homes};
-ghost use Rattle.rv_select.specs.Shapes.{far_part, framed, moved, put_at, put_to, taken, taken_from, x11};
+ghost use Rattle.rv_select.specs.Shapes.{far_part, framed, moved, put_at, put_from, taken, taken_from, x11};
 
 use crate::operands::{immediate, lower, register, upper};
 use reg_alloc::Home;
@@ -320,13 +321,13 @@ fn push_taken_from(code: &mut Vec<u32>, rd: Register, home: Home) -> Result<(), 
     }
 }
 
-/// A home gets the word in x5.
-fn push_put_to(code: &mut Vec<u32>, home: Home) -> Result<(), NoMemory>
-    ensures { OnOk result (code.new.items ≡ code.old.items ++ map word_of (put_to home)) }
+/// A home gets the word in a register.
+fn push_put_from(code: &mut Vec<u32>, rs: Register, home: Home) -> Result<(), NoMemory>
+    ensures { OnOk result (code.new.items ≡ code.old.items ++ map word_of (put_from rs home)) }
 {
     match home {
-        Home::Register(number) => push_moved(code, register(number), X5),
-        Home::Slot(slot) => push_frame_store(code, StoreOp::Sd, X5, slot_offset(slot)?),
+        Home::Register(number) => push_moved(code, register(number), rs),
+        Home::Slot(slot) => push_frame_store(code, StoreOp::Sd, rs, slot_offset(slot)?),
     }
 }
 
@@ -387,9 +388,20 @@ pub(crate) fn push_put(
     ensures { OnOk result (code.new.items ≡ code.old.items ++ map word_of (put_at (with_homes homes.now) temp)) }
 {
     match homes.get(temp as usize) {
-        Some(Some(home)) => push_put_to(code, *home),
+        Some(Some(home)) => push_put_from(code, X5, *home),
         _ => Ok(()),
     }
+}
+
+/// A temporary's home gets zero.
+pub(crate) fn push_put_zero(
+    code: &mut Vec<u32>,
+    homes: &[Option<Home>],
+    temp: u64,
+) -> Result<(), NoMemory>
+    ensures { OnOk result (code.new.items ≡ code.old.items ++ map word_of (put_from x0 (home_of (with_homes homes.now) temp))) }
+{
+    push_put_from(code, X0, home_of(homes, temp))
 }
 
 /// How many words `push_constant` takes.

@@ -10,11 +10,11 @@ ghost use Rattle.rv_operators.specs.Codes.{code_of, x5, x6, zero_immediate};
 ghost use Rattle.rv_select.specs.Folded.{folded, is_folded};
 ghost use Rattle.rv_select.specs.Numbers.{constant};
 ghost use Rattle.rv_select.specs.Places.{with_homes};
-ghost use Rattle.rv_select.specs.Shapes.{applied_to, area_reached, bounds_tested, cleared, computed, copied, divisor_tested, failed, fault_call, first_taken, branched_over, has_shape, held_after, is_held, is_symmetric, is_turned, load_of, loaded, located, operated, place_number, put_at, reached, shape_of, small, store_of, stored, taken, zero_put, zeros};
+ghost use Rattle.rv_select.specs.Shapes.{applied_to, area_reached, bounds_tested, cleared, computed, copied, divisor_tested, failed, fault_call, first_taken, branched_over, has_shape, held_after, is_held, is_symmetric, is_turned, is_zero, load_of, loaded, located, operated, place_number, put_at, reached, shape_of, small, store_of, stored, taken, zero_put, zeros};
 
 use crate::emit::{
     X0, X5, X6, area_offset, constant_words, push_constant, push_frame_address, push_frame_load,
-    push_frame_store, push_put, push_taken, put,
+    push_frame_store, push_put, push_put_zero, push_taken, put,
 };
 use crate::folded::{is_folded, push_folded};
 use crate::moving::push_bytes_moved;
@@ -80,11 +80,11 @@ pub fn held_after(instruction: &Instruction) -> Option<u64>
 {
     match instruction {
         Instruction::Compute(temp, _, _, _, _)
-        | Instruction::Copy(temp, _)
         | Instruction::Locate(temp, _)
         | Instruction::Load(temp, _, _)
         | Instruction::Alloc(temp, _)
         | Instruction::Call(Destination::Temp(temp), _, _, _) => Some(*temp),
+        Instruction::Copy(temp, a) if !is_zero(*a) => Some(*temp),
         _ => None,
     }
 }
@@ -110,8 +110,21 @@ fn push_copied(
 ) -> Result<(), NoMemory>
     ensures { OnOk result (code.new.items ≡ code.old.items ++ map word_of (copied (with_homes homes.now) held temp a)) }
 {
+    if is_zero(a) {
+        return push_put_zero(code, homes, temp);
+    }
     push_first(code, homes, held, a)?;
     push_put(code, homes, temp)
+}
+
+/// Whether an operand is a zero, which x0 holds.
+pub(crate) fn is_zero(a: Operand) -> bool
+    ensures { result ≡ is_zero a }
+{
+    match a {
+        Operand::Temp(_) => false,
+        Operand::Constant(number) => number == 0,
+    }
 }
 
 fn push_computed(
@@ -212,20 +225,6 @@ fn push_with_constant(
     }
 }
 
-/// x5 and x6 get operands, the first unless x5 holds it.
-pub(crate) fn push_operands(
-    code: &mut Vec<u32>,
-    homes: &[Option<Home>],
-    held: Option<u64>,
-    a: Operand,
-    b: Operand,
-) -> Result<(), NoMemory>
-    ensures { OnOk result (code.new.items ≡ code.old.items ++ map word_of (first_taken (with_homes homes.now) held a ++ taken (with_homes homes.now) x6 b)) }
-{
-    push_first(code, homes, held, a)?;
-    push_second(code, homes, b)
-}
-
 /// x5 gets an operand, unless it holds it.
 pub(crate) fn push_first(
     code: &mut Vec<u32>,
@@ -274,7 +273,11 @@ fn push_taken_first(code: &mut Vec<u32>, homes: &[Option<Home>], a: Operand) -> 
 }
 
 /// x6 gets an operand.
-fn push_second(code: &mut Vec<u32>, homes: &[Option<Home>], b: Operand) -> Result<(), NoMemory>
+pub(crate) fn push_second(
+    code: &mut Vec<u32>,
+    homes: &[Option<Home>],
+    b: Operand,
+) -> Result<(), NoMemory>
     ensures { OnOk result (code.new.items ≡ code.old.items ++ map word_of (taken (with_homes homes.now) x6 b)) }
 {
     push_taken(code, homes, X6, b)
