@@ -26,7 +26,7 @@ use Rattle.rv_operators.specs.Codes.{x0, x5}
 use Rattle.rv_select.specs.declared.selected.Call.{Call as Site}
 use Rattle.rv_select.specs.Numbers.{lower_of, upper_of}
 use Rattle.rv_select.specs.declared.pairs.Pair.{Pair}
-use Rattle.rv_select.specs.Compared.{compared, condition_of, first_of, left_of, operands_taken, right_of, second_of}
+use Rattle.rv_select.specs.Compared.{compared, condition_of, first_register, left_of, operands_taken, right_of, second_register}
 use Rattle.rv_select.specs.Pairs.{pair_of, plain_of}
 use Rattle.rv_select.specs.Places.{Layout, frame_bytes}
 use Rattle.rv_select.specs.declared.settings.Follows.{Follows}
@@ -372,7 +372,8 @@ end-moved code y setting held b at last starts moved k None q same fits near =
 end-moved code y setting held b at last starts moved k (Some pair) q same fits near =
     ap (λ z. T ++ z)
     (chosen-moved setting.near setting.short behind (condition_of pair.form.signed pair.operator)
-    (left_of pair.operator (first_of pair.a) (second_of pair.b)) (right_of pair.operator (first_of pair.a) (second_of pair.b)) b at
+    (left_of pair.operator (first_register held pair.a pair.b) (second_register held pair.a pair.b))
+    (right_of pair.operator (first_register held pair.a pair.b) (second_register held pair.a pair.b)) b at
     (4 * length T) (starts pair.first.block) (starts pair.second.block) (moved pair.first.block) (moved pair.second.block) room
     (same pair.first.block (ltb-true pair.first.block (length code.blocks) parts.0))
     (same pair.second.block (ltb-true pair.second.block (length code.blocks) parts.1)))
@@ -386,11 +387,11 @@ end-moved code y setting held b at last starts moved k (Some pair) q same fits n
     room : b + at + 4 * length (operands_taken y held pair.a pair.b) + 12 ≤ 2 ^ 32
     room =
         let count : length (end_code y setting held at starts last (Some pair) k.exit) ≡ length (operands_taken y held pair.a pair.b) + length
-        (compared setting.near setting.short behind pair.form.signed pair.operator (first_of pair.a) (second_of pair.b)
+        (compared setting.near setting.short behind pair.form.signed pair.operator (first_register held pair.a pair.b) (second_register held pair.a pair.b)
         (at + 4 * length (operands_taken y held pair.a pair.b)) (starts pair.first.block)
         (starts pair.second.block)) =
         length-append (operands_taken y held pair.a pair.b)
-        (compared setting.near setting.short behind pair.form.signed pair.operator (first_of pair.a) (second_of pair.b)
+        (compared setting.near setting.short behind pair.form.signed pair.operator (first_register held pair.a pair.b) (second_register held pair.a pair.b)
         (at + 4 * length (operands_taken y held pair.a pair.b)) (starts pair.first.block)
         (starts pair.second.block)) in
         omega (arith, near, count)

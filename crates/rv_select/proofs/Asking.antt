@@ -22,7 +22,7 @@ use Rattle.tac_form.specs.declared.tac.Tac.{Tac}
 use Rattle.tac_form.specs.Graph.{address_reads, block_of, exit_reads, graph_of, instruction_reads, instruction_write, operand_reads, spot_reads, step_of}
 use Rattle.tac_form.specs.Live.{InUse, has, is_written}
 use Rattle.rv_select.specs.declared.pairs.Pair.{Pair}
-use Rattle.rv_select.specs.Asked.{address_asks, all_ask, asked_homes, asked_of, asks, block_asks, both_ask, computed_asks, end_asks, exit_asks, first_asks, held_after, held_behind, home_in, is_held, is_turned, spot_asks, with_given}
+use Rattle.rv_select.specs.Asked.{address_asks, all_ask, asked_homes, asked_of, asks, block_asks, both_ask, compared_asks, computed_asks, end_asks, exit_asks, first_asks, held_after, held_behind, home_in, is_held, is_second, is_turned, spot_asks, with_given}
 use Rattle.rv_select.specs.Pairs.{but_pair, pair_of, plain_of, reads_of}
 use Rattle.rv_select.specs.Places.{HasHome, HaveHomes, is_given, layout_of}
 use Rattle.rv_select.specs.Waiting.{held_at, held_in, plain_in}
@@ -61,10 +61,17 @@ in-both : (a b : Operand) (t : ℕ) → (has (operand_reads a) t ≡ true) ⊎ (
 in-both a b t o =
     ⊎_elim (λ l. has-left (operand_reads a) (operand_reads b) t l) (λ r. has-right (operand_reads a) (operand_reads b) t r) o
 
-computed-reads : (held : Option ℕ) (turned : Bool) (a b : Operand) (t : ℕ) →
+compared-reads : (held : Option ℕ) (turned : Bool) (a b : Operand) (t : ℕ) →
     has (if turned then both_ask held b a else both_ask held a b) t ≡ true → has (operand_reads a ++ operand_reads b) t ≡ true
-computed-reads held true a b t h = in-both a b t (⊎_elim (λ l. inr l) (λ r. inl r) (both-reads held b a t h))
-computed-reads held false a b t h = in-both a b t (both-reads held a b t h)
+compared-reads held true a b t h = in-both a b t (⊎_elim (λ l. inr l) (λ r. inl r) (both-reads held b a t h))
+compared-reads held false a b t h = in-both a b t (both-reads held a b t h)
+
+computed-reads : (held : Option ℕ) (turned second : Bool) (a b : Operand) (t : ℕ) →
+    has (if turned then both_ask held b a else if second then first_asks held a else both_ask held a b) t ≡ true →
+    has (operand_reads a ++ operand_reads b) t ≡ true
+computed-reads held true second a b t h = compared-reads held true a b t h
+computed-reads held false true a b t h = in-both a b t (inl (first-reads held a t h))
+computed-reads held false false a b t h = compared-reads held false a b t h
 
 spot-reads : (held : Option ℕ) (s : Spot) (t : ℕ) → has (spot_asks held s) t ≡ true → has (spot_reads s) t ≡ true
 spot-reads held (spots.Region at (Word a)) t h = first-reads held a t h
@@ -73,7 +80,7 @@ spot-reads held (spots.Area n offset) t h = cc
 
 asks-read : (held : Option ℕ) (i : Instruction) (t : ℕ) → has (asks held i) t ≡ true →
     (has (instruction_reads i) t ≡ true) ⊎ (is_written (instruction_write i) t ≡ true)
-asks-read held (Compute d op form a b) t h = inl (computed-reads held (is_turned held op b) a b t h)
+asks-read held (Compute d op form a b) t h = inl (computed-reads held (is_turned held op b) (is_second held b) a b t h)
 asks-read held (TestDivisor at a) t h = inl (first-reads held a t h)
 asks-read held (Copy d a) t h =
     ⊎_elim (λ e. inr e) (λ e. inl (first-reads held a t (sym (ap (λ b. b || has (first_asks held a) t) e) ∙ h))) (cases_Bool (nat_eq d t))
@@ -153,7 +160,7 @@ module _ (code : Tac) (hs : List (Option Home)) (b k : ℕ) (block : Block) (rig
       (ap (λ o. has (end_asks held o block.exit) t) alone ∙ h)
 
   pub pair-homes : (d : ℕ) (pair : Pair) → slice_get plain k ≡ None → pair_of (reads_of code) block ≡ Some pair →
-      slice_get block.instructions k ≡ Some (compare_of pair d) → HaveHomes (layout_of code hs) (both_ask held pair.a pair.b)
+      slice_get block.instructions k ≡ Some (compare_of pair d) → HaveHomes (layout_of code hs) (compared_asks held pair.a pair.b)
   pair-homes d pair e is there t h =
-      let used = in-use (compare_of pair d) t there (inl (in-both pair.a pair.b t (both-reads held pair.a pair.b t h))) in
+      let used = in-use (compare_of pair d) t there (inl (compared-reads held (is_second held pair.b) pair.a pair.b t h)) in
       at-end t used.0 used.1 e (ap (λ o. has (end_asks held o block.exit) t) is ∙ h)

@@ -31,8 +31,8 @@ use Rattle.tac_form.specs.Graph.{block_of, graph_of, instruction_reads, instruct
 use Rattle.tac_form.specs.Live.{InUse, has, is_written}
 use Rattle.tac_form.specs.Fits.{are_apart, area_fits, area_there, instruction_fits, operand_fits, place_fits, spot_fits}
 use Rattle.tac_form.specs.Weights.{most_moved, words_of}
-use Rattle.rv_select.specs.Asked.{address_asks, both_ask, first_asks, is_held}
-use Rattle.rv_select.specs.Places.{HasHome, IsFirst, IsHeld, IsRead, Layout, World, layout_of, value_in}
+use Rattle.rv_select.specs.Asked.{address_asks, both_ask, first_asks, is_held, is_second, is_turned}
+use Rattle.rv_select.specs.Places.{HasHome, Holds, IsFirst, IsHeld, IsRead, Layout, World, layout_of, value_in}
 use Rattle.rv_operators.specs.Runs.{Stands}
 use Rattle.rv_select.specs.Shapes.{bytes_moved, held_after, loaded, range_written, shape_of, some_moved, stored}
 use Rattle.rv_select.specs.Steps.{AreFewer, Carried, Comes, Ends, Follows, IsPlace, InstructionsAreCarried, StandsBefore, behind, with_temp, world_of}
@@ -108,13 +108,26 @@ first-read code y held Used (Temp t) fits f g =
 first-read code y held Used (Constant c) fits f g = ltb-true c (2 ^ 64) fits
 
 -- two operands, of which x5 takes the first
-both-read : (code : Tac) (y : Layout) (held : Option ℕ) (Used : ℕ → Type 0) (a b : Operand) → operand_fits code a ≡ true → operand_fits code b ≡ true →
+pub both-read : (code : Tac) (y : Layout) (held : Option ℕ) (Used : ℕ → Type 0) (a b : Operand) → operand_fits code a ≡ true → operand_fits code b ≡ true →
     ((t : ℕ) → has (operand_reads a) t ≡ true → Used t) → ((t : ℕ) → has (operand_reads b) t ≡ true → Used t) →
     ((t : ℕ) → has (both_ask held a b) t ≡ true → HasHome y t) → IsFirst y held Used a × IsRead y Used b
 both-read code y held Used a b fit-a fit-b read-a read-b asked = (
   first-read code y held Used a fit-a read-a (λ t u. asked t (has-left (first_asks held a) (operand_reads b) t u)),
   operand-read code y Used b fit-b read-b (λ t u. asked t (has-right (first_asks held a) (operand_reads b) t u)),
 )
+
+-- one that x5 holds
+second-read : (y : Layout) (held : Option ℕ) (Used : ℕ → Type 0) (a : Operand) → is_second held a ≡ true →
+    ((t : ℕ) → has (operand_reads a) t ≡ true → Used t) → IsFirst y held Used a
+second-read y held Used (Temp t) e f = let here : has (t ∷ []) t ≡ true = ap (λ b. b || false) (eq-eqb t t refl) in (f t here, inl e)
+second-read y held Used (Constant c) e f = cc
+
+-- the word of one in use
+pub used-small : (code : Tac) (y : Layout) (Used : ℕ → Type 0) (w : World) (base : ℕ) (m : State) (a : Operand) → Holds y Used w base m →
+    operand_fits code a ≡ true → ((t : ℕ) → has (operand_reads a) t ≡ true → Used t) → value_in w.temps a < 2 ^ 64
+used-small code y Used w base m (Temp t) p fits f =
+    let here : has (t ∷ []) t ≡ true = ap (λ b. b || false) (eq-eqb t t refl) in p.words t (f t here)
+used-small code y Used w base m (Constant c) p fits f = ltb-true c (2 ^ 64) fits
 
 pub place-small : (at : Place) → place_fits at ≡ true → IsPlace at
 place-small at h =
@@ -165,6 +178,14 @@ some-or-none (Some x) = inr (x, refl)
 no-zero : (a b : Bool) (x : ℕ) → (a && b) ≡ false → b ≡ nat_eq x 0 → a ≡ true → x ≢ 0
 no-zero a b x e f g z = let t : b ≡ true = f ∙ eq-eqb x 0 z in let both : (a && b) ≡ true = ap (λ c. c && b) g ∙ t in let none : true ≡ false = sym both ∙ e in cc
 
+-- what an operator asks for whose operands don't change places
+abbrev unturned-asks : (held : Option ℕ) → (a b : Operand) → (second : Bool) → List ℕ
+unturned-asks held a b second = if second then first_asks held a else both_ask held a b
+
+unturned : (held : Option ℕ) (a b : Operand) (t : ℕ) (turned second : Bool) → turned ≡ false →
+    has (if turned then both_ask held b a else unturned-asks held a b second) t ≡ has (unturned-asks held a b second) t
+unturned held a b t turned second e = ap (λ c. has (if c then both_ask held b a else unturned-asks held a b second) t) e
+
 carry-compute : (p : Program) (code : Tac) (homes : List (Option Home)) (held : Option ℕ) (d : ℕ) (op : BinaryOperator) (form : Number) (a b : Operand) (s : tac.State)
     (program : List (Option Instr)) (base : ℕ) (m : State) → StandsBefore p code homes held (Compute d op form a b) s program base m →
     Carried (layout_of code homes) (graph_of code) program base (words_of (Compute d op form a b)) (held_after (Compute d op form a b)) (shape_of (layout_of code homes) held (Compute d op form a b)) s m (step p s)
@@ -186,10 +207,13 @@ carry-compute p code homes held d op form a b s program base m x =
     (λ h. (given s.out (operators (layout_of code homes) held d op form a b (used code s) (next code s) (world_of s) base program m x.stands x.five
     (no-zero (divides op) (nat_eq (value_in s.here.temps b) 0) (value_in s.here.temps b) h refl) x.holds
     (housed code homes s.here.block s.here.at x.right) (housed code homes s.here.block (suc s.here.at) x.right)
-    (λ plain. both-read code (layout_of code homes) held (used code s) a b fit-a.1 fit.1 read-a read-b
-    (λ t u. x.asked t (ap (λ c. has (if c then both_ask held b a else both_ask held a b) t) plain ∙ u)))
+    (λ plain first. both-read code (layout_of code homes) held (used code s) a b fit-a.1 fit.1 read-a read-b
+    (λ t u. x.asked t (unturned held a b t (is_turned held op b) (is_second held b) plain ∙ (ap (λ c. has (unturned-asks held a b c) t) first ∙ u))))
+    (λ second. second-read (layout_of code homes) held (used code s) b second read-b)
+    (λ plain second. first-read code (layout_of code homes) held (used code s) a fit-a.1 read-a
+    (λ t u. x.asked t (unturned held a b t (is_turned held op b) (is_second held b) plain ∙ (ap (λ c. has (unturned-asks held a b c) t) second ∙ u))))
     (λ turn. both-read code (layout_of code homes) held (used code s) b a fit.1 fit-a.1 read-b read-a
-    (λ t u. x.asked t (ap (λ c. has (if c then both_ask held b a else both_ask held a b) t) turn ∙ u)))
+    (λ t u. x.asked t (ap (λ c. has (if c then both_ask held b a else unturned-asks held a b (is_second held b)) t) turn ∙ u)))
     (written-next p code homes held i s program base m d x refl) (follows p code homes held i s program base m d x refl)))))
 
 carry-test : (p : Program) (code : Tac) (homes : List (Option Home)) (held : Option ℕ) (at : Place) (a : Operand) (s : tac.State) (program : List (Option Instr)) (base : ℕ) (m : State) →

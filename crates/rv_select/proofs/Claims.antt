@@ -20,7 +20,7 @@ use Rattle.tac_form.specs.Flow.{bytes_of, put, width_of}
 use Rattle.tac_form.specs.Weights.{words_of}
 use Rattle.rv_operators.specs.Runs.{Stands}
 use Rattle.rv_select.specs.Places.{HasHome, IsFirst, IsHeld, Layout, World, Holds, Housed, IsRead, value_in}
-use Rattle.rv_select.specs.Shapes.{copied, computed, divisor_tested, held_after, is_turned, loaded, located, put_at, stored}
+use Rattle.rv_select.specs.Shapes.{copied, computed, divisor_tested, held_after, is_second, is_turned, loaded, located, put_at, stored}
 use Rattle.rv_select.specs.Steps.{AreFewer, Comes, Ends, Follows, IsPlace, behind, with_temp}
 
 -- The machine comes somewhere with the word of a temporary in x5.
@@ -44,7 +44,8 @@ OperatorsAreCarried =
     (program : List (Option Instr)) (m : State) →
     Stands program m.pc (computed y held d op (width_of form) a b) → IsHeld held w.temps m → (divides op ≡ true → value_in w.temps b ≢ 0) →
     Holds y Used w base m → Housed y Used → Housed y Next →
-    (is_turned held op b ≡ false → IsFirst y held Used a × IsRead y Used b) →
+    (is_turned held op b ≡ false → is_second held b ≡ false → IsFirst y held Used a × IsRead y Used b) →
+    (is_second held b ≡ true → IsFirst y held Used b) → (is_turned held op b ≡ false → is_second held b ≡ true → IsFirst y held Used a) →
     (is_turned held op b ≡ true → IsFirst y held Used b × IsRead y Used a) → Next d → Follows Used Next d →
     Gives y program Next (with_temp w d (applied (width_of form) op (value_in w.temps a) (value_in w.temps b))) base
     (words_of (Compute d op form a b)) (behind m (computed y held d op (width_of form) a b)) d m

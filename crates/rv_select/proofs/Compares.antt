@@ -32,21 +32,20 @@ use Rattle.tac_form.specs.Weights as weights
 use Rattle.tac_form.specs.Weights.{exit_words, words_of}
 use Rattle.rv_operators.specs.Codes.{is_comparison}
 use Rattle.rv_operators.proofs.Values.{signed-less}
-use Rattle.rv_select.specs.Asked.{first_asks}
+use Rattle.rv_select.specs.Asked.{both_ask, is_second}
 use Rattle.rv_select.specs.Places.{Holds, Housed, IsFirst, IsRead, Layout, World, layout_of, value_in}
 use Rattle.rv_select.specs.declared.settings.Follows.{Follows}
 use Rattle.rv_select.specs.declared.settings.Follows.TheVariants.{First, Second}
 use Rattle.rv_select.specs.Settings.{follower}
-use Rattle.rv_select.specs.Compared.{ComparesAreCarried, ComparesKeepWithin, StandsAtCompare, below_condition, compared, compared_shape, condition_of, first_of, least_condition, left_of, operands_taken, right_of, second_of}
+use Rattle.rv_select.specs.Compared.{ComparesAreCarried, ComparesKeepWithin, StandsAtCompare, below_condition, compared, compared_shape, condition_of, first_register, least_condition, left_of, operands_taken, right_of, second_register}
 use Rattle.rv_select.specs.Steps.{AreFewer, Comes, Left, with_temp, world_of}
 use Rattle.rv_select.proofs.Straight.{Loads, Scratch, loads-five, loads-six, scratch-both}
 use Rattle.rv_select.proofs.Homes.{first-count, first-few, operand-count, take-first, take-operand, taken-count}
 use Rattle.rv_select.proofs.Moves.{fewer-holds, first-small, scratch-holds, unused-holds, value-small}
-use Rattle.rv_select.proofs.Sides.{Sides, both-sides, sides-count, sides-few}
-use Rattle.rv_select.proofs.Moves.{first-small, value-small}
+use Rattle.rv_select.proofs.Sides.{Sides, sides-count, sides-few, sides-taken}
 use Rattle.rv_select.proofs.Numbers.{pushed_words}
 use Rattle.rv_select.proofs.Lives.{housed, read-live, step-in-graph, use-follows}
-use Rattle.rv_select.proofs.Carries.{both-true, by-test, first-read, has-left, has-right, operand-read}
+use Rattle.rv_select.proofs.Carries.{both-read, both-true, by-test, has-left, has-right, used-small}
 use Rattle.rv_select.proofs.Leaves.{chosen-comes, edge-near, edge-reach, exit-in-graph, next-live, or-left, or-second, zero-or-more}
 use Rattle.rv_select.proofs.Branched.{follower-first, follower-second}
 use Rattle.rv_select.proofs.Jumps.{chosen-count, chosen-few, chosen_words}
@@ -153,15 +152,22 @@ module _ (p : Program) (code : Tac) (homes : List (Option Home)) (held : Option 
   fits-both : ((nat_lt d code.temps && operand_fits code a) ≡ true) × (operand_fits code b ≡ true)
   fits-both = both-true (nat_lt d code.temps && operand_fits code a) (operand_fits code b) x.fits
 
-  read-a : IsFirst y held used a
-  read-a =
-      first-read code y held used a (both-true (nat_lt d code.temps) (operand_fits code a) fits-both.0).1
-      (λ t u. reads-here t (has-left (operand_reads a) (operand_reads b) t u)) (λ t u. x.asked t (has-left (first_asks held a) (operand_reads b) t u))
+  fits-a : operand_fits code a ≡ true
+  fits-a = (both-true (nat_lt d code.temps) (operand_fits code a) fits-both.0).1
 
-  read-b : IsRead y used b
-  read-b =
-      operand-read code y used b fits-both.1 (λ t u. reads-here t (has-right (operand_reads a) (operand_reads b) t u))
-      (λ t u. x.asked t (has-right (first_asks held a) (operand_reads b) t u))
+  read-a : (t : ℕ) → has (operand_reads a) t ≡ true → used t
+  read-a t u = reads-here t (has-left (operand_reads a) (operand_reads b) t u)
+
+  read-b : (t : ℕ) → has (operand_reads b) t ≡ true → used t
+  read-b t u = reads-here t (has-right (operand_reads a) (operand_reads b) t u)
+
+  in-order : is_second held b ≡ false → IsFirst y held used a × IsRead y used b
+  in-order plain = both-read code y held used a b fits-a fits-both.1 read-a read-b
+      (λ t u. x.asked t (ap (λ c. has (if c then both_ask held b a else both_ask held a b) t) plain ∙ u))
+
+  turned-round : is_second held b ≡ true → IsFirst y held used b × IsRead y used a
+  turned-round turn = both-read code y held used b a fits-both.1 fits-a read-b read-a
+      (λ t u. x.asked t (ap (λ c. has (if c then both_ask held b a else both_ask held a b) t) turn ∙ u))
 
   fit-e : edge_fits code e ≡ true
   fit-e = (both-true (operand_fits code (Temp d)) (edge_fits code e) (both-true (operand_fits code (Temp d) && edge_fits code e) (edge_fits code f) x.there).0).1
@@ -169,11 +175,16 @@ module _ (p : Program) (code : Tac) (homes : List (Option Home)) (held : Option 
   fit-f : edge_fits code f ≡ true
   fit-f = (both-true (operand_fits code (Temp d) && edge_fits code e) (edge_fits code f) x.there).1
 
+  small : (o : Operand) → operand_fits code o ≡ true → ((t : ℕ) → has (operand_reads o) t ≡ true → used t) →
+      value_in s.here.temps o < 2 ^ 64
+  small o fits reads = used-small code y used (world_of s) base m o x.holds fits reads
+
   compare-comes : (taken_it : Bool) (c : ℕ) → not (nat_eq result 0) ≡ taken_it → (if taken_it then e.block else f.block) ≡ c → (IsLive (graph_of code) c 0 d → ⊥) →
       ((q : ℕ → Bool) → q c ≡ true → list_any q (exit_next (Branch (Temp d) e f)) ≡ true) → Comes y program (InUse (graph_of code) c 0) (world_of after_it) base weight (starts c) [] m
   compare-comes taken_it c is block unread h =
-      let k : Sides A m (first_of a) (second_of b) va vb =
-      both-sides y held used (world_of s) base m a b x.five x.holds all-housed read-a read-b in
+      let l : Register = first_register held a b in
+      let r : Register = second_register held a b in
+      let k : Sides A m l r va vb = sides-taken y held used (world_of s) base m a b x.five x.holds all-housed in-order turned-round in
       let count : length A ≤ weights.operand_words a + weights.operand_words b = sides-count y held a b in
       let few : length A ≤ 16 = sides-few y held a b in
       let o : Follows = follower x.setting.next e.block f.block in
@@ -183,13 +194,12 @@ module _ (p : Program) (code : Tac) (homes : List (Option Home)) (held : Option 
       let second-next : o ≡ Second → starts f.block ≡ m.pc + 4 * length C =
       λ g. x.next_there f.block (follower-second x.setting.next e.block f.block g) in
       chosen-comes y (without used d) (InUse (graph_of code) c 0) (world_of after_it) base (starts e.block) (starts f.block) (starts c) weight x.setting.near x.setting.short o
-      (condition_of form.signed op) (left_of op (first_of a) (second_of b)) (right_of op (first_of a) (second_of b)) taken_it A program m k.after
+      (condition_of form.signed op) (left_of op l r) (right_of op l r) taken_it A program m k.after
       k.scratch (unread-holds y used (world_of s) base d result m x.holds) (record { homes = λ t u k. all-housed.homes t u.0 k; apart = λ t u i j k o g. all-housed.apart t u i.0 j.0 k o g }) (next-here c unread h)
       (omega (arith, count)) few x.near (x.blocks e.block) (x.blocks f.block) (edge-reach code starts m.pc x.setting.short e x.short_is x.reach fit-e)
       (edge-reach code starts m.pc x.setting.short f x.short_is x.reach fit-f) (edge-near code starts m.pc x.setting.near e x.near_is x.reach fit-e)
       (edge-near code starts m.pc x.setting.near f x.near_is x.reach fit-f) first-next second-next x.stands
-      (compare-is (width_of form) op va vb x.compares (first-small held used y (world_of s) base m a x.holds read-a) (value-small used y (world_of s) base m b x.holds read-b)
-      (first_of a) (second_of b) k.after k.first k.second ∙ is)
+      (compare-is (width_of form) op va vb x.compares (small a fits-a read-a) (small b fits-both.1 read-b) l r k.after k.first k.second ∙ is)
       (chosen-start taken_it c block)
     where
       chosen-start : (t : Bool) (c : ℕ) → (if t then e.block else f.block) ≡ c → (if t then starts e.block else starts f.block) ≡ starts c
@@ -231,12 +241,12 @@ compares p code homes held d op form a b e f starts s program base m x =
 
 -- how many words there are
 compared-count : (y : Layout) (near short : Bool) (o : Follows) (held : Option ℕ) (signed : Bool) (op : BinaryOperator) (a b : Operand) (at first second : ℕ) →
-    length (operands_taken y held a b ++ compared near short o signed op (first_of a) (second_of b) at first second) ≡
+    length (operands_taken y held a b ++ compared near short o signed op (first_register held a b) (second_register held a b) at first second) ≡
     length (operands_taken y held a b) + chosen_words near short o
 compared-count y near short o held signed op a b at first second =
-    let l : Register = left_of op (first_of a) (second_of b) in
-    let r : Register = right_of op (first_of a) (second_of b) in
-    length-append (operands_taken y held a b) (compared near short o signed op (first_of a) (second_of b) at first second)
+    let l : Register = left_of op (first_register held a b) (second_register held a b) in
+    let r : Register = right_of op (first_register held a b) (second_register held a b) in
+    length-append (operands_taken y held a b) (compared near short o signed op (first_register held a b) (second_register held a b) at first second)
     ∙ ap (λ n. length (operands_taken y held a b) + n) (chosen-count near short o (condition_of signed op) l r at first second)
 
 pub compares-within : ComparesKeepWithin

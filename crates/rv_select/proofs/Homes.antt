@@ -127,7 +127,7 @@ operand-count y d (Temp t) = home-count d (home_of y t)
 operand-count y d (Constant c) = constant-weight d c
 
 -- where x5 holds the operand, no code takes it
-held-is : (held : Option ℕ) (t : ℕ) (temps : Temps) (m : State) → IsHeld held temps m → is_held held t ≡ true → m.registers 5 ≡ temps t
+pub held-is : (held : Option ℕ) (t : ℕ) (temps : Temps) (m : State) → IsHeld held temps m → is_held held t ≡ true → m.registers 5 ≡ temps t
 held-is None t temps m f e = cc
 held-is (Some u) t temps m f e = f ∙ ap temps (eqb-true u t e)
 

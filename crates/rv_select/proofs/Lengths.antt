@@ -13,7 +13,7 @@ use Rattle.rv_select.specs.declared.settings.Setting.{Setting}
 use Rattle.rv_select.specs.Settings.{falls, follower, setting_of}
 use Rattle.rv_isa.specs.declared.operation.BranchCondition.TheVariants.{Ne}
 use Rattle.rv_operators.specs.Codes.{x0, x5}
-use Rattle.rv_select.specs.Compared.{condition_of, first_of, left_of, operands_taken, right_of, second_of}
+use Rattle.rv_select.specs.Compared.{condition_of, first_register, left_of, operands_taken, right_of, second_register}
 use Rattle.rv_select.specs.Pairs.{pair_of, plain_of}
 use Rattle.rv_select.specs.Places.{Layout}
 use Rattle.rv_select.specs.Shapes.{first_taken, held_after, x10}
@@ -66,8 +66,8 @@ unfolding pair_code
 end-length y setting held at other last final starts others None e = exit-length y setting held at other last final starts others e
 end-length y setting held at other last final starts others (Some pair) e =
     let T = operands_taken y held pair.a pair.b in
-    let l = left_of pair.operator (first_of pair.a) (second_of pair.b) in
-    let r = right_of pair.operator (first_of pair.a) (second_of pair.b) in
+    let l = left_of pair.operator (first_register held pair.a pair.b) (second_register held pair.a pair.b) in
+    let r = right_of pair.operator (first_register held pair.a pair.b) (second_register held pair.a pair.b) in
     let c = condition_of pair.form.signed pair.operator in
     let o = follower setting.next pair.first.block pair.second.block in
     same-behind T _ _

@@ -1,5 +1,5 @@
 -- Copies and operators.
-use Rattle.std.proofs.Common.{◌≡◌, ◌≢◌, ℕ, ◌+◌, ◌*◌, ◌^◌, ◌<◌, ◌≤◌, Bool, true, false, not, ◌&&◌, List, [], ◌++◌, length, take, drop, append_assoc, Option, None, Some, refl, sym, ap, ◌∙◌, subst, ⊎_elim, inl, inr, arith}
+use Rattle.std.proofs.Common.{◌≡◌, ◌≢◌, ℕ, suc, ◌+◌, ◌*◌, ◌^◌, ◌<◌, ◌≤◌, Bool, true, false, not, ◌&&◌, List, [], ◌∷◌, ◌++◌, length, take, drop, append_assoc, Option, None, Some, refl, sym, ap, ◌∙◌, subst, ⊎_elim, inl, inr, arith}
 use Rattle.std.specs.Prelude.{if◌then◌else◌, nat_eq, ◌⊎◌, IsTrue, slice_get}
 use Rattle.std.proofs.lemmas.Bool.{cases_Bool, cases_eq, eq-eqb, eqb-true, ne_eqb}
 use Rattle.std.proofs.lemmas.List.{length-append}
@@ -13,7 +13,7 @@ use Rattle.reg_alloc.specs.declared.assignment.Home.{Home}
 use Rattle.reg_alloc.specs.declared.assignment.Home.TheVariants as homes
 use Rattle.terra_memory.specs.Numbers.{number_of}
 use Rattle.rv_machine.specs.Word.{low}
-use Rattle.rv_machine.specs.Machine.{State, run_of}
+use Rattle.rv_machine.specs.Machine.{GoesOn, State, at_with, run_of}
 use Rattle.terra_words.specs.declared.words.Width.{Width}
 use Rattle.terra_words.specs.declared.words.BinaryOperator.{BinaryOperator}
 use Rattle.terra_words.specs.declared.words.BinaryOperator.TheVariants as ops
@@ -24,7 +24,7 @@ use Rattle.tac_form.specs.declared.tac.Size.TheVariants.{One, Two, Four, Eight}
 use Rattle.tac_form.specs.declared.tac.Operand.{Operand}
 use Rattle.tac_form.specs.declared.tac.Operand.TheVariants.{Temp, Constant}
 use Rattle.tac_form.specs.declared.tac.Instruction.TheVariants.{Compute, Copy}
-use Rattle.tac_form.specs.Flow.{put, bytes_of, width_of}
+use Rattle.tac_form.specs.Flow.{Temps, put, bytes_of, width_of}
 use Rattle.tac_form.specs.Weights.{words_of}
 use Rattle.rv_operators.specs.Claims.{Leads}
 use Rattle.rv_operators.specs.Codes.{x0, x5, x6, code_of, is_width}
@@ -34,15 +34,16 @@ use Rattle.rv_operators.proofs.Short.{code-short}
 use Rattle.rv_select.specs.Places.{AreBytes, HasHome, Layout, World, Holds, Housed, IsFirst, IsHeld, IsHome, IsRead, Keeps, area_offset, frame_bytes, home_of, is_given, is_lasting, slot_offset, uses, value_in, word_at}
 use Rattle.rv_select.specs.Folded.{folded, is_folded}
 use Rattle.rv_select.specs.Numbers.{constant}
-use Rattle.rv_select.specs.Shapes.{applied_to, first_taken, is_held, is_symmetric, is_turned, operated, put_at, put_from, put_to, taken}
+use Rattle.rv_select.specs.Shapes.{applied_to, first_taken, is_held, is_second, is_symmetric, is_turned, moved, operated, operated_second, put_at, put_from, put_to, taken}
 use Rattle.rv_select.specs.Steps.{Comes, Follows, behind, with_temp}
 use Rattle.rv_select.proofs.Claims.{CopiesAreCarried, Gives, OperatorsAreCarried}
-use Rattle.rv_select.proofs.Straight.{Loads, Scratch, behind-both, leads-scratch, loads-five, loads-six, low-below, low-here, scratch-both}
+use Rattle.rv_select.proofs.Straight.{Loads, Scratch, behind-both, leads-scratch, loads-five, loads-one, loads-six, low-below, low-here, low-small, scratch-both}
 use Rattle.rv_select.proofs.Ways.{Near, Way, scratch-near, stands-back, stands-front, straight-way, way-both}
 use Rattle.rv_select.proofs.Frames.{framed-some}
-use Rattle.rv_select.proofs.Homes.{Puts, first-count, home-apart, home-inside, put-count, put-home, put-is, put-none, region-small, take-first, take-operand}
+use Rattle.rv_select.proofs.Homes.{Puts, first-count, home-apart, home-inside, put-count, put-home, put-is, put-none, region-small, take-first, take-operand, held-is}
 use Rattle.rv_select.proofs.Holding.{applied-count, applied-some, folded-few, folds}
 use Rattle.rv_select.proofs.Numbers.{constant-loads}
+use Rattle.rv_select.proofs.Sequences.{operator-count}
 use Rattle.rv_select.proofs.Small.{applied-small}
 
 -- a word at a home depends on neither scratch registers nor the region
@@ -504,6 +505,58 @@ in-order y held d op form a b Used Next w base program m stands f divisor p h h'
     (scratch-both A S m l.after o.after (loads-five A m va l) o.scratch) o.gives (applied-small wide op va vb (wide-size form.size)) few (inl some)
     (subst (λ x. Stands program m.pc x) (sym (append_assoc A S (put_at y d))) stands))
 
+-- where x5 holds the second operand
+held-kept : (held : Option ℕ) (temps : Temps) (m n : State) → n.registers 5 ≡ m.registers 5 → IsHeld held temps m → IsHeld held temps n
+held-kept None temps m n e f = tt
+held-kept (Some t) temps m n e f = e ∙ f
+
+to-six : (m : State) (v : ℕ) → m.registers 5 ≡ v → v < 2 ^ 64 → Loads 6 (moved x6 x5 ∷ []) m v
+to-six m v e s =
+    let z : v + 0 ≡ v = omega arith in
+    loads-one (moved x6 x5) m 6 v (λ q. omega (arith, q)) refl
+    (ap (λ x. GoesOn (at_with m (low (m.pc + 4)) 6 (low (x + 0)))) e
+    ∙ ap (λ x. GoesOn (at_with m (low (m.pc + 4)) 6 x)) (ap low z ∙ low-small v s))
+
+second-held : (y : Layout) (held : Option ℕ) (d : ℕ) (op : BinaryOperator) (form : Number) (a : Operand) (t : ℕ) (Used Next : ℕ → Type 0)
+    (w : World) (base : ℕ) (program : List (Option Instr)) (m : State) →
+    Stands program m.pc (operated_second y held d op (width_of form) a) → IsHeld held w.temps m → is_held held t ≡ true →
+    (divides op ≡ true → w.temps t ≢ 0) → Holds y Used w base m → Housed y Used → Housed y Next → IsFirst y held Used a → Used t → Next d →
+    Follows Used Next d →
+    Gives y program Next (with_temp w d (applied (width_of form) op (value_in w.temps a) (w.temps t))) base
+    (words_of (Compute d op form a (Temp t))) (behind m (operated_second y held d op (width_of form) a)) d m
+second-held y held d op form a t Used Next w base program m stands f e divisor p h h' ra used u follows =
+    let wide : Width = width_of form in
+    let va = value_in w.temps a in
+    let vb = w.temps t in
+    let M : List Instr = moved x6 x5 ∷ [] in
+    let A : List Instr = first_taken y held a in
+    let C : List Instr = code_of wide op in
+    let sb : vb < 2 ^ 64 = p.words t used in
+    let sa : va < 2 ^ 64 = first-small held Used y w base m a p ra in
+    let k : Loads 6 M m vb = to-six m vb (held-is held t w.temps m f e) sb in
+    let n : State = k.after in
+    let q : Holds y Used w base n = scratch-holds y Used w base M m n p h (loads-six M m vb k) in
+    let five : n.registers 5 ≡ m.registers 5 = k.keeps 5 (λ z. omega (arith, z)) (λ z. omega (arith, z)) in
+    let l : Loads 5 A n va = take-first y held Used w base n a (held-kept held w.temps m n five f) q h ra in
+    let r : State = l.after in
+    let six : r.registers 6 ≡ vb = l.keeps 6 (λ z. omega (arith, z)) (λ z. omega (arith, z)) ∙ k.gives in
+    let o : Leads C r (applied wide op (r.registers 5) (r.registers 6)) =
+    operator-computes wide op (wide-size form.size) r (subst (λ x. x < 2 ^ 64) (sym l.gives) sa) (subst (λ x. x < 2 ^ 64) (sym six) sb)
+    (λ g z. divisor g (sym six ∙ z)) in
+    let scratch : Scratch (M ++ (A ++ C)) m o.after =
+    scratch-both M (A ++ C) m n o.after (loads-six M m vb k)
+    (scratch-both A C n r o.after (loads-five A n va l) (leads-scratch C r _ o (code-short wide op).straight)) in
+    let gives : o.after.registers 5 ≡ applied wide op va vb =
+    o.gives ∙ (ap (λ x. applied wide op x (r.registers 6)) l.gives ∙ ap (λ x. applied wide op va x) six) in
+    let one : length (M ++ (A ++ C)) ≡ suc (length (A ++ C)) = refl in
+    let few : length (M ++ (A ++ C)) + 3 ≤ words_of (Compute d op form a (Temp t)) =
+    omega (arith, one, length-append A C, first-count y held a, operator-count wide op) in
+    subst (λ x. Gives y program Next (with_temp w d (applied wide op va vb)) base (words_of (Compute d op form a (Temp t))) (behind m x) d m)
+    (ap (λ x. moved x6 x5 ∷ x) (append_assoc A C (put_at y d)))
+    (straight-put y Used Next w base d (applied wide op va vb) (words_of (Compute d op form a (Temp t))) (M ++ (A ++ C)) program m o.after p h h'
+    u follows scratch gives (applied-small wide op va vb (wide-size form.size)) few (inl (omega (arith, one)))
+    (subst (λ x. Stands program m.pc x) (ap (λ x. moved x6 x5 ∷ x) (sym (append_assoc A C (put_at y d)))) stands))
+
 -- operands that change places
 and-left : (a b : Bool) → (a && b) ≡ true → a ≡ true
 and-left true b e = refl
@@ -551,18 +604,36 @@ symmetric wide ops.Greater x y e = cc
 symmetric wide ops.GreaterEqual x y e = cc
 
 pub operators : OperatorsAreCarried
-operators y held d op form a b Used Next w base program m stands f divisor p h h' plain turn u follows = either (is_turned held op b) refl stands
+operators y held d op form a b Used Next w base program m stands f divisor p h h' plain held-b held-a turn u follows =
+    either (is_turned held op b) refl stands
   where
     turned : (b : Operand) → is_turned held op b ≡ true → (is_symmetric op ≡ true) × (divides op ≡ false)
     turned (Temp t) e = let s : is_symmetric op ≡ true = and-left (is_symmetric op) (is_held held t) e in (s, no-divisor op s)
     turned (Constant c) e = cc
 
-    either : (c : Bool) → is_turned held op b ≡ c →
-        Stands program m.pc (if c then operated y held d op (width_of form) b a else operated y held d op (width_of form) a b) →
+    second : (b : Operand) → is_second held b ≡ true → IsFirst y held Used b → (divides op ≡ true → value_in w.temps b ≢ 0) →
+        IsFirst y held Used a → Stands program m.pc (operated_second y held d op (width_of form) a) →
         Gives y program Next (with_temp w d (applied (width_of form) op (value_in w.temps a) (value_in w.temps b))) base
-        (words_of (Compute d op form a b))
-        (behind m (if c then operated y held d op (width_of form) b a else operated y held d op (width_of form) a b)) d m
-    either false e there = (let r = plain e in in-order y held d op form a b Used Next w base program m there f divisor p h h' r.0 r.1 u follows)
+        (words_of (Compute d op form a b)) (behind m (operated_second y held d op (width_of form) a)) d m
+    second (Temp t) e r never ra there =
+        second-held y held d op form a t Used Next w base program m there f e never p h h' ra r.0 u follows
+    second (Constant c) e r never ra there = cc
+
+    in-turn : is_turned held op b ≡ false → (c : Bool) → is_second held b ≡ c →
+        Stands program m.pc (if c then operated_second y held d op (width_of form) a else operated y held d op (width_of form) a b) →
+        Gives y program Next (with_temp w d (applied (width_of form) op (value_in w.temps a) (value_in w.temps b))) base (words_of (Compute d op form a b))
+        (behind m (if c then operated_second y held d op (width_of form) a else operated y held d op (width_of form) a b)) d m
+    in-turn e false g there =
+        (let r = plain e g in in-order y held d op form a b Used Next w base program m there f divisor p h h' r.0 r.1 u follows)
+    in-turn e true g there = second b g (held-b g) divisor (held-a e g) there
+
+    either : (c : Bool) → is_turned held op b ≡ c →
+        Stands program m.pc (if c then operated y held d op (width_of form) b a
+        else if is_second held b then operated_second y held d op (width_of form) a else operated y held d op (width_of form) a b) →
+        Gives y program Next (with_temp w d (applied (width_of form) op (value_in w.temps a) (value_in w.temps b))) base (words_of (Compute d op form a b))
+        (behind m (if c then operated y held d op (width_of form) b a
+        else if is_second held b then operated_second y held d op (width_of form) a else operated y held d op (width_of form) a b)) d m
+    either false e there = in-turn e (is_second held b) refl there
     either true e there =
         let t = turned b e in
         let r = turn e in

@@ -12,8 +12,8 @@ use Rattle.tac_form.specs.Weights as weights
 use Rattle.rv_operators.specs.Codes.{x0, x5, x6}
 use Rattle.rv_select.specs.Numbers.{constant}
 use Rattle.rv_select.specs.Places.{Holds, Housed, IsFirst, IsHeld, IsRead, Layout, World, value_in}
-use Rattle.rv_select.specs.Shapes.{first_taken, is_zero, taken}
-use Rattle.rv_select.specs.Compared.{first_of, operands_taken, second_of, unless_zero}
+use Rattle.rv_select.specs.Shapes.{first_taken, is_second, is_zero, taken}
+use Rattle.rv_select.specs.Compared.{both_taken, first_of, first_register, operands_taken, second_of, second_register, unless_zero}
 use Rattle.rv_select.proofs.Straight.{Loads, Scratch, loads-five, loads-six, scratch-both, scratch-none}
 use Rattle.rv_select.proofs.Homes.{first-count, first-few, operand-count, take-first, take-operand, taken-count}
 use Rattle.rv_select.proofs.Moves.{scratch-holds}
@@ -79,9 +79,9 @@ first-kept a m n e = either (is_zero a)
     either true = refl
     either false = e
 
-pub both-sides : (y : Layout) (held : Option ℕ) (Used : ℕ → Type 0) (w : World) (base : ℕ) (m : State) (a b : Operand) → IsHeld held w.temps m →
+both-sides : (y : Layout) (held : Option ℕ) (Used : ℕ → Type 0) (w : World) (base : ℕ) (m : State) (a b : Operand) → IsHeld held w.temps m →
     Holds y Used w base m → Housed y Used → IsFirst y held Used a → IsRead y Used b →
-    Sides (operands_taken y held a b) m (first_of a) (second_of b) (value_in w.temps a) (value_in w.temps b)
+    Sides (both_taken y held a b) m (first_of a) (second_of b) (value_in w.temps a) (value_in w.temps b)
 both-sides y held Used w base m a b f p h ra rb =
     let A : List Instr = unless_zero a (first_taken y held a) in
     let B : List Instr = unless_zero b (taken y x6 b) in
@@ -95,6 +95,22 @@ both-sides y held Used w base m a b f p h ra rb =
       second = k.gives;
     }
 
+-- where x5 may hold the second
+pub sides-taken : (y : Layout) (held : Option ℕ) (Used : ℕ → Type 0) (w : World) (base : ℕ) (m : State) (a b : Operand) → IsHeld held w.temps m →
+    Holds y Used w base m → Housed y Used → (is_second held b ≡ false → IsFirst y held Used a × IsRead y Used b) →
+    (is_second held b ≡ true → IsFirst y held Used b × IsRead y Used a) →
+    Sides (operands_taken y held a b) m (first_register held a b) (second_register held a b) (value_in w.temps a) (value_in w.temps b)
+sides-taken y held Used w base m a b f p h plain turn = either (is_second held b) refl
+  where
+    either : (c : Bool) → is_second held b ≡ c →
+        Sides (if c then both_taken y held b a else both_taken y held a b) m (if c then second_of a else first_of a)
+        (if c then first_of b else second_of b) (value_in w.temps a) (value_in w.temps b)
+    either false e = let r = plain e in both-sides y held Used w base m a b f p h r.0 r.1
+    either true e =
+        let r = turn e in
+        let s = both-sides y held Used w base m b a f p h r.0 r.1 in
+        record { after = s.after; scratch = s.scratch; first = s.second; second = s.first }
+
 -- how many words there are
 side-least : (a : Operand) (code : List Instr) → length (unless_zero a code) ≤ length code
 side-least a code = either (is_zero a)
@@ -104,14 +120,34 @@ side-least a code = either (is_zero a)
     either false = omega arith
 
 sides-least : (y : Layout) (held : Option ℕ) (a b : Operand) →
-    length (operands_taken y held a b) ≤ length (first_taken y held a) + length (taken y x6 b)
+    length (both_taken y held a b) ≤ length (first_taken y held a) + length (taken y x6 b)
 sides-least y held a b =
-    omega (arith, length-append (unless_zero a (first_taken y held a)) (unless_zero b (taken y x6 b)), side-least a (first_taken y held a),
-    side-least b (taken y x6 b))
+    omega (
+      arith,
+      length-append (unless_zero a (first_taken y held a)) (unless_zero b (taken y x6 b)),
+      side-least a (first_taken y held a),
+      side-least b (taken y x6 b),
+    )
+
+both-count : (y : Layout) (held : Option ℕ) (a b : Operand) →
+    length (both_taken y held a b) ≤ weights.operand_words a + weights.operand_words b
+both-count y held a b = omega (arith, sides-least y held a b, first-count y held a, operand-count y x6 b)
 
 pub sides-count : (y : Layout) (held : Option ℕ) (a b : Operand) →
     length (operands_taken y held a b) ≤ weights.operand_words a + weights.operand_words b
-sides-count y held a b = omega (arith, sides-least y held a b, first-count y held a, operand-count y x6 b)
+sides-count y held a b = either (is_second held b)
+  where
+    either : (c : Bool) →
+        length (if c then both_taken y held b a else both_taken y held a b) ≤ weights.operand_words a + weights.operand_words b
+    either false = both-count y held a b
+    either true = omega (arith, both-count y held b a)
+
+both-few : (y : Layout) (held : Option ℕ) (a b : Operand) → length (both_taken y held a b) ≤ 16
+both-few y held a b = omega (arith, sides-least y held a b, first-few y held a, taken-count y x6 b)
 
 pub sides-few : (y : Layout) (held : Option ℕ) (a b : Operand) → length (operands_taken y held a b) ≤ 16
-sides-few y held a b = omega (arith, sides-least y held a b, first-few y held a, taken-count y x6 b)
+sides-few y held a b = either (is_second held b)
+  where
+    either : (c : Bool) → length (if c then both_taken y held b a else both_taken y held a b) ≤ 16
+    either false = both-few y held a b
+    either true = both-few y held b a

@@ -1,6 +1,6 @@
 -- The code of an instruction keeps within its weight.
-use Rattle.std.proofs.Common.{◌≡◌, ℕ, ◌+◌, ◌*◌, ◌/◌, ◌≤◌, Bool, true, false, List, [], ◌∷◌, ◌++◌, length, Option, refl, sym, ap, ◌∙◌, arith}
-use Rattle.std.specs.Prelude.{if◌then◌else◌}
+use Rattle.std.proofs.Common.{◌≡◌, ℕ, ◌+◌, ◌*◌, ◌/◌, ◌^◌, ◌≤◌, Bool, true, false, List, [], ◌∷◌, ◌++◌, length, Option, refl, sym, ap, ◌∙◌, arith}
+use Rattle.std.specs.Prelude.{if◌then◌else◌, nat_lt}
 use Rattle.std.proofs.lemmas.Bool.{leb-true}
 use Rattle.std.proofs.lemmas.List.{length-append}
 use Rattle.tl_base.specs.declared.place.Place.{Place}
@@ -12,19 +12,21 @@ use Rattle.terra_words.specs.declared.words.FaultKind.TheVariants.{BadAddress, D
 use Rattle.terra_words.specs.declared.words.BinaryOperator.{BinaryOperator}
 use Rattle.tac_form.specs.declared.tac.Number.{Number}
 use Rattle.tac_form.specs.declared.tac.Operand.{Operand}
+use Rattle.tac_form.specs.declared.tac.Operand.TheVariants.{Temp, Constant}
 use Rattle.tac_form.specs.declared.tac.Address.TheVariants.{Word, Frame}
 use Rattle.tac_form.specs.declared.tac.Spot.TheVariants as spots
 use Rattle.tac_form.specs.declared.tac.Instruction.TheVariants.{Alloc, Call, CallValue, Clear, Compute, Copy, Load, Locate, Move, PutByte, Store, TestDivisor, Write}
 use Rattle.tac_form.specs.declared.tac.Exit.TheVariants.{Branch, Fail, Jump, Return}
 use Rattle.tac_form.specs.Flow.{bytes_of, width_of}
 use Rattle.tac_form.specs.Weights.{operand_words, operator_words, words_of}
-use Rattle.rv_operators.specs.Codes.{x0, x5, x6, zero_immediate}
+use Rattle.rv_operators.specs.Codes.{code_of, x0, x5, x6, zero_immediate}
 use Rattle.rv_select.specs.Places.{Layout, area_offset, home_of}
-use Rattle.rv_select.specs.Shapes.{all_carried, applied_to, area_reached, bounds_tested, byte_taken, bytes_given, chosen, exit_shape, failed, first_taken, framed, from_area, heap_aligned, is_turned, is_zero, limit_found, load_of, located, operated, over, put_at, put_from, range_tested, reached, store_of, taken, to_area, write_call, x11, x12, zeros}
+use Rattle.rv_select.specs.Shapes.{all_carried, applied_to, area_reached, bounds_tested, byte_taken, bytes_given, chosen, exit_shape, failed, first_taken, framed, from_area, heap_aligned, is_second, is_turned, is_zero, limit_found, load_of, located, moved, operated, operated_second, over, put_at, put_from, range_tested, reached, store_of, taken, to_area, write_call, x11, x12, zeros}
 use Rattle.rv_select.specs.Steps.{ExitsKeepWithin, ShapesKeepWithin}
 use Rattle.rv_select.proofs.Frames.{framed-count}
 use Rattle.rv_select.proofs.Homes.{first-count, operand-count, put-count, put-few}
 use Rattle.rv_select.proofs.Holding.{applied-count}
+use Rattle.rv_select.proofs.Sequences.{operator-count}
 use Rattle.rv_select.proofs.Faults.{failed-count}
 use Rattle.rv_select.proofs.Divisors.{located-count}
 use Rattle.rv_select.proofs.Clears.{zeros-count}
@@ -74,13 +76,34 @@ operated-count y held d op form a b =
     (both (applied_to y (width_of form) op b) (put_at y d) (operand_words b + operator_words op) 3
     (applied-count y (width_of form) op b) (put-few y d))
 
+second-count : (y : Layout) (held : Option ℕ) (d : ℕ) (op : BinaryOperator) (form : Number) (a : Operand) →
+    length (operated_second y held d op (width_of form) a) ≤ 1 + (operand_words a + (operator_words op + 3))
+second-count y held d op form a =
+    one-more (moved x6 x5) _ (operand_words a + (operator_words op + 3))
+    (both (first_taken y held a) _ (operand_words a) (operator_words op + 3) (first-count y held a)
+    (both (code_of (width_of form) op) (put_at y d) (operator_words op) 3 (operator-count (width_of form) op) (put-few y d)))
+
+operand-some : (b : Operand) → 1 ≤ operand_words b
+operand-some (Temp t) = omega arith
+operand-some (Constant c) = either (nat_lt c 2048) (nat_lt c (2 ^ 31))
+  where
+    either : (short two : Bool) → 1 ≤ (if short then 1 else if two then 2 else 8)
+    either true two = omega arith
+    either false true = omega arith
+    either false false = omega arith
+
 pub within : ShapesKeepWithin
 within y held (Compute d op form a b) h =
-    either (is_turned held op b) (operated y held d op (width_of form) b a) (operated y held d op (width_of form) a b)
+    either (is_turned held op b) (operated y held d op (width_of form) b a)
+    (if is_second held b then operated_second y held d op (width_of form) a else operated y held d op (width_of form) a b)
     (more (operand_words b + (operand_words a + operator_words op + 3)) (words_of (Compute d op form a b)) _ (omega arith)
     (operated-count y held d op form b a))
+    (either (is_second held b) (operated_second y held d op (width_of form) a) (operated y held d op (width_of form) a b)
+    (more (1 + (operand_words a + (operator_words op + 3))) (words_of (Compute d op form a b)) (operated_second y held d op (width_of form) a)
+    (omega (arith, operand-some b))
+    (second-count y held d op form a))
     (more (operand_words a + (operand_words b + operator_words op + 3)) (words_of (Compute d op form a b)) _ (omega arith)
-    (operated-count y held d op form a b))
+    (operated-count y held d op form a b)))
   where
     either : (c : Bool) (x z : List Instr) → length x ≤ words_of (Compute d op form a b) → length z ≤ words_of (Compute d op form a b) →
         length (if c then x else z) ≤ words_of (Compute d op form a b)

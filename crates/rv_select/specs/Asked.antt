@@ -66,6 +66,11 @@ abbrev pub is_turned : (held : Option ℕ) → BinaryOperator → Operand → Bo
 is_turned held op (Temp t) = is_symmetric op && is_held held t
 is_turned held op (Constant c) = false
 
+-- an operand that x5 holds. As the second of any other operator it goes to x6, and as that of a comparison with its branch it stays
+abbrev pub is_second : (held : Option ℕ) → Operand → Bool
+is_second held (Temp t) = is_held held t
+is_second held (Constant c) = false
+
 -- an operand that x5 takes is asked for unless x5 holds it
 abbrev pub first_asks : (held : Option ℕ) → Operand → List ℕ
 first_asks held (Temp t) = if is_held held t then [] else t ∷ []
@@ -83,7 +88,11 @@ spot_asks held (spots.Region at a) = address_asks held a
 spot_asks held (spots.Area n offset) = []
 
 abbrev pub computed_asks : (held : Option ℕ) → BinaryOperator → (a b : Operand) → List ℕ
-computed_asks held op a b = if is_turned held op b then both_ask held b a else both_ask held a b
+computed_asks held op a b =
+    if is_turned held op b then both_ask held b a else if is_second held b then first_asks held a else both_ask held a b
+
+abbrev pub compared_asks : (held : Option ℕ) → (a b : Operand) → List ℕ
+compared_asks held a b = if is_second held b then both_ask held b a else both_ask held a b
 
 -- What the code of an instruction asks for. A copy always puts its word to a home, so that it has at least one instruction.
 abbrev pub asks : (held : Option ℕ) → Instruction → List ℕ
@@ -108,7 +117,7 @@ exit_asks held e = exit_reads e
 
 abbrev pub end_asks : (held : Option ℕ) → Option Pair → Exit → List ℕ
 end_asks held None e = exit_asks held e
-end_asks held (Some pair) e = both_ask held pair.a pair.b
+end_asks held (Some pair) e = compared_asks held pair.a pair.b
 
 abbrev pub block_asks : List Reads → Block → List ℕ
 block_asks reads b =

@@ -28,9 +28,9 @@ use Rattle.rv_operators.specs.Runs.{Stands}
 use Rattle.rv_select.specs.declared.settings.Follows.{Follows}
 use Rattle.rv_select.specs.declared.settings.Setting.{Setting}
 use Rattle.rv_select.specs.Settings.{follower}
-use Rattle.rv_select.specs.Asked.{both_ask}
+use Rattle.rv_select.specs.Asked.{compared_asks}
 use Rattle.rv_select.specs.Places.{HaveHomes, IsHeld, Layout, Holds, is_near, is_short, layout_of}
-use Rattle.rv_select.specs.Shapes.{chosen, first_taken, is_zero, taken}
+use Rattle.rv_select.specs.Shapes.{chosen, first_taken, is_second, is_zero, taken}
 use Rattle.rv_select.specs.Steps.{IsReached, Left, world_of}
 
 -- the branches on "below" and on "not below", of numbers with a sign and without
@@ -66,7 +66,7 @@ abbrev pub compared : (near short : Bool) → Follows → (signed : Bool) → Bi
 compared near short behind signed op a b at first second =
     chosen near short behind (condition_of signed op) (left_of op a b) (right_of op a b) at first second
 
--- the operands are in x5 and x6, but a zero is in x0, which no code takes
+-- two operands are in x5 and x6, but a zero is in x0, which no code takes
 abbrev pub first_of : Operand → Register
 first_of a = if is_zero a then x0 else x5
 
@@ -76,15 +76,25 @@ second_of b = if is_zero b then x0 else x6
 abbrev pub unless_zero : Operand → List Instr → List Instr
 unless_zero a code = if is_zero a then [] else code
 
+abbrev pub both_taken : Layout → (held : Option ℕ) → (a b : Operand) → List Instr
+both_taken y held a b = unless_zero a (first_taken y held a) ++ unless_zero b (taken y x6 b)
+
+-- the same where x5 may hold the second of them, which stays there then
 abbrev pub operands_taken : Layout → (held : Option ℕ) → (a b : Operand) → List Instr
-operands_taken y held a b = unless_zero a (first_taken y held a) ++ unless_zero b (taken y x6 b)
+operands_taken y held a b = if is_second held b then both_taken y held b a else both_taken y held a b
+
+abbrev pub first_register : (held : Option ℕ) → (a b : Operand) → Register
+first_register held a b = if is_second held b then second_of a else first_of a
+
+abbrev pub second_register : (held : Option ℕ) → (a b : Operand) → Register
+second_register held a b = if is_second held b then first_of b else second_of b
 
 abbrev pub compared_shape : Layout → Setting → (held : Option ℕ) → (at : ℕ) → (starts : ℕ → ℕ) → BinaryOperator → Number →
     (a b : Operand) → (e f : Edge) → List Instr
 compared_shape y setting held at starts op form a b e f =
     operands_taken y held a b
-    ++ compared setting.near setting.short (follower setting.next e.block f.block) form.signed op (first_of a) (second_of b)
-    (at + 4 * length (operands_taken y held a b)) (starts e.block) (starts f.block)
+    ++ compared setting.near setting.short (follower setting.next e.block f.block) form.signed op (first_register held a b)
+    (second_register held a b) (at + 4 * length (operands_taken y held a b)) (starts e.block) (starts f.block)
 
 -- Where a function's code stands at the last instruction of a block, a comparison, whose result the block's branch tests and nothing
 -- reads after that: its temporary is live at the begin of neither block. So no home gets it. Behind this code stands the next block.
@@ -101,7 +111,7 @@ pub record StandsAtCompare (p : Program) (code : Tac) (homes : List (Option Home
   pub first_unread : IsLive (graph_of code) e.block 0 d → ⊥
   pub second_unread : IsLive (graph_of code) f.block 0 d → ⊥
   pub right : IsRight code homes
-  pub asked : HaveHomes (layout_of code homes) (both_ask held a b)
+  pub asked : HaveHomes (layout_of code homes) (compared_asks held a b)
   pub near : m.pc + 256 ≤ 2 ^ 30
   pub blocks : (b : ℕ) → (starts b < 2 ^ 30) × (starts b % 2 ≡ 0)
   pub there : IsTrue (exit_fits code (Branch (Temp d) e f))

@@ -47,7 +47,7 @@ use Rattle.rv_select.specs.declared.settings.Follows.{Follows}
 use Rattle.rv_select.specs.declared.settings.Follows.TheVariants.{Neither, First, Second}
 use Rattle.rv_select.specs.declared.settings.Setting.{Setting}
 use Rattle.rv_select.specs.Settings.{falls, follower}
-pub use Rattle.rv_select.specs.Asked.{held_after, is_held, is_symmetric, is_turned, is_zero}
+pub use Rattle.rv_select.specs.Asked.{held_after, is_held, is_second, is_symmetric, is_turned, is_zero}
 use Rattle.rv_select.specs.Folded.{folded, is_folded}
 pub use Rattle.rv_select.specs.Numbers.{x7}
 use Rattle.rv_select.specs.Numbers.{constant, immediate_of, below_zero, lower_of, register_of, upper_of}
@@ -176,9 +176,16 @@ applied_to y w op (Constant c) = if is_folded op c then folded w op c else const
 abbrev pub operated : Layout → (held : Option ℕ) → ℕ → BinaryOperator → Width → Operand → Operand → List Instr
 operated y held d op w a b = first_taken y held a ++ (applied_to y w op b ++ put_at y d)
 
--- the same, where the operands change places if x5 holds the second
+-- x5 holds the second operand, which goes to x6, and gets the first
+abbrev pub operated_second : Layout → (held : Option ℕ) → ℕ → BinaryOperator → Width → Operand → List Instr
+operated_second y held d op w a = moved x6 x5 ∷ (first_taken y held a ++ (code_of w op ++ put_at y d))
+
+-- an operator, whose operands change places if x5 holds the second and they may
 abbrev pub computed : Layout → (held : Option ℕ) → ℕ → BinaryOperator → Width → Operand → Operand → List Instr
-computed y held d op w a b = if is_turned held op b then operated y held d op w b a else operated y held d op w a b
+computed y held d op w a b =
+    if is_turned held op b then operated y held d op w b a
+    else if is_second held b then operated_second y held d op w a
+    else operated y held d op w a b
 
 abbrev pub divisor_tested : Layout → (held : Option ℕ) → Place → Operand → List Instr
 divisor_tested y held at a = first_taken y held a ++ (Branch Ne x5 x0 (over (failed DivZero at)) ∷ failed DivZero at)

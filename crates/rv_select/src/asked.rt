@@ -2,11 +2,11 @@
 
 ghost use Rattle.std.specs.Prelude.{◌≡◌, ◌^◌, ◌<◌, ◌++◌, IfOk, OnOk, None, length, replicate, slice_get, slice_set};
 ghost use Rattle.std.specs.List.{flat_map};
-ghost use Rattle.rv_select.specs.Asked.{address_asks, all_ask, asked_homes, asked_of, asks, block_asks, both_ask, computed_asks, end_asks, exit_asks, first_asks, first_word, held_behind, home_in, if_small, is_small, slot_instead, spot_asks, with_given, with_word, with_words};
+ghost use Rattle.rv_select.specs.Asked.{address_asks, all_ask, asked_homes, asked_of, asks, block_asks, both_ask, computed_asks, end_asks, exit_asks, first_asks, first_word, held_behind, home_in, if_small, is_small, slot_instead, spot_asks, with_given, with_word, with_words, compared_asks};
 ghost use Rattle.rv_select.specs.Pairs.{reads_of};
 ghost use Rattle.tac_form.specs.Graph.{exit_reads, instruction_reads, operand_reads, part_reads, parts_reads};
 
-use crate::instructions::{held_after, is_held, is_turned};
+use crate::instructions::{held_after, is_held, is_second, is_turned};
 use crate::pairs::{Pair, Reads, pair_of, plain_of};
 use reg_alloc::Home;
 use std::alloc::Global;
@@ -223,6 +223,24 @@ fn ask_computed(
 {
     if is_turned(held, operator, b) {
         ask_both(asked, held, b, a)
+    } else if is_second(held, b) {
+        ask_first(asked, held, a)
+    } else {
+        ask_both(asked, held, a, b)
+    }
+}
+
+/// Those of a comparison with its branch, where the second may stay in x5.
+fn ask_compared(
+    asked: &mut Vec<u64>,
+    held: Option<u64>,
+    a: Operand,
+    b: Operand,
+) -> Result<(), NoMemory>
+    ensures { OnOk result (asked.new.items ≡ asked.old.items ++ compared_asks held a b) }
+{
+    if is_second(held, b) {
+        ask_both(asked, held, b, a)
     } else {
         ask_both(asked, held, a, b)
     }
@@ -298,7 +316,7 @@ fn ask_end(
     ensures { OnOk result (asked.new.items ≡ asked.old.items ++ end_asks held pair exit) }
 {
     match pair {
-        Some(pair) => ask_both(asked, held, pair.a, pair.b),
+        Some(pair) => ask_compared(asked, held, pair.a, pair.b),
         None => ask_exit(asked, held, exit),
     }
 }

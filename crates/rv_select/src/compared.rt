@@ -4,13 +4,14 @@ ghost use Rattle.std.specs.Prelude.{◌≡◌, ◌+◌, ◌^◌, ◌≤◌, [], 
 ghost use Rattle.rv_isa.specs.Table.{word_of};
 ghost use Rattle.rv_operators.specs.Codes.{x6};
 ghost use Rattle.rv_select.specs.Places.{with_homes};
-ghost use Rattle.rv_select.specs.Compared.{below_condition, compared, compared_shape, condition_of, first_of, least_condition, left_of, operands_taken, right_of, second_of, unless_zero};
+ghost use Rattle.rv_select.specs.Compared.{below_condition, both_taken, compared, compared_shape, condition_of, first_of, first_register, least_condition, left_of};
+ghost use Rattle.rv_select.specs.Compared.{operands_taken, right_of, second_of, second_register, unless_zero};
 ghost use Rattle.rv_select.specs.Settings.{follower};
 ghost use Rattle.rv_select.specs.Shapes.{first_taken, start_of, taken};
 
 use crate::emit::{X0, X5, X6};
 use crate::exits::{push_chosen, start_of};
-use crate::instructions::{is_zero, push_first, push_second};
+use crate::instructions::{is_second, is_zero, push_first, push_second};
 use crate::settings::{Follows, Setting, follower};
 use reg_alloc::Home;
 use rv_isa::{BranchCondition, Register};
@@ -50,8 +51,8 @@ pub fn push_compared(
         follower(setting.next, first.block, second.block),
         form.signed,
         operator,
-        first_of(a),
-        second_of(b),
+        first_register(held, a, b),
+        second_register(held, a, b),
         at + 4 * words,
         to,
         other,
@@ -85,6 +86,22 @@ fn push_sides(
 ) -> Result<(), NoMemory>
     ensures { OnOk result (code.new.items ≡ code.old.items ++ map word_of (operands_taken (with_homes homes.now) held a b)) }
 {
+    if is_second(held, b) {
+        push_both(code, homes, held, b, a)
+    } else {
+        push_both(code, homes, held, a, b)
+    }
+}
+
+fn push_both(
+    code: &mut Vec<u32>,
+    homes: &[Option<Home>],
+    held: Option<u64>,
+    a: Operand,
+    b: Operand,
+) -> Result<(), NoMemory>
+    ensures { OnOk result (code.new.items ≡ code.old.items ++ map word_of (both_taken (with_homes homes.now) held a b)) }
+{
     push_first_side(code, homes, held, a)?;
     push_second_side(code, homes, b)
 }
@@ -106,11 +123,7 @@ fn push_first_side(
 }
 
 /// x6 gets the second operand, unless x0 holds it.
-fn push_second_side(
-    code: &mut Vec<u32>,
-    homes: &[Option<Home>],
-    b: Operand,
-) -> Result<(), NoMemory>
+fn push_second_side(code: &mut Vec<u32>, homes: &[Option<Home>], b: Operand) -> Result<(), NoMemory>
     ensures { OnOk result (code.new.items ≡ code.old.items ++ map word_of (unless_zero b (taken (with_homes homes.now) x6 b))) }
 {
     if is_zero(b) {
@@ -120,7 +133,28 @@ fn push_second_side(
     }
 }
 
-/// The register of the first operand.
+/// The register of the first operand, where x5 may hold the second.
+fn first_register(held: Option<u64>, a: Operand, b: Operand) -> Register
+    ensures { result ≡ first_register held a b }
+{
+    if is_second(held, b) {
+        second_of(a)
+    } else {
+        first_of(a)
+    }
+}
+
+fn second_register(held: Option<u64>, a: Operand, b: Operand) -> Register
+    ensures { result ≡ second_register held a b }
+{
+    if is_second(held, b) {
+        first_of(b)
+    } else {
+        second_of(b)
+    }
+}
+
+/// The register of an operand that x5 takes.
 fn first_of(a: Operand) -> Register
     ensures { result ≡ first_of a }
 {

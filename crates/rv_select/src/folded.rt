@@ -99,7 +99,11 @@ pub(crate) fn push_folded(
         BinaryOperator::Xor => push_cut_number(code, form, ImmediateOp::Xori, number),
         BinaryOperator::And => push_cut_number(code, form, ImmediateOp::Andi, number),
         BinaryOperator::Or => push_cut_number(code, form, ImmediateOp::Ori, number),
-        BinaryOperator::ShiftLeft => push_shifted_up(code, form, number % (8 * bytes_of(form.size))),
+        BinaryOperator::ShiftLeft => push_shifted_up(
+            code,
+            form,
+            number % (8 * bytes_of(form.size)),
+        ),
         BinaryOperator::ShiftRight => push_shift(
             code,
             form,

@@ -10,11 +10,11 @@ ghost use Rattle.rv_operators.specs.Codes.{code_of, x5, x6, zero_immediate};
 ghost use Rattle.rv_select.specs.Folded.{folded, is_folded};
 ghost use Rattle.rv_select.specs.Numbers.{constant};
 ghost use Rattle.rv_select.specs.Places.{with_homes};
-ghost use Rattle.rv_select.specs.Shapes.{applied_to, area_reached, bounds_tested, cleared, computed, copied, divisor_tested, failed, fault_call, first_taken, branched_over, has_shape, held_after, is_held, is_symmetric, is_turned, is_zero, load_of, loaded, located, operated, place_number, put_at, reached, shape_of, small, store_of, stored, taken, zero_put, zeros};
+ghost use Rattle.rv_select.specs.Shapes.{applied_to, area_reached, bounds_tested, cleared, computed, copied, divisor_tested, failed, fault_call, first_taken, branched_over, has_shape, held_after, is_held, is_second, is_symmetric, is_turned, is_zero, load_of, loaded, located, operated, operated_second, place_number, put_at, reached, shape_of, small, store_of, stored, taken, zero_put, zeros};
 
 use crate::emit::{
     X0, X5, X6, area_offset, constant_words, push_constant, push_frame_address, push_frame_load,
-    push_frame_store, push_put, push_put_zero, push_taken, put,
+    push_frame_store, push_moved, push_put, push_put_zero, push_taken, put,
 };
 use crate::folded::{is_folded, push_folded};
 use crate::moving::push_bytes_moved;
@@ -141,9 +141,29 @@ fn push_computed(
 {
     if is_turned(held, operator, b) {
         push_operated(code, homes, held, temp, operator, form, b, a)
+    } else if is_second(held, b) {
+        push_operated_second(code, homes, held, temp, operator, form, a)
     } else {
         push_operated(code, homes, held, temp, operator, form, a, b)
     }
+}
+
+/// The second operand goes from x5 to x6, and the first to x5.
+fn push_operated_second(
+    code: &mut Vec<u32>,
+    homes: &[Option<Home>],
+    held: Option<u64>,
+    temp: u64,
+    operator: BinaryOperator,
+    form: Number,
+    a: Operand,
+) -> Result<(), NoMemory>
+    ensures { OnOk result (code.new.items ≡ code.old.items ++ map word_of (operated_second (with_homes homes.now) held temp operator (width_of form) a)) }
+{
+    push_moved(code, X6, X5)?;
+    push_first(code, homes, held, a)?;
+    push_operation(code, operator, form)?;
+    push_put(code, homes, temp)
 }
 
 /// The same with the operands in this order.
@@ -170,6 +190,16 @@ pub(crate) fn is_turned(held: Option<u64>, operator: BinaryOperator, b: Operand)
 {
     match b {
         Operand::Temp(temp) => is_symmetric(operator) && is_held(held, temp),
+        Operand::Constant(_) => false,
+    }
+}
+
+/// Whether x5 holds an operand.
+pub(crate) fn is_second(held: Option<u64>, b: Operand) -> bool
+    ensures { result ≡ is_second held b }
+{
+    match b {
+        Operand::Temp(temp) => is_held(held, temp),
         Operand::Constant(_) => false,
     }
 }
