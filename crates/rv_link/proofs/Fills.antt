@@ -33,14 +33,14 @@ use Rattle.rv_select.specs.declared.settings.Follows.{Follows}
 use Rattle.rv_select.specs.declared.settings.Follows.TheVariants.{Neither, First, Second}
 use Rattle.rv_select.specs.declared.settings.Setting.{Setting}
 use Rattle.rv_select.specs.Settings.{falls, follower, setting_of}
-use Rattle.rv_select.specs.Shapes.{branch_bytes, branch_offset, branched, branched_bytes, chosen, distance, first_taken, held_after, jump, jump_offset, negated, offset_of, shape_of, start_of, x10}
+use Rattle.rv_select.specs.Shapes.{branch_bytes, branch_offset, branched, branched_bytes, chosen, distance, first_taken, held_after, jump, jump_offset, negated, offset_of, shape_of, start_of}
 use Rattle.rv_select.specs.Entering.{left}
-use Rattle.rv_select.specs.Calls.{block_code, block_starts, blocks_calls, blocks_code, body_code, call_begun, call_ended, call_jump, end_code, exit_code, function_calls, function_code, head_code, held_behind, instruction_calls, instruction_code, instructions_calls, instructions_code, jump_unless_last, last_address, pair_code, part_taken, starts_from}
+use Rattle.rv_select.specs.Calls.{block_code, block_starts, blocks_calls, blocks_code, body_code, call_begun, call_ended, call_jump, end_code, exit_code, function_calls, function_code, head_code, held_behind, instruction_calls, instruction_code, instructions_calls, instructions_code, jump_unless_last, last_address, pair_code, part_given, starts_from}
 use Rattle.rv_select.proofs.Branched.{branched-few}
 use Rattle.rv_select.proofs.Homes.{first-few}
 use Rattle.rv_select.proofs.Lengths.{block-length, instruction-length, instructions-length}
 use Rattle.rv_select.proofs.Pairing.{pair-parts}
-use Rattle.rv_select.proofs.Passes.{part-count}
+use Rattle.rv_select.proofs.Passes.{given-count}
 use Rattle.rv_select.proofs.Stands.{both-true}
 use Rattle.rv_link.specs.Filling.{AreIn, filled}
 use Rattle.rv_link.specs.Linked.{block_there, edge_there, exit_there}
@@ -353,8 +353,8 @@ exit-moved code y setting held b at last starts moved (Branch a e f) same fits n
     parts : (edge_there code e ≡ true) × (edge_there code f ≡ true)
     parts = both-true (edge_there code e) (edge_there code f) fits
 exit-moved code y setting held b at last starts moved (Return v) same fits near =
-    let P : List Instr = part_taken y x10 v in
-    let few : length P ≤ 8 = part-count y x10 v in
+    let P : List Instr = part_given y held v in
+    let few : length P ≤ 8 = given-count y held v in
     let sum : b + at + 4 * length P ≡ b + (at + 4 * length P) = omega arith in
     ap (λ z. P ++ z)
     (last-from setting.short setting.next b (at + 4 * length P) last (b + at + 4 * length P) (b + last) sum refl (omega (arith, near, few)))

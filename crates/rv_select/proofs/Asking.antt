@@ -9,6 +9,7 @@ use Rattle.reg_alloc.specs.declared.assignment.Home.{Home}
 use Rattle.reg_alloc.specs.Right.{IsRight, is_some_home}
 use Rattle.tac_form.specs.declared.tac.Operand.{Operand}
 use Rattle.tac_form.specs.declared.tac.Operand.TheVariants.{Temp, Constant}
+use Rattle.tac_form.specs.declared.tac.Part.TheVariants as parts
 use Rattle.tac_form.specs.declared.tac.Address.{Address}
 use Rattle.tac_form.specs.declared.tac.Address.TheVariants.{Word, Frame}
 use Rattle.tac_form.specs.declared.tac.Spot.{Spot}
@@ -103,7 +104,8 @@ asks-read held (Alloc d a) t h = inl (first-reads held a t h)
 exit-asks-read : (held : Option ℕ) (e : Exit) (t : ℕ) → has (exit_asks held e) t ≡ true → has (exit_reads e) t ≡ true
 exit-asks-read held (Jump e) t h = h
 exit-asks-read held (Branch a e f) t h = first-reads held a t h
-exit-asks-read held (Return v) t h = h
+exit-asks-read held (Return (parts.Word a)) t h = first-reads held a t h
+exit-asks-read held (Return (parts.Area n)) t h = cc
 exit-asks-read held (Fail kind at) t h = h
 
 -- What an instruction asks for is asked for by its block.

@@ -20,7 +20,7 @@ use Rattle.tac_form.specs.declared.tac.Tac.{Tac}
 use Rattle.tac_form.specs.Flow as tac
 use Rattle.tac_form.specs.Flow.{Activation, Caller, Program, area_size, give, given, operand, put, step, value_of}
 use Rattle.tac_form.specs.Fits.{area_fits, destination_fits, exit_fits, part_fits, place_fits}
-use Rattle.tac_form.specs.Graph.{block_of, destination_write, exit_reads, graph_of, part_reads, step_of}
+use Rattle.tac_form.specs.Graph.{block_of, destination_write, exit_reads, graph_of, step_of}
 use Rattle.tac_form.specs.Live.{InUse, has}
 use Rattle.terra_words.specs.Runs.{word}
 use Rattle.terra_memory.specs.Numbers.{number_of}
@@ -32,7 +32,7 @@ use Rattle.rv_machine.specs.Machine as machine
 use Rattle.rv_machine.specs.declared.stops.Stop.TheVariants as stops
 use Rattle.rv_operators.specs.Runs.{Stands}
 use Rattle.rv_select.specs.Pairs.{pair_of, plain_of, reads_of}
-use Rattle.rv_select.specs.Asked.{exit_asks}
+use Rattle.rv_select.specs.Asked.{exit_asks, given_asks}
 use Rattle.rv_select.specs.Places.{AreBytes, HasHome, Holds, Housed, IsHeld, Layout, World, area_offset, frame_bytes, home_of, layout_of, link_in, private_word}
 use Rattle.rv_select.specs.Shapes.{put_at}
 use Rattle.rv_select.specs.Steps.{Comes, world_of}
@@ -40,14 +40,14 @@ use Rattle.rv_select.specs.Calls.{blocks_length, call_begun, call_ended, call_ju
 use Rattle.rv_select.specs.Entering.{result_put, result_words, size_in}
 use Rattle.rv_select.specs.Waiting.{Arrives, HasRoom, Image, IsLinked, IsPlaced, StandsIn, Stepped, Waiting, Waits, entries_of, held_at, held_in, place_in, plain_in, restored}
 use Rattle.rv_select.proofs.Asking.{exit-homes}
-use Rattle.rv_select.proofs.Carries.{by-test, nothing-written, operand-read}
+use Rattle.rv_select.proofs.Carries.{by-test, first-read, nothing-written}
 use Rattle.rv_select.proofs.Copies.{copies-there, size-small}
 use Rattle.rv_select.proofs.Finds.{FoundFunction, held-next, stands-next}
 use Rattle.rv_select.proofs.Pairing.{before-next, plain-get}
 use Rattle.rv_select.proofs.Leaves.{exit-in-graph, exit-reads-live}
 use Rattle.rv_select.proofs.Lives.{housed, step-in-graph, write-used}
-use Rattle.rv_select.proofs.Moves.{Settles, put-away, settled, value-small}
-use Rattle.rv_select.proofs.Passes.{IsPartRead, part_value}
+use Rattle.rv_select.proofs.Moves.{Settles, first-small, put-away, settled}
+use Rattle.rv_select.proofs.Passes.{IsPartGiven, part_value}
 use Rattle.rv_select.proofs.Receives.{housed-fewer}
 use Rattle.rv_select.proofs.Returns.{BackIn, HeldIn, Resumes, UsedBut, back-holds, goes-back, resumes}
 use Rattle.rv_select.proofs.Stands.{AtExit, AtPlace, at-plain-exit, at-instruction, both-true, exit-within, instruction-within, the-function, within-parts}
@@ -64,16 +64,16 @@ run-returned program z (suc more) e =
     ap (λ b. if b then stands (stops.Returned (z.registers 10)) z else after_step (machine.step program z) z
     (λ next. run_of program next more)) (eq-eqb z.pc 0 e)
 
--- what a return reads
-part-read : (code : Tac) (x : List (Option Home)) (block : Block) (b k : ℕ) (v : Part) → exit_fits code (Return v) ≡ true →
+-- what a return gives back
+part-given : (code : Tac) (x : List (Option Home)) (held : Option ℕ) (block : Block) (b k : ℕ) (v : Part) → exit_fits code (Return v) ≡ true →
     slice_get code.blocks b ≡ Some block → slice_get block.instructions k ≡ None →
-    block.exit ≡ Return v → ((t : ℕ) → has (part_reads v) t ≡ true → HasHome (layout_of code x) t) →
-    IsPartRead (layout_of code x) (InUse (graph_of code) b k) v
-part-read code x block b k (parts.Word a) fits e g is asked =
+    block.exit ≡ Return v → ((t : ℕ) → has (given_asks held v) t ≡ true → HasHome (layout_of code x) t) →
+    IsPartGiven (layout_of code x) held (InUse (graph_of code) b k) v
+part-given code x held block b k (parts.Word a) fits e g is asked =
     let q = exit-in-graph code block b k e g in
-    operand-read code (layout_of code x) (InUse (graph_of code) b k) a fits
+    first-read code (layout_of code x) held (InUse (graph_of code) b k) a fits
     (λ t h. inl (exit-reads-live (graph_of code) b k t (block_of block) q.0 q.1 (ap (λ z. has (exit_reads z) t) is ∙ h))) asked
-part-read code x block b k (parts.Area n) fits e g is asked = ltb-true n (length code.areas) fits
+part-given code x held block b k (parts.Area n) fits e g is asked = ltb-true n (length code.areas) fits
 
 pub part-is : (y : Layout) (base : ℕ) (s : tac.State) (a : Operand) → part_value y base (world_of s) (parts.Word a) ≡ operand s a
 part-is y base s (operands.Temp t) = refl
@@ -440,10 +440,10 @@ link-even p image program most linked a to depth link up over M W =
 
 -- to a caller, wherever the result goes
 to-one : (p : Program) (image : Image) (program : List (Option Instr)) (most size : ℕ) → IsLinked p image program most →
-    (s : tac.State) (base : ℕ) (m : State) (y : Layout) (Used : ℕ → Type 0) (frame : ℕ) →
+    (s : tac.State) (base : ℕ) (m : State) (y : Layout) (held : Option ℕ) (Used : ℕ → Type 0) (frame : ℕ) →
     Holds y Used (world_of s) base m → s.here.base + frame ≤ end_address s.region → length s.region.bytes ≡ size →
     (a : Activation) (to : Destination) (cs : List Caller) (v : Part) (link : ℕ) → length s.callers ≡ suc (length cs) →
-    IsPartRead y Used v →
+    IsPartGiven y held Used v →
     (W : Waiting p image most (record { waits = a; to = to }) (length cs) link (base + frame_bytes y) (s.here.base + frame)
     (restored y base m)) →
     Waits p image most size cs (private_word m (base + frame_bytes y))
@@ -451,11 +451,11 @@ to-one : (p : Program) (image : Image) (program : List (Option Instr)) (most siz
     (restored (layout_of W.code (image a.function).homes) (base + frame_bytes y) (restored y base m)) →
     (link % 2 ≡ 0 → link < 2 ^ 64 → BackIn program y (frame_bytes y) base (s.here.base + frame) link (part_value y base (world_of s) v) m) →
     Stepped p image program most size (36 + result_words to) s m (given (value_of s v) (Some W.code) (record { waits = a; to = to }) cs s)
-to-one p image program most size linked s base m y Used frame h fits sized a (Temp d) cs (parts.Word o) link depth reads W rest back =
+to-one p image program most size linked s base m y held Used frame h fits sized a (Temp d) cs (parts.Word o) link depth reads W rest back =
     let e = link-even p image program most linked a (Temp d) (length cs) link (base + frame_bytes y) (s.here.base + frame)
     (restored y base m) W in
     let same : part_value y base (world_of s) (parts.Word o) ≡ operand s o = part-is y base s o in
-    let small : operand s o < 2 ^ 64 = subst (λ k. k < 2 ^ 64) same (value-small Used y (world_of s) base m o h reads) in
+    let small : operand s o < 2 ^ 64 = subst (λ k. k < 2 ^ 64) same (first-small held Used y (world_of s) base m o h reads) in
     let b : BackIn program y (frame_bytes y) base (s.here.base + frame) link (operand s o) m =
     subst (λ k. BackIn program y (frame_bytes y) base (s.here.base + frame) link k m) same (back e.0 e.1) in (
       [],
@@ -466,9 +466,9 @@ to-one p image program most size linked s base m y Used frame h fits sized a (Te
           (puts-word p image program most linked s a d (operand s o) (length cs) (base + frame_bytes y) (s.here.base + frame) link
           (restored y base m) b.after W small),
     )
-to-one p image program most size linked s base m y Used frame h fits sized a (Temp d) cs (parts.Area n) link depth reads W rest back = tt
-to-one p image program most size linked s base m y Used frame h fits sized a (Area j) cs (parts.Word o) link depth reads W rest back = tt
-to-one p image program most size linked s base m y Used frame h fits sized a (Area j) cs (parts.Area n) link depth reads W rest back =
+to-one p image program most size linked s base m y held Used frame h fits sized a (Temp d) cs (parts.Area n) link depth reads W rest back = tt
+to-one p image program most size linked s base m y held Used frame h fits sized a (Area j) cs (parts.Word o) link depth reads W rest back = tt
+to-one p image program most size linked s base m y held Used frame h fits sized a (Area j) cs (parts.Area n) link depth reads W rest back =
     by-test (Stepped p image program most size 75 s m) (nat_eq (length (s.here.areas n)) (area_size W.code j)) _ _
     (λ taken.
     let e = link-even p image program most linked a (Area j) (length cs) link (base + frame_bytes y) (s.here.base + frame)
@@ -508,9 +508,10 @@ return-steps p image program most size linked s base m x block v in-f in-b alone
     let e1 = x.function in
     rw (e1, in-f, in-b) (rw is (go s.callers refl x.waits))
   where
-    reads : IsPartRead (layout_of x.code (image s.here.function).homes) (InUse (graph_of x.code) s.here.block s.here.at) v
+    reads : IsPartGiven (layout_of x.code (image s.here.function).homes) (held_in x.code s.here.block s.here.at)
+        (InUse (graph_of x.code) s.here.block s.here.at) v
     reads =
-        part-read x.code (image s.here.function).homes block s.here.block s.here.at v
+        part-given x.code (image s.here.function).homes (held_in x.code s.here.block s.here.at) block s.here.block s.here.at v
         (ap (exit_fits x.code) (sym is) ∙ exit-within x.code s.here.block block
         (within-parts p image program most x.code (image s.here.function) (linked s.here.function x.code x.function)).blocks in-f)
         in-f in-b is
@@ -546,9 +547,9 @@ return-steps p image program most size linked s base m x block v in-f in-b alone
         (at-plain-exit p image program most x.code (image s.here.function) s.here.block s.here.at block pl in-f in-b alone) in
         let here : AtExit p image program x.code (image s.here.function) held None (Return v) m.pc =
         subst (λ q. AtExit p image program x.code (image s.here.function) held None (Return v) q) (sym x.pc) at in
-        goes-back program y (InUse (graph_of x.code) s.here.block s.here.at) (world_of s) base x.code.frame
+        goes-back program y held (InUse (graph_of x.code) s.here.block s.here.at) (world_of s) base x.code.frame
         (last_address y x.code (image s.here.function).at) link 0 v m here.setting x.holds
-        (housed x.code (image s.here.function).homes s.here.block s.here.at pl.right) reads here.near
+        (housed x.code (image s.here.function).homes s.here.block s.here.at pl.right) x.five reads here.near
         (last-small (last_address y x.code (image s.here.function).at) f.near)
         (last-even (image s.here.function).at (length (head_code y x.code) + blocks_length y x.code.areas x.code.blocks) pl.aligned)
         (λ short. last-reach (image s.here.function).at m.pc (last_address y x.code (image s.here.function).at) here.low here.high
@@ -576,6 +577,6 @@ return-steps p image program most size linked s base m x block v in-f in-b alone
         let found = w.0.function in
         rw found
         (to-one p image program most size linked s base m (layout_of x.code (image s.here.function).homes)
-        (InUse (graph_of x.code) s.here.block s.here.at) x.code.frame x.holds x.frame x.region
+        (held_in x.code s.here.block s.here.at) (InUse (graph_of x.code) s.here.block s.here.at) x.code.frame x.holds x.frame x.region
         c.waits c.to cs v (link_in (layout_of x.code (image s.here.function).homes) base m) (ap length e) reads w.0 w.1
         (λ even small. back (link_in (layout_of x.code (image s.here.function).homes) base m) refl even small))

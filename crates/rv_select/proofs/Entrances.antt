@@ -100,8 +100,10 @@ calls-begun code homes block step program w base at ps m right p fits there =
     }
 
 pub functions-left : FunctionsAreLeft
-functions-left code homes block step program w base frame last link v m setting right p reads near small even reach behind fits link-is link-even link-small there leaves =
-    made (goes-back program (layout_of code homes) (InUse (graph_of code) block step) w base frame last link 0 v m setting p (housed code homes block step right) reads near small even reach behind fits link-is link-even link-small there leaves)
+functions-left code homes held block step program w base frame last link v m setting right p five reads near small even reach behind fits link-is link-even link-small there leaves =
+    made
+    (goes-back program (layout_of code homes) held (InUse (graph_of code) block step) w base frame last link 0 v m setting p
+    (housed code homes block step right) five reads near small even reach behind fits link-is link-even link-small there leaves)
   where
     made : BackIn program (layout_of code homes) (frame_bytes (layout_of code homes)) base (w.placed + frame) link (part_value (layout_of code homes) base w v) m →
         Returns program (layout_of code homes) base (w.placed + frame) link (part_value (layout_of code homes) base w v) m

@@ -154,6 +154,13 @@ take-first y held Used w base m (Temp t) f p h r = either (is_held held t) refl
         take-operand y x5 Used w base m (Temp t) (λ z. omega (arith, z)) (λ z. omega (arith, z)) p h
         (r.0, ⊎_elim (λ g. let no : true ≡ false = sym g ∙ e in cc) (λ o. o) r.1)
 
+-- a word that x5 holds goes to another register
+pub from-five : (d : Register) (m : State) (v : ℕ) → d.number ≢ 0 → m.registers 5 ≡ v → v < 2 ^ 64 → Loads d.number (moved d x5 ∷ []) m v
+from-five d m v n e s =
+    let z : v + 0 ≡ v = omega arith in
+    loads-one (moved d x5) m d.number v n refl
+    (ap (λ w. GoesOn (at_with m (low (m.pc + 4)) d.number w)) (ap (λ w. low (w + 0)) e ∙ (ap low z ∙ low-small v s)))
+
 -- and else as much as for any operand
 first-least : (y : Layout) (held : Option ℕ) (a : Operand) → length (first_taken y held a) ≤ length (taken y x5 a)
 first-least y held (Constant k) = omega arith

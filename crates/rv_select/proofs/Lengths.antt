@@ -16,8 +16,8 @@ use Rattle.rv_operators.specs.Codes.{x0, x5}
 use Rattle.rv_select.specs.Compared.{condition_of, first_register, left_of, operands_taken, right_of, second_register}
 use Rattle.rv_select.specs.Pairs.{pair_of, plain_of}
 use Rattle.rv_select.specs.Places.{Layout}
-use Rattle.rv_select.specs.Shapes.{first_taken, held_after, x10}
-use Rattle.rv_select.specs.Calls.{block_code, blocks_code, call_begun, call_ended, call_jump, end_code, exit_code, held_behind, instruction_code, instructions_code, pair_code, part_taken}
+use Rattle.rv_select.specs.Shapes.{first_taken, held_after}
+use Rattle.rv_select.specs.Calls.{block_code, blocks_code, call_begun, call_ended, call_jump, end_code, exit_code, held_behind, instruction_code, instructions_code, pair_code, part_given}
 use Rattle.rv_select.proofs.Jumps.{chosen-count, edge-count, last-count}
 
 -- the code of an instruction is as long wherever it and functions stand
@@ -47,9 +47,9 @@ same-behind A B C e = length-append A B ∙ (ap (λ n. length A + n) e ∙ sym (
 pub exit-length : (y : Layout) (setting : Setting) (held : Option ℕ) (at other last final : ℕ) (starts others : ℕ → ℕ) (e : Exit) →
     length (exit_code y setting held at starts last e) ≡ length (exit_code y setting held other others final e)
 exit-length y setting held at other last final starts others (Return v) =
-    same-behind (part_taken y x10 v) _ _
-    (last-count setting.short setting.next (at + 4 * length (part_taken y x10 v)) last
-    ∙ sym (last-count setting.short setting.next (other + 4 * length (part_taken y x10 v)) final))
+    same-behind (part_given y held v) _ _
+    (last-count setting.short setting.next (at + 4 * length (part_given y held v)) last
+    ∙ sym (last-count setting.short setting.next (other + 4 * length (part_given y held v)) final))
 exit-length y setting held at other last final starts others (Jump e) =
     let b = falls setting.next e in
     edge-count b setting.short at (starts e.block) ∙ sym (edge-count b setting.short other (others e.block))

@@ -13,7 +13,7 @@ use Rattle.reg_alloc.specs.declared.assignment.Home.{Home}
 use Rattle.reg_alloc.specs.declared.assignment.Home.TheVariants as homes
 use Rattle.terra_memory.specs.Numbers.{number_of}
 use Rattle.rv_machine.specs.Word.{low}
-use Rattle.rv_machine.specs.Machine.{GoesOn, State, at_with, run_of}
+use Rattle.rv_machine.specs.Machine.{State, run_of}
 use Rattle.terra_words.specs.declared.words.Width.{Width}
 use Rattle.terra_words.specs.declared.words.BinaryOperator.{BinaryOperator}
 use Rattle.terra_words.specs.declared.words.BinaryOperator.TheVariants as ops
@@ -37,10 +37,10 @@ use Rattle.rv_select.specs.Numbers.{constant}
 use Rattle.rv_select.specs.Shapes.{applied_to, first_taken, is_held, is_second, is_symmetric, is_turned, moved, operated, operated_second, put_at, put_from, put_to, taken}
 use Rattle.rv_select.specs.Steps.{Comes, Follows, behind, with_temp}
 use Rattle.rv_select.proofs.Claims.{CopiesAreCarried, Gives, OperatorsAreCarried}
-use Rattle.rv_select.proofs.Straight.{Loads, Scratch, behind-both, leads-scratch, loads-five, loads-one, loads-six, low-below, low-here, low-small, scratch-both}
+use Rattle.rv_select.proofs.Straight.{Loads, Scratch, behind-both, leads-scratch, loads-five, loads-six, low-below, low-here, scratch-both}
 use Rattle.rv_select.proofs.Ways.{Near, Way, scratch-near, stands-back, stands-front, straight-way, way-both}
 use Rattle.rv_select.proofs.Frames.{framed-some}
-use Rattle.rv_select.proofs.Homes.{Puts, first-count, home-apart, home-inside, put-count, put-home, put-is, put-none, region-small, take-first, take-operand, held-is}
+use Rattle.rv_select.proofs.Homes.{Puts, first-count, from-five, home-apart, home-inside, put-count, put-home, put-is, put-none, region-small, take-first, take-operand, held-is}
 use Rattle.rv_select.proofs.Holding.{applied-count, applied-some, folded-few, folds}
 use Rattle.rv_select.proofs.Numbers.{constant-loads}
 use Rattle.rv_select.proofs.Sequences.{operator-count}
@@ -510,13 +510,6 @@ held-kept : (held : Option ℕ) (temps : Temps) (m n : State) → n.registers 5 
 held-kept None temps m n e f = tt
 held-kept (Some t) temps m n e f = e ∙ f
 
-to-six : (m : State) (v : ℕ) → m.registers 5 ≡ v → v < 2 ^ 64 → Loads 6 (moved x6 x5 ∷ []) m v
-to-six m v e s =
-    let z : v + 0 ≡ v = omega arith in
-    loads-one (moved x6 x5) m 6 v (λ q. omega (arith, q)) refl
-    (ap (λ x. GoesOn (at_with m (low (m.pc + 4)) 6 (low (x + 0)))) e
-    ∙ ap (λ x. GoesOn (at_with m (low (m.pc + 4)) 6 x)) (ap low z ∙ low-small v s))
-
 second-held : (y : Layout) (held : Option ℕ) (d : ℕ) (op : BinaryOperator) (form : Number) (a : Operand) (t : ℕ) (Used Next : ℕ → Type 0)
     (w : World) (base : ℕ) (program : List (Option Instr)) (m : State) →
     Stands program m.pc (operated_second y held d op (width_of form) a) → IsHeld held w.temps m → is_held held t ≡ true →
@@ -533,7 +526,7 @@ second-held y held d op form a t Used Next w base program m stands f e divisor p
     let C : List Instr = code_of wide op in
     let sb : vb < 2 ^ 64 = p.words t used in
     let sa : va < 2 ^ 64 = first-small held Used y w base m a p ra in
-    let k : Loads 6 M m vb = to-six m vb (held-is held t w.temps m f e) sb in
+    let k : Loads 6 M m vb = from-five x6 m vb (λ z. omega (arith, z)) (held-is held t w.temps m f e) sb in
     let n : State = k.after in
     let q : Holds y Used w base n = scratch-holds y Used w base M m n p h (loads-six M m vb k) in
     let five : n.registers 5 ≡ m.registers 5 = k.keeps 5 (λ z. omega (arith, z)) (λ z. omega (arith, z)) in

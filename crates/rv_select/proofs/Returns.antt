@@ -17,17 +17,17 @@ use Rattle.rv_machine.specs.Machine.{State, GoesOn, act, at_with}
 use Rattle.rv_operators.specs.Codes.{x5}
 use Rattle.rv_operators.specs.Runs.{Stands}
 use Rattle.rv_select.specs.Numbers.{below_zero}
-use Rattle.rv_select.specs.Places.{AreBytes, Holds, Housed, Layout, World, area_offset, frame_bytes, home_of, layout_of, link_in, private_word, uses}
+use Rattle.rv_select.specs.Places.{AreBytes, Holds, Housed, IsHeld, Layout, World, area_offset, frame_bytes, home_of, layout_of, link_in, private_word, uses}
 use Rattle.rv_select.specs.Shapes.{moved, x10}
 use Rattle.rv_select.specs.Entering.{kept_offset, left, x28}
 use Rattle.rv_select.specs.declared.settings.Setting.{Setting}
-use Rattle.rv_select.specs.Calls.{jump_unless_last, part_taken, returned}
+use Rattle.rv_select.specs.Calls.{jump_unless_last, part_given, returned}
 use Rattle.rv_select.specs.Waiting.{Image, IsLinked, Waiting, restored}
 use Rattle.rv_select.proofs.Jumps.{Jumped, Reaches, jumps-there, last-few, last_words}
 use Rattle.rv_select.proofs.Lives.{housed}
 use Rattle.rv_select.proofs.Homes.{region-small}
 use Rattle.rv_select.proofs.Numbers.{below-is}
-use Rattle.rv_select.proofs.Passes.{IsPartRead, part-count, part_value, take-part}
+use Rattle.rv_select.proofs.Passes.{IsPartGiven, give-part, given-count, part_value}
 use Rattle.rv_select.proofs.Quits.{Quit, quits}
 use Rattle.rv_select.proofs.Straight.{Loads, low-small, written-elsewhere, written-there}
 use Rattle.rv_select.proofs.Waits.{SameAbove, link-same, same-home}
@@ -84,20 +84,19 @@ last-none short None at last e = refl
 last-none short (Some n) at last e = cc
 
 -- the code of a return, from where its part is to be taken
-pub goes-back : (program : List (Option Instr)) (y : Layout) (Used : ℕ → Type 0) (w : World) (base frame last link from : ℕ) (v : Part)
-    (m : State) (setting : Setting) → Holds y Used w base m → Housed y Used → IsPartRead y Used v →
+pub goes-back : (program : List (Option Instr)) (y : Layout) (held : Option ℕ) (Used : ℕ → Type 0) (w : World) (base frame last link from : ℕ)
+    (v : Part) (m : State) (setting : Setting) → Holds y Used w base m → Housed y Used → IsHeld held w.temps m → IsPartGiven y held Used v →
     m.pc + 256 ≤ 2 ^ 30 → last < 2 ^ 30 → last % 2 ≡ 0 → (setting.short ≡ true → (m.pc ≤ last) × (last ≤ m.pc + 2 ^ 19)) →
-    (setting.next ≡ None → last ≡ m.pc + 4 * length (returned y setting m.pc last v)) → w.placed + frame < 2 ^ 63 → link_in y base m ≡ link → link % 2 ≡ 0 →
+    (setting.next ≡ None → last ≡ m.pc + 4 * length (returned y setting held m.pc last v)) → w.placed + frame < 2 ^ 63 → link_in y base m ≡ link → link % 2 ≡ 0 →
     link < 2 ^ 64 →
-    Stands program m.pc (returned y setting m.pc last v) → Stands program last (left y (frame_bytes y) frame) →
+    Stands program m.pc (returned y setting held m.pc last v) → Stands program last (left y (frame_bytes y) frame) →
     BackIn program y (frame_bytes y) base (w.placed + frame) link (part_value y base w v) m
-goes-back program y Used w base frame last link from v m setting p h reads near last-small last-even reach behind fits link-is even link-small there leaves =
-    let A : List Instr = part_taken y x10 v in
+goes-back program y held Used w base frame last link from v m setting p h five reads near last-small last-even reach behind fits link-is even link-small there leaves =
+    let A : List Instr = part_given y held v in
     let at : ℕ = m.pc + 4 * length A in
     let J : List Instr = jump_unless_last setting.short setting.next at last in
-    let few : length A ≤ 8 = part-count y x10 v in
-    let l : Loads 10 A m (part_value y base w v) =
-    take-part y x10 Used w base m v (λ z. omega (arith, z)) (λ z. omega (arith, z)) p h reads in
+    let few : length A ≤ 8 = given-count y held v in
+    let l : Loads 10 A m (part_value y base w v) = give-part y held Used w base m v five p h reads in
     let t1 : State = l.after in
     let at-is : t1.pc ≡ at = l.behind ∙ low-small (m.pc + 4 * length A) (omega (arith, near, few)) in
     let one : Way program (length A) m t1 = straight-way program A m t1 (stands-front program m.pc A J there) l.straight

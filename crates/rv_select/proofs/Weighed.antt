@@ -69,7 +69,7 @@ instructions-weight y sizes places at held (i ∷ is) small h =
 
 exit-weight : (code : Tac) (y : Layout) (setting : Setting) (held : Option ℕ) (at : ℕ) (starts : ℕ → ℕ) (last : ℕ) (e : Exit) → has_exit_code e ≡ true →
     length (exit_code y setting held at starts last e) ≤ exit_words e
-exit-weight code y setting held at starts last (Return v) h = (frames-within code y setting 0 at last v).1
+exit-weight code y setting held at starts last (Return v) h = (frames-within code y setting held 0 at last v).1
 exit-weight code y setting held at starts last (Jump e) h = (exits-within y setting held (Jump e) at at starts starts h).0
 exit-weight code y setting held at starts last (Branch a e f) h = (exits-within y setting held (Branch a e f) at at starts starts h).0
 exit-weight code y setting held at starts last (Fail kind place) h = (exits-within y setting held (Fail kind place) at at starts starts h).0
@@ -143,7 +143,7 @@ function-weight y code places at h small =
     let D = body_code y code places at in
     sums (length B) (length E) (length L) (length R) (length D) (length (B ++ (E ++ R))) (length (E ++ R))
     (length (D ++ L)) (length (function_code y code places at)) (receiving code.parameters) (sum_by block_words code.blocks) (code_words code)
-    (frames-within code y (setting_of y.extent 0) (frame_bytes y) 0 0 (Word (Constant 0))).0
+    (frames-within code y (setting_of y.extent 0) None (frame_bytes y) 0 0 (Word (Constant 0))).0
     (parameters-within y code.areas (words_offset y) code.parameters small)
     (blocks-weight code y code.areas places (start_of (block_starts y code at)) (last_address y code at) (at + 4 * length (head_code y code))
     code.blocks small h)

@@ -20,16 +20,16 @@ use Rattle.tac_form.specs.declared.tac.Part.{Part}
 use Rattle.rv_operators.specs.Codes.{x0, x5, zero_immediate}
 use Rattle.rv_select.specs.Numbers.{below_zero, constant, lower_of, register_of}
 use Rattle.rv_select.specs.Places.{Layout, home_of}
-use Rattle.rv_select.specs.Shapes.{far_part, framed, limit_found, place_number, x2, x7, x8, x10, x11}
+use Rattle.rv_select.specs.Shapes.{far_part, framed, limit_found, place_number, x2, x7, x8, x11}
 use Rattle.rv_select.specs.Entering.{arguments_stored, entered, frame_taken, frames_given, left, link_put_back, link_saved, region_given, region_taken, stack_tested, x1, most_arguments, place_given, pointer_down, pointer_up, put_back, received, received_one, is_received, receiving, result_put, result_words, saved, size_in, stack_branch, stored_below}
-use Rattle.rv_select.specs.Calls.{call_begun, call_ended, called, call_jump, depth_tested, jump_unless_last, one_more, part_taken, passed}
+use Rattle.rv_select.specs.Calls.{call_begun, call_ended, called, call_jump, depth_tested, jump_unless_last, one_more, part_given, part_taken, passed}
 use Rattle.rv_select.specs.Frames.{CallsKeepWithin, FramesKeepWithin, ParametersKeepWithin}
 use Rattle.rv_select.proofs.Copies.{size-small}
 use Rattle.rv_select.proofs.Enters.{one-if, saved-count}
 use Rattle.rv_select.proofs.Frames.{framed-count}
 use Rattle.rv_select.proofs.Homes.{put-few}
 use Rattle.rv_select.proofs.Numbers.{constant-count}
-use Rattle.rv_select.proofs.Passes.{below-count, part-count}
+use Rattle.rv_select.proofs.Passes.{below-count, given-count, part-count}
 use Rattle.rv_select.proofs.Pointers.{down-count, up-count}
 use Rattle.rv_select.proofs.Quits.{put-back-count}
 use Rattle.rv_select.proofs.Weights.{to-count}
@@ -88,7 +88,7 @@ place-count zero at = omega arith
 place-count (suc n) at = constant-count x11 (place_number at)
 
 pub frames-within : FramesKeepWithin
-frames-within code y setting bytes at last v =
+frames-within code y setting held bytes at last v =
     let n : ℕ = most_arguments (length code.parameters) in
     let args : length (arguments_stored n 0) ≤ n = arguments-count n 0 (omega (arith, most-eight (length code.parameters))) in
     let eight : length (arguments_stored n 0) ≤ 8 = omega (arith, args, most-eight (length code.parameters)) in
@@ -108,8 +108,8 @@ frames-within code y setting bytes at last v =
     both (link_put_back y) (put_back y 10 18 ++ frames_given bytes code.frame) 1 (10 + 13) (one-if y.extent.calls (Load Ld x1 x2 zero_immediate))
     (both (put_back y 10 18) (frames_given bytes code.frame) 10 13 backs gives) in (
       omega (arith, begins, enters, leaves),
-      both (part_taken y x10 v) (jump_unless_last setting.short setting.next (at + 4 * length (part_taken y x10 v)) last) 8 2 (part-count y x10 v)
-          (omega (arith, last-count setting.short setting.next (at + 4 * length (part_taken y x10 v)) last, last-few setting.short setting.next)),
+      both (part_given y held v) (jump_unless_last setting.short setting.next (at + 4 * length (part_given y held v)) last) 8 2 (given-count y held v)
+          (omega (arith, last-count setting.short setting.next (at + 4 * length (part_given y held v)) last, last-few setting.short setting.next)),
     )
 
 -- a word goes to its home, and bytes to their area

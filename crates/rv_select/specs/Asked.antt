@@ -10,6 +10,8 @@ use Rattle.tac_form.specs.declared.tac.Destination.{Destination}
 use Rattle.tac_form.specs.declared.tac.Destination.TheVariants as destinations
 use Rattle.tac_form.specs.declared.tac.Operand.{Operand}
 use Rattle.tac_form.specs.declared.tac.Operand.TheVariants.{Temp, Constant}
+use Rattle.tac_form.specs.declared.tac.Part.{Part}
+use Rattle.tac_form.specs.declared.tac.Part.TheVariants as parts
 use Rattle.tac_form.specs.declared.tac.Address.{Address}
 use Rattle.tac_form.specs.declared.tac.Address.TheVariants.{Word, Frame}
 use Rattle.tac_form.specs.declared.tac.Spot.{Spot}
@@ -110,9 +112,15 @@ abbrev pub all_ask : (held : Option ℕ) → List Instruction → List ℕ
 all_ask held [] = []
 all_ask held (i ∷ is) = asks held i ++ all_ask (held_after i) is
 
+-- what is given back, which x10 takes from x5 where x5 holds it
+abbrev pub given_asks : (held : Option ℕ) → Part → List ℕ
+given_asks held (parts.Word a) = first_asks held a
+given_asks held (parts.Area n) = []
+
 -- what the end of a block asks for: a comparison and its branch, or an exit
 abbrev pub exit_asks : (held : Option ℕ) → Exit → List ℕ
 exit_asks held (exits.Branch a e f) = first_asks held a
+exit_asks held (exits.Return v) = given_asks held v
 exit_asks held e = exit_reads e
 
 abbrev pub end_asks : (held : Option ℕ) → Option Pair → Exit → List ℕ

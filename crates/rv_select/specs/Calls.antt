@@ -1,5 +1,5 @@
 -- Calls and returns, and the code of a whole function.
-use Rattle.std.specs.Prelude.{◌≡◌, ℕ, ◌+◌, ◌*◌, ◌≤◌, IsTrue, Bool, ◌&&◌, true, List, [], ◌∷◌, ◌++◌, length, map, Option, Some, None}
+use Rattle.std.specs.Prelude.{◌≡◌, ℕ, ◌+◌, ◌*◌, ◌≤◌, IsTrue, Bool, ◌&&◌, true, if◌then◌else◌, List, [], ◌∷◌, ◌++◌, length, map, Option, Some, None}
 use Rattle.std.specs.List.{list_all}
 use Rattle.tl_base.specs.declared.place.Place.{Place}
 use Rattle.tl_base.specs.declared.ids.FnId.{FnId}
@@ -11,6 +11,8 @@ use Rattle.rv_isa.specs.declared.operand.Register.{Register}
 use Rattle.rv_isa.specs.Table.{word_of}
 use Rattle.reg_alloc.specs.declared.assignment.Home.{Home}
 use Rattle.terra_words.specs.declared.words.FaultKind.TheVariants.{CallDepth}
+use Rattle.tac_form.specs.declared.tac.Operand.{Operand}
+use Rattle.tac_form.specs.declared.tac.Operand.TheVariants as operands
 use Rattle.tac_form.specs.declared.tac.Part.{Part}
 use Rattle.tac_form.specs.declared.tac.Part.TheVariants as parts
 use Rattle.tac_form.specs.declared.tac.Destination.{Destination}
@@ -33,7 +35,7 @@ use Rattle.rv_select.specs.Compared.{compared_shape}
 use Rattle.rv_select.specs.Pairs.{pair_of, plain_of}
 use Rattle.rv_select.specs.Numbers.{below_zero, constant, immediate_of, lower_of, upper_of}
 use Rattle.rv_select.specs.Places.{Layout, frame_bytes, layout_of}
-use Rattle.rv_select.specs.Shapes.{area_reached, distance, exit_shape, fault_call, has_exit_shape, has_shape, held_after, jump, moved, over, place_number, shape_of, small, start_of, taken, x10, x11}
+use Rattle.rv_select.specs.Shapes.{area_reached, distance, exit_shape, fault_call, has_exit_shape, has_shape, held_after, is_held, jump, moved, over, place_number, shape_of, small, start_of, taken, x10, x11}
 use Rattle.rv_select.specs.Entering.{begun, entered, left, received, result_put, stored_below, words_offset, x1, x28}
 
 -- The run fails at the place in x11 where 511 calls wait already.
@@ -79,18 +81,27 @@ abbrev pub instruction_code : Layout → (sizes : List ℕ) → (places : FnId �
 instruction_code y sizes places at held (Call to place f arguments) = called y sizes places at to place f arguments
 instruction_code y sizes places at held i = shape_of y held i
 
+-- x10 gets what is given back: a word, from x5 where x5 holds it, or the address of an area
+abbrev pub word_given : Layout → (held : Option ℕ) → Operand → List Instr
+word_given y held (operands.Temp t) = if is_held held t then moved x10 x5 ∷ [] else taken y x10 (operands.Temp t)
+word_given y held (operands.Constant c) = constant x10 c
+
+abbrev pub part_given : Layout → (held : Option ℕ) → Part → List Instr
+part_given y held (parts.Word a) = word_given y held a
+part_given y held (parts.Area n) = area_reached y x10 n 0
+
 -- That of an exit, by the addresses of blocks and of the code that leaves the function: it gives back a part. Behind the last block that
 -- code needs no jump.
 abbrev pub jump_unless_last : (short : Bool) → (next : Option ℕ) → (at last : ℕ) → List Instr
 jump_unless_last short None at last = []
 jump_unless_last short (Some n) at last = jump short at last
 
-abbrev pub returned : Layout → Setting → (at last : ℕ) → Part → List Instr
-returned y setting at last v =
-    part_taken y x10 v ++ jump_unless_last setting.short setting.next (at + 4 * length (part_taken y x10 v)) last
+abbrev pub returned : Layout → Setting → (held : Option ℕ) → (at last : ℕ) → Part → List Instr
+returned y setting held at last v =
+    part_given y held v ++ jump_unless_last setting.short setting.next (at + 4 * length (part_given y held v)) last
 
 abbrev pub exit_code : Layout → Setting → (held : Option ℕ) → (at : ℕ) → (starts : ℕ → ℕ) → (last : ℕ) → Exit → List Instr
-exit_code y setting held at starts last (Return v) = returned y setting at last v
+exit_code y setting held at starts last (Return v) = returned y setting held at last v
 exit_code y setting held at starts last e = exit_shape y setting held at starts e
 
 abbrev pub instructions_code : Layout → (sizes : List ℕ) → (places : FnId → ℕ) → (at : ℕ) → (held : Option ℕ) → List Instruction → List Instr

@@ -24,7 +24,7 @@ use Rattle.tac_form.specs.declared.tac.Part.{Part}
 use Rattle.tac_form.specs.declared.tac.Part.TheVariants as parts
 use Rattle.rv_operators.specs.Runs.{Stands}
 use Rattle.rv_select.specs.declared.settings.Setting.{Setting}
-use Rattle.rv_select.specs.Places.{AreBytes, Holds, IsRead, Keeps, Layout, World, area_offset, frame_bytes, layout_of, link_in, private_word, uses, value_in}
+use Rattle.rv_select.specs.Places.{AreBytes, Holds, IsFirst, IsHeld, IsRead, Keeps, Layout, World, area_offset, frame_bytes, layout_of, link_in, private_word, uses, value_in}
 use Rattle.rv_select.specs.Shapes.{place_number}
 use Rattle.rv_select.specs.Steps.{Ends}
 use Rattle.rv_select.specs.Entering.{begun, entered, kept_offset, left, received, receiving, words_offset}
@@ -38,6 +38,11 @@ part_value y base w (parts.Area n) = 2 ^ 32 + (base + area_offset y n)
 abbrev pub IsPartRead : Layout → (ℕ → Type 0) → Part → Type 0
 IsPartRead y Used (parts.Word a) = IsRead y Used a
 IsPartRead y Used (parts.Area n) = n < y.areas
+
+-- and where it is given back: a word that x5 holds needs no home
+abbrev pub IsPartGiven : Layout → (held : Option ℕ) → (ℕ → Type 0) → Part → Type 0
+IsPartGiven y held Used (parts.Word a) = IsFirst y held Used a
+IsPartGiven y held Used (parts.Area n) = n < y.areas
 
 -- The machine enters a function whose frame in private memory begins at `base` then, and that in the region at `under`. The return address,
 -- where the function makes calls, and the caller's words of the registers that it uses are kept in the frame, and all that lies above them
@@ -142,15 +147,16 @@ pub record Returns (program : List (Option Instr)) (y : Layout) (base over link 
 
 abbrev pub FunctionsAreLeft : Type 0
 FunctionsAreLeft =
-    (code : Tac) (homes : List (Option Home)) (block step : ℕ) (program : List (Option Instr)) (w : World) (base frame last link : ℕ)
-    (v : Part) (m : State) (setting : Setting) →
+    (code : Tac) (homes : List (Option Home)) (held : Option ℕ) (block step : ℕ) (program : List (Option Instr)) (w : World)
+    (base frame last link : ℕ) (v : Part) (m : State) (setting : Setting) →
     let y : Layout = layout_of code homes in
     let Used : ℕ → Type 0 = InUse (graph_of code) block step in
-    IsRight code homes → Holds y Used w base m → IsPartRead y Used v → m.pc + 256 ≤ 2 ^ 30 → last < 2 ^ 30 → last % 2 ≡ 0 →
+    IsRight code homes → Holds y Used w base m → IsHeld held w.temps m → IsPartGiven y held Used v → m.pc + 256 ≤ 2 ^ 30 →
+    last < 2 ^ 30 → last % 2 ≡ 0 →
     (IsTrue setting.short → (m.pc ≤ last) × (last ≤ m.pc + 2 ^ 19)) →
-    (setting.next ≡ None → last ≡ m.pc + 4 * length (returned y setting m.pc last v)) →
+    (setting.next ≡ None → last ≡ m.pc + 4 * length (returned y setting held m.pc last v)) →
     w.placed + frame < 2 ^ 63 →
-    link_in y base m ≡ link → link % 2 ≡ 0 → link < 2 ^ 64 → Stands program m.pc (returned y setting m.pc last v) →
+    link_in y base m ≡ link → link % 2 ≡ 0 → link < 2 ^ 64 → Stands program m.pc (returned y setting held m.pc last v) →
     Stands program last (left y (frame_bytes y) frame) →
     Returns program y base (w.placed + frame) link (part_value y base w v) m
 
@@ -214,9 +220,9 @@ ParametersAreReceived =
 -- return.
 abbrev pub FramesKeepWithin : Type 0
 FramesKeepWithin =
-    (code : Tac) (y : Layout) (setting : Setting) (bytes at last : ℕ) (v : Part) →
+    (code : Tac) (y : Layout) (setting : Setting) (held : Option ℕ) (bytes at last : ℕ) (v : Part) →
     (length (begun code) + (length (entered y bytes code.frame) + length (left y bytes code.frame)) ≤ entered_words) ×
-    (length (returned y setting at last v) ≤ exit_words (Return v))
+    (length (returned y setting held at last v) ≤ exit_words (Return v))
 
 -- The code of a call has no more words than its weight, where no area has more than 128 bytes.
 abbrev pub CallsKeepWithin : Type 0

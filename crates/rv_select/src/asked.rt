@@ -2,7 +2,7 @@
 
 ghost use Rattle.std.specs.Prelude.{◌≡◌, ◌^◌, ◌<◌, ◌++◌, IfOk, OnOk, None, length, replicate, slice_get, slice_set};
 ghost use Rattle.std.specs.List.{flat_map};
-ghost use Rattle.rv_select.specs.Asked.{address_asks, all_ask, asked_homes, asked_of, asks, block_asks, both_ask, computed_asks, end_asks, exit_asks, first_asks, first_word, held_behind, home_in, if_small, is_small, slot_instead, spot_asks, with_given, with_word, with_words, compared_asks};
+ghost use Rattle.rv_select.specs.Asked.{address_asks, all_ask, asked_homes, asked_of, asks, block_asks, both_ask, computed_asks, end_asks, exit_asks, first_asks, first_word, given_asks, held_behind, home_in, if_small, is_small, slot_instead, spot_asks, with_given, with_word, with_words, compared_asks};
 ghost use Rattle.rv_select.specs.Pairs.{reads_of};
 ghost use Rattle.tac_form.specs.Graph.{exit_reads, instruction_reads, operand_reads, part_reads, parts_reads};
 
@@ -326,7 +326,17 @@ fn ask_exit(asked: &mut Vec<u64>, held: Option<u64>, exit: Exit) -> Result<(), N
 {
     match exit {
         Exit::Branch(a, _, _) => ask_first(asked, held, a),
-        Exit::Return(part) => ask_part(asked, part),
+        Exit::Return(part) => ask_given(asked, held, part),
         _ => Ok(()),
+    }
+}
+
+/// What is given back, which x10 takes from x5 where x5 holds it.
+fn ask_given(asked: &mut Vec<u64>, held: Option<u64>, part: Part) -> Result<(), NoMemory>
+    ensures { OnOk result (asked.new.items ≡ asked.old.items ++ given_asks held part) }
+{
+    match part {
+        Part::Word(a) => ask_first(asked, held, a),
+        Part::Area(_) => Ok(()),
     }
 }

@@ -3,20 +3,23 @@
 ghost use Rattle.std.specs.Prelude.{◌≡◌, ◌*◌, ◌+◌, ◌^◌, ◌<◌, ◌≤◌, [], ◌∷◌, ◌++◌, map, length, IfOk, OnOk};
 ghost use Rattle.std.specs.List.{list_any};
 ghost use Rattle.rv_isa.specs.Table.{word_of};
+ghost use Rattle.tac_form.specs.declared.tac.Operand.TheVariants as operands;
 ghost use Rattle.rv_operators.specs.Codes.{x5};
-ghost use Rattle.rv_select.specs.Calls.{call_begun, call_ended, call_jump, called, depth_tested, one_more, part_taken, passed};
+ghost use Rattle.rv_select.specs.Calls.{call_begun, call_ended, call_jump, called, depth_tested, one_more, part_given, part_taken, passed, word_given};
 ghost use Rattle.rv_select.specs.Entering.{result_put};
 ghost use Rattle.rv_select.specs.Places.{has_call, is_call, makes_calls, with_homes};
-ghost use Rattle.rv_select.specs.Shapes.{jump, x10};
+ghost use Rattle.rv_select.specs.Shapes.{jump};
 
 use crate::emit::{X5, push_constant, push_moved, push_taken, put};
 use crate::entries::{X1, X28, push_result_put, push_stored_below};
 use crate::exits::{distance, push_jump};
-use crate::instructions::{X10, X11, place_number, push_area_address, push_fault_call, push_small};
+use crate::instructions::{
+    X10, X11, is_held, place_number, push_area_address, push_fault_call, push_small,
+};
 use crate::operands::{below_zero, immediate, lower, offset, upper};
 use reg_alloc::Home;
 use rv_isa::{BranchCondition, ImmediateOp, Instr, Register};
-use tac_form::{Block, Destination, Instruction, Part, Tac};
+use tac_form::{Block, Destination, Instruction, Operand, Part, Tac};
 use terra_words::FaultKind;
 use tl_base::{NoMemory, Place};
 
@@ -92,15 +95,49 @@ fn push_first_part(code: &mut Vec<u32>, homes: &[Option<Home>], part: Part) -> R
     push_part(code, homes, X5, part)
 }
 
-/// x10 gets what is given back.
+/// x10 gets what is given back: a word, from x5 where x5 holds it, or the address of an area.
 pub(crate) fn push_given(
     code: &mut Vec<u32>,
     homes: &[Option<Home>],
+    held: Option<u64>,
     part: Part,
 ) -> Result<(), NoMemory>
-    ensures { OnOk result (code.new.items ≡ code.old.items ++ map word_of (part_taken (with_homes homes.now) x10 part)) }
+    ensures { OnOk result (code.new.items ≡ code.old.items ++ map word_of (part_given (with_homes homes.now) held part)) }
 {
-    push_part(code, homes, X10, part)
+    match part {
+        Part::Word(a) => push_word_given(code, homes, held, a),
+        Part::Area(area) => push_area_address(code, homes, X10, area, 0),
+    }
+}
+
+fn push_word_given(
+    code: &mut Vec<u32>,
+    homes: &[Option<Home>],
+    held: Option<u64>,
+    a: Operand,
+) -> Result<(), NoMemory>
+    ensures { OnOk result (code.new.items ≡ code.old.items ++ map word_of (word_given (with_homes homes.now) held a)) }
+{
+    match a {
+        Operand::Temp(temp) => push_temp_given(code, homes, held, temp),
+        Operand::Constant(number) => push_constant(code, X10, number),
+    }
+}
+
+/// x10 gets a temporary's word, from x5 where x5 holds it.
+fn push_temp_given(
+    code: &mut Vec<u32>,
+    homes: &[Option<Home>],
+    held: Option<u64>,
+    temp: u64,
+) -> Result<(), NoMemory>
+    ensures { OnOk result (code.new.items ≡ code.old.items ++ map word_of (word_given (with_homes homes.now) held (operands.Temp temp))) }
+{
+    if is_held(held, temp) {
+        push_moved(code, X10, X5)
+    } else {
+        push_taken(code, homes, X10, Operand::Temp(temp))
+    }
 }
 
 /// The words of parts from one on go below the frame.

@@ -137,17 +137,18 @@ fn push_jump_unless_last(code: &mut Vec<u32>, setting: Setting, last: u64) -> Re
     }
 }
 
-/// The code by which a function gives back a part, and goes to where it is left.
+/// The code by which a function gives back a part, of which x5 may hold the word, and goes to where it is left.
 fn push_returned(
     code: &mut Vec<u32>,
     homes: &[Option<Home>],
     setting: Setting,
+    held: Option<u64>,
     part: Part,
     last: u64,
 ) -> Result<(), NoMemory>
-    ensures { OnOk result (code.new.items ≡ code.old.items ++ map word_of (returned (with_homes homes.now) setting (4 * length code.old.items) last part)) }
+    ensures { OnOk result (code.new.items ≡ code.old.items ++ map word_of (returned (with_homes homes.now) setting held (4 * length code.old.items) last part)) }
 {
-    push_given(code, homes, part)?;
+    push_given(code, homes, held, part)?;
     push_jump_unless_last(code, setting, last)
 }
 
@@ -165,7 +166,7 @@ fn push_end(
     ensures { OnOk result (code.new.items ≡ code.old.items ++ map word_of (exit_code (with_homes homes.now) setting held (4 * length code.old.items) (start_of starts.now) last exit.now)) }
 {
     match exit {
-        Exit::Return(part) => push_returned(code, homes, setting, *part, last),
+        Exit::Return(part) => push_returned(code, homes, setting, held, *part, last),
         _ => {
             let at = address(code)?;
             push_exit(code, homes, setting, held, at, starts, exit)
