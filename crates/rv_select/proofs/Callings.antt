@@ -12,7 +12,7 @@ use Rattle.terra_words.specs.declared.words.FaultKind.TheVariants.{CallDepth}
 use Rattle.tac_form.specs.declared.tac.Part.{Part}
 use Rattle.rv_machine.specs.Word.{low, word, extended_word}
 use Rattle.rv_machine.specs.Machine.{State, GoesOn, act, at_with}
-use Rattle.rv_operators.specs.Codes.{x0, x5}
+use Rattle.rv_operators.specs.Codes.{x0, x5, x6}
 use Rattle.rv_operators.specs.Runs.{Stands}
 use Rattle.rv_select.specs.Numbers.{constant, immediate_of, lower_of, upper_of}
 use Rattle.rv_select.specs.Places.{AreBytes, Holds, Housed, Layout, World, private_word}
@@ -105,7 +105,7 @@ module _ (program : List (Option Instr)) (y : Layout) (Used : ℕ → Type 0) (w
   t1 = l.after
 
   abbrev t2 : State
-  t2 = at_with t1 (low (t1.pc + 4)) 5 511
+  t2 = at_with t1 (low (t1.pc + 4)) 6 511
 
   all : Stands program m.pc (A ++ (depth_tested ++ (P ++ (one_more ++ rest))))
   all = subst (λ z. Stands program m.pc z)
@@ -117,16 +117,16 @@ module _ (program : List (Option Instr)) (y : Layout) (Used : ℕ → Type 0) (w
   way-2 : Way program (length A + 1) m t2
   way-2 =
       way-both program (length A) 1 m t1 t2 (straight-way program A m t1 (stands-front program m.pc A (depth_tested ++ (P ++ (one_more ++ rest))) all) l.straight l.goes)
-      (step-way program (RegisterImmediate Addi x5 x0 (immediate_of 511)) t1 t2 after-1.0 (small-load x5 511 t1 (λ z. omega (arith, z)) (omega arith)))
+      (step-way program (RegisterImmediate Addi x6 x0 (immediate_of 511)) t1 t2 after-1.0 (small-load x6 511 t1 (λ z. omega (arith, z)) (omega arith)))
 
   calm-2 : Calm m t2
-  calm-2 = calm-both m t1 t2 (calm-loads 11 m t1 refl l.keeps l.region l.private) (calm-with t1 (low (t1.pc + 4)) 5 511 refl)
+  calm-2 = calm-both m t1 t2 (calm-loads 11 m t1 refl l.keeps l.region l.private) (calm-with t1 (low (t1.pc + 4)) 6 511 refl)
 
-  same-2 : (r : ℕ) → r ≢ 5 → r ≢ 7 → r ≢ 11 → t2.registers r ≡ m.registers r
-  same-2 r five seven eleven = written-elsewhere t1.registers 5 511 r five ∙ l.keeps r eleven seven
+  same-2 : (r : ℕ) → r ≢ 6 → r ≢ 7 → r ≢ 11 → t2.registers r ≡ m.registers r
+  same-2 r six seven eleven = written-elsewhere t1.registers 6 511 r six ∙ l.keeps r eleven seven
 
   place-2 : t2.registers 11 ≡ place_number at
-  place-2 = written-elsewhere t1.registers 5 511 11 (λ z. omega (arith, z)) ∙ l.gives
+  place-2 = written-elsewhere t1.registers 6 511 11 (λ z. omega (arith, z)) ∙ l.gives
 
   depth-2 : t2.registers 28 ≡ w.depth
   depth-2 = same-2 28 (λ z. omega (arith, z)) (λ z. omega (arith, z)) (λ z. omega (arith, z)) ∙ p.depth
@@ -136,7 +136,7 @@ module _ (program : List (Option Instr)) (y : Layout) (Used : ℕ → Type 0) (w
   too-deep deep =
       let d : State = at_pc t2 (low (t2.pc + 4)) in
       let branch : Way program 1 t2 d =
-      branch-way program Ltu x28 x5 16 t2 false (omega arith) (omega arith) after-1.1.0 (ap (λ x. nat_lt x 511) depth-2 ∙ le-ltb w.depth 511 deep) in
+      branch-way program Ltu x28 x6 16 t2 false (omega arith) (omega arith) after-1.1.0 (ap (λ x. nat_lt x 511) depth-2 ∙ le-ltb w.depth 511 deep) in
       let last : Ends program CallDepth at 3 d =
       call-fails program d CallDepth at place-2 (omega arith) (omega arith) (stands-front program d.pc (fault_call CallDepth) (P ++ (one_more ++ rest)) after-1.1.1) in
       later-ends program CallDepth at (length A + 1 + 1) 3 13 m d (way-both program (length A + 1) 1 m t2 d way-2 branch) last (omega (arith, constant-count x11 (place_number at)))
@@ -146,7 +146,7 @@ module _ (program : List (Option Instr)) (y : Layout) (Used : ℕ → Type 0) (w
   begins shallow reads room =
       let t3 : State = at_pc t2 (low (t2.pc + 16)) in
       let branch : Way program 1 t2 t3 =
-      branch-way program Ltu x28 x5 16 t2 true (omega arith) (omega arith) after-1.1.0 (ap (λ x. nat_lt x 511) depth-2 ∙ lt-ltb w.depth 511 shallow) in
+      branch-way program Ltu x28 x6 16 t2 true (omega arith) (omega arith) after-1.1.0 (ap (λ x. nat_lt x 511) depth-2 ∙ lt-ltb w.depth 511 shallow) in
       let calm-3 : Calm m t3 = calm-both m t2 t3 calm-2 (near-calm t2 t3 (near-pc t2 (low (t2.pc + 16)))) in
       let q : Holds y Used w base t3 = calm-holds y Used w base m t3 p h calm-3 (low-below (t2.pc + 16)) in
       let after-3 : Stands program t3.pc (P ++ (one_more ++ rest)) = subst (λ z. Stands program z (P ++ (one_more ++ rest))) (sym (pc-sixteen t2.pc)) after-1.1.1.1.1.1 in
@@ -173,7 +173,7 @@ module _ (program : List (Option Instr)) (y : Layout) (Used : ℕ → Type 0) (w
         pc = pc-begun m.pc t1.pc t3.pc t4.pc t5.pc (length A) (length P) l.behind refl pp.pc refl ∙ ap (λ n. low (m.pc + 4 * n)) (sym count);
         place = written-elsewhere t4.registers 28 (suc w.depth) 11 (λ z. omega (arith, z)) ∙ (pp.beneath.keeps 11 (λ z. omega (arith, z)) (λ z. omega (arith, z)) (λ z. omega (arith, z)) ∙ place-2);
         waiting = written-there t4.registers 28 (suc w.depth) (λ z. omega (arith, z));
-        others = λ r five six seven eleven more. written-elsewhere t4.registers 28 (suc w.depth) r more ∙ (pp.beneath.keeps r five six seven ∙ same-2 r five seven eleven);
+        others = λ r five six seven eleven more. written-elsewhere t4.registers 28 (suc w.depth) r more ∙ (pp.beneath.keeps r five six seven ∙ same-2 r six seven eleven);
         region = pp.beneath.region ∙ calm-3.region;
         long = pp.beneath.long ∙ ap length calm-3.private;
         bytes = λ b. pp.beneath.bytes (subst AreBytes (sym calm-3.private) b);

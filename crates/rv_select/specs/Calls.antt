@@ -24,7 +24,7 @@ use Rattle.tac_form.specs.declared.tac.Block.{Block}
 use Rattle.tac_form.specs.declared.tac.Tac.{Tac}
 use Rattle.tac_form.specs.Fits.{area_fits}
 use Rattle.tac_form.specs.Weights.{code_words, private_bytes}
-use Rattle.rv_operators.specs.Codes.{x5}
+use Rattle.rv_operators.specs.Codes.{x5, x6}
 use Rattle.rv_select.specs.declared.selected.Code.{Code}
 use Rattle.rv_select.specs.declared.selected.Call.{Call as Site}
 use Rattle.rv_select.specs.declared.pairs.Pair.{Pair}
@@ -38,9 +38,9 @@ use Rattle.rv_select.specs.Places.{Layout, frame_bytes, layout_of}
 use Rattle.rv_select.specs.Shapes.{area_reached, distance, exit_shape, fault_call, has_exit_shape, has_shape, held_after, is_held, jump, moved, over, place_number, shape_of, small, start_of, taken, x10, x11}
 use Rattle.rv_select.specs.Entering.{begun, entered, left, received, result_put, stored_below, words_offset, x1, x28}
 
--- The run fails at the place in x11 where 511 calls wait already.
+-- The run fails at the place in x11 where 511 calls wait already. What x5 holds stays.
 abbrev pub depth_tested : List Instr
-depth_tested = small x5 511 ++ (Branch Ltu x28 x5 (over (fault_call CallDepth)) ∷ fault_call CallDepth)
+depth_tested = small x6 511 ++ (Branch Ltu x28 x6 (over (fault_call CallDepth)) ∷ fault_call CallDepth)
 
 -- what is passed: a word, or the address of an area
 abbrev pub part_taken : Layout → Register → Part → List Instr

@@ -10,7 +10,7 @@ ghost use Rattle.rv_select.specs.Entering.{result_put};
 ghost use Rattle.rv_select.specs.Places.{has_call, is_call, makes_calls, with_homes};
 ghost use Rattle.rv_select.specs.Shapes.{jump};
 
-use crate::emit::{X5, push_constant, push_moved, push_taken, put};
+use crate::emit::{X5, X6, push_constant, push_moved, push_taken, put};
 use crate::entries::{X1, X28, push_result_put, push_stored_below};
 use crate::exits::{distance, push_jump};
 use crate::instructions::{
@@ -56,17 +56,17 @@ pub(crate) fn makes_calls(tac: &Tac) -> bool
 /// How many calls may wait besides the one that is made.
 const MOST_WAITING: u64 = 511;
 
-/// The run fails at the place in x11 where 511 calls wait already.
+/// The run fails at the place in x11 where 511 calls wait already. What x5 holds stays.
 fn push_depth_test(code: &mut Vec<u32>) -> Result<(), NoMemory>
     ensures { OnOk result (code.new.items ≡ code.old.items ++ map word_of depth_tested) }
 {
-    push_small(code, X5, MOST_WAITING)?;
+    push_small(code, X6, MOST_WAITING)?;
     put(
         code,
         Instr::Branch {
             condition: BranchCondition::Ltu,
             rs1: X28,
-            rs2: X5,
+            rs2: X6,
             offset: offset(16),
         },
     )?;
