@@ -123,24 +123,24 @@ filled-call places base from c cs a j ws e two =
 -- all other instructions have no call, and one code wherever they stand
 abbrev IsPlain : Instruction → Type 0
 IsPlain i =
-    ((y : Layout) (at : ℕ) → instruction_calls y at i ≡ [])
+    ((y : Layout) (at : ℕ) (held : Option ℕ) → instruction_calls y at held i ≡ [])
     × ((y : Layout) (sizes : List ℕ) (places : FnId → ℕ) (at : ℕ) (held : Option ℕ) → instruction_code y sizes places at held i ≡ shape_of y held i)
 
 by-kind : (P : Instruction → Type 0) → ((i : Instruction) → IsPlain i → P i) → (i : Instruction) →
     ((to : Destination) (place : Place) (f : FnId) (arguments : List Part) → i ≡ Call to place f arguments → P i) → P i
 by-kind P plain (Call to place f arguments) calls = calls to place f arguments refl
-by-kind P plain (Compute d op form a b) calls = plain (Compute d op form a b) (λ y at. refl, λ y sizes places at held. refl)
-by-kind P plain (TestDivisor place a) calls = plain (TestDivisor place a) (λ y at. refl, λ y sizes places at held. refl)
-by-kind P plain (Copy d a) calls = plain (Copy d a) (λ y at. refl, λ y sizes places at held. refl)
-by-kind P plain (Locate d offset) calls = plain (Locate d offset) (λ y at. refl, λ y sizes places at held. refl)
-by-kind P plain (Load d form spot) calls = plain (Load d form spot) (λ y at. refl, λ y sizes places at held. refl)
-by-kind P plain (Store spot size a) calls = plain (Store spot size a) (λ y at. refl, λ y sizes places at held. refl)
-by-kind P plain (Move to from size) calls = plain (Move to from size) (λ y at. refl, λ y sizes places at held. refl)
-by-kind P plain (Clear n size) calls = plain (Clear n size) (λ y at. refl, λ y sizes places at held. refl)
-by-kind P plain (CallValue to place sig a arguments) calls = plain (CallValue to place sig a arguments) (λ y at. refl, λ y sizes places at held. refl)
-by-kind P plain (PutByte a) calls = plain (PutByte a) (λ y at. refl, λ y sizes places at held. refl)
-by-kind P plain (Write place a b) calls = plain (Write place a b) (λ y at. refl, λ y sizes places at held. refl)
-by-kind P plain (Alloc d a) calls = plain (Alloc d a) (λ y at. refl, λ y sizes places at held. refl)
+by-kind P plain (Compute d op form a b) calls = plain (Compute d op form a b) (λ y at held. refl, λ y sizes places at held. refl)
+by-kind P plain (TestDivisor place a) calls = plain (TestDivisor place a) (λ y at held. refl, λ y sizes places at held. refl)
+by-kind P plain (Copy d a) calls = plain (Copy d a) (λ y at held. refl, λ y sizes places at held. refl)
+by-kind P plain (Locate d offset) calls = plain (Locate d offset) (λ y at held. refl, λ y sizes places at held. refl)
+by-kind P plain (Load d form spot) calls = plain (Load d form spot) (λ y at held. refl, λ y sizes places at held. refl)
+by-kind P plain (Store spot size a) calls = plain (Store spot size a) (λ y at held. refl, λ y sizes places at held. refl)
+by-kind P plain (Move to from size) calls = plain (Move to from size) (λ y at held. refl, λ y sizes places at held. refl)
+by-kind P plain (Clear n size) calls = plain (Clear n size) (λ y at held. refl, λ y sizes places at held. refl)
+by-kind P plain (CallValue to place sig a arguments) calls = plain (CallValue to place sig a arguments) (λ y at held. refl, λ y sizes places at held. refl)
+by-kind P plain (PutByte a) calls = plain (PutByte a) (λ y at held. refl, λ y sizes places at held. refl)
+by-kind P plain (Write place a b) calls = plain (Write place a b) (λ y at held. refl, λ y sizes places at held. refl)
+by-kind P plain (Alloc d a) calls = plain (Alloc d a) (λ y at held. refl, λ y sizes places at held. refl)
 
 -- One instruction: its words, with its call filled in, and the calls of what follows.
 record Filled (places : FnId → ℕ) (base : ℕ) (y : Layout) (sizes : List ℕ) (from end : ℕ) (cs : List Site) (code : List Instr)
@@ -153,26 +153,26 @@ fill-instruction : (places others : FnId → ℕ) (agree : (f : FnId) → places
     (held : Option ℕ) (i : Instruction) →
     AreIn (from + length (instruction_code y sizes (λ f. 0) (4 * from) held i)) end cs →
     Filled places base y sizes from end cs (instruction_code y sizes (λ f. 0) (4 * from) held i)
-    (instruction_code y sizes others (base + 4 * from) held i) (instruction_calls y from i)
+    (instruction_code y sizes others (base + 4 * from) held i) (instruction_calls y from held i)
 fill-instruction places others agree base y sizes from end cs held i =
     by-kind
     (λ k. AreIn (from + length (instruction_code y sizes (λ f. 0) (4 * from) held k)) end cs →
     Filled places base y sizes from end cs (instruction_code y sizes (λ f. 0) (4 * from) held k)
-    (instruction_code y sizes others (base + 4 * from) held k) (instruction_calls y from k))
+    (instruction_code y sizes others (base + 4 * from) held k) (instruction_calls y from held k))
     plain i called
   where
     plain : (k : Instruction) → IsPlain k → AreIn (from + length (instruction_code y sizes (λ f. 0) (4 * from) held k)) end cs →
         Filled places base y sizes from end cs (instruction_code y sizes (λ f. 0) (4 * from) held k)
-        (instruction_code y sizes others (base + 4 * from) held k) (instruction_calls y from k)
+        (instruction_code y sizes others (base + 4 * from) held k) (instruction_calls y from held k)
     plain k e h =
         let S : List Instr = shape_of y held k in
         let one : instruction_code y sizes (λ f. 0) (4 * from) held k ≡ S = e.1 y sizes (λ f. 0) (4 * from) held in
         let two : instruction_code y sizes others (base + 4 * from) held k ≡ S = e.1 y sizes others (base + 4 * from) held in
         let g : AreIn (from + length S) end cs = subst (λ z. AreIn (from + length z) end cs) one h in
-        subst (λ z. Filled places base y sizes from end cs z (instruction_code y sizes others (base + 4 * from) held k) (instruction_calls y from k))
+        subst (λ z. Filled places base y sizes from end cs z (instruction_code y sizes others (base + 4 * from) held k) (instruction_calls y from held k))
         (sym one)
-        (subst (λ z. Filled places base y sizes from end cs S z (instruction_calls y from k)) (sym two)
-        (subst (λ z. Filled places base y sizes from end cs S S z) (sym (e.0 y from)) (simple S g)))
+        (subst (λ z. Filled places base y sizes from end cs S z (instruction_calls y from held k)) (sym two)
+        (subst (λ z. Filled places base y sizes from end cs S S z) (sym (e.0 y from held)) (simple S g)))
       where
         least : (a b : ℕ) → a ≤ a + b
         least a b = omega arith
@@ -216,13 +216,13 @@ fill-instruction places others agree base y sizes from end cs held i =
     called : (to : Destination) (place : Place) (f : FnId) (arguments : List Part) → i ≡ Call to place f arguments →
         AreIn (from + length (instruction_code y sizes (λ f. 0) (4 * from) held i)) end cs →
         Filled places base y sizes from end cs (instruction_code y sizes (λ f. 0) (4 * from) held i)
-        (instruction_code y sizes others (base + 4 * from) held i) (instruction_calls y from i)
+        (instruction_code y sizes others (base + 4 * from) held i) (instruction_calls y from held i)
     called to place f arguments e =
         subst
         (λ k. AreIn (from + length (instruction_code y sizes (λ f. 0) (4 * from) held k)) end cs →
         Filled places base y sizes from end cs (instruction_code y sizes (λ f. 0) (4 * from) held k)
-        (instruction_code y sizes others (base + 4 * from) held k) (instruction_calls y from k))
-        (sym e) (made (call_begun y place arguments) (call_ended y sizes to) f)
+        (instruction_code y sizes others (base + 4 * from) held k) (instruction_calls y from held k))
+        (sym e) (made (call_begun y held place arguments) (call_ended y sizes to) f)
 
 -- Instructions.
 fill-instructions : (places others : FnId → ℕ) (agree : (f : FnId) → places f ≡ others f) (base : ℕ) (y : Layout) (sizes : List ℕ) (from end : ℕ) (cs : List Site)
@@ -251,7 +251,7 @@ fill-instructions places others agree base y sizes from end cs held (i ∷ is) h
     let h2 : AreIn (n + length B) end cs =
     subst (λ z. AreIn z end cs) (sym sum) (subst (λ z. AreIn (from + length z) end cs) whole h) in
     let rest = fill-instructions places others agree base y sizes n end cs next is h2 in
-    let mine : List Site = instruction_calls y from i in
+    let mine : List Site = instruction_calls y from held i in
     let behind : List Site = instructions_calls y sizes n next is in
     let all : instructions_calls y sizes from held (i ∷ is) ≡ mine ++ behind =
     ap (λ z. mine ++ instructions_calls y sizes (from + z) next is) same in

@@ -1,5 +1,5 @@
 -- How the machine comes into a function that is called.
-use Rattle.std.proofs.Common.{◌≡◌, ◌≢◌, ℕ, zero, suc, ◌+◌, ◌-◌, ◌*◌, ◌^◌, ◌<◌, ◌≤◌, true, false, List, [], ◌∷◌, length, take, drop, Option, Some, refl, sym, ap, ◌∙◌, subst, inl, inr, arith}
+use Rattle.std.proofs.Common.{◌≡◌, ◌≢◌, ℕ, zero, suc, ◌+◌, ◌-◌, ◌*◌, ◌^◌, ◌<◌, ◌≤◌, true, false, List, [], ◌∷◌, length, take, drop, Option, Some, None, refl, sym, ap, ◌∙◌, subst, inl, inr, arith}
 use Rattle.std.specs.Prelude.{if◌then◌else◌, slice_get}
 use Rattle.std.proofs.Math.Nat.{suc-mul}
 use Rattle.rv_isa.specs.declared.instr.Instr.{Instr}
@@ -16,7 +16,7 @@ use Rattle.rv_machine.specs.Machine.{State}
 use Rattle.rv_select.specs.Places.{AreBytes, Holds, Keeps, Layout, World, area_offset, frame_bytes, link_in, private_word, uses}
 use Rattle.rv_select.specs.Steps.{world_of}
 use Rattle.rv_select.specs.Entering.{kept_offset}
-use Rattle.rv_select.specs.Frames.{Enters, HasWords, IsPartRead, IsWordOf, LiesAt, part_value, seen, without_words}
+use Rattle.rv_select.specs.Frames.{ArePassed, Enters, HasWords, IsPartFirst, IsWordOf, LiesAt, part_value, seen, without_words}
 use Rattle.rv_select.specs.Waiting.{HasRoom, restored}
 use Rattle.rv_select.proofs.Backs.{part-is}
 use Rattle.rv_select.proofs.Callings.{Begun, JumpedTo}
@@ -39,12 +39,12 @@ pub record InFunction (z : Layout) (base bottom placed depth link : ℕ) (m n : 
       (if uses z r then private_word n (bottom + kept_offset r) else n.registers r) ≡ m.registers r
   pub above : (at k : ℕ) → base ≤ at → take k (drop at n.private) ≡ take k (drop at m.private)
 
-pub enters-call : (program : List (Option Instr)) (y z : Layout) (base bytes frame placed target to link : ℕ) (w : World) (at : Place)
-    (ps : List Part) (rest : List Instr) (m : State)
-    (b : Begun program y base w at ps rest m) (j : JumpedTo program target b.after)
+pub enters-call : (program : List (Option Instr)) (y : Layout) (held : Option ℕ) (z : Layout)
+    (base bytes frame placed target to link : ℕ) (w : World) (at : Place) (ps : List Part) (rest : List Instr) (m : State)
+    (b : Begun program y held base w at ps rest m) (j : JumpedTo program target b.after)
     (e : Enters program z (base - bytes) (placed - frame) to j.after) → 88 ≤ bytes → bytes ≤ base →
     low (b.after.pc + 8) ≡ link → link < 2 ^ 64 → InFunction z base (base - bytes) (placed - frame) (suc w.depth) link m e.after
-enters-call program y z base bytes frame placed target to link w at ps rest m b j e least room link-is small = record {
+enters-call program y held z base bytes frame placed target to link w at ps rest m b j e least room link-is small = record {
   pointer = e.pointer;
   eight = e.placed;
   three = others 3 (λ q. omega (arith, q)) (λ q. omega (arith, q)) (λ q. omega (arith, q)) (λ q. omega (arith, q)) (λ q. omega (arith, q))
@@ -111,24 +111,23 @@ pub has-words : (y : Layout) (base : ℕ) (s : tac.State) (bottom last top i : �
     length ds ≡ length ps → bottom + (last + 8 * length ds) + 8 * i ≡ top →
     ((k : ℕ) (p : Part) → slice_get ps k ≡ Some p → private_word n (top - 8 * (i + k + 1)) ≡ part_value y base (world_of s) p) →
     ((k : ℕ) (p : Part) → slice_get ps k ≡ Some p → part_value y base (world_of s) p < 2 ^ 64) →
-    ((j : ℕ) → j < y.areas → LiesAt n (bottom + last) (s.here.areas j) (2 ^ 32 + (base + area_offset y j))) → (Used : ℕ → Type 0) →
-    ((k : ℕ) (p : Part) → slice_get ps k ≡ Some p → IsPartRead y Used p) → HasWords bottom last ds (values_of s ps) n
-has-words y base s bottom last top i [] [] n same sum words small areas Used reads = tt
-has-words y base s bottom last top i [] (p ∷ ps) n same sum words small areas Used reads = tt
-has-words y base s bottom last top i (d ∷ ds) [] n same sum words small areas Used reads = tt
-has-words y base s bottom last top i (d ∷ ds) (p ∷ ps) n same sum words small areas Used reads =
+    ((j : ℕ) → j < y.areas → LiesAt n (bottom + last) (s.here.areas j) (2 ^ 32 + (base + area_offset y j))) → (held : Option ℕ) →
+    (Used : ℕ → Type 0) → ArePassed y held Used ps → HasWords bottom last ds (values_of s ps) n
+has-words y base s bottom last top i [] [] n same sum words small areas held Used reads = tt
+has-words y base s bottom last top i [] (p ∷ ps) n same sum words small areas held Used reads = tt
+has-words y base s bottom last top i (d ∷ ds) [] n same sum words small areas held Used reads = tt
+has-words y base s bottom last top i (d ∷ ds) (p ∷ ps) n same sum words small areas held Used reads =
     let first : top - 8 * (i + 0 + 1) ≡ bottom + (last + 8 * length ds) = omega (arith, sum) in (
-      one p (ap (λ a. private_word n a) (sym first) ∙ words 0 p refl) (small 0 p refl) (reads 0 p refl),
+      one p (ap (λ a. private_word n a) (sym first) ∙ words 0 p refl) (small 0 p refl) reads.0,
       has-words y base s bottom last top (suc i) ds ps n (omega (arith, same)) (omega (arith, sum))
-          (λ k q e. ap (λ a. private_word n (top - 8 * a)) (sums i k) ∙ words (suc k) q e) (λ k q e. small (suc k) q e) areas Used
-          (λ k q e. reads (suc k) q e),
+          (λ k q e. ap (λ a. private_word n (top - 8 * a)) (sums i k) ∙ words (suc k) q e) (λ k q e. small (suc k) q e) areas None Used reads.1,
     )
   where
     sums : (i k : ℕ) → suc i + k + 1 ≡ i + suc k + 1
     sums i k = omega arith
 
     one : (p : Part) → private_word n (bottom + (last + 8 * length ds)) ≡ part_value y base (world_of s) p →
-        part_value y base (world_of s) p < 2 ^ 64 → IsPartRead y Used p →
+        part_value y base (world_of s) p < 2 ^ 64 → IsPartFirst y held Used p →
         IsWordOf n (bottom + last) (value_of s p) (private_word n (bottom + (last + 8 * length ds)))
     one (parts.Word a) e h r = (e ∙ part-is y base s a, subst (λ x. x < 2 ^ 64) (part-is y base s a) h)
     one (parts.Area k) e h r = subst (λ z. LiesAt n (bottom + last) (s.here.areas k) z) (sym e) (areas k r)

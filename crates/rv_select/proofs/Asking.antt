@@ -12,6 +12,8 @@ use Rattle.tac_form.specs.declared.tac.Operand.TheVariants.{Temp, Constant}
 use Rattle.tac_form.specs.declared.tac.Part.TheVariants as parts
 use Rattle.tac_form.specs.declared.tac.Address.{Address}
 use Rattle.tac_form.specs.declared.tac.Address.TheVariants.{Word, Frame}
+use Rattle.tac_form.specs.declared.tac.Part.{Part}
+use Rattle.tac_form.specs.declared.tac.Part.TheVariants as parts
 use Rattle.tac_form.specs.declared.tac.Spot.{Spot}
 use Rattle.tac_form.specs.declared.tac.Spot.TheVariants as spots
 use Rattle.tac_form.specs.declared.tac.Instruction.{Instruction}
@@ -20,10 +22,10 @@ use Rattle.tac_form.specs.declared.tac.Exit.{Exit}
 use Rattle.tac_form.specs.declared.tac.Exit.TheVariants.{Branch, Fail, Jump, Return}
 use Rattle.tac_form.specs.declared.tac.Block.{Block}
 use Rattle.tac_form.specs.declared.tac.Tac.{Tac}
-use Rattle.tac_form.specs.Graph.{address_reads, block_of, exit_reads, graph_of, instruction_reads, instruction_write, operand_reads, spot_reads, step_of}
+use Rattle.tac_form.specs.Graph.{address_reads, block_of, exit_reads, graph_of, instruction_reads, instruction_write, operand_reads, part_reads, parts_reads, spot_reads, step_of}
 use Rattle.tac_form.specs.Live.{InUse, has, is_written}
 use Rattle.rv_select.specs.declared.pairs.Pair.{Pair}
-use Rattle.rv_select.specs.Asked.{address_asks, all_ask, asked_homes, asked_of, asks, block_asks, both_ask, compared_asks, computed_asks, end_asks, exit_asks, first_asks, held_after, held_behind, home_in, is_held, is_second, is_turned, spot_asks, with_given}
+use Rattle.rv_select.specs.Asked.{address_asks, all_ask, asked_homes, asked_of, asks, block_asks, both_ask, compared_asks, computed_asks, end_asks, exit_asks, first_asks, held_after, held_behind, home_in, is_held, is_second, is_turned, part_asks, passed_asks, spot_asks, with_given}
 use Rattle.rv_select.specs.Pairs.{but_pair, pair_of, plain_of, reads_of}
 use Rattle.rv_select.specs.Places.{HasHome, HaveHomes, is_given, layout_of}
 use Rattle.rv_select.specs.Waiting.{held_at, held_in, plain_in}
@@ -74,6 +76,17 @@ computed-reads held true second a b t h = compared-reads held true a b t h
 computed-reads held false true a b t h = in-both a b t (inl (first-reads held a t h))
 computed-reads held false false a b t h = compared-reads held false a b t h
 
+part-reads : (held : Option ℕ) (p : Part) (t : ℕ) → has (part_asks held p) t ≡ true → has (part_reads p) t ≡ true
+part-reads held (parts.Word a) t h = first-reads held a t h
+part-reads held (parts.Area n) t h = cc
+
+passed-reads : (held : Option ℕ) (ps : List Part) (t : ℕ) → has (passed_asks held ps) t ≡ true → has (parts_reads ps) t ≡ true
+passed-reads held [] t h = cc
+passed-reads held (p ∷ ps) t h =
+    ⊎_elim (λ l. has-left (part_reads p) (parts_reads ps) t (part-reads held p t l))
+    (λ r. has-right (part_reads p) (parts_reads ps) t (passed-reads None ps t r))
+    (either-has (part_asks held p) (passed_asks None ps) t h)
+
 spot-reads : (held : Option ℕ) (s : Spot) (t : ℕ) → has (spot_asks held s) t ≡ true → has (spot_reads s) t ≡ true
 spot-reads held (spots.Region at (Word a)) t h = first-reads held a t h
 spot-reads held (spots.Region at (Frame offset)) t h = cc
@@ -95,7 +108,7 @@ asks-read held (Move to from size) t h = inl
     (λ r. has-right (spot_reads to) (spot_reads from) t (spot-reads held from t r))
     (either-has (spot_asks held to) (spot_asks held from) t h))
 asks-read held (Clear n size) t h = inl h
-asks-read held (Call to at f arguments) t h = inl h
+asks-read held (Call to at f arguments) t h = inl (passed-reads held arguments t h)
 asks-read held (CallValue to at sig a arguments) t h = inl h
 asks-read held (PutByte a) t h = inl (first-reads held a t h)
 asks-read held (Write at a b) t h = inl h

@@ -100,17 +100,18 @@ behind-call : (p : Program) (image : Image) (program : List (Option Instr)) (mos
     IsPlaced p image program most code (image f) → slice_get code.blocks b ≡ Some block →
     slice_get (plain_of (reads_of code) block) before ≡ Some (Call to place callee arguments) →
     BehindCall p image program code f b before to (place_in p image code (image f) b before)
-    (place_in p image code (image f) b before + 4 * length (call_begun (layout_of code (image f).homes) place arguments) + 8)
+    (place_in p image code (image f) b before
+    + 4 * length (call_begun (layout_of code (image f).homes) (held_in code b before) place arguments) + 8)
 behind-call p image program most code f b before to block place callee arguments pl e g =
     made (place_in p image code (image f) b before)
     (at-instruction p image program most code (image f) b before block (Call to place callee arguments) pl e g)
   where
     made : (at : ℕ) → AtPlace p image program code (image f) b before (Call to place callee arguments) at →
         BehindCall p image program code f b before to at
-        (at + 4 * length (call_begun (layout_of code (image f).homes) place arguments) + 8)
+        (at + 4 * length (call_begun (layout_of code (image f).homes) (held_in code b before) place arguments) + 8)
     made at found =
         let y : Layout = layout_of code (image f).homes in
-        let A : List Instr = call_begun y place arguments in
+        let A : List Instr = call_begun y (held_in code b before) place arguments in
         let J : List Instr = call_jump (at + 4 * length A) (entries_of p image callee) in
         let E : List Instr = call_ended y code.areas to in
         let P : List Instr = result_put y code.areas to in
@@ -235,7 +236,8 @@ abbrev behind_of : (p : Program) (image : Image) (most : ℕ) (c : Caller) (dept
     Waiting p image most c depth link base placed m → ℕ
 behind_of p image most c depth link base placed m W =
     place_in p image W.code (image c.waits.function) c.waits.block W.before
-    + 4 * length (call_begun (layout_of W.code (image c.waits.function).homes) W.place W.arguments) + 8
+    + 4 * length (call_begun (layout_of W.code (image c.waits.function).homes) (held_in W.code c.waits.block W.before) W.place
+    W.arguments) + 8
 
 -- What puts a result, which x5 has then, where the caller takes it: behind it the caller's temporaries and areas are these.
 abbrev Puts : List (Option Instr) → Layout → (sizes : List ℕ) → (U : ℕ → Type 0) → Destination → tac.State → Activation →

@@ -34,21 +34,23 @@ use Rattle.rv_select.proofs.Pairing.{plain-all}
 use Rattle.rv_select.proofs.Pushed.{behind, placed-turn, turn}
 use Rattle.rv_select.proofs.Stands.{both-true}
 
-pub called-turn : {A E : Type 0} (r : Result A E) (y : Layout) (sizes : List ℕ) (to : Destination) (at : Place) (f : FnId) (arguments : List Part) (old first mid new : List ℕ) →
-    first ≡ old ++ map word_of (call_begun y at arguments) → mid ≡ first ++ map word_of (call_jump (4 * length first) 0) →
+pub called-turn : {A E : Type 0} (r : Result A E) (y : Layout) (sizes : List ℕ) (held : Option ℕ) (to : Destination)
+    (at : Place) (f : FnId) (arguments : List Part) (old first mid new : List ℕ) →
+    first ≡ old ++ map word_of (call_begun y held at arguments) → mid ≡ first ++ map word_of (call_jump (4 * length first) 0) →
     OnOk r (new ≡ mid ++ map word_of (call_ended y sizes to)) →
-    OnOk r (new ≡ old ++ map word_of (called y sizes (λ g. 0) (4 * length old) to at f arguments))
-called-turn r y sizes to at f arguments old first mid new e g h =
-    placed-turn r old first new (call_begun y at arguments) (λ n. call_jump n 0 ++ call_ended y sizes to) e
+    OnOk r (new ≡ old ++ map word_of (called y sizes (λ g. 0) (4 * length old) held to at f arguments))
+called-turn r y sizes held to at f arguments old first mid new e g h =
+    placed-turn r old first new (call_begun y held at arguments) (λ n. call_jump n 0 ++ call_ended y sizes to) e
     (turn r first mid new (call_jump (4 * length first) 0) (call_ended y sizes to) (call_jump (4 * length first) 0 ++ call_ended y sizes to) refl g h)
 
-pub one-called : {A E : Type 0} (r : Result A E) (y : Layout) (sizes : List ℕ) (to : Destination) (at : Place) (f : FnId) (arguments given : List Part) (i : Instruction) (n : ℕ) (held : Option ℕ) (old new : List ℕ) →
+pub one-called : {A E : Type 0} (r : Result A E) (y : Layout) (sizes : List ℕ) (held : Option ℕ) (to : Destination)
+    (at : Place) (f : FnId) (arguments given : List Part) (i : Instruction) (n : ℕ) (old new : List ℕ) →
     i ≡ Call to at f arguments → given ≡ arguments →
-    OnOk r (new ≡ old ++ map word_of (called y sizes (λ g. 0) n to at f given)) →
+    OnOk r (new ≡ old ++ map word_of (called y sizes (λ g. 0) n held to at f given)) →
     OnOk r (new ≡ old ++ map word_of (instruction_code y sizes (λ g. 0) n held i))
-one-called r y sizes to at f arguments given i n held old new e g h =
+one-called r y sizes held to at f arguments given i n old new e g h =
     subst (λ z. OnOk r (new ≡ old ++ map word_of (instruction_code y sizes (λ g. 0) n held z))) (sym e)
-    (subst (λ z. OnOk r (new ≡ old ++ map word_of (called y sizes (λ g. 0) n to at f z))) g h)
+    (subst (λ z. OnOk r (new ≡ old ++ map word_of (called y sizes (λ g. 0) n held to at f z))) g h)
 
 abbrev of_nothing : Extent
 of_nothing = record { near = false; short = false; blocks = 0; calls = false }

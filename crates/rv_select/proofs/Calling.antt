@@ -1,7 +1,7 @@
 -- A call of three-address code is carried out.
 use Rattle.std.proofs.Common.{◌≡◌, ◌≢◌, ℕ, zero, suc, ◌+◌, ◌-◌, ◌*◌, ◌/◌, ◌%◌, ◌^◌, ◌<◌, ◌≤◌, true, false, ◌&&◌, List, [], ◌∷◌, ◌++◌, length, take, drop, Option, Some, None, refl, sym, ap, ◌∙◌, subst, ⊎_elim, inl, arith}
 use Rattle.std.specs.Prelude.{nat_le, nat_lt, slice_get}
-use Rattle.std.specs.List.{flat_map, list_all}
+use Rattle.std.specs.List.{list_all}
 use Rattle.std.proofs.lemmas.Bool.{eqb-true, leb-true, ltb-true}
 use Rattle.std.proofs.lemmas.List.{length-append}
 use Rattle.tl_base.specs.declared.ids.FnId.{FnId}
@@ -23,49 +23,59 @@ use Rattle.tac_form.specs.declared.tac.Tac.{Tac}
 use Rattle.tac_form.specs.Flow as tac
 use Rattle.tac_form.specs.Flow.{Activation, Caller, Goes, Program, Stops, accepts_all, enter, operand, step, takes, takes_all, values_of}
 use Rattle.tac_form.specs.Fits.{destination_fits, instruction_fits, part_fits, place_fits}
-use Rattle.tac_form.specs.Graph.{block_of, destination_write, graph_of, part_reads, step_of}
+use Rattle.tac_form.specs.Graph.{block_of, destination_write, graph_of, part_reads, parts_reads, step_of}
 use Rattle.tac_form.specs.Live.{InUse, has, is_written}
 use Rattle.rv_machine.specs.Word.{low}
 use Rattle.rv_machine.specs.Machine.{State, run_of}
 use Rattle.rv_operators.specs.Runs.{Stands}
 use Rattle.rv_select.specs.Pairs.{pair_of, plain_of, reads_of}
-use Rattle.rv_select.specs.Asked.{asked_homes}
+use Rattle.rv_select.specs.Asked.{asked_homes, part_asks, passed_asks}
 use Rattle.rv_select.specs.Places.{HasHome, Holds, Housed, Layout, World, area_offset, frame_bytes, home_of, layout_of, link_in, private_word}
 use Rattle.rv_select.specs.Shapes.{place_number, start_of}
 use Rattle.rv_select.specs.Steps.{Ends, world_of}
 use Rattle.rv_select.specs.Calls.{block_starts, blocks_length, call_begun, call_ended, call_jump, head_code, instruction_code, last_address, starts_from}
 use Rattle.rv_select.specs.Entering.{begun, entered, received, receiving, words_offset}
-use Rattle.rv_select.specs.Frames.{BeforeEntering, Enters, IsPartRead, Received, part_value, seen, without_words}
+use Rattle.rv_select.specs.Frames.{ArePassed, BeforeEntering, Enters, IsPartFirst, Received, part_value, seen, without_words}
 use Rattle.rv_select.specs.Waiting.{Arrives, HasRoom, Image, IsLinked, IsPlaced, StandsIn, Stepped, Waiting, Waits, entries_of, entry_of, held_in, place_in, plain_in, restored}
 use Rattle.rv_select.proofs.Amounts.{all-few, args-room, bytes-least, chain, deep-is, entry-facts, far, few-deep, frame-fits, goes, head-in, least, less-frame, link-facts, link-low, link-word, nearer, not-le, not-lt, shallow-is, shorter, some-steps, stack-less, stack-more, steps-few, still-below, top-is, word-high, word-near, word-of, words-under, zero-first}
 use Rattle.rv_select.proofs.Asking.{instruction-homes}
 use Rattle.rv_select.proofs.Arrivals.{InFunction, areas-lie, begin-holds, enters-call, has-words, link-after, room-next, same-after}
 use Rattle.rv_select.proofs.Callings.{Begun, JumpedTo, begins, jumps-to, too-deep}
-use Rattle.rv_select.proofs.Carries.{by-test, has-left, has-right, nothing-written, operand-read, place-small}
+use Rattle.rv_select.proofs.Carries.{by-test, first-read, has-left, has-right, nothing-written, place-small}
 use Rattle.rv_select.proofs.Entrances.{functions-entered, more-ends}
 use Rattle.rv_select.proofs.Faults.{later-ends}
 use Rattle.rv_select.proofs.Finds.{FoundFunction}
 use Rattle.rv_select.proofs.Pairing.{plain-get}
 use Rattle.rv_select.proofs.Lives.{housed, read-live, step-in-graph, use-follows}
-use Rattle.rv_select.proofs.Moves.{value-small}
+use Rattle.rv_select.proofs.Passes.{parts-small}
 use Rattle.rv_select.proofs.Receives.{parameters-received}
-use Rattle.rv_select.proofs.Stands.{AtPlace, Within, at-instruction, both-true, instruction-within, list-all-get, the-function, within-parts}
+use Rattle.rv_select.proofs.Stands.{AtPlace, Within, at-instruction, both-true, instruction-within, the-function, within-parts}
 use Rattle.rv_select.proofs.Waits.{SameAbove, link-kept, restored-same, same-home, waits-same}
 use Rattle.rv_select.proofs.Ways.{Way, way-both}
 
--- what a call passes is in use before it
-part-in : (ps : List Part) (k : ℕ) (q : Part) (t : ℕ) → slice_get ps k ≡ Some q → has (part_reads q) t ≡ true →
-    has (flat_map part_reads ps) t ≡ true
-part-in [] k q t e h = cc
-part-in (p ∷ ps) zero q t e h = let same : p ≡ q = cc in has-left (part_reads p) (flat_map part_reads ps) t
-    (ap (λ z. has (part_reads z) t) same ∙ h)
-part-in (p ∷ ps) (suc k) q t e h = has-right (part_reads p) (flat_map part_reads ps) t (part-in ps k q t e h)
+-- what comes before the jump of a call that an activation makes
+abbrev pub begun_in : Image → Tac → Activation → Place → List Part → List Instr
+begun_in image code a place arguments =
+    call_begun (layout_of code (image a.function).homes) (held_in code a.block a.at) place arguments
 
-part-is-read : (code : Tac) (homes : List (Option Home)) (Used : ℕ → Type 0) (q : Part) → part_fits code q ≡ true →
-    ((t : ℕ) → has (part_reads q) t ≡ true → Used t) → ((t : ℕ) → has (part_reads q) t ≡ true → HasHome (layout_of code homes) t) →
-    IsPartRead (layout_of code homes) Used q
-part-is-read code homes Used (parts.Word a) fits f g = operand-read code (layout_of code homes) Used a fits f g
-part-is-read code homes Used (parts.Area n) fits f g = ltb-true n (length code.areas) fits
+-- what a call passes is in use before it, and is at home unless x5 holds it
+part-first : (code : Tac) (homes : List (Option Home)) (held : Option ℕ) (Used : ℕ → Type 0) (q : Part) → part_fits code q ≡ true →
+    ((t : ℕ) → has (part_reads q) t ≡ true → Used t) → ((t : ℕ) → has (part_asks held q) t ≡ true → HasHome (layout_of code homes) t) →
+    IsPartFirst (layout_of code homes) held Used q
+part-first code homes held Used (parts.Word a) fits f g = first-read code (layout_of code homes) held Used a fits f g
+part-first code homes held Used (parts.Area n) fits f g = ltb-true n (length code.areas) fits
+
+are-passed : (code : Tac) (homes : List (Option Home)) (held : Option ℕ) (Used : ℕ → Type 0) (ps : List Part) →
+    list_all (part_fits code) ps ≡ true → ((t : ℕ) → has (parts_reads ps) t ≡ true → Used t) →
+    ((t : ℕ) → has (passed_asks held ps) t ≡ true → HasHome (layout_of code homes) t) → ArePassed (layout_of code homes) held Used ps
+are-passed code homes held Used [] fits f g = tt
+are-passed code homes held Used (p ∷ ps) fits f g =
+    let both = both-true (part_fits code p) (list_all (part_fits code) ps) fits in (
+      part-first code homes held Used p both.0 (λ t h. f t (has-left (part_reads p) (parts_reads ps) t h))
+          (λ t h. g t (has-left (part_asks held p) (passed_asks None ps) t h)),
+      are-passed code homes None Used ps both.1 (λ t h. f t (has-right (part_reads p) (parts_reads ps) t h))
+          (λ t h. g t (has-right (part_asks held p) (passed_asks None ps) t h)),
+    )
 
 -- the first block begins behind the code that enters the function
 pub first-start : (y : Layout) (code : Tac) (at : ℕ) → 0 < length code.blocks →
@@ -85,7 +95,7 @@ made-waiting : (p : Program) (image : Image) (program : List (Option Instr)) (mo
     slice_get x.code.blocks s.here.block ≡ Some block → slice_get (plain_of (reads_of x.code) block) s.here.at ≡ Some
     (Call to place f arguments) →
     link ≡ place_in p image x.code (image s.here.function) s.here.block s.here.at + 4 * length
-    (call_begun (layout_of x.code (image s.here.function).homes) place arguments) + 8 →
+    (begun_in image x.code s.here place arguments) + 8 →
     SameAbove base m M → Waiting p image most (record { waits = record s.here { at = suc s.here.at }; to = to }) (length s.callers) link
     base s.here.base M
 made-waiting p image program most size linked s base m M x block to place f arguments link in-f in-b link-is same = record {
@@ -124,15 +134,6 @@ made-waiting p image program most size linked s base m M x block to place f argu
         (plain-get (pair_of (reads_of x.code) block) block.instructions s.here.at (Call to place f arguments) in-b) in
         ⊎_elim (λ w. absurd (o (written (destination_write to) t w))) (λ z. z)
         (use-follows (graph_of x.code) s.here.block s.here.at t (block_of block) (step_of (Call to place f arguments)) g.0 g.1 u)
-
--- a part's word is below 2 ^ 64
-part-below : (y : Layout) (Used : ℕ → Type 0) (w : World) (base : ℕ) (m : State) (q : Part) → Holds y Used w base m → IsPartRead y Used q →
-    part_value y base w q < 2 ^ 64
-part-below y Used w base m (parts.Word a) h r = value-small Used y w base m a h r
-part-below y Used w base m (parts.Area n) h r = inner (length m.private) h.frame.within h.frame.private
-  where
-    inner : (size : ℕ) → base + frame_bytes y ≤ size → size ≤ 603979776 → 2 ^ 32 + (base + area_offset y n) < 2 ^ 64
-    inner size a b = omega (arith, a, b, r)
 
 pub takes-is : (ds : List Destination) (vs : List Value) (a : Activation) →
     takes_all ds vs a ≡ record a { temps = (takes_all ds vs a).temps; areas = (takes_all ds vs a).areas }
@@ -199,7 +200,7 @@ pub lands : (p : Program) (image : Image) (program : List (Option Instr)) (most 
     InFunction (layout_of callee (image f).homes) base (base - (frame_bytes (layout_of callee (image f).homes)))
     (s.here.base - callee.frame) (suc (length s.callers))
     (place_in p image x.code (image s.here.function) s.here.block s.here.at + 4 * length
-    (call_begun (layout_of x.code (image s.here.function).homes) place arguments) + 8) m n →
+    (begun_in image x.code s.here place arguments) + 8) m n →
     target ≡ place_in p image callee (image f) 0 0 →
     Received program (without_words (layout_of callee (image f).homes)) (InUse (graph_of callee) 0 0)
     (seen a s.region (suc (length s.callers))) (base - (frame_bytes (layout_of callee (image f).homes))) (receiving callee.parameters)
@@ -244,23 +245,23 @@ lands p image program most size bound linked s base m x block to place f argumen
         same-after (layout_of callee (image f).homes) base (base - (frame_bytes (layout_of callee (image f).homes)))
         (s.here.base - callee.frame) (suc (length s.callers))
         (place_in p image x.code (image s.here.function) s.here.block s.here.at + 4 * length
-        (call_begun (layout_of x.code (image s.here.function).homes) place arguments) + 8) m n r.after inside r.keeps (least base fit)
+        (begun_in image x.code s.here place arguments) + 8) m n r.after inside r.keeps (least base fit)
         in
         let word : link_in (layout_of callee (image f).homes) (base - (frame_bytes (layout_of callee (image f).homes))) r.after ≡
         (place_in p image x.code (image s.here.function) s.here.block s.here.at + 4 * length
-        (call_begun (layout_of x.code (image s.here.function).homes) place arguments) + 8) =
+        (begun_in image x.code s.here place arguments) + 8) =
         link-after (layout_of callee (image f).homes) base (base - (frame_bytes (layout_of callee (image f).homes)))
         (s.here.base - callee.frame) (suc (length s.callers))
         (place_in p image x.code (image s.here.function) s.here.block s.here.at + 4 * length
-        (call_begun (layout_of x.code (image s.here.function).homes) place arguments) + 8) m n r.after inside r.keeps in
+        (begun_in image x.code s.here place arguments) + 8) m n r.after inside r.keeps in
         let caller : Waiting p image most (record { waits = record s.here { at = suc s.here.at }; to = to }) (length s.callers)
         (place_in p image x.code (image s.here.function) s.here.block s.here.at + 4 * length
-        (call_begun (layout_of x.code (image s.here.function).homes) place arguments) + 8) base s.here.base
+        (begun_in image x.code s.here place arguments) + 8) base s.here.base
         (restored (layout_of callee (image f).homes) (base - (frame_bytes (layout_of callee (image f).homes))) r.after) =
         made-waiting p image program most size linked s base m
         (restored (layout_of callee (image f).homes) (base - (frame_bytes (layout_of callee (image f).homes))) r.after) x block to
         place f arguments (place_in p image x.code (image s.here.function) s.here.block s.here.at + 4 * length
-        (call_begun (layout_of x.code (image s.here.function).homes) place arguments) + 8) in-f in-b refl same in
+        (begun_in image x.code s.here place arguments) + 8) in-f in-b refl same in
         let first : private_word (restored (layout_of callee (image f).homes) (base - (frame_bytes (layout_of callee (image f).homes)))
         r.after) base ≡ link_in (layout_of x.code (image s.here.function).homes) base m =
         ap number_of (same.private base 8 (omega arith))
@@ -315,12 +316,12 @@ lands p image program most size bound linked s base m x block to place f argumen
                 (restored (layout_of callee (image f).homes) (base - (frame_bytes (layout_of callee (image f).homes))) r.after)) (sym word)
                 (subst (λ q. Waits p image most size (record { waits = record s.here { at = suc s.here.at }; to = to } ∷ s.callers)
                 (place_in p image x.code (image s.here.function) s.here.block s.here.at + 4 * length
-                (call_begun (layout_of x.code (image s.here.function).homes) place arguments) + 8) q
+                (begun_in image x.code s.here place arguments) + 8) q
                 (s.here.base - callee.frame + callee.frame)
                 (restored (layout_of callee (image f).homes) (base - (frame_bytes (layout_of callee (image f).homes))) r.after)) (sym up)
                 (subst (λ q. Waits p image most size (record { waits = record s.here { at = suc s.here.at }; to = to } ∷ s.callers)
                 (place_in p image x.code (image s.here.function) s.here.block s.here.at + 4 * length
-                (call_begun (layout_of x.code (image s.here.function).homes) place arguments) + 8) base q
+                (begun_in image x.code s.here place arguments) + 8) base q
                 (restored (layout_of callee (image f).homes) (base - (frame_bytes (layout_of callee (image f).homes))) r.after)) (sym over)
                 (caller, others)));
           };
@@ -336,14 +337,14 @@ pub record AtCall (p : Program) (image : Image) (program : List (Option Instr)) 
     (x : StandsIn p image program most size s base m) (to : Destination) (place : Place)
     (f : FnId) (arguments : List Part) : Type 0 where
   pub code : Stands program m.pc
-      (call_begun (layout_of x.code (image s.here.function).homes) place arguments ++
+      (begun_in image x.code s.here place arguments ++
       (call_jump (place_in p image x.code (image s.here.function) s.here.block s.here.at + 4 * length
-      (call_begun (layout_of x.code (image s.here.function).homes) place arguments)) (entries_of p image f) ++ call_ended
+      (begun_in image x.code s.here place arguments)) (entries_of p image f) ++ call_ended
       (layout_of x.code (image s.here.function).homes) x.code.areas to))
   pub near : (place_in p image x.code (image s.here.function) s.here.block s.here.at + 4 * length
-      (call_begun (layout_of x.code (image s.here.function).homes) place arguments)) + 8 + 256 ≤ 2 ^ 30
-  pub reads : (k : ℕ) (q : Part) → slice_get arguments k ≡ Some q →
-      IsPartRead (layout_of x.code (image s.here.function).homes) (InUse (graph_of x.code) s.here.block s.here.at) q
+      (begun_in image x.code s.here place arguments)) + 8 + 256 ≤ 2 ^ 30
+  pub reads : ArePassed (layout_of x.code (image s.here.function).homes) (held_in x.code s.here.block s.here.at)
+      (InUse (graph_of x.code) s.here.block s.here.at) arguments
   pub small : (k : ℕ) (q : Part) → slice_get arguments k ≡ Some q →
       part_value (layout_of x.code (image s.here.function).homes) base (world_of s) q < 2 ^ 64
   pub place_small : place_number place < 2 ^ 64
@@ -359,25 +360,25 @@ pub at-call : (p : Program) (image : Image) (program : List (Option Instr)) (mos
 at-call p image program most size linked s base m x block to place f arguments in-f in-b =
     record {
       code = subst (λ q. Stands program q
-          (call_begun (layout_of x.code (image s.here.function).homes) place arguments ++
+          (begun_in image x.code s.here place arguments ++
           (call_jump (place_in p image x.code (image s.here.function) s.here.block s.here.at + 4 * length
-          (call_begun (layout_of x.code (image s.here.function).homes) place arguments)) (entries_of p image f) ++ call_ended
+          (begun_in image x.code s.here place arguments)) (entries_of p image f) ++ call_ended
           (layout_of x.code (image s.here.function).homes) x.code.areas to))) (sym x.pc) found.stands;
-      near = far (length (call_begun (layout_of x.code (image s.here.function).homes) place arguments))
+      near = far (length (begun_in image x.code s.here place arguments))
           (length (call_jump (place_in p image x.code (image s.here.function) s.here.block s.here.at + 4 * length
-          (call_begun (layout_of x.code (image s.here.function).homes) place arguments)) (entries_of p image f) ++ call_ended
+          (begun_in image x.code s.here place arguments)) (entries_of p image f) ++ call_ended
           (layout_of x.code (image s.here.function).homes) x.code.areas to))
           (place_in p image x.code (image s.here.function) s.here.block s.here.at)
           (length (instruction_code (layout_of x.code (image s.here.function).homes) x.code.areas (entries_of p image)
           (place_in p image x.code (image s.here.function) s.here.block s.here.at) (held_in x.code s.here.block s.here.at)
           (Call to place f arguments)))
-          (length-append (call_begun (layout_of x.code (image s.here.function).homes) place arguments)
+          (length-append (begun_in image x.code s.here place arguments)
           (call_jump (place_in p image x.code (image s.here.function) s.here.block s.here.at + 4 * length
-          (call_begun (layout_of x.code (image s.here.function).homes) place arguments)) (entries_of p image f) ++ call_ended
+          (begun_in image x.code s.here place arguments)) (entries_of p image f) ++ call_ended
           (layout_of x.code (image s.here.function).homes) x.code.areas to)) rest-some found.near;
       reads = reads;
-      small = λ k q e. part-below (layout_of x.code (image s.here.function).homes) (InUse (graph_of x.code) s.here.block s.here.at)
-          (world_of s) base m q x.holds (reads k q e);
+      small = parts-small (layout_of x.code (image s.here.function).homes) (held_in x.code s.here.block s.here.at)
+          (InUse (graph_of x.code) s.here.block s.here.at) (world_of s) base m arguments x.holds reads;
       place_small = place-small place
           (both-true (destination_fits x.code to) (place_fits place)
           (both-true (destination_fits x.code to && place_fits place) (list_all (part_fits x.code) arguments) fits).0).1;
@@ -399,22 +400,20 @@ at-call p image program most size linked s base m x block to place f arguments i
 
     rest-some : 2 ≤ length (call_jump
         (place_in p image x.code (image s.here.function) s.here.block s.here.at + 4 * length
-        (call_begun (layout_of x.code (image s.here.function).homes) place arguments)) (entries_of p image f) ++ call_ended
+        (begun_in image x.code s.here place arguments)) (entries_of p image f) ++ call_ended
         (layout_of x.code (image s.here.function).homes) x.code.areas to)
     rest-some = omega arith
 
-    reads : (k : ℕ) (q : Part) → slice_get arguments k ≡ Some q →
-        IsPartRead (layout_of x.code (image s.here.function).homes) (InUse (graph_of x.code) s.here.block s.here.at) q
-    reads k q e =
+    reads : ArePassed (layout_of x.code (image s.here.function).homes) (held_in x.code s.here.block s.here.at)
+        (InUse (graph_of x.code) s.here.block s.here.at) arguments
+    reads =
         let g = step-in-graph x.code block (Call to place f arguments) s.here.block s.here.at in-f
         (plain-get (pair_of (reads_of x.code) block) block.instructions s.here.at (Call to place f arguments) in-b) in
-        part-is-read x.code (image s.here.function).homes (InUse (graph_of x.code) s.here.block s.here.at) q
-        (list-all-get (part_fits x.code) arguments k q
-        (both-true (destination_fits x.code to && place_fits place) (list_all (part_fits x.code) arguments) fits).1 e)
-        (λ t h. inl (read-live (graph_of x.code) s.here.block s.here.at t (block_of block) (step_of (Call to place f arguments)) g.0 g.1
-        (part-in arguments k q t e h)))
-        (λ t h. instruction-homes x.code (image s.here.function).homes s.here.block s.here.at block pl.right in-f (Call to place f arguments) in-b t
-        (part-in arguments k q t e h))
+        are-passed x.code (image s.here.function).homes (held_in x.code s.here.block s.here.at)
+        (InUse (graph_of x.code) s.here.block s.here.at) arguments
+        (both-true (destination_fits x.code to && place_fits place) (list_all (part_fits x.code) arguments) fits).1
+        (λ t h. inl (read-live (graph_of x.code) s.here.block s.here.at t (block_of block) (step_of (Call to place f arguments)) g.0 g.1 h))
+        (instruction-homes x.code (image s.here.function).homes s.here.block s.here.at block pl.right in-f (Call to place f arguments) in-b)
 
 -- a call that comes to a function: its frame has no room, or the machine stands where it begins
 callee-step : (p : Program) (image : Image) (program : List (Option Instr)) (most size : ℕ) → IsLinked p image program most →
@@ -426,9 +425,9 @@ callee-step : (p : Program) (image : Image) (program : List (Option Instr)) (mos
     (callee : Tac) → p.code f ≡ Some callee →
     AtCall p image program most size s base m x to place f arguments → length arguments ≡ length callee.parameters →
     length s.callers < 511 →
-    (b : Begun program (layout_of x.code (image s.here.function).homes) base (world_of s) place arguments
-    (call_jump (place_in p image x.code (image s.here.function) s.here.block s.here.at + 4 * length
-    (call_begun (layout_of x.code (image s.here.function).homes) place arguments)) (entries_of p image f) ++ call_ended
+    (b : Begun program (layout_of x.code (image s.here.function).homes) (held_in x.code s.here.block s.here.at) base (world_of s) place
+    arguments (call_jump (place_in p image x.code (image s.here.function) s.here.block s.here.at + 4 * length
+    (begun_in image x.code s.here place arguments)) (entries_of p image f) ++ call_ended
     (layout_of x.code (image s.here.function).homes) x.code.areas to) m) →
     (s.here.base < heap_limit s.region + callee.frame → Ends program StackFull place (49 + 11 * length arguments + receiving callee.parameters) m) ×
     (heap_limit s.region + callee.frame ≤ s.here.base → accepts_all callee callee.parameters (values_of s arguments) ≡ true → (l : ℕ) →
@@ -463,25 +462,25 @@ callee-step p image program most size linked s base m x block to place f argumen
         (blocks_length (layout_of callee (image f).homes) callee.areas callee.blocks))
 
     here : b.after.pc ≡ (place_in p image x.code (image s.here.function) s.here.block s.here.at + 4 * length
-        (call_begun (layout_of x.code (image s.here.function).homes) place arguments))
-    here = b.pc ∙ (ap (λ q. low (q + 4 * length (call_begun (layout_of x.code (image s.here.function).homes) place arguments))) x.pc ∙
+        (begun_in image x.code s.here place arguments))
+    here = b.pc ∙ (ap (λ q. low (q + 4 * length (begun_in image x.code s.here place arguments))) x.pc ∙
         low-near (place_in p image x.code (image s.here.function) s.here.block s.here.at + 4 * length
-        (call_begun (layout_of x.code (image s.here.function).homes) place arguments))
+        (begun_in image x.code s.here place arguments))
         (link-facts (place_in p image x.code (image s.here.function) s.here.block s.here.at + 4 * length
-        (call_begun (layout_of x.code (image s.here.function).homes) place arguments)) c.near).0)
+        (begun_in image x.code s.here place arguments)) c.near).0)
 
     jump : JumpedTo program ((image f).at + 4 * length (begun callee)) b.after
     jump =
         let ef = entry-facts (image f).at (length (begun callee)) (last_address (layout_of callee (image f).homes) callee (image f).at)
         entry-low fn.near plz.aligned in
         jumps-to program b.after (place_in p image x.code (image s.here.function) s.here.block s.here.at + 4 * length
-        (call_begun (layout_of x.code (image s.here.function).homes) place arguments)) ((image f).at + 4 * length (begun callee))
+        (begun_in image x.code s.here place arguments)) ((image f).at + 4 * length (begun callee))
         (call_ended (layout_of x.code (image s.here.function).homes) x.code.areas to) here
         (link-facts (place_in p image x.code (image s.here.function) s.here.block s.here.at + 4 * length
-        (call_begun (layout_of x.code (image s.here.function).homes) place arguments)) c.near).0 ef.0 ef.1
+        (begun_in image x.code s.here place arguments)) c.near).0 ef.0 ef.1
         (subst (λ q. Stands program b.after.pc
         (call_jump (place_in p image x.code (image s.here.function) s.here.block s.here.at + 4 * length
-        (call_begun (layout_of x.code (image s.here.function).homes) place arguments)) q ++ call_ended
+        (begun_in image x.code s.here place arguments)) q ++ call_ended
         (layout_of x.code (image s.here.function).homes) x.code.areas to)) entry-is b.there)
 
     jumped : Way program (b.steps + 2) m jump.after
@@ -545,22 +544,23 @@ callee-step p image program most size linked s base m x block to place f argumen
         let inside : InFunction (layout_of callee (image f).homes) base (base - (frame_bytes (layout_of callee (image f).homes)))
         (s.here.base - callee.frame) (suc (length s.callers))
         (place_in p image x.code (image s.here.function) s.here.block s.here.at + 4 * length
-        (call_begun (layout_of x.code (image s.here.function).homes) place arguments) + 8) m en.after =
-        enters-call program (layout_of x.code (image s.here.function).homes) (layout_of callee (image f).homes) base
+        (begun_in image x.code s.here place arguments) + 8) m en.after =
+        enters-call program (layout_of x.code (image s.here.function).homes) (held_in x.code s.here.block s.here.at)
+        (layout_of callee (image f).homes) base
         (frame_bytes (layout_of callee (image f).homes)) callee.frame s.here.base ((image f).at + 4 * length (begun callee))
         (low (jump.after.pc + 4 * length
         (entered (layout_of callee (image f).homes) (frame_bytes (layout_of callee (image f).homes)) callee.frame)))
         (place_in p image x.code (image s.here.function) s.here.block s.here.at + 4 * length
-        (call_begun (layout_of x.code (image s.here.function).homes) place arguments) + 8) (world_of s) place arguments
+        (begun_in image x.code s.here place arguments) + 8) (world_of s) place arguments
         (call_jump (place_in p image x.code (image s.here.function) s.here.block s.here.at + 4 * length
-        (call_begun (layout_of x.code (image s.here.function).homes) place arguments)) (entries_of p image f) ++ call_ended
+        (begun_in image x.code s.here place arguments)) (entries_of p image f) ++ call_ended
         (layout_of x.code (image s.here.function).homes) x.code.areas to) m b jump en before.least room.0
         (link-pc (place_in p image x.code (image s.here.function) s.here.block s.here.at + 4 * length
-        (call_begun (layout_of x.code (image s.here.function).homes) place arguments)) b.after.pc here
+        (begun_in image x.code s.here place arguments)) b.after.pc here
         (link-low (place_in p image x.code (image s.here.function) s.here.block s.here.at + 4 * length
-        (call_begun (layout_of x.code (image s.here.function).homes) place arguments)) c.near))
+        (begun_in image x.code s.here place arguments)) c.near))
         (link-word (place_in p image x.code (image s.here.function) s.here.block s.here.at + 4 * length
-        (call_begun (layout_of x.code (image s.here.function).homes) place arguments)) c.near) in
+        (begun_in image x.code s.here place arguments)) c.near) in
         let ahead : en.after.pc ≡ ((image f).at + 4 * length (begun callee)) + 4 * length
         (entered (layout_of callee (image f).homes) (frame_bytes (layout_of callee (image f).homes)) callee.frame) =
         en.at ∙ (ap (λ q. low (q + 4 * length
@@ -573,7 +573,7 @@ callee-step p image program most size linked s base m x block to place f argumen
         begin-holds (layout_of callee (image f).homes) base (base - (frame_bytes (layout_of callee (image f).homes)))
         (s.here.base - callee.frame) (suc (length s.callers))
         (place_in p image x.code (image s.here.function) s.here.block s.here.at + 4 * length
-        (call_begun (layout_of x.code (image s.here.function).homes) place arguments) + 8) s.region (fresh_call f callee s) m en.after
+        (begun_in image x.code s.here place arguments) + 8) s.region (fresh_call f callee s) m en.after
         inside refl (λ k. refl)
         (subst (λ q. base - (frame_bytes (layout_of callee (image f).homes)) + (frame_bytes (layout_of callee (image f).homes)) ≤ q)
         (sym inside.long) within-back) x.holds.frame.private x.holds.frame.bytes
@@ -592,7 +592,7 @@ callee-step p image program most size linked s base m x block to place f argumen
         (base - (frame_bytes (layout_of callee (image f).homes))) (words_offset (layout_of callee (image f).homes)) m en.after x.holds
         inside.above inside.long
         (words-under base (length (asked_homes callee (image f).homes)) (length callee.areas) (length callee.parameters) room.0))
-        (InUse (graph_of x.code) s.here.block s.here.at) c.reads in
+        (held_in x.code s.here.block s.here.at) (InUse (graph_of x.code) s.here.block s.here.at) c.reads in
         let rc = parameters-received callee (image f).homes program (values_of s arguments) (fresh_call f callee s) s.region
         (suc (length s.callers)) (base - (frame_bytes (layout_of callee (image f).homes))) en.after plz.fits plz.right accepts
         (subst (λ q. Stands program q
@@ -694,22 +694,23 @@ call-step p image program most size linked s base m x block to place f arguments
         (λ deep. (
           refl,
           more-ends program CallDepth place 13 (49 + 11 * length arguments + receiving callee.parameters) m (few-deep (length arguments) (receiving callee.parameters))
-              (too-deep program (layout_of x.code (image s.here.function).homes) (InUse (graph_of x.code) s.here.block s.here.at)
-              (world_of s) base place arguments
+              (too-deep program (layout_of x.code (image s.here.function).homes) (held_in x.code s.here.block s.here.at)
+              (InUse (graph_of x.code) s.here.block s.here.at) (world_of s) base place arguments
               (call_jump (place_in p image x.code (image s.here.function) s.here.block s.here.at + 4 * length
-              (call_begun (layout_of x.code (image s.here.function).homes) place arguments)) (entries_of p image f) ++ call_ended
-              (layout_of x.code (image s.here.function).homes) x.code.areas to) m x.holds c.homes c.place_small c.code
+              (begun_in image x.code s.here place arguments)) (entries_of p image f) ++ call_ended
+              (layout_of x.code (image s.here.function).homes) x.code.areas to) m x.holds x.five c.homes c.place_small c.code
               (deep-is (length s.callers) (leb-true most_calls (suc (length s.callers)) deep))),
         ))
         (λ shallow.
         let less : length s.callers < 511 = shallow-is (length s.callers) (not-le most_calls (suc (length s.callers)) shallow) in
         let both = callee-step p image program most size linked s base m x block to place f arguments in-f in-b callee e c (count callee e)
         less
-        (begins program (layout_of x.code (image s.here.function).homes) (InUse (graph_of x.code) s.here.block s.here.at) (world_of s) base
+        (begins program (layout_of x.code (image s.here.function).homes) (held_in x.code s.here.block s.here.at)
+        (InUse (graph_of x.code) s.here.block s.here.at) (world_of s) base
         place arguments (call_jump
         (place_in p image x.code (image s.here.function) s.here.block s.here.at + 4 * length
-        (call_begun (layout_of x.code (image s.here.function).homes) place arguments)) (entries_of p image f) ++ call_ended
-        (layout_of x.code (image s.here.function).homes) x.code.areas to) m x.holds c.homes c.place_small c.code less c.reads
+        (begun_in image x.code s.here place arguments)) (entries_of p image f) ++ call_ended
+        (layout_of x.code (image s.here.function).homes) x.code.areas to) m x.holds x.five c.homes c.place_small c.code less c.reads
         (room callee e less)) in
         by-test (Stepped p image program most size (49 + 11 * length arguments + receiving callee.parameters) s m)
         (nat_lt s.here.base (heap_limit s.region + callee.frame)) _ _

@@ -15,7 +15,7 @@ use Rattle.rv_machine.specs.Machine.{State, GoesOn, act, at_with}
 use Rattle.rv_operators.specs.Codes.{x0, x5, x6}
 use Rattle.rv_operators.specs.Runs.{Stands}
 use Rattle.rv_select.specs.Numbers.{constant, immediate_of, lower_of, upper_of}
-use Rattle.rv_select.specs.Places.{AreBytes, Holds, Housed, Layout, World, private_word}
+use Rattle.rv_select.specs.Places.{AreBytes, Holds, Housed, IsHeld, Layout, World, private_word}
 use Rattle.rv_select.specs.Shapes.{distance, fault_call, place_number, x11}
 use Rattle.rv_select.specs.Steps.{Ends}
 use Rattle.rv_select.specs.Entering.{x1, x28}
@@ -24,8 +24,9 @@ use Rattle.rv_select.proofs.Calm.{Calm, calm-both, calm-holds, calm-loads, calm-
 use Rattle.rv_select.proofs.Enters.{call-fails}
 use Rattle.rv_select.proofs.Faults.{branch-way, later-ends, small-load}
 use Rattle.rv_select.proofs.Jumps.{even-stays, target-is}
+use Rattle.rv_select.proofs.Moves.{held-kept}
 use Rattle.rv_select.proofs.Numbers.{constant-count, constant-loads, immediate-is}
-use Rattle.rv_select.proofs.Passes.{IsPartRead, PassedParts, part_value, passes}
+use Rattle.rv_select.proofs.Passes.{ArePassed, PassedParts, part_value, passes}
 use Rattle.rv_select.proofs.Straight.{Loads, low-below, low-small, written-elsewhere, written-there}
 use Rattle.rv_select.proofs.Ways.{Way, at_pc, near-pc, stands-back, stands-front, step-way, straight-way, way-both}
 
@@ -63,12 +64,13 @@ jumps-to program m from to rest e h k even there =
     }
 
 -- What comes before a call's jump: the parts' words lie below the frame, the call's place is in x11, and one more call waits.
-pub record Begun (program : List (Option Instr)) (y : Layout) (base : ℕ) (w : World) (at : Place) (ps : List Part) (rest : List Instr) (m : State) : Type 0 where
+pub record Begun (program : List (Option Instr)) (y : Layout) (held : Option ℕ) (base : ℕ) (w : World) (at : Place)
+    (ps : List Part) (rest : List Instr) (m : State) : Type 0 where
   pub after : State
   pub steps : ℕ
   pub way : Way program steps m after
   pub few : steps ≤ 11 + 11 * length ps
-  pub pc : after.pc ≡ low (m.pc + 4 * length (call_begun y at ps))
+  pub pc : after.pc ≡ low (m.pc + 4 * length (call_begun y held at ps))
   pub place : after.registers 11 ≡ place_number at
   pub waiting : after.registers 28 ≡ suc w.depth
   pub others : (r : ℕ) → r ≢ 5 → r ≢ 6 → r ≢ 7 → r ≢ 11 → r ≢ 28 → after.registers r ≡ m.registers r
@@ -90,13 +92,14 @@ pc-sixteen : (q : ℕ) → low (q + 16) ≡ low (low (low (low (q + 4) + 4) + 4)
 unfolding low
 pc-sixteen q = omega arith
 
-module _ (program : List (Option Instr)) (y : Layout) (Used : ℕ → Type 0) (w : World) (base : ℕ) (at : Place) (ps : List Part) (rest : List Instr) (m : State)
-    (p : Holds y Used w base m) (h : Housed y Used) (fits : place_number at < 2 ^ 64) (there : Stands program m.pc (call_begun y at ps ++ rest)) where
+module _ (program : List (Option Instr)) (y : Layout) (held : Option ℕ) (Used : ℕ → Type 0) (w : World) (base : ℕ) (at : Place)
+    (ps : List Part) (rest : List Instr) (m : State) (p : Holds y Used w base m) (f : IsHeld held w.temps m) (h : Housed y Used) (fits : place_number at < 2 ^ 64)
+    (there : Stands program m.pc (call_begun y held at ps ++ rest)) where
   abbrev A : List Instr
   A = constant x11 (place_number at)
 
   abbrev P : List Instr
-  P = passed y 0 ps
+  P = passed y held 0 ps
 
   abbrev l : Loads 11 A m (place_number at)
   l = constant-loads x11 m (place_number at) (λ z. omega (arith, z)) (λ z. omega (arith, z)) fits
@@ -142,7 +145,7 @@ module _ (program : List (Option Instr)) (y : Layout) (Used : ℕ → Type 0) (w
       later-ends program CallDepth at (length A + 1 + 1) 3 13 m d (way-both program (length A + 1) 1 m t2 d way-2 branch) last (omega (arith, constant-count x11 (place_number at)))
 
   -- the call may be made
-  pub begins : w.depth < 511 → ((k : ℕ) (q : Part) → slice_get ps k ≡ Some q → IsPartRead y Used q) → 8 * length ps ≤ base → Begun program y base w at ps rest m
+  pub begins : w.depth < 511 → ArePassed y held Used ps → 8 * length ps ≤ base → Begun program y held base w at ps rest m
   begins shallow reads room =
       let t3 : State = at_pc t2 (low (t2.pc + 16)) in
       let branch : Way program 1 t2 t3 =
@@ -150,7 +153,10 @@ module _ (program : List (Option Instr)) (y : Layout) (Used : ℕ → Type 0) (w
       let calm-3 : Calm m t3 = calm-both m t2 t3 calm-2 (near-calm t2 t3 (near-pc t2 (low (t2.pc + 16)))) in
       let q : Holds y Used w base t3 = calm-holds y Used w base m t3 p h calm-3 (low-below (t2.pc + 16)) in
       let after-3 : Stands program t3.pc (P ++ (one_more ++ rest)) = subst (λ z. Stands program z (P ++ (one_more ++ rest))) (sym (pc-sixteen t2.pc)) after-1.1.1.1.1.1 in
-      let pp : PassedParts y base 0 ps w program (one_more ++ rest) t3 = passes y Used w base program 0 ps (one_more ++ rest) t3 after-3 q h reads (omega (arith, room)) in
+      let five : IsHeld held w.temps t3 =
+      held-kept held w.temps m t3 (same-2 5 (λ z. omega (arith, z)) (λ z. omega (arith, z)) (λ z. omega (arith, z))) f in
+      let pp : PassedParts y held base 0 ps w program (one_more ++ rest) t3 =
+      passes y held Used w base program 0 ps (one_more ++ rest) t3 after-3 five q h reads (omega (arith, room)) in
       let t4 : State = pp.after in
       let t5 : State = at_with t4 (low (t4.pc + 4)) 28 (suc w.depth) in
       let depth-4 : t4.registers 28 ≡ w.depth = pp.beneath.keeps 28 (λ z. omega (arith, z)) (λ z. omega (arith, z)) (λ z. omega (arith, z)) ∙ depth-2 in
@@ -164,7 +170,8 @@ module _ (program : List (Option Instr)) (y : Layout) (Used : ℕ → Type 0) (w
       let way-5 : Way program (length A + 1 + 1 + pp.steps + 1) m t5 =
       way-both program (length A + 1 + 1 + pp.steps) 1 m t4 t5 way-4 (step-way program (RegisterImmediate Addi x28 x28 (immediate_of 1)) t4 t5 pp.there.0 to-5) in
       let tail : length (P ++ one_more) ≡ length P + 1 = length-append P one_more in
-      let count : length (call_begun y at ps) ≡ length A + (5 + (length P + 1)) = omega (arith, length-append A (depth_tested ++ (P ++ one_more)), tail) in
+      let count : length (call_begun y held at ps) ≡ length A + (5 + (length P + 1)) =
+      omega (arith, length-append A (depth_tested ++ (P ++ one_more)), tail) in
       record {
         after = t5;
         steps = length A + 1 + 1 + pp.steps + 1;

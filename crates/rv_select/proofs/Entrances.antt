@@ -73,16 +73,17 @@ functions-entered program y bytes frame top placed size at m h =
         (subst (λ z. length z ≤ 67108864) (sym p.region) h.region) (subst (λ z. Stands program p.after.pc z) (sym (append-nil (frame_taken y bytes))) p.there))
 
 pub calls-begun : CallsAreBegun
-calls-begun code homes block step program w base at ps m right p fits there =
+calls-begun code homes held block step program w base at ps m right p f fits there =
     let y : Layout = layout_of code homes in
     let Used : ℕ → Type 0 = InUse (graph_of code) block step in
     let h : Housed y Used = housed code homes block step right in
-    let all : Stands program m.pc (call_begun y at ps ++ []) = subst (λ z. Stands program m.pc z) (sym (append-nil (call_begun y at ps))) there in (
-      λ deep. too-deep program y Used w base at ps [] m p h fits all deep,
-      λ shallow reads room. made (begins program y Used w base at ps [] m p h fits all shallow reads room),
+    let all : Stands program m.pc (call_begun y held at ps ++ []) =
+    subst (λ z. Stands program m.pc z) (sym (append-nil (call_begun y held at ps))) there in (
+      λ deep. too-deep program y held Used w base at ps [] m p f h fits all deep,
+      λ shallow reads room. made (begins program y held Used w base at ps [] m p f h fits all shallow reads room),
     )
   where
-    made : Begun program (layout_of code homes) base w at ps [] m → Calls program (layout_of code homes) base w at ps m
+    made : Begun program (layout_of code homes) held base w at ps [] m → Calls program (layout_of code homes) held base w at ps m
     made b = record {
       steps = b.steps;
       after = b.after;

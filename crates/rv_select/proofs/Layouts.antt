@@ -24,7 +24,7 @@ use Rattle.rv_select.specs.Pairs.{pair_of, plain_of}
 use Rattle.rv_select.specs.Places.{Layout}
 use Rattle.rv_select.specs.Shapes.{held_after, place_number, x11}
 use Rattle.rv_select.specs.Entering.{received, received_one, stored_below}
-use Rattle.rv_select.specs.Calls.{block_code, blocks_calls, blocks_code, call_ended, call_jump, depth_tested, end_code, exit_code, held_behind, instruction_calls, instruction_code, instructions_calls, instructions_code, one_more, pair_code, part_taken, passed, starts_from}
+use Rattle.rv_select.specs.Calls.{block_code, blocks_calls, blocks_code, call_ended, call_jump, depth_tested, end_code, exit_code, held_behind, instruction_calls, instruction_code, instructions_calls, instructions_code, one_more, pair_code, part_passed, passed, starts_from}
 
 abbrev laid : List (Option Home) → (a p : ℕ) → List Reads → Extent → Layout
 laid h a p r v = record { homes = h; areas = a; parameters = p; reads = r; extent = v }
@@ -39,17 +39,18 @@ received-same h a p b q r t v o sizes last (destinations.Area n ∷ ds) =
     ap (λ z. received_one (laid h a p r v) sizes last (destinations.Area n) (last + 8 * length ds) ++ z)
     (received-same h a p b q r t v o sizes last ds)
 
-passed-same : (h : List (Option Home)) (a p b q : ℕ) (r t : List Reads) (v o : Extent) (i : ℕ) (ps : List Part) → passed (laid h a p r v) i ps ≡ passed
-    (laid h b q t o) i ps
-passed-same h a p b q r t v o i [] = refl
-passed-same h a p b q r t v o i (parts.Word (operands.Temp u) ∷ ps) =
-    ap (λ z. part_taken (laid h a p r v) x5 (parts.Word (operands.Temp u)) ++ (stored_below x5 (8 * (i + 1)) ++ z))
-    (passed-same h a p b q r t v o (i + 1) ps)
-passed-same h a p b q r t v o i (parts.Word (operands.Constant n) ∷ ps) =
-    ap (λ z. part_taken (laid h a p r v) x5 (parts.Word (operands.Constant n)) ++ (stored_below x5 (8 * (i + 1)) ++ z))
-    (passed-same h a p b q r t v o (i + 1) ps)
-passed-same h a p b q r t v o i (parts.Area n ∷ ps) =
-    ap (λ z. part_taken (laid h a p r v) x5 (parts.Area n) ++ (stored_below x5 (8 * (i + 1)) ++ z)) (passed-same h a p b q r t v o (i + 1) ps)
+passed-same : (h : List (Option Home)) (a p b q : ℕ) (r t : List Reads) (v o : Extent) (held : Option ℕ) (i : ℕ)
+    (ps : List Part) → passed (laid h a p r v) held i ps ≡ passed (laid h b q t o) held i ps
+passed-same h a p b q r t v o held i [] = refl
+passed-same h a p b q r t v o held i (parts.Word (operands.Temp u) ∷ ps) =
+    ap (λ z. part_passed (laid h a p r v) held (parts.Word (operands.Temp u)) ++ (stored_below x5 (8 * (i + 1)) ++ z))
+    (passed-same h a p b q r t v o None (i + 1) ps)
+passed-same h a p b q r t v o held i (parts.Word (operands.Constant n) ∷ ps) =
+    ap (λ z. part_passed (laid h a p r v) held (parts.Word (operands.Constant n)) ++ (stored_below x5 (8 * (i + 1)) ++ z))
+    (passed-same h a p b q r t v o None (i + 1) ps)
+passed-same h a p b q r t v o held i (parts.Area n ∷ ps) =
+    ap (λ z. part_passed (laid h a p r v) held (parts.Area n) ++ (stored_below x5 (8 * (i + 1)) ++ z))
+    (passed-same h a p b q r t v o None (i + 1) ps)
 
 -- what comes before the jump of a call, by the words that pass its arguments
 abbrev begun-with : ℕ → List Instr → List Instr
@@ -61,11 +62,11 @@ instruction-same : (h : List (Option Home)) (a p b q : ℕ) (r t : List Reads) (
 instruction-same h a p b q r t v o sizes places at held (Call (destinations.Temp u) place f arguments) =
     ap (λ z. begun-with (place_number place) z ++
     (call_jump (at + 4 * length (begun-with (place_number place) z)) (places f) ++ call_ended (laid h a p r v) sizes (destinations.Temp u)))
-    (passed-same h a p b q r t v o 0 arguments)
+    (passed-same h a p b q r t v o held 0 arguments)
 instruction-same h a p b q r t v o sizes places at held (Call (destinations.Area n) place f arguments) =
     ap (λ z. begun-with (place_number place) z ++
     (call_jump (at + 4 * length (begun-with (place_number place) z)) (places f) ++ call_ended (laid h a p r v) sizes (destinations.Area n)))
-    (passed-same h a p b q r t v o 0 arguments)
+    (passed-same h a p b q r t v o held 0 arguments)
 instruction-same h a p b q r t v o sizes places at held (Compute d op form x y) = refl
 instruction-same h a p b q r t v o sizes places at held (TestDivisor place x) = refl
 instruction-same h a p b q r t v o sizes places at held (Copy d x) = refl
@@ -126,22 +127,23 @@ blocks-same h a p b q r v sizes places starts last at (k ∷ ks) =
     ∙ ap (λ z. z ++ blocks_code (laid h b q r v) sizes places starts last (at + 4 * length z) ks)
     (block-same h a p b q r v sizes places starts last at (length ks) k)
 
-call-same : (h : List (Option Home)) (a p b q : ℕ) (r t : List Reads) (v o : Extent) (at : ℕ) (i : Instruction) →
-    instruction_calls (laid h a p r v) at i ≡ instruction_calls (laid h b q t o) at i
-call-same h a p b q r t v o at (Call to place f arguments) =
-    ap (λ z. record { at = at + length (begun-with (place_number place) z); callee = f } ∷ []) (passed-same h a p b q r t v o 0 arguments)
-call-same h a p b q r t v o at (Compute d op form x y) = refl
-call-same h a p b q r t v o at (TestDivisor place x) = refl
-call-same h a p b q r t v o at (Copy d x) = refl
-call-same h a p b q r t v o at (Locate d offset) = refl
-call-same h a p b q r t v o at (Load d form spot) = refl
-call-same h a p b q r t v o at (Store spot size x) = refl
-call-same h a p b q r t v o at (Move to from size) = refl
-call-same h a p b q r t v o at (Clear n size) = refl
-call-same h a p b q r t v o at (CallValue to place sig x arguments) = refl
-call-same h a p b q r t v o at (PutByte x) = refl
-call-same h a p b q r t v o at (Write place x y) = refl
-call-same h a p b q r t v o at (Alloc d x) = refl
+call-same : (h : List (Option Home)) (a p b q : ℕ) (r t : List Reads) (v o : Extent) (at : ℕ) (held : Option ℕ) (i : Instruction) →
+    instruction_calls (laid h a p r v) at held i ≡ instruction_calls (laid h b q t o) at held i
+call-same h a p b q r t v o at held (Call to place f arguments) =
+    ap (λ z. record { at = at + length (begun-with (place_number place) z); callee = f } ∷ [])
+    (passed-same h a p b q r t v o held 0 arguments)
+call-same h a p b q r t v o at held (Compute d op form x y) = refl
+call-same h a p b q r t v o at held (TestDivisor place x) = refl
+call-same h a p b q r t v o at held (Copy d x) = refl
+call-same h a p b q r t v o at held (Locate d offset) = refl
+call-same h a p b q r t v o at held (Load d form spot) = refl
+call-same h a p b q r t v o at held (Store spot size x) = refl
+call-same h a p b q r t v o at held (Move to from size) = refl
+call-same h a p b q r t v o at held (Clear n size) = refl
+call-same h a p b q r t v o at held (CallValue to place sig x arguments) = refl
+call-same h a p b q r t v o at held (PutByte x) = refl
+call-same h a p b q r t v o at held (Write place x y) = refl
+call-same h a p b q r t v o at held (Alloc d x) = refl
 
 instructions-calls-same : (h : List (Option Home)) (a p b q : ℕ) (r t : List Reads) (v o : Extent) (sizes : List ℕ) (at : ℕ) (held : Option ℕ)
     (is : List Instruction) →
@@ -149,9 +151,10 @@ instructions-calls-same : (h : List (Option Home)) (a p b q : ℕ) (r t : List R
 instructions-calls-same h a p b q r t v o sizes at held [] = refl
 instructions-calls-same h a p b q r t v o sizes at held (i ∷ is) =
     let A : List Instr = instruction_code (laid h a p r v) sizes (λ f. 0) 0 held i in
-    ap (λ z. z ++ instructions_calls (laid h a p r v) sizes (at + length A) (held_after i) is) (call-same h a p b q r t v o at i)
-    ∙ (ap (λ z. instruction_calls (laid h b q t o) at i ++ z) (instructions-calls-same h a p b q r t v o sizes (at + length A) (held_after i) is)
-    ∙ ap (λ z. instruction_calls (laid h b q t o) at i ++ instructions_calls (laid h b q t o) sizes (at + length z) (held_after i) is)
+    ap (λ z. z ++ instructions_calls (laid h a p r v) sizes (at + length A) (held_after i) is) (call-same h a p b q r t v o at held i)
+    ∙ (ap (λ z. instruction_calls (laid h b q t o) at held i ++ z)
+    (instructions-calls-same h a p b q r t v o sizes (at + length A) (held_after i) is)
+    ∙ ap (λ z. instruction_calls (laid h b q t o) at held i ++ instructions_calls (laid h b q t o) sizes (at + length z) (held_after i) is)
     (instruction-same h a p b q r t v o sizes (λ f. 0) 0 held i))
 
 pub blocks-calls-same : (h : List (Option Home)) (a p b q : ℕ) (r : List Reads) (v : Extent) (sizes : List ℕ) (at : ℕ) (ks : List Block) →

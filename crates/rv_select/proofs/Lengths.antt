@@ -24,7 +24,7 @@ use Rattle.rv_select.proofs.Jumps.{chosen-count, edge-count, last-count}
 pub instruction-length : (y : Layout) (sizes : List ℕ) (places others : FnId → ℕ) (at other : ℕ) (held : Option ℕ) (i : Instruction) →
     length (instruction_code y sizes places at held i) ≡ length (instruction_code y sizes others other held i)
 instruction-length y sizes places others at other held (Call to place f arguments) =
-    let A = call_begun y place arguments in
+    let A = call_begun y held place arguments in
     let C = call_ended y sizes to in
     length-append A (call_jump (at + 4 * length A) (places f) ++ C) ∙ sym (length-append A (call_jump (other + 4 * length A) (others f) ++ C))
 instruction-length y sizes places others at other held (Compute d op form a b) = refl

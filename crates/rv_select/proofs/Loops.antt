@@ -71,7 +71,7 @@ instructions-end y sizes held at i xs h = ap (λ z. map word_of (instructions_co
 pub calls-turn : (y : Layout) (sizes : List ℕ) (held next : Option ℕ) (i : ℕ) (xs : List Instruction) (x : Instruction) (old new : List ℕ)
     (before between total : List Site) → x ≡ get_or xs i x → i < length xs → next ≡ held_after x →
     new ≡ old ++ map word_of (instruction_code y sizes (λ f. 0) (4 * length old) held x) →
-    between ≡ before ++ instruction_calls y (length old) x →
+    between ≡ before ++ instruction_calls y (length old) held x →
     before ++ instructions_calls y sizes (length old) held (drop i xs) ≡ total →
     between ++ instructions_calls y sizes (length new) next (drop (i + 1) xs) ≡ total
 calls-turn y sizes held next i xs x old new before between total e h is put calls b =
@@ -80,7 +80,8 @@ calls-turn y sizes held next i xs x old new before between total e h is put call
     let count : length new ≡ length old + n =
     ap length put ∙ (pushed_words old C ∙ ap (λ k. length old + k) (instruction-length y sizes (λ f. 0) (λ f. 0) (4 * length old) 0 held x)) in
     subst (λ o. between ++ instructions_calls y sizes (length new) o (drop (i + 1) xs) ≡ total) (sym is)
-    (items-turn before between (instruction_calls y (length old) x) (λ k. instructions_calls y sizes k (held_after x) (drop (i + 1) xs)) (length new)
+    (items-turn before between (instruction_calls y (length old) held x)
+    (λ k. instructions_calls y sizes k (held_after x) (drop (i + 1) xs)) (length new)
     (length old + n) (instructions_calls y sizes (length old) held (drop i xs)) total count calls b
     (ap (instructions_calls y sizes (length old) held) (drop-item xs i x e h)))
 

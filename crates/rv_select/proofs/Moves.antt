@@ -506,7 +506,7 @@ in-order y held d op form a b Used Next w base program m stands f divisor p h h'
     (subst (λ x. Stands program m.pc x) (sym (append_assoc A S (put_at y d))) stands))
 
 -- where x5 holds the second operand
-held-kept : (held : Option ℕ) (temps : Temps) (m n : State) → n.registers 5 ≡ m.registers 5 → IsHeld held temps m → IsHeld held temps n
+pub held-kept : (held : Option ℕ) (temps : Temps) (m n : State) → n.registers 5 ≡ m.registers 5 → IsHeld held temps m → IsHeld held temps n
 held-kept None temps m n e f = tt
 held-kept (Some t) temps m n e f = e ∙ f
 

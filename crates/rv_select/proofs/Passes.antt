@@ -1,5 +1,5 @@
 -- Words that are stored below the frame: what is passed to a call.
-use Rattle.std.proofs.Common.{◌≡◌, ◌≢◌, ℕ, zero, suc, ◌+◌, ◌-◌, ◌*◌, ◌%◌, ◌^◌, ◌<◌, ◌≤◌, Bool, true, false, List, [], ◌∷◌, ◌++◌, length, take, drop, append_assoc, Option, Some, refl, sym, ap, ◌∙◌, subst, ⊎_elim, inr, arith}
+use Rattle.std.proofs.Common.{◌≡◌, ◌≢◌, ℕ, zero, suc, ◌+◌, ◌-◌, ◌*◌, ◌%◌, ◌^◌, ◌<◌, ◌≤◌, Bool, true, false, List, [], ◌∷◌, ◌++◌, length, take, drop, append_assoc, Option, Some, None, refl, sym, ap, ◌∙◌, subst, ⊎_elim, inr, arith}
 use Rattle.std.specs.Prelude.{if◌then◌else◌, nat_le, slice_get}
 use Rattle.std.proofs.lemmas.Bool.{cases_lt, le-leb, lt-leb}
 use Rattle.std.proofs.lemmas.List.{length-append}
@@ -26,13 +26,13 @@ use Rattle.rv_select.specs.Numbers.{below_zero, lower_of, upper_of}
 use Rattle.rv_select.specs.Places.{AreBytes, Holds, Housed, IsFirst, IsHeld, IsHome, Layout, World, area_offset, frame_bytes, home_of, private_word, slot_offset, value_in, word_at}
 use Rattle.rv_select.specs.Shapes.{far_part, is_held, moved, taken, x2, x7, x10}
 use Rattle.rv_select.specs.Entering.{stored_below}
-use Rattle.rv_select.specs.Calls.{part_given, part_taken, passed, word_given}
-pub use Rattle.rv_select.specs.Frames.{IsPartGiven, IsPartRead, part_value}
+use Rattle.rv_select.specs.Calls.{part_given, part_taken, passed, word_given, part_passed}
+pub use Rattle.rv_select.specs.Frames.{IsPartGiven, IsPartRead, part_value, ArePassed, IsPartFirst}
 use Rattle.rv_select.proofs.Areas.{Saves, area-near}
 use Rattle.rv_select.proofs.Bytes.{other-than-word, stored-length, stored-word}
 use Rattle.rv_select.proofs.Frames.{framed-address, framed-count}
-use Rattle.rv_select.proofs.Homes.{from-five, held-is, region-small, take-operand, taken-count, word_stored}
-use Rattle.rv_select.proofs.Moves.{near-holds, value-small}
+use Rattle.rv_select.proofs.Homes.{from-five, held-is, region-small, take-operand, taken-count, word_stored, first-few, take-first}
+use Rattle.rv_select.proofs.Moves.{near-holds, value-small, first-small}
 use Rattle.rv_select.proofs.Jumps.{sum-of}
 use Rattle.rv_select.proofs.Kept.{store-word}
 use Rattle.rv_select.proofs.Numbers.{below-is, constant-count, constant-loads}
@@ -216,6 +216,18 @@ pub given-count : (y : Layout) (held : Option ℕ) (p : Part) → length (part_g
 given-count y held (parts.Word a) = word-count y held a
 given-count y held (parts.Area n) = part-count y x10 (parts.Area n)
 
+-- what is passed, where x5 may hold it
+pub take-first-part : (y : Layout) (held : Option ℕ) (Used : ℕ → Type 0) (w : World) (base : ℕ) (m : State) (p : Part) →
+    IsHeld held w.temps m → Holds y Used w base m → Housed y Used → IsPartFirst y held Used p →
+    Loads 5 (part_passed y held p) m (part_value y base w p)
+take-first-part y held Used w base m (parts.Word a) f p h r = take-first y held Used w base m a f p h r
+take-first-part y held Used w base m (parts.Area k) f p h r =
+    take-part y x5 Used w base m (parts.Area k) (λ z. omega (arith, z)) (λ z. omega (arith, z)) p h r
+
+pub first-part-count : (y : Layout) (held : Option ℕ) (p : Part) → length (part_passed y held p) ≤ 8
+first-part-count y held (parts.Word a) = first-few y held a
+first-part-count y held (parts.Area n) = part-count y x5 (parts.Area n)
+
 pub below-count : (r : Register) (n : ℕ) → length (stored_below r n) ≤ 3
 below-count r n = either (nat_le n 2048)
   where
@@ -233,14 +245,15 @@ beneath-more first second m n l h = record {
 }
 
 -- Parts were passed: from one on, their words lie below the frame.
-pub record PassedParts (y : Layout) (base i : ℕ) (ps : List Part) (w : World) (program : List (Option Instr)) (rest : List Instr) (m : State) : Type 0 where
+pub record PassedParts (y : Layout) (held : Option ℕ) (base i : ℕ) (ps : List Part) (w : World) (program : List (Option Instr))
+    (rest : List Instr) (m : State) : Type 0 where
   pub after : State
   pub steps : ℕ
   pub way : Way program steps m after
   pub few : steps ≤ 11 * length ps
   pub beneath : Beneath (base - 8 * i) m after
   pub words : (k : ℕ) (p : Part) → slice_get ps k ≡ Some p → private_word after (base - 8 * (i + k + 1)) ≡ part_value y base w p
-  pub pc : after.pc ≡ low (m.pc + 4 * length (passed y i ps))
+  pub pc : after.pc ≡ low (m.pc + 4 * length (passed y held i ps))
   pub there : Stands program after.pc rest
 
 pc-none : (p : ℕ) → p < 2 ^ 64 → p ≡ low (p + 4 * 0)
@@ -251,14 +264,24 @@ pc-three : (p a b c x y z : ℕ) → a ≡ low (p + 4 * x) → b ≡ low (a + 4 
 unfolding low
 pc-three p a b c x y z e g h = omega arith
 
-part-small : (y : Layout) (Used : ℕ → Type 0) (w : World) (base : ℕ) (m : State) (p : Part) → Holds y Used w base m → IsPartRead y Used p → part_value y base w p < 2 ^ 64
-part-small y Used w base m (parts.Word a) h r = value-small Used y w base m a h r
-part-small y Used w base m (parts.Area n) h r = omega (arith, area-near y base n 0 m h.frame r (omega arith), h.frame.within, h.frame.private)
+-- a part's word is below 2 ^ 64
+part-small : (y : Layout) (held : Option ℕ) (Used : ℕ → Type 0) (w : World) (base : ℕ) (m : State) (p : Part) → Holds y Used w base m →
+    IsPartFirst y held Used p → part_value y base w p < 2 ^ 64
+part-small y held Used w base m (parts.Word a) h r = first-small held Used y w base m a h r
+part-small y held Used w base m (parts.Area n) h r =
+    omega (arith, area-near y base n 0 m h.frame r (omega arith), h.frame.within, h.frame.private)
 
-pub passes : (y : Layout) (Used : ℕ → Type 0) (w : World) (base : ℕ) (program : List (Option Instr)) (i : ℕ) (ps : List Part) (rest : List Instr) (m : State) →
-    Stands program m.pc (passed y i ps ++ rest) → Holds y Used w base m → Housed y Used → ((k : ℕ) (p : Part) → slice_get ps k ≡ Some p → IsPartRead y Used p) →
-    8 * (i + length ps) ≤ base → PassedParts y base i ps w program rest m
-passes y Used w base program i [] rest m there p h reads room = record {
+pub parts-small : (y : Layout) (held : Option ℕ) (Used : ℕ → Type 0) (w : World) (base : ℕ) (m : State) (ps : List Part) →
+    Holds y Used w base m → ArePassed y held Used ps → (k : ℕ) (p : Part) → slice_get ps k ≡ Some p → part_value y base w p < 2 ^ 64
+parts-small y held Used w base m [] h r k p e = cc
+parts-small y held Used w base m (q ∷ ps) h r zero p e =
+    let same : q ≡ p = cc in subst (λ z. part_value y base w z < 2 ^ 64) same (part-small y held Used w base m q h r.0)
+parts-small y held Used w base m (q ∷ ps) h r (suc k) p e = parts-small y None Used w base m ps h r.1 k p e
+
+pub passes : (y : Layout) (held : Option ℕ) (Used : ℕ → Type 0) (w : World) (base : ℕ) (program : List (Option Instr)) (i : ℕ) (ps : List Part)
+    (rest : List Instr) (m : State) → Stands program m.pc (passed y held i ps ++ rest) → IsHeld held w.temps m → Holds y Used w base m →
+    Housed y Used → ArePassed y held Used ps → 8 * (i + length ps) ≤ base → PassedParts y held base i ps w program rest m
+passes y held Used w base program i [] rest m there f p h reads room = record {
   after = m;
   steps = 0;
   way = way-none program m;
@@ -268,13 +291,13 @@ passes y Used w base program i [] rest m there p h reads room = record {
   pc = pc-none m.pc p.pc;
   there = there;
 }
-passes y Used w base program i (q ∷ ps) rest m there p h reads room =
-    let A : List Instr = part_taken y x5 q in
+passes y held Used w base program i (q ∷ ps) rest m there f p h reads room =
+    let A : List Instr = part_passed y held q in
     let B : List Instr = stored_below x5 (8 * (i + 1)) in
-    let C : List Instr = passed y (i + 1) ps in
+    let C : List Instr = passed y None (i + 1) ps in
     let v : ℕ = part_value y base w q in
-    let r : IsPartRead y Used q = reads 0 q refl in
-    let l : Loads 5 A m v = take-part y x5 Used w base m q (λ z. omega (arith, z)) (λ z. omega (arith, z)) p h r in
+    let r : IsPartFirst y held Used q = reads.0 in
+    let l : Loads 5 A m v = take-first-part y held Used w base m q f p h r in
     let t : State = l.after in
     let near : Near m t = scratch-near A m t (loads-five A m v l) in
     let pc-t : t.pc < 2 ^ 64 = subst (λ z. z < 2 ^ 64) (sym l.behind) (low-below (m.pc + 4 * length A)) in
@@ -295,20 +318,20 @@ passes y Used w base program i (q ∷ ps) rest m there p h reads room =
     subst (λ z. Stands program m.pc z) (append_assoc A (B ++ C) rest ∙ ap (λ z. A ++ z) (append_assoc B C rest)) there in
     let after-t : Stands program t.pc (B ++ (C ++ rest)) = subst (λ z. Stands program z (B ++ (C ++ rest))) (sym l.behind) (stands-back program m.pc A (B ++ (C ++ rest)) p.pc all) in
     let after-u : Stands program u.pc (C ++ rest) = subst (λ z. Stands program z (C ++ rest)) (sym s.behind) (stands-back program t.pc B (C ++ rest) pc-t after-t) in
-    let more : PassedParts y base (i + 1) ps w program rest u =
-    passes y Used w base program (i + 1) ps rest u after-u hu h (λ k o e. reads (suc k) o e) (omega arith) in
+    let more : PassedParts y None base (i + 1) ps w program rest u =
+    passes y None Used w base program (i + 1) ps rest u after-u tt hu h reads.1 (omega arith) in
     let way : Way program (length A + length B + more.steps) m more.after =
     way-both program (length A + length B) more.steps m u more.after
     (way-both program (length A) (length B) m t u (straight-way program A m t (stands-front program m.pc A (B ++ (C ++ rest)) all) l.straight l.goes)
     (straight-way program B t u (stands-front program t.pc B (C ++ rest) after-t) s.straight s.goes)) more.way in
     let first : private_word more.after at ≡ v =
     ap number_of (more.beneath.above at 8 (omega arith))
-    ∙ (ap (λ z. number_of (take 8 (drop at z))) s.private ∙ stored-word t.private at v inside (part-small y Used w base m q p r)) in
+    ∙ (ap (λ z. number_of (take 8 (drop at z))) s.private ∙ stored-word t.private at v inside (part-small y held Used w base m q p r)) in
     record {
       after = more.after;
       steps = length A + length B + more.steps;
       way = way;
-      few = omega (arith, part-count y x5 q, below-count x5 (8 * (i + 1)), more.few);
+      few = omega (arith, first-part-count y held q, below-count x5 (8 * (i + 1)), more.few);
       beneath = beneath-both (base - 8 * i) (base - 8 * (i + 1)) m u more.after (omega arith) two more.beneath;
       words = λ k o e. word more.after k o e first more.words;
       pc = pc-three m.pc t.pc u.pc more.after.pc (length A) (length B) (length C) l.behind s.behind more.pc

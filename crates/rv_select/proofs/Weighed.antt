@@ -42,7 +42,7 @@ both a b n k h g = omega (arith, h, g, length-append a b)
 
 instruction-weight : (y : Layout) (sizes : List ℕ) (places : FnId → ℕ) (at : ℕ) (held : Option ℕ) (i : Instruction) → list_all area_fits sizes ≡ true →
     has_code i ≡ true → length (instruction_code y sizes places at held i) ≤ words_of i
-instruction-weight y sizes places at held (Call to place f arguments) small h = calls-within y sizes places at to place f arguments small
+instruction-weight y sizes places at held (Call to place f arguments) small h = calls-within y sizes places at held to place f arguments small
 instruction-weight y sizes places at held (CallValue to place sig a arguments) small h = cc
 instruction-weight y sizes places at held (Compute d op form a b) small h = within y held (Compute d op form a b) h
 instruction-weight y sizes places at held (TestDivisor place a) small h = within y held (TestDivisor place a) h

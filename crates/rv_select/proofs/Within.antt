@@ -1,5 +1,5 @@
 -- The code of calls, and that of entering and leaving functions, keeps within its weight.
-use Rattle.std.proofs.Common.{◌≡◌, ℕ, zero, suc, ◌+◌, ◌-◌, ◌*◌, ◌^◌, ◌≤◌, Bool, true, false, List, [], ◌∷◌, ◌++◌, length, refl, sym, subst, arith}
+use Rattle.std.proofs.Common.{◌≡◌, ℕ, zero, suc, ◌+◌, ◌-◌, ◌*◌, ◌^◌, ◌≤◌, Bool, true, false, List, [], ◌∷◌, ◌++◌, length, Option, None, refl, sym, subst, arith}
 use Rattle.std.specs.Prelude.{if◌then◌else◌, nat_le}
 use Rattle.std.specs.List.{list_all}
 use Rattle.std.proofs.lemmas.Bool.{le-leb, leb-true}
@@ -22,14 +22,14 @@ use Rattle.rv_select.specs.Numbers.{below_zero, constant, lower_of, register_of}
 use Rattle.rv_select.specs.Places.{Layout, home_of}
 use Rattle.rv_select.specs.Shapes.{far_part, framed, limit_found, place_number, x2, x7, x8, x11}
 use Rattle.rv_select.specs.Entering.{arguments_stored, entered, frame_taken, frames_given, left, link_put_back, link_saved, region_given, region_taken, stack_tested, x1, most_arguments, place_given, pointer_down, pointer_up, put_back, received, received_one, is_received, receiving, result_put, result_words, saved, size_in, stack_branch, stored_below}
-use Rattle.rv_select.specs.Calls.{call_begun, call_ended, called, call_jump, depth_tested, jump_unless_last, one_more, part_given, part_taken, passed}
+use Rattle.rv_select.specs.Calls.{call_begun, call_ended, called, call_jump, depth_tested, jump_unless_last, one_more, part_given, part_taken, passed, part_passed}
 use Rattle.rv_select.specs.Frames.{CallsKeepWithin, FramesKeepWithin, ParametersKeepWithin}
 use Rattle.rv_select.proofs.Copies.{size-small}
 use Rattle.rv_select.proofs.Enters.{one-if, saved-count}
 use Rattle.rv_select.proofs.Frames.{framed-count}
 use Rattle.rv_select.proofs.Homes.{put-few}
 use Rattle.rv_select.proofs.Numbers.{constant-count}
-use Rattle.rv_select.proofs.Passes.{below-count, given-count, part-count}
+use Rattle.rv_select.proofs.Passes.{below-count, given-count, part-count, first-part-count}
 use Rattle.rv_select.proofs.Pointers.{down-count, up-count}
 use Rattle.rv_select.proofs.Quits.{put-back-count}
 use Rattle.rv_select.proofs.Weights.{to-count}
@@ -39,15 +39,15 @@ use Rattle.rv_select.proofs.Jumps.{last-count, last-few}
 both : (a b : List Instr) (n k : ℕ) → length a ≤ n → length b ≤ k → length (a ++ b) ≤ n + k
 both a b n k h g = omega (arith, length-append a b)
 
-passed-count : (y : Layout) (i : ℕ) (ps : List Part) → length (passed y i ps) ≤ 11 * length ps
-passed-count y i [] = omega arith
-passed-count y i (p ∷ ps) =
-    let A = part_taken y x5 p in
+passed-count : (y : Layout) (held : Option ℕ) (i : ℕ) (ps : List Part) → length (passed y held i ps) ≤ 11 * length ps
+passed-count y held i [] = omega arith
+passed-count y held i (p ∷ ps) =
+    let A = part_passed y held p in
     let B = stored_below x5 (8 * (i + 1)) in
-    let C = passed y (i + 1) ps in
-    let a : length A ≤ 8 = part-count y x5 p in
+    let C = passed y None (i + 1) ps in
+    let a : length A ≤ 8 = first-part-count y held p in
     let b : length B ≤ 3 = below-count x5 (8 * (i + 1)) in
-    let c : length C ≤ 11 * length ps = passed-count y (i + 1) ps in
+    let c : length C ≤ 11 * length ps = passed-count y None (i + 1) ps in
     let one : length (A ++ (B ++ C)) ≤ 8 + (3 + 11 * length ps) = both A (B ++ C) 8 (3 + 11 * length ps) a (both B C 3 (11 * length ps) b c) in
     omega (arith, one)
 
@@ -144,16 +144,16 @@ parameters-within y sizes last (d ∷ ds) h =
     (received-count y sizes last d (last + 8 * length ds) h) (parameters-within y sizes last ds h)
 
 pub calls-within : CallsKeepWithin
-calls-within y sizes places at to place f arguments small =
+calls-within y sizes places at held to place f arguments small =
     let A = constant x11 (place_number place) in
-    let P = passed y 0 arguments in
+    let P = passed y held 0 arguments in
     let first : length A ≤ 8 = constant-count x11 (place_number place) in
-    let parts : length P ≤ 11 * length arguments = passed-count y 0 arguments in
+    let parts : length P ≤ 11 * length arguments = passed-count y held 0 arguments in
     let tail : length (P ++ one_more) ≤ 11 * length arguments + 1 = both P one_more (11 * length arguments) 1 parts (omega arith) in
     let deep : length (depth_tested ++ (P ++ one_more)) ≤ 5 + (11 * length arguments + 1) = both depth_tested (P ++ one_more) 5 (11 * length arguments + 1) (omega arith) tail in
     let begins : length (A ++ (depth_tested ++ (P ++ one_more))) ≤ 8 + (5 + (11 * length arguments + 1)) = both A (depth_tested ++ (P ++ one_more)) 8 (5 + (11 * length arguments + 1)) first deep in
     let put : length (result_put y sizes to) ≤ result_words to = result-count y sizes to small in
-    call-weight to place f arguments (length (called y sizes places at to place f arguments))
+    call-weight to place f arguments (length (called y sizes places at held to place f arguments))
     (both (A ++ (depth_tested ++ (P ++ one_more)))
-    (call_jump (at + 4 * length (call_begun y place arguments)) (places f) ++ call_ended y sizes to)
+    (call_jump (at + 4 * length (call_begun y held place arguments)) (places f) ++ call_ended y sizes to)
     (8 + (5 + (11 * length arguments + 1))) (2 + (2 + result_words to)) begins (omega (arith, put)))

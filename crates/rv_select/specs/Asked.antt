@@ -14,6 +14,8 @@ use Rattle.tac_form.specs.declared.tac.Part.{Part}
 use Rattle.tac_form.specs.declared.tac.Part.TheVariants as parts
 use Rattle.tac_form.specs.declared.tac.Address.{Address}
 use Rattle.tac_form.specs.declared.tac.Address.TheVariants.{Word, Frame}
+use Rattle.tac_form.specs.declared.tac.Part.{Part}
+use Rattle.tac_form.specs.declared.tac.Part.TheVariants as parts
 use Rattle.tac_form.specs.declared.tac.Spot.{Spot}
 use Rattle.tac_form.specs.declared.tac.Spot.TheVariants as spots
 use Rattle.tac_form.specs.declared.tac.Instruction.{Instruction}
@@ -96,6 +98,15 @@ computed_asks held op a b =
 abbrev pub compared_asks : (held : Option ℕ) → (a b : Operand) → List ℕ
 compared_asks held a b = if is_second held b then both_ask held b a else both_ask held a b
 
+-- of the parts that a call passes x5 may hold the first
+abbrev pub part_asks : (held : Option ℕ) → Part → List ℕ
+part_asks held (parts.Word a) = first_asks held a
+part_asks held (parts.Area n) = []
+
+abbrev pub passed_asks : (held : Option ℕ) → List Part → List ℕ
+passed_asks held [] = []
+passed_asks held (p ∷ ps) = part_asks held p ++ passed_asks None ps
+
 -- What the code of an instruction asks for. A copy always puts its word to a home, so that it has at least one instruction.
 abbrev pub asks : (held : Option ℕ) → Instruction → List ℕ
 asks held (instructions.Compute d op form a b) = computed_asks held op a b
@@ -104,6 +115,7 @@ asks held (instructions.Copy d a) = d ∷ first_asks held a
 asks held (instructions.Load d form spot) = spot_asks held spot
 asks held (instructions.Store spot size a) = spot_asks held spot ++ operand_reads a
 asks held (instructions.Move to from size) = spot_asks held to ++ spot_asks held from
+asks held (instructions.Call to at f arguments) = passed_asks held arguments
 asks held (instructions.PutByte a) = first_asks held a
 asks held (instructions.Alloc d a) = first_asks held a
 asks held i = instruction_reads i

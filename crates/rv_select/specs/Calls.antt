@@ -35,7 +35,7 @@ use Rattle.rv_select.specs.Compared.{compared_shape}
 use Rattle.rv_select.specs.Pairs.{pair_of, plain_of}
 use Rattle.rv_select.specs.Numbers.{below_zero, constant, immediate_of, lower_of, upper_of}
 use Rattle.rv_select.specs.Places.{Layout, frame_bytes, layout_of}
-use Rattle.rv_select.specs.Shapes.{area_reached, distance, exit_shape, fault_call, has_exit_shape, has_shape, held_after, is_held, jump, moved, over, place_number, shape_of, small, start_of, taken, x10, x11}
+use Rattle.rv_select.specs.Shapes.{area_reached, distance, exit_shape, fault_call, has_exit_shape, has_shape, held_after, is_held, jump, moved, over, place_number, shape_of, small, start_of, taken, x10, x11, first_taken}
 use Rattle.rv_select.specs.Entering.{begun, entered, left, received, result_put, stored_below, words_offset, x1, x28}
 
 -- The run fails at the place in x11 where 511 calls wait already. What x5 holds stays.
@@ -47,19 +47,24 @@ abbrev pub part_taken : Layout → Register → Part → List Instr
 part_taken y d (parts.Word a) = taken y d a
 part_taken y d (parts.Area n) = area_reached y d n 0
 
--- the words of the parts from one on go below the frame
-abbrev pub passed : Layout → (i : ℕ) → List Part → List Instr
-passed y i [] = []
-passed y i (p ∷ ps) = part_taken y x5 p ++ (stored_below x5 (8 * (i + 1)) ++ passed y (i + 1) ps)
+-- it goes to x5, unless that holds it
+abbrev pub part_passed : Layout → (held : Option ℕ) → Part → List Instr
+part_passed y held (parts.Word a) = first_taken y held a
+part_passed y held (parts.Area n) = area_reached y x5 n 0
+
+-- the words of the parts from one on go below the frame, where x5 may hold the first of them
+abbrev pub passed : Layout → (held : Option ℕ) → (i : ℕ) → List Part → List Instr
+passed y held i [] = []
+passed y held i (p ∷ ps) = part_passed y held p ++ (stored_below x5 (8 * (i + 1)) ++ passed y None (i + 1) ps)
 
 abbrev pub one_more : List Instr
 one_more = RegisterImmediate Addi x28 x28 (immediate_of 1) ∷ []
 
 -- what comes before the jump of a call: its place is in x11, and one more call waits
-abbrev pub call_begun : Layout → Place → List Part → List Instr
-call_begun y at arguments =
+abbrev pub call_begun : Layout → (held : Option ℕ) → Place → List Part → List Instr
+call_begun y held at arguments =
     constant x11 (place_number at)
-    ++ (depth_tested ++ (passed y 0 arguments ++ one_more))
+    ++ (depth_tested ++ (passed y held 0 arguments ++ one_more))
 
 -- a jump from an address to a function, with the return address in x1
 abbrev pub call_jump : (from to : ℕ) → List Instr
@@ -71,14 +76,15 @@ call_ended y sizes to =
     RegisterImmediate Addi x28 x28 (below_zero 0) ∷ moved x5 x10 ∷ result_put y sizes to
 
 -- a call that stands at an address, by the addresses of functions
-abbrev pub called : Layout → (sizes : List ℕ) → (places : FnId → ℕ) → (at : ℕ) → Destination → Place → FnId → List Part → List Instr
-called y sizes places at to place f arguments =
-    call_begun y place arguments
-    ++ (call_jump (at + 4 * length (call_begun y place arguments)) (places f) ++ call_ended y sizes to)
+abbrev pub called : Layout → (sizes : List ℕ) → (places : FnId → ℕ) → (at : ℕ) → (held : Option ℕ) → Destination → Place → FnId →
+    List Part → List Instr
+called y sizes places at held to place f arguments =
+    call_begun y held place arguments
+    ++ (call_jump (at + 4 * length (call_begun y held place arguments)) (places f) ++ call_ended y sizes to)
 
 -- the code of an instruction that stands at an address, where x5 may hold the word of a temporary
 abbrev pub instruction_code : Layout → (sizes : List ℕ) → (places : FnId → ℕ) → (at : ℕ) → (held : Option ℕ) → Instruction → List Instr
-instruction_code y sizes places at held (Call to place f arguments) = called y sizes places at to place f arguments
+instruction_code y sizes places at held (Call to place f arguments) = called y sizes places at held to place f arguments
 instruction_code y sizes places at held i = shape_of y held i
 
 -- x10 gets what is given back: a word, from x5 where x5 holds it, or the address of an area
@@ -135,15 +141,15 @@ blocks_code y sizes places starts last at (b ∷ bs) =
     ++ blocks_code y sizes places starts last (at + 4 * length (block_code y sizes places starts last at (length bs) b)) bs
 
 -- where calls of functions stand in code: the number of the first word of a jump, and the function
-abbrev pub instruction_calls : Layout → (at : ℕ) → Instruction → List Site
-instruction_calls y at (Call to place f arguments) =
-    record { at = at + length (call_begun y place arguments); callee = f } ∷ []
-instruction_calls y at i = []
+abbrev pub instruction_calls : Layout → (at : ℕ) → (held : Option ℕ) → Instruction → List Site
+instruction_calls y at held (Call to place f arguments) =
+    record { at = at + length (call_begun y held place arguments); callee = f } ∷ []
+instruction_calls y at held i = []
 
 abbrev pub instructions_calls : Layout → (sizes : List ℕ) → (at : ℕ) → (held : Option ℕ) → List Instruction → List Site
 instructions_calls y sizes at held [] = []
 instructions_calls y sizes at held (i ∷ is) =
-    instruction_calls y at i
+    instruction_calls y at held i
     ++ instructions_calls y sizes (at + length (instruction_code y sizes (λ f. 0) 0 held i)) (held_after i) is
 
 abbrev pub blocks_calls : Layout → (sizes : List ℕ) → (at : ℕ) → List Block → List Site

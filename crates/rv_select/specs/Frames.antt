@@ -1,5 +1,5 @@
 -- What the code that enters and leaves functions promises.
-use Rattle.std.specs.Prelude.{◌≡◌, Bool, ◌≢◌, ℕ, IsTrue, ◌∷◌, suc, ◌+◌, ◌-◌, ◌*◌, ◌/◌, ◌%◌, ◌^◌, ◌<◌, ◌≤◌, true, List, length, take, drop, Option, Some, None, slice_get, if◌then◌else◌}
+use Rattle.std.specs.Prelude.{◌≡◌, Bool, ◌≢◌, ℕ, IsTrue, ◌∷◌, suc, ◌+◌, ◌-◌, ◌*◌, ◌/◌, ◌%◌, ◌^◌, ◌<◌, ◌≤◌, true, List, [], length, take, drop, Option, Some, None, slice_get, if◌then◌else◌}
 use Rattle.std.specs.List.{list_all}
 use Rattle.tl_base.specs.declared.ids.FnId.{FnId}
 use Rattle.tl_base.specs.declared.place.Place.{Place}
@@ -43,6 +43,15 @@ IsPartRead y Used (parts.Area n) = n < y.areas
 abbrev pub IsPartGiven : Layout → (held : Option ℕ) → (ℕ → Type 0) → Part → Type 0
 IsPartGiven y held Used (parts.Word a) = IsFirst y held Used a
 IsPartGiven y held Used (parts.Area n) = n < y.areas
+
+-- the parts that a call passes, of which x5 may hold the first
+abbrev pub IsPartFirst : Layout → (held : Option ℕ) → (ℕ → Type 0) → Part → Type 0
+IsPartFirst y held Used (parts.Word a) = IsFirst y held Used a
+IsPartFirst y held Used (parts.Area n) = n < y.areas
+
+abbrev pub ArePassed : Layout → (held : Option ℕ) → (ℕ → Type 0) → List Part → Type 0
+ArePassed y held Used [] = Unit {0}
+ArePassed y held Used (p ∷ ps) = IsPartFirst y held Used p × ArePassed y None Used ps
 
 -- The machine enters a function whose frame in private memory begins at `base` then, and that in the region at `under`. The return address,
 -- where the function makes calls, and the caller's words of the registers that it uses are kept in the frame, and all that lies above them
@@ -96,13 +105,13 @@ FunctionsAreEntered =
 
 -- A call has come to its jump: the words of all that it passes lie below the frame, the first uppermost, one more call waits, and
 -- x11 is the place of the call. The caller's frame and all above it are as they were.
-pub record Calls (program : List (Option Instr)) (y : Layout) (base : ℕ) (w : World) (at : Place) (ps : List Part)
+pub record Calls (program : List (Option Instr)) (y : Layout) (held : Option ℕ) (base : ℕ) (w : World) (at : Place) (ps : List Part)
     (m : State) : Type 0 where
   pub steps : ℕ
   pub after : State
   pub few : steps ≤ 11 + 11 * length ps
   pub runs : (more : ℕ) → run_of program m (steps + more) ≡ run_of program after more
-  pub pc : after.pc ≡ low (m.pc + 4 * length (call_begun y at ps))
+  pub pc : after.pc ≡ low (m.pc + 4 * length (call_begun y held at ps))
   pub place : after.registers 11 ≡ place_number at
   pub waiting : after.registers 28 ≡ suc w.depth
   pub others : (r : ℕ) → r ≢ 5 → r ≢ 6 → r ≢ 7 → r ≢ 11 → r ≢ 28 → after.registers r ≡ m.registers r
@@ -116,14 +125,14 @@ pub record Calls (program : List (Option Instr)) (y : Layout) (base : ℕ) (w : 
 -- jump where there is room for what it passes.
 abbrev pub CallsAreBegun : Type 0
 CallsAreBegun =
-    (code : Tac) (homes : List (Option Home)) (block step : ℕ) (program : List (Option Instr)) (w : World) (base : ℕ) (at : Place)
-    (ps : List Part) (m : State) →
+    (code : Tac) (homes : List (Option Home)) (held : Option ℕ) (block step : ℕ) (program : List (Option Instr)) (w : World) (base : ℕ)
+    (at : Place) (ps : List Part) (m : State) →
     let y : Layout = layout_of code homes in
     let Used : ℕ → Type 0 = InUse (graph_of code) block step in
-    IsRight code homes → Holds y Used w base m → place_number at < 2 ^ 64 → Stands program m.pc (call_begun y at ps) →
+    IsRight code homes → Holds y Used w base m → IsHeld held w.temps m → place_number at < 2 ^ 64 →
+    Stands program m.pc (call_begun y held at ps) →
     (511 ≤ w.depth → Ends program CallDepth at 13 m) ×
-    (w.depth < 511 → ((k : ℕ) (p : Part) → slice_get ps k ≡ Some p → IsPartRead y Used p) → 8 * length ps ≤ base →
-    Calls program y base w at ps m)
+    (w.depth < 511 → ArePassed y held Used ps → 8 * length ps ≤ base → Calls program y held base w at ps m)
 
 -- A function is left: x10 has its result, and the machine goes on at the return address, with the caller's frames, and its
 -- registers as the function found them.
@@ -227,9 +236,9 @@ FramesKeepWithin =
 -- The code of a call has no more words than its weight, where no area has more than 128 bytes.
 abbrev pub CallsKeepWithin : Type 0
 CallsKeepWithin =
-    (y : Layout) (sizes : List ℕ) (places : FnId → ℕ) (at : ℕ) (to : Destination) (place : Place) (f : FnId) (arguments : List Part) →
-    IsTrue (list_all area_fits sizes) →
-    length (called y sizes places at to place f arguments) ≤ words_of (Call to place f arguments)
+    (y : Layout) (sizes : List ℕ) (places : FnId → ℕ) (at : ℕ) (held : Option ℕ) (to : Destination) (place : Place) (f : FnId)
+    (arguments : List Part) → IsTrue (list_all area_fits sizes) →
+    length (called y sizes places at held to place f arguments) ≤ words_of (Call to place f arguments)
 
 -- So has the code that takes parameters, each no more than its part.
 abbrev pub ParametersKeepWithin : Type 0

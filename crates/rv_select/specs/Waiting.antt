@@ -122,7 +122,7 @@ pub record Waiting (p : Program) (image : Image) (most : ℕ) (c : Caller) (dept
   pub arguments : List Part
   pub in_block : slice_get (plain_of (reads_of code) block) before ≡ Some (Call c.to place callee arguments)
   pub returns : link ≡ place_in p image code (image c.waits.function) c.waits.block before
-      + 4 * length (call_begun (layout_of code (image c.waits.function).homes) place arguments) + 8
+      + 4 * length (call_begun (layout_of code (image c.waits.function).homes) (held_in code c.waits.block before) place arguments) + 8
   pub values : (t : ℕ) → InUse (graph_of code) c.waits.block c.waits.at t → destination_write c.to ≢ Some t →
       HasHome (layout_of code (image c.waits.function).homes) t → word_at base m (home_of (layout_of code (image c.waits.function).homes) t) ≡ c.waits.temps t
   pub words : (t : ℕ) → InUse (graph_of code) c.waits.block c.waits.at t → destination_write c.to ≢ Some t → c.waits.temps t < 2 ^ 64

@@ -2,7 +2,7 @@
 
 ghost use Rattle.std.specs.Prelude.{◌≡◌, ◌^◌, ◌<◌, ◌++◌, IfOk, OnOk, None, length, replicate, slice_get, slice_set};
 ghost use Rattle.std.specs.List.{flat_map};
-ghost use Rattle.rv_select.specs.Asked.{address_asks, all_ask, asked_homes, asked_of, asks, block_asks, both_ask, computed_asks, end_asks, exit_asks, first_asks, first_word, given_asks, held_behind, home_in, if_small, is_small, slot_instead, spot_asks, with_given, with_word, with_words, compared_asks};
+ghost use Rattle.rv_select.specs.Asked.{address_asks, all_ask, asked_homes, asked_of, asks, block_asks, both_ask, computed_asks, end_asks, exit_asks, first_asks, first_word, given_asks, held_behind, home_in, if_small, is_small, slot_instead, spot_asks, with_given, with_word, with_words, compared_asks, part_asks, passed_asks};
 ghost use Rattle.rv_select.specs.Pairs.{reads_of};
 ghost use Rattle.tac_form.specs.Graph.{exit_reads, instruction_reads, operand_reads, part_reads, parts_reads};
 
@@ -197,7 +197,7 @@ fn ask(asked: &mut Vec<u64>, held: Option<u64>, instruction: &Instruction) -> Re
             ask_spot(asked, held, *from)
         }
         Instruction::Clear(_, _) => Ok(()),
-        Instruction::Call(_, _, _, parts) => ask_parts(asked, parts.as_slice()),
+        Instruction::Call(_, _, _, parts) => ask_passed(asked, held, parts.as_slice()),
         Instruction::CallValue(_, _, _, a, parts) => {
             ask_operand(asked, *a)?;
             ask_parts(asked, parts.as_slice())
@@ -285,6 +285,27 @@ fn ask_spot(asked: &mut Vec<u64>, held: Option<u64>, spot: Spot) -> Result<(), N
     match spot {
         Spot::Region(_, Address::Word(a)) => ask_first(asked, held, a),
         _ => Ok(()),
+    }
+}
+
+/// The parts that a call passes, of which x5 may hold the first.
+fn ask_passed(asked: &mut Vec<u64>, held: Option<u64>, parts: &[Part]) -> Result<(), NoMemory>
+    ensures { OnOk result (asked.new.items ≡ asked.old.items ++ passed_asks held parts.now) }
+{
+    if let [part, rest @ ..] = parts {
+        ask_first_part(asked, held, *part)?;
+        ask_passed(asked, None, rest)?;
+    }
+    Ok(())
+}
+
+/// A part that x5 takes, unless it holds it.
+fn ask_first_part(asked: &mut Vec<u64>, held: Option<u64>, part: Part) -> Result<(), NoMemory>
+    ensures { OnOk result (asked.new.items ≡ asked.old.items ++ part_asks held part) }
+{
+    match part {
+        Part::Word(a) => ask_first(asked, held, a),
+        Part::Area(_) => Ok(()),
     }
 }
 

@@ -5,16 +5,16 @@ ghost use Rattle.std.specs.List.{list_any};
 ghost use Rattle.rv_isa.specs.Table.{word_of};
 ghost use Rattle.tac_form.specs.declared.tac.Operand.TheVariants as operands;
 ghost use Rattle.rv_operators.specs.Codes.{x5};
-ghost use Rattle.rv_select.specs.Calls.{call_begun, call_ended, call_jump, called, depth_tested, one_more, part_given, part_taken, passed, word_given};
+ghost use Rattle.rv_select.specs.Calls.{call_begun, call_ended, call_jump, called, depth_tested, one_more, part_given, part_taken, passed, word_given, part_passed};
 ghost use Rattle.rv_select.specs.Entering.{result_put};
 ghost use Rattle.rv_select.specs.Places.{has_call, is_call, makes_calls, with_homes};
-ghost use Rattle.rv_select.specs.Shapes.{jump};
+ghost use Rattle.rv_select.specs.Shapes.{jump, area_reached, x10};
 
 use crate::emit::{X5, X6, push_constant, push_moved, push_taken, put};
 use crate::entries::{X1, X28, push_result_put, push_stored_below};
 use crate::exits::{distance, push_jump};
 use crate::instructions::{
-    X10, X11, is_held, place_number, push_area_address, push_fault_call, push_small,
+    X10, X11, is_held, place_number, push_area_address, push_fault_call, push_first, push_small,
 };
 use crate::operands::{below_zero, immediate, lower, offset, upper};
 use reg_alloc::Home;
@@ -88,11 +88,26 @@ fn push_part(
     }
 }
 
-/// x5 gets what is passed.
-fn push_first_part(code: &mut Vec<u32>, homes: &[Option<Home>], part: Part) -> Result<(), NoMemory>
-    ensures { OnOk result (code.new.items ≡ code.old.items ++ map word_of (part_taken (with_homes homes.now) x5 part)) }
+/// x5 gets what is passed, unless it holds it.
+fn push_first_part(
+    code: &mut Vec<u32>,
+    homes: &[Option<Home>],
+    held: Option<u64>,
+    part: Part,
+) -> Result<(), NoMemory>
+    ensures { OnOk result (code.new.items ≡ code.old.items ++ map word_of (part_passed (with_homes homes.now) held part)) }
 {
-    push_part(code, homes, X5, part)
+    match part {
+        Part::Word(a) => push_first(code, homes, held, a),
+        Part::Area(area) => push_first_area(code, homes, area),
+    }
+}
+
+/// x5 gets the address of an area.
+fn push_first_area(code: &mut Vec<u32>, homes: &[Option<Home>], area: u64) -> Result<(), NoMemory>
+    ensures { OnOk result (code.new.items ≡ code.old.items ++ map word_of (area_reached (with_homes homes.now) x5 area 0)) }
+{
+    push_area_address(code, homes, X5, area, 0)
 }
 
 /// x10 gets what is given back: a word, from x5 where x5 holds it, or the address of an area.
@@ -140,22 +155,23 @@ fn push_temp_given(
     }
 }
 
-/// The words of parts from one on go below the frame.
+/// The words of parts from one on go below the frame, where x5 may hold the first of them.
 fn push_passed(
     code: &mut Vec<u32>,
     homes: &[Option<Home>],
+    held: Option<u64>,
     first: u64,
     parts: &[Part],
 ) -> Result<(), NoMemory>
-    ensures { OnOk result (code.new.items ≡ code.old.items ++ map word_of (passed (with_homes homes.now) first parts.now)) }
+    ensures { OnOk result (code.new.items ≡ code.old.items ++ map word_of (passed (with_homes homes.now) held first parts.now)) }
 {
     if let [part, rest @ ..] = parts {
         if first >= 1 << 28 {
             return Err(NoMemory);
         }
-        push_first_part(code, homes, *part)?;
+        push_first_part(code, homes, held, *part)?;
         push_stored_below(code, X5, 8 * (first + 1))?;
-        push_passed(code, homes, first + 1, rest)?;
+        push_passed(code, homes, None, first + 1, rest)?;
     }
     Ok(())
 }
@@ -179,26 +195,28 @@ fn push_one_more(code: &mut Vec<u32>) -> Result<(), NoMemory>
 fn push_all_passed(
     code: &mut Vec<u32>,
     homes: &[Option<Home>],
+    held: Option<u64>,
     arguments: &[Part],
 ) -> Result<(), NoMemory>
-    ensures { OnOk result (code.new.items ≡ code.old.items ++ map word_of (passed (with_homes homes.now) 0 arguments.now ++ one_more)) }
+    ensures { OnOk result (code.new.items ≡ code.old.items ++ map word_of (passed (with_homes homes.now) held 0 arguments.now ++ one_more)) }
 {
-    push_passed(code, homes, 0, arguments)?;
+    push_passed(code, homes, held, 0, arguments)?;
     push_one_more(code)
 }
 
-/// What comes before the jump of a call.
+/// What comes before the jump of a call, where x5 may hold the word of a temporary.
 pub(crate) fn push_call_begun(
     code: &mut Vec<u32>,
     homes: &[Option<Home>],
+    held: Option<u64>,
     at: Place,
     arguments: &[Part],
 ) -> Result<(), NoMemory>
-    ensures { OnOk result (code.new.items ≡ code.old.items ++ map word_of (call_begun (with_homes homes.now) at arguments.now)) }
+    ensures { OnOk result (code.new.items ≡ code.old.items ++ map word_of (call_begun (with_homes homes.now) held at arguments.now)) }
 {
     push_constant(code, X11, place_number(at))?;
     push_depth_test(code)?;
-    push_all_passed(code, homes, arguments)
+    push_all_passed(code, homes, held, arguments)
 }
 
 /// A jump from an address to a function, with the return address in x1.

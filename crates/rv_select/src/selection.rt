@@ -51,21 +51,22 @@ fn push_jump_to(code: &mut Vec<u32>, calls: &mut Vec<Call>, callee: FnId) -> Res
     push_call_jump(code, at, 0)
 }
 
-/// A call of a function.
+/// A call of a function, where x5 may hold the word of a temporary.
 fn push_called(
     code: &mut Vec<u32>,
     calls: &mut Vec<Call>,
     homes: &[Option<Home>],
     sizes: &[u64],
+    held: Option<u64>,
     to: Destination,
     at: Place,
     callee: FnId,
     arguments: &[Part],
 ) -> Result<(), NoMemory>
-    ensures code { OnOk result (code.new.items ≡ code.old.items ++ map word_of (called (with_homes homes.now) sizes.now (λ f. 0) (4 * length code.old.items) to at callee arguments.now)) }
-    ensures calls { OnOk result (calls.new.items ≡ calls.old.items ++ instruction_calls (with_homes homes.now) (length code.old.items) (instructions.Call to at callee arguments.now)) }
+    ensures code { OnOk result (code.new.items ≡ code.old.items ++ map word_of (called (with_homes homes.now) sizes.now (λ f. 0) (4 * length code.old.items) held to at callee arguments.now)) }
+    ensures calls { OnOk result (calls.new.items ≡ calls.old.items ++ instruction_calls (with_homes homes.now) (length code.old.items) held (instructions.Call to at callee arguments.now)) }
 {
-    push_call_begun(code, homes, at, arguments)?;
+    push_call_begun(code, homes, held, at, arguments)?;
     push_jump_to(code, calls, callee)?;
     push_call_ended(code, homes, sizes, to)
 }
@@ -81,7 +82,7 @@ fn push_one(
 ) -> Result<(), NoMemory>
     requires { IsTrue (has_code instruction.now) }
     ensures code { OnOk result (code.new.items ≡ code.old.items ++ map word_of (instruction_code (with_homes homes.now) sizes.now (λ f. 0) (4 * length code.old.items) held instruction.now)) }
-    ensures calls { OnOk result (calls.new.items ≡ calls.old.items ++ instruction_calls (with_homes homes.now) (length code.old.items) instruction.now) }
+    ensures calls { OnOk result (calls.new.items ≡ calls.old.items ++ instruction_calls (with_homes homes.now) (length code.old.items) held instruction.now) }
 {
     match instruction {
         Instruction::Call(to, at, callee, arguments) => push_called(
@@ -89,6 +90,7 @@ fn push_one(
             calls,
             homes,
             sizes,
+            held,
             *to,
             *at,
             *callee,

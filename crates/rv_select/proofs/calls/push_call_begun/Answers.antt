@@ -13,9 +13,9 @@ returns c =
     let a = c.args in
     let y = with_homes a.homes.now in
     let r = c.push_all_passed.result in
-    let more = passed y 0 a.arguments.now ++ one_more in
+    let more = passed y a.held 0 a.arguments.now ++ one_more in
     turn r a.code.now.items c.push_constant.new.code.items c.push_all_passed.new.code.items (constant x11 (place_number a.at))
-    (depth_tested ++ more) (call_begun y a.at a.arguments.now) refl
+    (depth_tested ++ more) (call_begun y a.held a.at a.arguments.now) refl
     (c.in_ok-push_constant.ensures ∙ ap (λ r. a.code.now.items ++ map word_of (constant r c.place_number.result)) (register_same _ x11 refl)
     ∙ ap (λ n. a.code.now.items ++ map word_of (constant x11 n)) c.place_number.ensures)
     (turn r c.push_constant.new.code.items c.push_depth_test.new.code.items c.push_all_passed.new.code.items depth_tested more
