@@ -1,5 +1,6 @@
 -- Runs of three-address code depend on no other functions than those that calls reach.
-use Rattle.std.proofs.Common.{◌≡◌, ℕ, zero, suc, ◌+◌, ◌-◌, Bool, true, false, List, [], ◌∷◌, length, Option, Some, None, refl, sym, ap, ◌∙◌, subst}
+use Rattle.std.proofs.Common.{◌≡◌, ℕ, zero, suc, ◌+◌, ◌-◌, Bool, true, false, List, [], ◌∷◌, length, Option, Some, None, refl, sym, ap, ◌∙◌}
+use Rattle.std.proofs.Common.{subst}
 use Rattle.std.specs.Prelude.{◌&&◌, nat_eq, nat_le, nat_lt, if◌then◌else◌, slice_get}
 use Rattle.tl_base.specs.declared.place.Place.{Place}
 use Rattle.tl_base.specs.declared.ids.FnId.{FnId}
@@ -11,14 +12,18 @@ use Rattle.tac_form.specs.declared.tac.Spot.{Spot}
 use Rattle.tac_form.specs.declared.tac.Spot.TheVariants as spots
 use Rattle.tac_form.specs.declared.tac.Destination.{Destination}
 use Rattle.tac_form.specs.declared.tac.Instruction.{Instruction}
-use Rattle.tac_form.specs.declared.tac.Instruction.TheVariants.{Compute, TestDivisor, Copy, Locate, Load, Store, Move, Clear, Call, CallValue, PutByte, Write, Alloc}
+use Rattle.tac_form.specs.declared.tac.Instruction.TheVariants.{Compute, TestDivisor, Copy, Locate, Load, Store, Move, Clear, Call}
+use Rattle.tac_form.specs.declared.tac.Instruction.TheVariants.{CallValue, PutByte, Write, Alloc}
 use Rattle.tac_form.specs.declared.tac.Part.{Part}
 use Rattle.tac_form.specs.declared.tac.Edge.{Edge}
 use Rattle.tac_form.specs.declared.tac.Exit.{Exit}
 use Rattle.tac_form.specs.declared.tac.Exit.TheVariants.{Jump, Branch, Return, Fail}
 use Rattle.tac_form.specs.declared.tac.Block.{Block}
 use Rattle.tac_form.specs.declared.tac.Tac.{Tac}
-use Rattle.tac_form.specs.Flow.{Activation, Caller, State, Moved, Goes, Stops, operand, address, ahead, set_area, fetched, from_spot, written, to_spot, value_of, values_of, takes, takes_all, accepts, accepts_all, Program, enter, counted, call_entry, entry, act, follow, given, give, leave, step_in, in_block, in_function, step, steps, place_of, begun, TacRun}
+use Rattle.tac_form.specs.Flow.{Activation, Caller, State, Moved, Goes, Stops, operand, address, ahead, set_area, fetched, from_spot}
+use Rattle.tac_form.specs.Flow.{written, to_spot, value_of, values_of, takes, takes_all, accepts, accepts_all, Program, enter, counted}
+use Rattle.tac_form.specs.Flow.{call_entry, entry, act, follow, given, give, leave, step_in, in_block, in_function, step, steps, place_of}
+use Rattle.tac_form.specs.Flow.{begun, TacRun}
 
 -- A set of functions that has all that its functions call.
 pub record IsClosed (p : Program) (In : FnId → Type 0) : Type 0 where

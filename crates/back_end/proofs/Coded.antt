@@ -5,11 +5,13 @@ use Rattle.tl_base.specs.declared.ids.FnId.{FnId}
 use Rattle.terra_words.specs.Words.{fault_number}
 use Rattle.terra_term.specs.Stores.{Contents, Callable}
 use Rattle.tac_form.specs.declared.tac.Instruction.{Instruction}
-use Rattle.tac_form.specs.declared.tac.Instruction.TheVariants.{Compute, TestDivisor, Copy, Locate, Load, Store, Move, Clear, Call, CallValue, PutByte, Write, Alloc}
+use Rattle.tac_form.specs.declared.tac.Instruction.TheVariants.{Compute, TestDivisor, Copy, Locate, Load, Store, Move, Clear, Call}
+use Rattle.tac_form.specs.declared.tac.Instruction.TheVariants.{CallValue, PutByte, Write, Alloc}
 use Rattle.tac_form.specs.declared.tac.Exit.{Exit}
 use Rattle.tac_form.specs.declared.tac.Exit.TheVariants.{Fail}
 use Rattle.tac_form.specs.declared.tac.Block.{Block}
-use Rattle.tac_lower.specs.Items.{Item, does, ends, Ending, skips, tests, repeats, repeats_unless, leaves, gives, fails, exit_of, Draft, empty_draft, with_item, with_items}
+use Rattle.tac_lower.specs.Items.{Item, does, ends, Ending, skips, tests, repeats, repeats_unless, leaves, gives, fails, exit_of, Draft}
+use Rattle.tac_lower.specs.Items.{empty_draft, with_item, with_items}
 use Rattle.tac_lower.specs.Lowering.{lowered, code_of, unreached, are_narrow, parameter_types}
 use Rattle.back_end.proofs.Naming.{before_rest, before_exit, Names, CallsBlock, items_of, items-name}
 

@@ -1,5 +1,6 @@
 -- Runs of the machine only extend.
-use Rattle.std.proofs.Common.{◌≡◌, ℕ, zero, suc, ◌+◌, ◌-◌, Bool, true, false, List, [], ◌++◌, Option, refl, sym, ap, ◌∙◌, subst, append_assoc, arith}
+use Rattle.std.proofs.Common.{◌≡◌, ℕ, zero, suc, ◌+◌, ◌-◌, Bool, true, false, List, [], ◌++◌, Option, refl, sym, ap, ◌∙◌, subst}
+use Rattle.std.proofs.Common.{append_assoc, arith}
 use Rattle.std.specs.Prelude.{nat_eq, if◌then◌else◌}
 use Rattle.tl_base.specs.Outside.{IsFront}
 use Rattle.rv_isa.specs.declared.instr.Instr.{Instr}

@@ -1,5 +1,6 @@
 -- The image of functions that are compiled and linked is lawful, where few nodes are reached and the exports' names are names.
-use Rattle.std.proofs.Common.{◌≡◌, ℕ, zero, suc, ◌+◌, ◌*◌, ◌<◌, ◌≤◌, Bool, true, false, List, [], ◌∷◌, length, map, Some, refl, sym, ap, ◌∙◌, subst, arith}
+use Rattle.std.proofs.Common.{◌≡◌, ℕ, zero, suc, ◌+◌, ◌*◌, ◌<◌, ◌≤◌, Bool, true, false, List, [], ◌∷◌, length, map, Some, refl, sym, ap}
+use Rattle.std.proofs.Common.{◌∙◌, subst, arith}
 use Rattle.std.specs.Prelude.{◌&&◌, ◌||◌, ◌%◌, ◌/◌, ◌^◌, ◌==◌, nat_eq, nat_le, nat_lt, if◌then◌else◌, slice_get, slice_index}
 use Rattle.std.specs.List.{list_all, list_any}
 use Rattle.std.specs.Str.{bytes_eq}
@@ -30,7 +31,8 @@ use Rattle.rv_link.specs.Filling.{words_in}
 use Rattle.rv_link.specs.Linked.{IsLinkedText, function_words, image_of, larger, most_frame, placed_in, places_of, text_from}
 use Rattle.rv_link.proofs.Links.{selected-length}
 use Rattle.rv_link.proofs.Pushes.{text-length}
-use Rattle.back_end.specs.Compiled.{AreExports, AreFew, AreNamed, IsOutward, all_scalar, codes_of, is_scalar, name_bytes, nodes_in, nodes_of, type_code}
+use Rattle.back_end.specs.Compiled.{AreExports, AreFew, AreNamed, IsOutward, all_scalar, codes_of, is_scalar, name_bytes, nodes_in}
+use Rattle.back_end.specs.Compiled.{nodes_of, type_code}
 use Rattle.back_end.specs.Symbols.{parameters_in, result_in, start_among, symbol_of, symbols_of}
 use Rattle.back_end.specs.Working.{AreFunctions, AreWhole, Has, IsFunction, id_of}
 use Rattle.back_end.proofs.Making.{same-nodes, starts-are, text-short}

@@ -1,5 +1,6 @@
 -- What is compiled of functions that are linked into an image.
-use Rattle.std.proofs.Common.{◌≡◌, ◌≢◌, ℕ, zero, suc, ◌+◌, ◌*◌, ◌<◌, ◌≤◌, Bool, true, false, List, [], ◌∷◌, ◌++◌, length, map, Some, refl, sym, ap, ◌∙◌, subst, arith}
+use Rattle.std.proofs.Common.{◌≡◌, ◌≢◌, ℕ, zero, suc, ◌+◌, ◌*◌, ◌<◌, ◌≤◌, Bool, true, false, List, [], ◌∷◌, ◌++◌, length, map, Some, refl}
+use Rattle.std.proofs.Common.{sym, ap, ◌∙◌, subst, arith}
 use Rattle.std.specs.Prelude.{◌/◌, ◌^◌, nat_eq, nat_le, if◌then◌else◌, option_map, slice_get}
 use Rattle.std.proofs.lemmas.Bool.{and_parts, eq-eqb, le-leb}
 use Rattle.std.proofs.lemmas.List.{length-append}
@@ -40,7 +41,8 @@ use Rattle.rv_link.specs.Linked.{IsLinkedText, code_in, function_words, image_of
 use Rattle.rv_link.specs.Images.{AreWords}
 use Rattle.rv_link.proofs.Links.{selected-length}
 use Rattle.back_end.specs.Agrees.{Agree, SameEnd}
-use Rattle.back_end.specs.Compiled.{AreExported, AreExports, IsCompiled, IsExported, IsOutward, all_scalar, codes_of, is_result, is_scalar, nodes_in, nodes_of, type_code}
+use Rattle.back_end.specs.Compiled.{AreExported, AreExports, IsCompiled, IsExported, IsOutward, all_scalar, codes_of, is_result, is_scalar}
+use Rattle.back_end.specs.Compiled.{nodes_in, nodes_of, type_code}
 use Rattle.back_end.specs.Symbols.{parameters_in, result_in, start_among, symbol_of, symbols_of}
 use Rattle.back_end.specs.Working.{AllCallWithin, AreFunctions, AreWhole, CallsWithin, Has, IsFunction, compiled_code, id_of}
 use Rattle.back_end.proofs.Compiles.{IsMade, agrees}

@@ -1,5 +1,6 @@
 -- Lowered code calls no other functions than its term does, with as many arguments.
-use Rattle.std.proofs.Common.{◌≡◌, ℕ, suc, ◌+◌, Bool, true, false, List, [], ◌∷◌, ◌++◌, length, map, Option, Some, None, refl, sym, ap, subst}
+use Rattle.std.proofs.Common.{◌≡◌, ℕ, suc, ◌+◌, Bool, true, false, List, [], ◌∷◌, ◌++◌, length, map, Option, Some, None, refl, sym, ap}
+use Rattle.std.proofs.Common.{subst}
 use Rattle.std.specs.Prelude.{nat_eq, nat_le, if◌then◌else◌}
 use Rattle.tl_base.specs.declared.place.Place.{Place}
 use Rattle.tl_base.specs.declared.ids.TypeId.{TypeId}
@@ -13,7 +14,10 @@ use Rattle.terra_types.specs.Opening.{boolean, unit}
 use Rattle.terra_term.specs.declared.operators.Operation.{Operation}
 use Rattle.terra_term.specs.declared.operators.Operation.TheVariants as operations
 use Rattle.terra_term.specs.declared.lists.TypedName.{TypedName}
-use Rattle.terra_term.specs.TypedTerms.{Expression, typed, Constant', Variable, Global, Operate, Both, Either, Dereference, Select, Follow, Element, Index, Address, Decay, Let, Expressions, no_more, then_one, Statement, statement, Var, Assign, If, IfElse, While, Repeat, For, Do, Break, Finish, Return, Perform, Statements, done, and_then, type_of, place_of}
+use Rattle.terra_term.specs.TypedTerms.{Expression, typed, Constant', Variable, Global, Operate, Both, Either, Dereference, Select, Follow}
+use Rattle.terra_term.specs.TypedTerms.{Element, Index, Address, Decay, Let, Expressions, no_more, then_one, Statement, statement, Var}
+use Rattle.terra_term.specs.TypedTerms.{Assign, If, IfElse, While, Repeat, For, Do, Break, Finish, Return, Perform, Statements, done}
+use Rattle.terra_term.specs.TypedTerms.{and_then, type_of, place_of}
 use Rattle.terra_term.specs.Stores.{Contents, Callable}
 use Rattle.terra_meaning.specs.Values.{bytes_at, is_aggregate}
 use Rattle.terra_meaning.specs.Frames.{Home, by_value, in_frame, home_at}
@@ -23,12 +27,21 @@ use Rattle.tac_form.specs.declared.tac.Operand.TheVariants.{Temp, Constant}
 use Rattle.tac_form.specs.declared.tac.Address.TheVariants as addresses
 use Rattle.tac_form.specs.declared.tac.Destination.TheVariants as destinations
 use Rattle.tac_form.specs.declared.tac.Instruction.{Instruction}
-use Rattle.tac_form.specs.declared.tac.Instruction.TheVariants.{Compute, TestDivisor, Copy, Locate, Load, Store, Move, Clear, Call, CallValue, PutByte, Write, Alloc}
+use Rattle.tac_form.specs.declared.tac.Instruction.TheVariants.{Compute, TestDivisor, Copy, Locate, Load, Store, Move, Clear, Call}
+use Rattle.tac_form.specs.declared.tac.Instruction.TheVariants.{CallValue, PutByte, Write, Alloc}
 use Rattle.tac_form.specs.declared.tac.Spot.{Spot}
 use Rattle.tac_form.specs.declared.tac.Spot.TheVariants as spots
-use Rattle.tac_lower.specs.Items.{Item, does, ends, Ending, skips, tests, repeats, repeats_unless, leaves, gives, fails, count_ends, loop_of}
-use Rattle.tac_lower.specs.Pieces.{Used, nothing_used, with_temp, with_area, Piece, known, doing, then_piece, taken, Result, a_word, an_area, an_offset, no_word, word_of, part_of, parts_of, address_of, word_at, result_at, rest, whole_word, number_of, is_bool, given, compute, copied, located, loaded_bit, loaded_area, loaded_word, loaded, stored_part, stored, placed, Holder, in_temp, at_offset, Holders, holder_of, Around, declare_at, declare, declare_all, first_of}
-use Rattle.tac_lower.specs.Lowering.{cut, is_whole, Counting, is_one, either_way, with_step, body_piece, reached, variable, entry, element, form_of, turned_over, extracted, constructed, call, operation, target_at, aimed, Target, to_temp, to_place, assigned, assigned_all, passed_over, choice, counting, runs, counted_on, while_loop, piece, pieces, targets, one, all, around, ending, received}
+use Rattle.tac_lower.specs.Items.{Item, does, ends, Ending, skips, tests, repeats, repeats_unless, leaves, gives, fails, count_ends}
+use Rattle.tac_lower.specs.Items.{loop_of}
+use Rattle.tac_lower.specs.Pieces.{Used, nothing_used, with_temp, with_area, Piece, known, doing, then_piece, taken, Result, a_word}
+use Rattle.tac_lower.specs.Pieces.{an_area, an_offset, no_word, word_of, part_of, parts_of, address_of, word_at, result_at, rest}
+use Rattle.tac_lower.specs.Pieces.{whole_word, number_of, is_bool, given, compute, copied, located, loaded_bit, loaded_area, loaded_word}
+use Rattle.tac_lower.specs.Pieces.{loaded, stored_part, stored, placed, Holder, in_temp, at_offset, Holders, holder_of, Around, declare_at}
+use Rattle.tac_lower.specs.Pieces.{declare, declare_all, first_of}
+use Rattle.tac_lower.specs.Lowering.{cut, is_whole, Counting, is_one, either_way, with_step, body_piece, reached, variable, entry, element}
+use Rattle.tac_lower.specs.Lowering.{form_of, turned_over, extracted, constructed, call, operation, target_at, aimed, Target, to_temp}
+use Rattle.tac_lower.specs.Lowering.{to_place, assigned, assigned_all, passed_over, choice, counting, runs, counted_on, while_loop, piece}
+use Rattle.tac_lower.specs.Lowering.{pieces, targets, one, all, around, ending, received}
 
 -- An instruction calls no other functions than these with so many arguments, and none that is a value; and what follows does so too.
 abbrev pub before_rest : (In : FnId → ℕ → Type 0) → Instruction → Type 0 → Type 0

@@ -14,7 +14,8 @@ use Rattle.terra_meaning.specs.Meaning.{meaning}
 use Rattle.terra_meaning.proofs.Alike.{reached-alone}
 use Rattle.rv_link.specs.declared.function.Function.{Function}
 use Rattle.back_end.specs.Agrees.{Agree, SameEnd}
-use Rattle.back_end.specs.Compiled.{AreExported, AreExports, AreReached, IsCompiled, IsExported, IsReady, IsTypedPart, all_scalar, codes_of, is_result, nodes_in, nodes_of, type_code}
+use Rattle.back_end.specs.Compiled.{AreExported, AreExports, AreReached, IsCompiled, IsExported, IsReady, IsTypedPart, all_scalar, codes_of}
+use Rattle.back_end.specs.Compiled.{is_result, nodes_in, nodes_of, type_code}
 use Rattle.back_end.specs.Symbols.{symbol_of, symbols_of, parameters_in, result_in, start_among}
 use Rattle.back_end.specs.Working.{AreFunctions, AreWhole, IsFunction, compiled_code, id_of}
 

@@ -8,10 +8,14 @@ use Rattle.terra_types.specs.Opening.{boolean}
 use Rattle.terra_term.specs.declared.operators.Operation.{Operation}
 use Rattle.terra_term.specs.declared.operators.Operation.TheVariants as operations
 use Rattle.terra_term.specs.declared.lists.TypedName.{TypedName}
-use Rattle.terra_term.specs.TypedTerms.{Expression, typed, Constant', Variable, Global, Operate, Both, Either, Dereference, Select, Follow, Element, Index, Address, Decay, Let, Expressions, no_more, then_one, Statement, statement, Var, Assign, If, IfElse, While, Repeat, For, Do, Break, Finish, Return, Perform, Statements, done, and_then, type_of, is_place}
+use Rattle.terra_term.specs.TypedTerms.{Expression, typed, Constant', Variable, Global, Operate, Both, Either, Dereference, Select, Follow}
+use Rattle.terra_term.specs.TypedTerms.{Element, Index, Address, Decay, Let, Expressions, no_more, then_one, Statement, statement, Var}
+use Rattle.terra_term.specs.TypedTerms.{Assign, If, IfElse, While, Repeat, For, Do, Break, Finish, Return, Perform, Statements, done}
+use Rattle.terra_term.specs.TypedTerms.{and_then, type_of, is_place}
 use Rattle.terra_term.specs.Stores.{Callable, Contents, callable_of}
 use Rattle.terra_term.specs.WellTyped as typing
-use Rattle.terra_term.specs.WellTyped.{Within, same, is_typed, are_typed, one_typed, all_typed, are_same, types_in, types_of_names, after_one, after_all, in_a_let, in_a_loop, body_typed, with_names}
+use Rattle.terra_term.specs.WellTyped.{Within, same, is_typed, are_typed, one_typed, all_typed, are_same, types_in, types_of_names}
+use Rattle.terra_term.specs.WellTyped.{after_one, after_all, in_a_let, in_a_loop, body_typed, with_names}
 use Rattle.terra_types.specs.Sizes.{size_of}
 use Rattle.terra_meaning.specs.Values.{bytes_at}
 use Rattle.tac_lower.specs.Lowering.{are_narrow, parameter_types, type_of_name}

@@ -1,5 +1,6 @@
 -- Machine code can be made of the code of functions that are compiled, and links.
-use Rattle.std.proofs.Common.{◌≡◌, ℕ, zero, suc, ◌≤◌, Bool, true, false, List, [], ◌∷◌, length, Option, None, Some, refl, sym, ap, ◌∙◌, subst, arith}
+use Rattle.std.proofs.Common.{◌≡◌, ℕ, zero, suc, ◌≤◌, Bool, true, false, List, [], ◌∷◌, length, Option, None, Some, refl, sym, ap, ◌∙◌}
+use Rattle.std.proofs.Common.{subst, arith}
 use Rattle.std.specs.Prelude.{◌&&◌, ◌^◌, IfSome, nat_eq, nat_le, nat_lt, if◌then◌else◌, option_map, slice_get, unwrap_or}
 use Rattle.std.specs.List.{list_all}
 use Rattle.std.proofs.lemmas.Bool.{and_parts, leb-true, le-leb}
@@ -9,13 +10,15 @@ use Rattle.terra_term.specs.Sizes.{body_size}
 use Rattle.terra_term.specs.Stores.{Callable, Contents, callable_of}
 use Rattle.terra_term.specs.WellTyped.{body_typed}
 use Rattle.tac_form.specs.declared.tac.Instruction.{Instruction}
-use Rattle.tac_form.specs.declared.tac.Instruction.TheVariants.{Compute, TestDivisor, Copy, Locate, Load, Store, Move, Clear, Call, CallValue, PutByte, Write, Alloc}
+use Rattle.tac_form.specs.declared.tac.Instruction.TheVariants.{Compute, TestDivisor, Copy, Locate, Load, Store, Move, Clear, Call}
+use Rattle.tac_form.specs.declared.tac.Instruction.TheVariants.{CallValue, PutByte, Write, Alloc}
 use Rattle.tac_form.specs.declared.tac.Exit.{Exit}
 use Rattle.tac_form.specs.declared.tac.Exit.TheVariants.{Jump, Branch, Return, Fail}
 use Rattle.tac_form.specs.declared.tac.Block.{Block}
 use Rattle.tac_form.specs.declared.tac.Tac.{Tac}
 use Rattle.tac_form.specs.Flow.{area_size}
-use Rattle.tac_form.specs.Fits.{area_fits, area_there, are_apart, block_fits, destination_fits, edge_fits, exit_fits, instruction_fits, is_within, operand_fits, place_fits, spot_fits}
+use Rattle.tac_form.specs.Fits.{area_fits, area_there, are_apart, block_fits, destination_fits, edge_fits, exit_fits, instruction_fits}
+use Rattle.tac_form.specs.Fits.{is_within, operand_fits, place_fits, spot_fits}
 use Rattle.tac_form.specs.Weights.{most_moved}
 use Rattle.tac_lower.specs.Laws.{GoodWhereTyped, IsGood}
 use Rattle.tac_lower.specs.Lowering.{are_narrow, code_of, lowered, parameter_types, unreached}

@@ -1,6 +1,7 @@
 -- What compiling gives: one lawful image, whose exports are the given ones and agree with their terms.
-use Rattle.std.specs.Prelude.{◌≡◌, ℕ, ◌+◌, ◌*◌, ◌≤◌, Bool, true, false, ◌&&◌, IsTrue, List, [], ◌∷◌, length, map, Option, Some, None, slice_get}
+use Rattle.std.specs.Prelude.{◌≡◌, ℕ, ◌+◌, ◌*◌, ◌≤◌, Bool, true, ◌&&◌, IsTrue, List, [], ◌∷◌, length, map, Some, slice_get}
 use Rattle.tl_base.specs.declared.ids.FnId.{FnId}
+use Rattle.tl_base.specs.declared.limits.TheConstants.{MAX_TERM_NODES, MAX_COMPILED_NODES, MAX_PARAMETERS}
 use Rattle.elf_image.specs.declared.image.Image.{Image}
 use Rattle.elf_image.specs.declared.image.Symbol.{Symbol}
 use Rattle.elf_image.specs.Lawful.{IsLawful, is_name}
@@ -23,13 +24,10 @@ use Rattle.rv_machine.specs.Machine.{Ran}
 use Rattle.rv_machine.specs.ImageRun.{RvRun}
 use Rattle.back_end.specs.Agrees.{Agree, SameEnd}
 use Rattle.back_end.specs.Plain.{all_plain}
+pub use Rattle.terra_types.specs.Scalars.{is_scalar, is_result}
+pub use Rattle.terra_term.specs.Sizes.{nodes_of}
 
 -- ---- the functions of an image
-
--- how many typed nodes functions have
-abbrev pub nodes_of : Option Callable → ℕ
-nodes_of None = 0
-nodes_of (Some k) = (body_size k.body).nodes
 
 abbrev pub nodes_in : Contents → List FnId → ℕ
 nodes_in store [] = 0
@@ -45,7 +43,7 @@ pub record AreReached (store : Contents) (exports : List Export) (fs : List FnId
 
 -- the most typed nodes of a body
 abbrev pub most_nodes : ℕ
-most_nodes = 8192
+most_nodes = MAX_TERM_NODES
 
 -- A function that can be compiled: it is typed, and passes the test of typed terms; it has a place in a text and no more nodes than a body
 -- may have, and calls no function that is a value.
@@ -74,17 +72,6 @@ pub record IsTypedPart (store : Contents) (exports : List Export) (part : Conten
 abbrev pub HasTypedPart : Contents → List Export → Type 0
 HasTypedPart store exports = (part : Contents) × IsTypedPart store exports part
 
--- integers, bools and pointers
-abbrev pub is_scalar : TypeForm → Bool
-is_scalar (forms.Integer i) = true
-is_scalar forms.Bool = true
-is_scalar (forms.Pointer t) = true
-is_scalar _ = false
-
-abbrev pub is_result : TypeForm → Bool
-is_result forms.Unit = true
-is_result form = is_scalar form
-
 abbrev pub all_scalar : List TypeForm → List TypedName → Bool
 all_scalar types [] = true
 all_scalar types (x ∷ xs) = is_scalar (form_at types x.of) && all_scalar types xs
@@ -93,7 +80,7 @@ all_scalar types (x ∷ xs) = is_scalar (form_at types x.of) && all_scalar types
 pub record IsOutward (store : Contents) (f : FnId) : Type 0 where
   pub term : Callable
   pub is : callable_of store f ≡ Some term
-  pub eight : length term.body.parameters ≤ 8
+  pub eight : length term.body.parameters ≤ MAX_PARAMETERS
   pub scalar : all_scalar store.types term.body.parameters ≡ true
   pub result : is_result (form_at store.types term.body.result) ≡ true
 
@@ -102,7 +89,7 @@ AreExports store exports = (i : ℕ) (e : Export) → slice_get exports i ≡ So
 
 -- At most 131,072 typed nodes are reached, where each function counts once.
 abbrev pub AreFew : Contents → List Export → Type 0
-AreFew store exports = (fs : List FnId) → AreReached store exports fs → nodes_in store fs ≤ 131072
+AreFew store exports = (fs : List FnId) → AreReached store exports fs → nodes_in store fs ≤ MAX_COMPILED_NODES
 
 -- how many bytes names have, with one more for each
 abbrev pub name_bytes : List Export → ℕ

@@ -1,12 +1,10 @@
 -- Terms that call no function that is a value.
-use Rattle.std.specs.Prelude.{Bool, true, false, ◌&&◌}
-use Rattle.terra_term.specs.declared.operators.Operation.{Operation}
-use Rattle.terra_term.specs.declared.operators.Operation.TheVariants as operations
-use Rattle.terra_term.specs.TypedTerms.{Expression, typed, Constant', Variable, Global, Operate, Both, Either, Dereference, Select, Follow, Element, Index, Address, Decay, Let, Expressions, no_more, then_one, Statement, statement, Var, Assign, If, IfElse, While, Repeat, For, Do, Break, Finish, Return, Perform, Statements, done, and_then}
-
-abbrev pub is_plain_operation : Operation → Bool
-is_plain_operation operations.CallValue = false
-is_plain_operation _ = true
+use Rattle.std.specs.Prelude.{Bool, true, ◌&&◌}
+use Rattle.terra_term.specs.TypedTerms.{Expression, typed, Constant', Variable, Global, Operate, Both, Either, Dereference, Select, Follow}
+use Rattle.terra_term.specs.TypedTerms.{Element, Index, Address, Decay, Let, Expressions, no_more, then_one, Statement, statement, Var}
+use Rattle.terra_term.specs.TypedTerms.{Assign, If, IfElse, While, Repeat, For, Do, Break, Finish, Return, Perform, Statements, done}
+use Rattle.terra_term.specs.TypedTerms.{and_then}
+pub use Rattle.terra_term.specs.WellTyped.{is_plain_operation}
 
 abbrev mutual
   pub is_plain : Expression → Bool

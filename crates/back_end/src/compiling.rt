@@ -12,13 +12,8 @@ use rv_link::link;
 use std::alloc::Global;
 use terra_eval::static_bytes;
 use terra_term::{Export, Store};
+use tl_base::limits::{MAX_CALLS, REGION_ADDRESS};
 use tl_base::{Limits, NoMemory};
-
-/// The address of the region's first byte.
-const REGION: u64 = 0x4000_0000;
-
-/// How many frames private memory holds.
-const FRAMES: u64 = 512;
 
 /// The words of a text have 32 bits.
 fn are_words(words: &[u32])
@@ -60,7 +55,7 @@ pub fn compile(
         exports,
     )?;
     let statics = static_bytes(store)?;
-    let end = REGION + statics.len() as u64;
+    let end = REGION_ADDRESS + statics.len() as u64;
     are_words(&linked.words);
     are_bytes(&statics);
     Ok(Image {
@@ -68,7 +63,7 @@ pub fn compile(
         statics: Bytes::from(statics),
         memory: limits.memory,
         heap: (end + 15) / 16 * 16,
-        private: FRAMES * linked.frame,
+        private: MAX_CALLS * linked.frame,
         exports: Symbols::from(symbols),
     })
 }

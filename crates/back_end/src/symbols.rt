@@ -99,7 +99,8 @@ pub fn push_symbols(
     exports: &[Export],
 ) -> Result<(), NoMemory>
     requires { AreExports (contents_of store.now) exports.now }
-    ensures { OnOk result (symbols.new.items ≡ symbols.old.items ++ symbols_of (contents_of store.now) ids.now.keys starts.now exports.now) }
+    ensures { OnOk result
+        (symbols.new.items ≡ symbols.old.items ++ symbols_of (contents_of store.now) ids.now.keys starts.now exports.now) }
 {
     for export in exports {
         let at = start_of(ids, starts, export.function);

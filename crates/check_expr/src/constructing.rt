@@ -13,13 +13,14 @@ use crate::entries::entry_of;
 use crate::frame::{BodyFrame, InitialFrame, Initials, LaidThen, MadeFrame};
 use crate::layouts::lay_out;
 use crate::nodes::{gives, refuse};
-use crate::reading::{WIDEST, bytes, is_struct};
+use crate::reading::{bytes, is_struct};
 use crate::step::{BodyStep, Node};
 use check_model::row::{Rest, Row, term_list};
 use check_model::{BodyJob, Made, Mode, Typing};
 use exotype::World;
 use terra_term::{OffsetList, Operation, RefusalKind, TypedExpression};
 use terra_types::{Laid, TypeForm};
+use tl_base::limits::MAX_VALUE_BYTES;
 use tl_base::{NoMemory, Step, TermId, TextId, TypeId};
 
 /// Makes a struct of these values.
@@ -57,7 +58,7 @@ pub fn construct(
         typing.old left frames.new.items step typing.new left) }
     ensures kept { OnOk result (KeepsTyping typing.old typing.new) }
 {
-    if WIDEST < bytes(&typing.world, of) {
+    if MAX_VALUE_BYTES < bytes(&typing.world, of) {
         return Ok(refuse(RefusalKind::TooWide, node.at, node.site));
     }
     let Initials { names, values } = values;

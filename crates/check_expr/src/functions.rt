@@ -22,13 +22,8 @@ use check_model::{PartEnd, Site, Typing};
 use exotype::World;
 use std::alloc::Global;
 use terra_term::{Parameter, RefusalKind, Size, Standing, Term, Typed, TypedName, TypedNameList};
+use tl_base::limits::{MAX_TERM_LEVELS, MAX_TERM_NODES};
 use tl_base::{Budget, FnId, NoMemory, Place, Step, TermId, TypeId};
-
-/// The most nodes of a typed body.
-const MOST_NODES: u32 = 8_192;
-
-/// The most levels of a typed body.
-const MOST_LEVELS: u16 = 1_000;
 
 /// What stands in the definition of a function.
 #[derive(Debug, Drop)]
@@ -257,7 +252,7 @@ fn size_of(world: &World, made: TermId) -> Size
 fn is_too_large(size: Size) -> bool
     ensures { result ≡ models.is_too_large size }
 {
-    MOST_NODES < size.nodes || MOST_LEVELS < size.levels
+    MAX_TERM_NODES < size.nodes || MAX_TERM_LEVELS < size.levels
 }
 
 /// Makes the node of a function; a body that returns nothing has the unit type.

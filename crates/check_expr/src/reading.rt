@@ -12,10 +12,8 @@ use exotype::World;
 use lua_value::Value;
 use terra_term::{Expression, Term};
 use terra_types::TypeForm;
+use tl_base::limits::MAX_VALUE_BYTES;
 use tl_base::{Place, TermId, TextId, TypeId};
-
-/// The most bytes of an aggregate that is used as a value.
-pub const WIDEST: u64 = 128;
 
 /// Whether a type is a struct or an array.
 pub fn is_aggregate(world: &World, of: TypeId) -> bool
@@ -49,7 +47,7 @@ pub fn bytes(world: &World, of: TypeId) -> u64
 pub fn is_too_wide(world: &World, of: TypeId) -> bool
     ensures { result ≡ is_wide world.now of }
 {
-    is_aggregate(world, of) && WIDEST < bytes(world, of)
+    is_aggregate(world, of) && MAX_VALUE_BYTES < bytes(world, of)
 }
 
 /// Whether a type is a struct.

@@ -5,7 +5,8 @@ use Rattle.tl_base.specs.declared.ids.FnId.{FnId}
 use Rattle.tl_base.specs.declared.ids.TermId.{TermId}
 use Rattle.terra_term.specs.declared.lists.TypedName.{TypedName}
 use Rattle.terra_term.specs.Planted.{typed_at, typed_doing_in, typed_list_at, typed_block_at}
-use Rattle.terra_term.specs.Events.{Event, Opens, Closes, Declares, Takes, Uses, Mentions, events_of, list_events, doing_events, block_events, declares_all, scope, mentions_in}
+use Rattle.terra_term.specs.Events.{Event, Opens, Closes, Declares, Takes, Uses, Mentions, events_of, list_events, doing_events}
+use Rattle.terra_term.specs.Events.{block_events, declares_all, scope, mentions_in}
 use Rattle.exotype.specs.World.{StageState}
 use Rattle.check_model.specs.declared.job.Reached.{Reached}
 use Rattle.check_model.specs.Checks.{with_mentions, was_reached}

@@ -19,7 +19,8 @@ use Rattle.exotype.specs.World.{StageState}
 use Rattle.check_model.specs.declared.job.Reached.{Reached}
 use Rattle.check_model.specs.Checks.{with_mentions, mentions_of}
 use Rattle.check_flow.specs.declared.mentions.Part.{Part}
-use Rattle.check_flow.specs.Parts.{Mentions, trees_below, item_mentions, mentions_as, all_mentions, part_mentions, form_mentions, doing_mentions, own_mention}
+use Rattle.check_flow.specs.Parts.{Mentions, trees_below, item_mentions, mentions_as, all_mentions, part_mentions, form_mentions}
+use Rattle.check_flow.specs.Parts.{doing_mentions, own_mention}
 use Rattle.check_flow.proofs.Nodes.{tree_at, tree_below}
 use Rattle.check_flow.proofs.Events.{with_both, in_both, in_declared, in_block}
 

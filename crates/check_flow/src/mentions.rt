@@ -4,7 +4,8 @@ ghost use Rattle.std.specs.Prelude.{◌≡◌, ℕ, ◌++◌, slice_get, OnOk};
 ghost use Rattle.terra_term.specs.Planted.{typed_trees};
 ghost use Rattle.check_model.specs.Checks.{with_mentions, mentions_at, mentions_of};
 ghost use Rattle.exotype.specs.World.{StageState};
-ghost use Rattle.check_flow.specs.Parts.{parts_mentions, part_mentions, expression_mentions, all_mentions, form_mentions, doing_mentions, own_mention};
+ghost use Rattle.check_flow.specs.Parts.{parts_mentions, part_mentions, expression_mentions, all_mentions, form_mentions, doing_mentions};
+ghost use Rattle.check_flow.specs.Parts.{own_mention};
 
 use crate::reaching::reach;
 use check_model::ReachedList;

@@ -4,6 +4,7 @@ use Rattle.std.specs.Prelude.{Some, None, slice_get}
 use Rattle.indexmap.specs.IndexSet.{insert_key}
 use Rattle.tl_base.specs.declared.ids.FnId.{FnId}
 use Rattle.tl_base.specs.declared.ids.TermId.{TermId}
+use Rattle.tl_base.specs.declared.limits.TheConstants.{MAX_COMPILED_NODES}
 use Rattle.terra_term.specs.declared.store.Export.{Export}
 use Rattle.terra_term.specs.Held.{state_of, typed_in}
 use Rattle.exotype.specs.Terms.{typed_size}
@@ -13,7 +14,7 @@ use Rattle.check_model.specs.Checks.{mentions_at, with_mentions}
 
 -- the most typed nodes of exports with all that they reach
 abbrev pub most_nodes : ℕ
-most_nodes = 131072
+most_nodes = MAX_COMPILED_NODES
 
 -- how many exports were counted, the functions that they reach, by their numbers, in the order in which these were first reached, and the
 -- typed nodes of these

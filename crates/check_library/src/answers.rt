@@ -3,6 +3,7 @@
 ghost use Rattle.std.specs.Prelude.{◌≡◌, ◌≤◌, [], ◌∷◌, length, IfOk, OnOk};
 ghost use Rattle.std.specs.String.{string_bytes};
 ghost use Rattle.tl_base.specs.Layer.{state};
+ghost use Rattle.tl_base.specs.declared.text.TheConstants.Text.{MAX_LEN};
 ghost use Rattle.exotype.specs.Faults.{fault_text};
 ghost use Rattle.terra_lib.specs.Answers.{turned};
 ghost use Rattle.terra_lib.specs.Answers as library;
@@ -54,7 +55,7 @@ pub fn kind_name(kind: RefusalKind) -> &'static str
 /// The text of a refusal, with its own place.
 fn refusal_text(alloc: Global, kind: RefusalKind, line: u32, word: u32) -> Result<String, NoMemory>
     ensures text { IfOk result (λ text. string_bytes text ≡ refusal_text kind line word) }
-    ensures short { IfOk result (λ text. length (string_bytes text) ≤ 65535) }
+    ensures short { IfOk result (λ text. length (string_bytes text) ≤ MAX_LEN) }
 {
     let name = kind_name(kind);
     Ok(format!(in alloc; "refused: {name} at {line}:{word}")?)
@@ -85,7 +86,7 @@ fn raise_bytes(
     place: Place,
     bytes: &[u8],
 ) -> Result<LibTurn, NoMemory>
-    requires { length bytes.now ≤ 65535 }
+    requires { length bytes.now ≤ MAX_LEN }
     ensures does { IfOk result (λ turn.
         turned turn (state world.new budget.new) ≡ raised_bytes (state world.old budget.old) bytes.now place) }
     ensures kept { OnOk result (KeepsAsked world.old world.new) }

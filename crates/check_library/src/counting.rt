@@ -11,10 +11,8 @@ use indexmap::IndexSet;
 use std::alloc::Global;
 use std::marker::Model;
 use terra_term::{Export, FunctionState};
+use tl_base::limits::MAX_COMPILED_NODES;
 use tl_base::{FnId, NoMemory};
-
-/// The most typed nodes of exports with all that they reach.
-const MOST_NODES: u64 = 131_072;
 
 /// What was counted of the exports: how many of them, the functions that they reach, in the order in which these were first reached, and
 /// the typed nodes of these, which are at most 131,072. Each function counts once. Contracts see the list of the functions' numbers.
@@ -27,13 +25,14 @@ pub struct Counted {
 
 impl Model for Counted {
     ghost use Rattle.std.specs.Prelude.{◌≤◌};
+    ghost use Rattle.tl_base.specs.declared.limits.TheConstants.{MAX_COMPILED_NODES};
     ghost use Rattle.check_library.specs.Counting.{CountedState};
 
     ghost Value = { CountedState };
 
     ghost view = { λ c. record { exports = c.exports; functions = c.functions.keys; nodes = c.nodes } };
 
-    ghost invariant = { λ c. c.nodes ≤ 131072 };
+    ghost invariant = { λ c. c.nodes ≤ MAX_COMPILED_NODES };
 }
 
 impl Counted {
@@ -196,16 +195,16 @@ fn nodes_of(world: &World, f: u64) -> u64
 /// one does.
 #[tactic(auto, using(crate::proofs::Walking::sum_next, crate::proofs::Walking::sum_stop, crate::proofs::Walking::sum_end))]
 fn sum(world: &World, nodes: u64, functions: &[u64], first: usize) -> (u64, Option<FnId>)
-    requires { nodes ≤ 131072 }
+    requires { nodes ≤ MAX_COMPILED_NODES }
     ensures sum { record { nodes = result.0; passing = option_map (λ f. f.0) result.1 }
         ≡ summed world.now nodes (drop first functions.now) }
-    ensures within { result.0 ≤ 131072 }
+    ensures within { result.0 ≤ MAX_COMPILED_NODES }
 {
     let mut sum = nodes;
     'each: for place in first..functions.len() {
         let f = functions[place];
         let more = nodes_of(world, f);
-        if MOST_NODES - sum < more {
+        if MAX_COMPILED_NODES - sum < more {
             return (sum, Some(FnId(f)));
         }
         sum += more;

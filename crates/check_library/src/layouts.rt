@@ -24,10 +24,8 @@ use terra_lib::fields::whole;
 use terra_lib::symbols::scalar_bits;
 use terra_term::Static;
 use terra_types::{TypeForm, Types};
+use tl_base::limits::REGION_ADDRESS;
 use tl_base::{Budget, GlobalId, NoMemory, Place, Text2, TextId, TypeId};
-
-/// The address of the first static.
-const FIRST_STATIC: u64 = 0x4000_0000;
 
 /// The place of what has none in the text.
 const NOWHERE: Place = Place { line: 0, word: 0 };
@@ -286,7 +284,7 @@ fn has_room(world: &World, size: u64) -> bool
     ensures { result ≡ has_room world.now.memory world.now.store.statics size }
 {
     let next = (statics_end(world.store.statics()) + 15) / 16 * 16;
-    next + u128::from(size) <= u128::from(FIRST_STATIC + world.memory() / 2)
+    next + u128::from(size) <= u128::from(REGION_ADDRESS + world.memory() / 2)
 }
 
 /// The first address behind all statics.
@@ -297,7 +295,7 @@ fn statics_end(statics: &[Static]) -> u128
 {
     match statics.last() {
         Some(last) => sum(last.address, last.bytes.bytes().len() as u64),
-        None => u128::from(FIRST_STATIC),
+        None => u128::from(REGION_ADDRESS),
     }
 }
 

@@ -6,6 +6,7 @@ use Rattle.tl_base.specs.declared.ids.TermId.{TermId}
 use Rattle.tl_base.specs.declared.ids.FnId.{FnId}
 use Rattle.tl_base.specs.Layer.{Given, Meaning}
 use Rattle.tl_base.specs.Plan.{Give, Read, Write, Pay, run, run_job, shown}
+use Rattle.tl_base.specs.declared.limits.TheConstants.{MAX_TERM_NODES, MAX_TERM_LEVELS}
 use Rattle.terra_types.specs.Opening.{unit}
 use Rattle.terra_term.specs.declared.refusal.RefusalKind.TheVariants.{Undefined, TooLarge}
 use Rattle.terra_term.specs.declared.lists.Parameter.{Parameter}
@@ -47,10 +48,10 @@ body_job (jobs.Callee t os at source site) =
 
 -- the most nodes and levels of a typed body
 abbrev pub most_nodes : ℕ
-most_nodes = 8192
+most_nodes = MAX_TERM_NODES
 
 abbrev pub most_levels : ℕ
-most_levels = 1000
+most_levels = MAX_TERM_LEVELS
 
 -- each parameter is a node, and a variable of the body
 abbrev pub parameters : List Parameter → Site → BodyPlan → BodyPlan

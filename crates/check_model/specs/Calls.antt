@@ -12,7 +12,8 @@ use Rattle.lua_value.specs.declared.value.Value.{Value}
 use Rattle.lua_value.specs.declared.value.Value.TheVariants as values
 use Rattle.lua_value.specs.Values.{is_nil}
 use Rattle.lua_table.specs.Heap.{macro_at}
-use Rattle.terra_term.specs.declared.refusal.RefusalKind.TheVariants.{Undefined, NotCallable, BadOperand, WrongCount, RecursiveNeedsType, NotBuilt}
+use Rattle.terra_term.specs.declared.refusal.RefusalKind.TheVariants.{Undefined, NotCallable, BadOperand, WrongCount, RecursiveNeedsType}
+use Rattle.terra_term.specs.declared.refusal.RefusalKind.TheVariants.{NotBuilt}
 use Rattle.terra_term.specs.declared.operators.Operation.TheVariants as operations
 use Rattle.lua_value.specs.declared.primitive.Primitive.{Primitive}
 use Rattle.lua_value.specs.declared.primitive.Primitive.TheVariants.{PutByte, Write, Alloc}
@@ -44,8 +45,10 @@ use Rattle.check_model.specs.declared.made.Made.{Made}
 use Rattle.check_model.specs.declared.rule.Mode.TheVariants.{Implicit, Explicit}
 use Rattle.check_model.specs.Typing.{bytes_in, expression_at, place_of, function_at}
 use Rattle.check_model.specs.Structs.{metamethod}
-use Rattle.check_model.specs.Plans.{BodyPlan, reading, asks_lua, if_lua_is_asked, give, gives, refuse, laid_out, calling, becoming, in_place, operand, operands, ready, quotes_of, pointing}
+use Rattle.check_model.specs.Plans.{BodyPlan, reading, asks_lua, if_lua_is_asked, give, gives, refuse, laid_out, calling, becoming}
+use Rattle.check_model.specs.Plans.{in_place, operand, operands, ready, quotes_of, pointing}
 use Rattle.check_model.specs.Converting.{convert, fit}
+pub use Rattle.terra_term.specs.Held.{written_in}
 
 -- ---- what is known of a function
 
@@ -56,10 +59,6 @@ types_of (p ∷ ps) = p.of ∷ types_of ps
 abbrev pub params_of : Option nodes.Term → List TypeId
 params_of (Some (kinds.Function ps result body)) = types_of ps
 params_of _ = []
-
-abbrev pub written_in : Option nodes.Term → Option TypeId
-written_in (Some (kinds.Function ps result body)) = result
-written_in _ = None
 
 abbrev pub found_in : Option typed_nodes.Typed → Option TypeId
 found_in (Some (typed_kinds.Function ps result body)) = Some result

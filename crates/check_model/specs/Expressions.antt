@@ -1,5 +1,6 @@
 -- The expressions of a body.
-use Rattle.std.specs.Prelude.{ℕ, ◌-◌, Bool, true, false, ◌&&◌, not, codes, nat_eq, nat_lt, if◌then◌else◌, List, [], ◌∷◌, ◌++◌, length, drop, Option, Some, None, slice_get}
+use Rattle.std.specs.Prelude.{ℕ, ◌-◌, Bool, true, false, ◌&&◌, not, codes, nat_eq, nat_lt, if◌then◌else◌, List, [], ◌∷◌, ◌++◌, length, drop}
+use Rattle.std.specs.Prelude.{Option, Some, None, slice_get}
 use Rattle.tl_base.specs.declared.place.Place.{Place}
 use Rattle.tl_base.specs.declared.ids.TypeId.{TypeId}
 use Rattle.tl_base.specs.declared.ids.TermId.{TermId}
@@ -15,7 +16,9 @@ use Rattle.lua_value.specs.declared.value.Value.{Value}
 use Rattle.lua_value.specs.declared.value.Value.TheVariants as values
 use Rattle.lua_value.specs.Values.{is_nil}
 use Rattle.terra_term.specs.declared.refusal.RefusalKind.{RefusalKind}
-use Rattle.terra_term.specs.declared.refusal.RefusalKind.TheVariants.{Mismatch, NoField, NoMethod, BadOperand, NotPlace, WrongCount, OutOfScope, Incomplete, TooWide, CallbackRaised, FunctionValue, NotBuilt}
+use Rattle.terra_term.specs.declared.refusal.RefusalKind.TheVariants.{Mismatch, NoField, NoMethod, BadOperand, NotPlace, WrongCount}
+use Rattle.terra_term.specs.declared.refusal.RefusalKind.TheVariants.{OutOfScope, Incomplete, TooWide, CallbackRaised, FunctionValue}
+use Rattle.terra_term.specs.declared.refusal.RefusalKind.TheVariants.{NotBuilt}
 use Rattle.terra_term.specs.declared.operators.Operation.TheVariants as operations
 use Rattle.terra_term.specs.declared.operators.Constant.TheVariants as constants
 use Rattle.terra_term.specs.declared.store.TerraGlobal.{TerraGlobal}
@@ -43,7 +46,8 @@ use Rattle.check_model.specs.declared.made.Made.{Made}
 use Rattle.check_model.specs.declared.rule.Mode.TheVariants.{Implicit}
 use Rattle.check_model.specs.Typing.{TypingState, made_at, form_in, struct_of, bytes_in, expression_at, variable_at}
 use Rattle.check_model.specs.Structs.{metamethod, method_at}
-use Rattle.check_model.specs.Plans.{BodyPlan, reading, writing, asks_lua, if_lua_is_asked, give, gives, refuse, on_stated, typing, laid_out, as_value, asking, calling, quoting, becoming, in_place, ready, untyped, quotes_of, leaving}
+use Rattle.check_model.specs.Plans.{BodyPlan, reading, writing, asks_lua, if_lua_is_asked, give, gives, refuse, on_stated, typing, laid_out}
+use Rattle.check_model.specs.Plans.{as_value, asking, calling, quoting, becoming, in_place, ready, untyped, quotes_of, leaving}
 use Rattle.check_model.specs.Converting.{convert}
 use Rattle.check_model.specs.Calls.{is_called, call_named, call_term}
 use Rattle.check_model.specs.Operators.{binary_plan, unary_plan}

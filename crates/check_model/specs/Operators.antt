@@ -24,7 +24,8 @@ use Rattle.check_model.specs.declared.site.Site.{Site}
 use Rattle.check_model.specs.declared.made.Made.{Made}
 use Rattle.check_model.specs.declared.rule.Mode.TheVariants.{Implicit}
 use Rattle.check_model.specs.declared.rule.Rule.{Rule}
-use Rattle.check_model.specs.declared.rule.Rule.TheVariants.{Meets, Compares, Shifts, Tells, Ands, Ors, Addresses, Forward, Back, Differs, Unknown}
+use Rattle.check_model.specs.declared.rule.Rule.TheVariants.{Meets, Compares, Shifts, Tells, Ands, Ors, Addresses, Forward, Back, Differs}
+use Rattle.check_model.specs.declared.rule.Rule.TheVariants.{Unknown}
 use Rattle.check_model.specs.Typing.{form_in, is_nil_made, bytes_in}
 use Rattle.check_model.specs.Structs.{metamethod, metamethod_of_either}
 use Rattle.check_model.specs.Plans.{BodyPlan, reading, make, gives, refuse, laid_out, pointing, ready}

@@ -2,8 +2,8 @@
 //!
 //! The plans speak of the nodes of terms and of the world by their lists. The types here are those that the code of the three layers
 //! needs as well: what a body is typed in (`typing`) and where in it a node is (`site`), what pays a unit (`job`), what an expression was
-//! typed as (`made`), how it ends (`end`), and what is asked (`question`); with what is known of a function's result (`known`) and the kinds of
-//! rules (`rule`).
+//! typed as (`made`), how it ends (`end`), and what is asked (`question`); with what is known of a function's result (`known`) and the
+//! kinds of rules (`rule`).
 #![tactic(auto)]
 
 pub mod end;

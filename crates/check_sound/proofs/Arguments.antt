@@ -1,5 +1,6 @@
 -- Operands and arguments leave typed terms.
-use Rattle.std.proofs.Common.{◌≡◌, ℕ, ◌≤◌, Bool, true, false, List, [], ◌∷◌, ◌++◌, length, append_assoc, append-nil, sym, ap, ◌∙◌, subst, arith}
+use Rattle.std.proofs.Common.{◌≡◌, ℕ, ◌≤◌, Bool, true, false, List, [], ◌∷◌, ◌++◌, length, append_assoc, append-nil, sym, ap, ◌∙◌, subst}
+use Rattle.std.proofs.Common.{arith}
 use Rattle.std.specs.Prelude.{◌^◌}
 use Rattle.std.proofs.lemmas.Bool.{lt-ltb}
 use Rattle.std.proofs.lemmas.Option.{slice_get_within}
@@ -28,7 +29,8 @@ use Rattle.check_model.specs.Calls.{argument, arguments}
 use Rattle.check_sound.specs.Sound.{foreseen, IsThere, IsSound}
 use Rattle.check_sound.proofs.Scalars.{byte-at, long-at, unit-at, word-at}
 use Rattle.check_sound.proofs.Running.{Known, Holds}
-use Rattle.check_sound.proofs.Combining.{In, Step, Refuses, Makes, step-itself, step-twice, refuses-on, still, there-still, holds-make, holds-typing}
+use Rattle.check_sound.proofs.Combining.{In, Step, Refuses, Makes, step-itself, step-twice, refuses-on, still, there-still, holds-make}
+use Rattle.check_sound.proofs.Combining.{holds-typing}
 use Rattle.check_sound.proofs.Parts.{part-as, Listed, listed-snoc, listed-grows, usable-all, usable-snoc, TypesThere, types-there}
 use Rattle.check_sound.proofs.OfConverting.{holds-convert, holds-fit}
 

@@ -1,5 +1,6 @@
 -- A world stays sound where a value becomes a term.
-use Rattle.std.proofs.Common.{◌≡◌, ℕ, zero, suc, ◌+◌, ◌-◌, ◌/◌, ◌<◌, ◌≤◌, ℤ, pos, negsuc, Bool, true, false, cond, List, [], ◌∷◌, ◌++◌, length, Option, Some, None, refl, sym, ap, ◌∙◌, subst, arith, slice_get}
+use Rattle.std.proofs.Common.{◌≡◌, ℕ, zero, suc, ◌+◌, ◌-◌, ◌/◌, ◌<◌, ◌≤◌, ℤ, pos, negsuc, Bool, true, false, cond, List, [], ◌∷◌, ◌++◌}
+use Rattle.std.proofs.Common.{length, Option, Some, None, refl, sym, ap, ◌∙◌, subst, arith, slice_get}
 use Rattle.std.specs.Prelude.{◌^◌, ◌==◌, not, ◌&&◌, ◌||◌, ◌⊎◌, nat_le, nat_lt, find, option_map, unwrap_or, if◌then◌else◌}
 use mathlib.Core.Logic.{inl, inr}
 use Rattle.std.specs.Int.{cast_unsigned, w64}
@@ -31,9 +32,11 @@ use Rattle.check_cast.specs.Conversions.{form_of}
 use Rattle.exotype.specs.declared.fault.Fault.TheVariants as faults
 use Rattle.exotype.specs.World.{StageState, with_store}
 use Rattle.exotype.specs.Types.{is_type}
-use Rattle.exotype.specs.Becoming.{Becoming, Leaf, Text, Spliced, Again, Not, fits_int32, number, library_function, quoted, constant_leaf, type_found, quote_found, constant_found, becoming, after, with_term_of}
+use Rattle.exotype.specs.Becoming.{Becoming, Leaf, Text, Spliced, Again, Not, fits_int32, number, library_function, quoted, constant_leaf}
+use Rattle.exotype.specs.Becoming.{type_found, quote_found, constant_found, becoming, after, with_term_of}
 use Rattle.check_model.specs.Calls.{params_of}
-use Rattle.check_sound.specs.Sound.{foreseen, TermIsThere, ExpressionIsSound, TermIsSound, QuoteIsSound, ConstantIsSound, IsTypedSomewhere, StaticsFit, IsSound, HasBodyOf}
+use Rattle.check_sound.specs.Sound.{foreseen, TermIsThere, ExpressionIsSound, TermIsSound, QuoteIsSound, ConstantIsSound, IsTypedSomewhere}
+use Rattle.check_sound.specs.Sound.{StaticsFit, IsSound, HasBodyOf}
 use Rattle.check_sound.proofs.Tests.{none-some, same-some}
 use Rattle.check_sound.specs.Growing.{Leads}
 use Rattle.check_sound.proofs.Grows.{Grows, get-same, longer}

@@ -11,7 +11,8 @@ use Rattle.check_cast.specs.declared.conversion.Conv.{Conv}
 use Rattle.check_cast.specs.declared.conversion.Conv.TheVariants as conv
 use Rattle.check_cast.specs.Conversions.{form_of, implicit, explicit, implicit_forms, explicit_forms, array_conversion}
 use Rattle.terra_term.specs.Stores.{Contents}
-use Rattle.terra_term.specs.WellTyped.{same, form_at, integer_form, pointer_form, is_integer, is_pointer, is_function, is_array_of, array_in, target_in, converts}
+use Rattle.terra_term.specs.WellTyped.{same, form_at, integer_form, pointer_form, is_integer, is_pointer, is_function, is_array_of}
+use Rattle.terra_term.specs.WellTyped.{array_in, target_in, converts}
 use Rattle.check_model.specs.declared.rule.Mode.{Mode}
 use Rattle.check_model.specs.declared.rule.Mode.TheVariants.{Implicit, Explicit}
 use Rattle.check_sound.proofs.Tests.{same-id}

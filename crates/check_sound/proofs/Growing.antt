@@ -7,12 +7,19 @@ use Rattle.tl_base.specs.declared.ids.TypeId.{TypeId}
 use Rattle.terra_types.specs.Keeping.{KeepsTypes}
 use Rattle.terra_types.specs.Opening.{AreTypes}
 use Rattle.terra_term.specs.Stores.{Contents}
-use Rattle.terra_term.specs.Events.{Event, Opens, Closes, events_of, list_events, doing_events, block_events, operation_events, takes, declares, declares_all, body_events}
-use Rattle.terra_term.specs.TypedTerms.{Expression, typed, Constant', Variable, Global, Operate, Both, Either, Dereference, Select, Follow, Element, Index, Address, Decay, Let, Expressions, no_more, then_one, Statement, statement, Var, Assign, If, IfElse, While, Repeat, For, Do, Break, Finish, Return, Perform, Statements, done, and_then, Body, type_of, is_place}
-use Rattle.terra_term.specs.WellTyped.{Within, Scope, is_placed, form_at, is_pointer, is_array_of, target_in, is_typed, are_typed, one_typed, all_typed, body_typed, types_in, after_all, after_one, in_a_let, in_a_loop}
+use Rattle.terra_term.specs.Events.{Event, Opens, Closes, events_of, list_events, doing_events, block_events, operation_events, takes}
+use Rattle.terra_term.specs.Events.{declares, declares_all, body_events}
+use Rattle.terra_term.specs.TypedTerms.{Expression, typed, Constant', Variable, Global, Operate, Both, Either, Dereference, Select, Follow}
+use Rattle.terra_term.specs.TypedTerms.{Element, Index, Address, Decay, Let, Expressions, no_more, then_one, Statement, statement, Var}
+use Rattle.terra_term.specs.TypedTerms.{Assign, If, IfElse, While, Repeat, For, Do, Break, Finish, Return, Perform, Statements, done}
+use Rattle.terra_term.specs.TypedTerms.{and_then, Body, type_of, is_place}
+use Rattle.terra_term.specs.WellTyped.{Within, Scope, is_placed, form_at, is_pointer, is_array_of, target_in, is_typed, are_typed}
+use Rattle.terra_term.specs.WellTyped.{one_typed, all_typed, body_typed, types_in, after_all, after_one, in_a_let, in_a_loop}
 use Rattle.check_sound.proofs.Tests.{keep, keep_or, stay}
 use Rattle.check_sound.proofs.Naming.{Names, names-left, names-right}
-use Rattle.check_sound.proofs.Passing.{Lies, Agrees, integer-stays, pointer-stays, pointer-same, points-stays, array-stays, layout-stays, usable-stays, entry-stays, follows-stays, all-usable, names-laid, bounds-stay, constant-stays, operation-stays}
+use Rattle.check_sound.proofs.Passing.{Lies, Agrees, integer-stays, pointer-stays, pointer-same, points-stays, array-stays, layout-stays}
+use Rattle.check_sound.proofs.Passing.{usable-stays, entry-stays, follows-stays, all-usable, names-laid, bounds-stay, constant-stays}
+use Rattle.check_sound.proofs.Passing.{operation-stays}
 
 module _ (c d : Contents) (k : KeepsTypes c.types d.types) (a : AreTypes c.types) (b : AreTypes d.types)
     (lies : Lies d.types) where

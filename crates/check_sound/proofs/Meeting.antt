@@ -1,8 +1,10 @@
 -- Where each job of a table leaves what it should, so does each plan whose parts do, whatever the answers give.
-use Rattle.std.proofs.Common.{◌≡◌, ℕ, zero, suc, ◌-◌, ◌≤◌, Bool, true, false, List, [], ◌∷◌, ◌++◌, append_assoc, append-nil, refl, sym, ap, ◌∙◌, subst, arith}
+use Rattle.std.proofs.Common.{◌≡◌, ℕ, zero, suc, ◌-◌, ◌≤◌, Bool, true, false, List, [], ◌∷◌, ◌++◌, append_assoc, append-nil, refl, sym, ap}
+use Rattle.std.proofs.Common.{◌∙◌, subst, arith}
 use Rattle.std.specs.Prelude.{if◌then◌else◌, nat_le}
 use Rattle.tl_base.specs.Layer.{State, Given, state}
-use Rattle.tl_base.specs.Plan.{Plan, Give, Do, AskFor, Read, Write, Pay, Run, Gives, Stops, Halt, Lacks, Waits, Course, then_do, paid, run, run_within, run_job, units, units_of, IsUnchangedByMore}
+use Rattle.tl_base.specs.Plan.{Plan, Give, Do, AskFor, Read, Write, Pay, Run, Gives, Stops, Halt, Lacks, Waits, Course, then_do, paid, run}
+use Rattle.tl_base.specs.Plan.{run_within, run_job, units, units_of, IsUnchangedByMore}
 use Rattle.tl_base.proofs.Plans.{run_within-is, plan_run-by_more}
 
 -- the units of answers in front

@@ -14,9 +14,14 @@ use Rattle.terra_term.specs.declared.operators.Constant.TheVariants as constants
 use Rattle.terra_term.specs.declared.operators.Operation.{Operation}
 use Rattle.terra_term.specs.declared.operators.Operation.TheVariants as operations
 use Rattle.terra_term.specs.Stores.{Contents, callable_of}
-use Rattle.terra_term.specs.Events.{Event, Opens, Closes, Declares, Takes, Uses, Mentions, events_of, list_events, doing_events, block_events, operation_events, takes, declares, declares_all, body_events}
-use Rattle.terra_term.specs.TypedTerms.{Expression, typed, Constant', Variable, Global, Operate, Both, Either, Dereference, Select, Follow, Element, Index, Address, Decay, Let, Expressions, no_more, then_one, Statement, statement, Var, Assign, If, IfElse, While, Repeat, For, Do, Break, Finish, Return, Perform, Statements, done, and_then, Body}
-use Rattle.terra_term.specs.WellTyped.{Within, Scope, form_at, has_type, function_type_in, constant_typed, operation_typed, is_typed, are_typed, one_typed, all_typed, body_typed, types_in, after_all, after_one, in_a_let, in_a_loop}
+use Rattle.terra_term.specs.Events.{Event, Opens, Closes, Declares, Takes, Uses, Mentions, events_of, list_events, doing_events}
+use Rattle.terra_term.specs.Events.{block_events, operation_events, takes, declares, declares_all, body_events}
+use Rattle.terra_term.specs.TypedTerms.{Expression, typed, Constant', Variable, Global, Operate, Both, Either, Dereference, Select, Follow}
+use Rattle.terra_term.specs.TypedTerms.{Element, Index, Address, Decay, Let, Expressions, no_more, then_one, Statement, statement, Var}
+use Rattle.terra_term.specs.TypedTerms.{Assign, If, IfElse, While, Repeat, For, Do, Break, Finish, Return, Perform, Statements, done}
+use Rattle.terra_term.specs.TypedTerms.{and_then, Body}
+use Rattle.terra_term.specs.WellTyped.{Within, Scope, form_at, has_type, function_type_in, constant_typed, operation_typed, is_typed}
+use Rattle.terra_term.specs.WellTyped.{are_typed, one_typed, all_typed, body_typed, types_in, after_all, after_one, in_a_let, in_a_loop}
 use Rattle.check_sound.proofs.Tests.{no}
 use Rattle.check_sound.proofs.Naming.{Names}
 

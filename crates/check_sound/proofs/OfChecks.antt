@@ -1,5 +1,6 @@
 -- Behind a check, the function and all that it reaches are ready.
-use Rattle.std.proofs.Common.{◌≡◌, ℕ, zero, suc, ◌+◌, ◌<◌, ◌≤◌, Bool, true, false, List, [], ◌∷◌, ◌++◌, length, Option, Some, None, refl, sym, ap, ◌∙◌, subst, arith, slice_get}
+use Rattle.std.proofs.Common.{◌≡◌, ℕ, zero, suc, ◌+◌, ◌<◌, ◌≤◌, Bool, true, false, List, [], ◌∷◌, ◌++◌, length, Option, Some, None, refl}
+use Rattle.std.proofs.Common.{sym, ap, ◌∙◌, subst, arith, slice_get}
 use Rattle.std.specs.Prelude.{◌⊎◌, nat_lt, if◌then◌else◌}
 use mathlib.Core.Logic.{inl, inr}
 use Rattle.std.specs.Option.{option_map_or}
@@ -30,7 +31,8 @@ use Rattle.check_model.specs.declared.question.CheckAnswer.TheVariants as answer
 use Rattle.check_model.specs.Typing.{function_at}
 use Rattle.check_model.specs.Calls.{parameters_of, parameters_in_state}
 use Rattle.check_model.specs.Keeping.{ChecksAnswer}
-use Rattle.check_model.specs.Checks.{CheckPlan, CheckGiven, was_reached, with_mentions, mentions_at, take_next, past, refused_at, on_body, by_state, taken, at_index, check_job, check_first}
+use Rattle.check_model.specs.Checks.{CheckPlan, CheckGiven, was_reached, with_mentions, mentions_at, take_next, past, refused_at, on_body}
+use Rattle.check_model.specs.Checks.{by_state, taken, at_index, check_job, check_first}
 use Rattle.check_sound.specs.Sound.{IsSound}
 use Rattle.check_sound.specs.Growing.{Leads}
 use Rattle.check_sound.specs.Layers.{IsCheckAsked, IsCheckBack, IsCheckBackFor, ReachesReady, IsCheckedAs, CheckStaysSound, ChecksKeepSound}

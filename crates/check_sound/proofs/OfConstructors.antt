@@ -27,7 +27,8 @@ use Rattle.check_sound.proofs.Tests.{no}
 use Rattle.check_sound.proofs.Shapes.{struct-stays}
 use Rattle.check_sound.proofs.Scalars.{in-range, narrow-usable}
 use Rattle.check_sound.proofs.Running.{Holds}
-use Rattle.check_sound.proofs.Combining.{In, Step, Refuses, step-itself, step-twice, refuses-on, there-still, usable-still, holds-refuse, holds-if, holds-laid, holds-typing}
+use Rattle.check_sound.proofs.Combining.{In, Step, Refuses, step-itself, step-twice, refuses-on, there-still, usable-still, holds-refuse}
+use Rattle.check_sound.proofs.Combining.{holds-if, holds-laid, holds-typing}
 use Rattle.check_sound.proofs.Parts.{part-as, Listed, listed-snoc, listed-grows, usable-all, usable-snoc, operates}
 use Rattle.check_sound.proofs.OfConverting.{holds-convert}
 use Rattle.check_sound.proofs.Arguments.{Gives, gives-on, holds-gives}

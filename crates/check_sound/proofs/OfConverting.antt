@@ -20,7 +20,8 @@ use Rattle.terra_term.specs.Held.{next_typed}
 use Rattle.terra_term.specs.Planted.{typed_trees, typed_at}
 use Rattle.terra_term.specs.TypedTerms as typed
 use Rattle.terra_term.specs.TypedTerms.{type_of, is_place}
-use Rattle.terra_term.specs.WellTyped.{Scope, is_placed, is_usable, has_layout, is_pointer, is_array_of, target_in, form_at, points_in, points_to, pointer_form, converts}
+use Rattle.terra_term.specs.WellTyped.{Scope, is_placed, is_usable, has_layout, is_pointer, is_array_of, target_in, form_at, points_in}
+use Rattle.terra_term.specs.WellTyped.{points_to, pointer_form, converts}
 use Rattle.exotype.specs.World.{StageState}
 use Rattle.check_model.specs.declared.site.Site.{Site}
 use Rattle.check_model.specs.declared.made.Made.{Made}
@@ -36,7 +37,8 @@ use Rattle.check_sound.proofs.Tests.{no, same-id}
 use Rattle.check_sound.proofs.Scalars.{is_scalar, scalar-usable, flat-usable, narrow-usable}
 use Rattle.check_sound.proofs.Conversions.{Fact, conversion-fact}
 use Rattle.check_sound.proofs.Running.{Known, Holds}
-use Rattle.check_sound.proofs.Combining.{In, Step, Refuses, Makes, step-twice, refuses-on, still, usable-still, holds-make, holds-refuse, holds-if, holds-laid}
+use Rattle.check_sound.proofs.Combining.{In, Step, Refuses, Makes, step-twice, refuses-on, still, usable-still, holds-make, holds-refuse}
+use Rattle.check_sound.proofs.Combining.{holds-if, holds-laid}
 use Rattle.check_sound.proofs.Parts.{part-of, operates}
 
 -- ---- values

@@ -29,14 +29,16 @@ use Rattle.check_model.specs.Typing.{TypingState, form_in, struct_of, expression
 use Rattle.check_model.specs.Plans.{reading, gives, typing, as_value, untyped, leaving}
 use Rattle.check_model.specs.Calls.{is_called, call_named}
 use Rattle.check_model.specs.Operators.{binary_plan, unary_plan}
-use Rattle.check_model.specs.Expressions.{index_plan, select_plan, method_plan, let_plan, call_plan, expression_plan, node_plan, expression_job}
+use Rattle.check_model.specs.Expressions.{index_plan, select_plan, method_plan, let_plan, call_plan, expression_plan, node_plan}
+use Rattle.check_model.specs.Expressions.{expression_job}
 use Rattle.check_sound.specs.Sound.{foreseen, IsThere, AreStatements, ExpressionIsSound, IsSound}
 use Rattle.check_sound.proofs.Tests.{same-refl}
 use Rattle.check_sound.proofs.Scalars.{in-range, text-at, boolean-at}
 use Rattle.check_sound.proofs.Grows.{grows-twice}
 use Rattle.check_sound.proofs.Leading.{moves-twice}
 use Rattle.check_sound.proofs.Running.{Holds}
-use Rattle.check_sound.proofs.Combining.{In, Step, Refuses, Makes, all-there, step-twice, refuses-on, still, holds-refuse, holds-if, holds-typing}
+use Rattle.check_sound.proofs.Combining.{In, Step, Refuses, Makes, all-there, step-twice, refuses-on, still, holds-refuse, holds-if}
+use Rattle.check_sound.proofs.Combining.{holds-typing}
 use Rattle.check_sound.proofs.OfConverting.{holds-value, makes-nil}
 use Rattle.check_sound.proofs.Arguments.{are-untyped, Gives, gives-on, holds-gives}
 use Rattle.check_sound.proofs.OfCalls.{holds-named, holds-callee}

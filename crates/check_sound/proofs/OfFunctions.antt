@@ -26,7 +26,8 @@ use Rattle.check_model.specs.declared.known.KnownResult.{KnownResult}
 use Rattle.check_model.specs.declared.known.KnownResult.TheVariants.{Is, NotYet, BeingTyped}
 use Rattle.check_model.specs.Typing.{TypingState, function_at}
 use Rattle.check_model.specs.Plans.{BodyPlan, gives, refuse}
-use Rattle.check_model.specs.Calls.{known_result, parameter_types, parameters_of, result_of, parameters_in_state, result_in_state, on_result, by_result, arguments, with_params, call_function, call_by, call_primitive}
+use Rattle.check_model.specs.Calls.{known_result, parameter_types, parameters_of, result_of, parameters_in_state, result_in_state}
+use Rattle.check_model.specs.Calls.{on_result, by_result, arguments, with_params, call_function, call_by, call_primitive}
 use Rattle.check_model.specs.Keeping as keeping
 use Rattle.check_sound.specs.Sound.{foreseen, IsThere, IsSound}
 use Rattle.check_sound.proofs.Knowing.{knows-to}
@@ -35,10 +36,12 @@ use Rattle.check_sound.specs.Growing.{Leads}
 use Rattle.check_sound.proofs.Leading.{moves-same}
 use Rattle.check_sound.proofs.Worlds.{fair-of}
 use Rattle.check_sound.proofs.Running.{Holds}
-use Rattle.check_sound.proofs.Combining.{In, Step, Refuses, step-to, step-itself, step-twice, refuses-on, there-still, holds-pointing, holds-refuse, holds-if}
+use Rattle.check_sound.proofs.Combining.{In, Step, Refuses, step-to, step-itself, step-twice, refuses-on, there-still, holds-pointing}
+use Rattle.check_sound.proofs.Combining.{holds-refuse, holds-if}
 use Rattle.check_sound.proofs.Parts.{TypesThere, types-there, operates}
 use Rattle.check_sound.proofs.Signatures.{params-there, result-there}
-use Rattle.check_sound.proofs.Arguments.{AreOperands, uint8-there, int64-there, unit-there, Gives, gives-on, holds-gives, operands-still, holds-arguments}
+use Rattle.check_sound.proofs.Arguments.{AreOperands, uint8-there, int64-there, unit-there, Gives, gives-on, holds-gives, operands-still}
+use Rattle.check_sound.proofs.Arguments.{holds-arguments}
 
 module _ (q : PartEnd → TypingState → Type 0) (b : ℕ) (s : Scope) (site : Site) (base : site.base ≡ b) where
   -- ---- functions

@@ -31,7 +31,8 @@ use Rattle.check_model.specs.declared.question.CheckAnswer.TheVariants as answer
 use Rattle.check_model.specs.Typing.{form_in, is_aggregate_form}
 use Rattle.check_model.specs.Structs.{metamethod, entries_at}
 use Rattle.check_model.specs.Keeping.{IsLaidOut}
-use Rattle.check_model.specs.Layouts.{LayoutPlan, LayoutGiven, kept_as, keep, settle, unless_settled, settled_as, parts_of, with_entries, by_entries, on_part, asked_entries, by_known, by_form, sized, entries_from, layout_first, layout_job}
+use Rattle.check_model.specs.Layouts.{LayoutPlan, LayoutGiven, kept_as, keep, settle, unless_settled, settled_as, parts_of, with_entries}
+use Rattle.check_model.specs.Layouts.{by_entries, on_part, asked_entries, by_known, by_form, sized, entries_from, layout_first, layout_job}
 use Rattle.check_sound.specs.Sound.{IsSound}
 use Rattle.check_sound.specs.Growing.{Leads}
 use Rattle.check_sound.specs.Layers.{IsBack, IsBackFor, IsLaidAs, LayoutStaysSound, LayoutsKeepSound}

@@ -26,7 +26,8 @@ use Rattle.check_sound.specs.Sound.{foreseen, IsThere, AreStatements}
 use Rattle.check_sound.proofs.Leading.{leads-itself, moves-twice}
 use Rattle.check_sound.proofs.Worlds.{fair-of, statements-grow}
 use Rattle.check_sound.proofs.Running.{Holds, ResultThere}
-use Rattle.check_sound.proofs.Combining.{In, Step, Refuses, step-itself, step-twice, refuses-on, there-still, holds-refuse, holds-if, holds-typing}
+use Rattle.check_sound.proofs.Combining.{In, Step, Refuses, step-itself, step-twice, refuses-on, there-still, holds-refuse, holds-if}
+use Rattle.check_sound.proofs.Combining.{holds-typing}
 use Rattle.check_sound.proofs.Parts.{part-as, Listed, listed-snoc, listed-grows, listed-typed, listed-types}
 use Rattle.check_sound.proofs.OfConverting.{holds-convert}
 use Rattle.check_sound.proofs.Rules.{integer-there}

@@ -20,28 +20,34 @@ use Rattle.terra_term.specs.declared.typed.TypedExpression.TheVariants as te
 use Rattle.terra_term.specs.Held.{next_typed}
 use Rattle.terra_term.specs.Planted.{typed_trees, typed_at, typed_list_at}
 use Rattle.terra_term.specs.TypedTerms as typed
-use Rattle.terra_term.specs.WellTyped.{Scope, same, is_placed, is_usable, has_layout, is_integer, is_pointer, integer_form, pointer_form, struct_form, target_in, form_at, compares, binary_typed, operation_typed, bytes_at}
+use Rattle.terra_term.specs.WellTyped.{Scope, same, is_placed, is_usable, has_layout, is_integer, is_pointer, integer_form, pointer_form}
+use Rattle.terra_term.specs.WellTyped.{struct_form, target_in, form_at, compares, binary_typed, operation_typed, bytes_at}
 use Rattle.exotype.specs.World.{StageState}
 use Rattle.check_model.specs.declared.site.Site.{Site}
 use Rattle.check_model.specs.declared.end.PartEnd.{PartEnd}
 use Rattle.check_model.specs.declared.made.Made.{Made}
 use Rattle.check_model.specs.declared.rule.Mode.TheVariants.{Implicit}
 use Rattle.check_model.specs.declared.rule.Rule.{Rule}
-use Rattle.check_model.specs.declared.rule.Rule.TheVariants.{Meets, Compares, Shifts, Tells, Ands, Ors, Addresses, Forward, Back, Differs, Unknown}
+use Rattle.check_model.specs.declared.rule.Rule.TheVariants.{Meets, Compares, Shifts, Tells, Ands, Ors, Addresses, Forward, Back, Differs}
+use Rattle.check_model.specs.declared.rule.Rule.TheVariants.{Unknown}
 use Rattle.check_model.specs.Typing.{TypingState, form_in, is_nil_made, bytes_in, made_of}
 use Rattle.check_model.specs.Structs.{metamethod_of_either}
 use Rattle.check_model.specs.Plans.{BodyPlan, reading, make, gives, refuse, laid_out}
 use Rattle.check_model.specs.Converting.{convert}
-use Rattle.check_model.specs.Operators.{event_of, rule_of, both, at_type, retyped, same_pointers, meeting, by_rule, by_metamethod, binary_plan}
+use Rattle.check_model.specs.Operators.{event_of, rule_of, both, at_type, retyped, same_pointers, meeting, by_rule, by_metamethod}
+use Rattle.check_model.specs.Operators.{binary_plan}
 use Rattle.check_sound.specs.Sound.{foreseen, IsThere, IsSound, is_plain_operation}
 use Rattle.check_sound.proofs.Tests.{same-id, same-refl}
 use Rattle.check_sound.proofs.Shapes.{form-stays, stays-is}
 use Rattle.check_sound.proofs.Scalars.{target-there, long-at}
 use Rattle.check_sound.proofs.Running.{Known, Holds}
-use Rattle.check_sound.proofs.Combining.{In, Step, Refuses, Makes, step-itself, step-twice, refuses-on, still, there-still, holds-make, holds-refuse, holds-if, holds-laid}
+use Rattle.check_sound.proofs.Combining.{In, Step, Refuses, Makes, step-itself, step-twice, refuses-on, still, there-still, holds-make}
+use Rattle.check_sound.proofs.Combining.{holds-refuse, holds-if, holds-laid}
 use Rattle.check_sound.proofs.OfConverting.{holds-convert, makes-nil}
 use Rattle.check_sound.proofs.Arguments.{Gives, gives-on, holds-gives}
-use Rattle.check_sound.proofs.Rules.{integer-there, boolean-there, truth-usable, integer-usable, pointer-usable, two, RuleFact, rule-fact, both-compare, integers-comparable, pointers-comparable, truths-comparable, meets, shifted, meet-integer}
+use Rattle.check_sound.proofs.Rules.{integer-there, boolean-there, truth-usable, integer-usable, pointer-usable, two, RuleFact, rule-fact}
+use Rattle.check_sound.proofs.Rules.{both-compare, integers-comparable, pointers-comparable, truths-comparable, meets, shifted}
+use Rattle.check_sound.proofs.Rules.{meet-integer}
 
 module _ (q : PartEnd → TypingState → Type 0) (b : ℕ) (s : Scope) (site : Site) (base : site.base ≡ b) where
   pub integer-still : (w v : TypingState) → In b s w → Step b s w v →

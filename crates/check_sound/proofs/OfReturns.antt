@@ -24,7 +24,8 @@ use Rattle.check_model.specs.Statements.{return_value, return_nothing, returned,
 use Rattle.check_sound.specs.Sound.{foreseen, IsThere, IsThereIfAny, IsSound}
 use Rattle.check_sound.proofs.Tests.{no, same-refl}
 use Rattle.check_sound.proofs.Running.{Known, Holds, Fits, ResultThere}
-use Rattle.check_sound.proofs.Combining.{In, Step, Refuses, step-itself, step-twice, refuses-on, there-still, holds-refuse, holds-if, holds-typing}
+use Rattle.check_sound.proofs.Combining.{In, Step, Refuses, step-itself, step-twice, refuses-on, there-still, holds-refuse, holds-if}
+use Rattle.check_sound.proofs.Combining.{holds-typing}
 use Rattle.check_sound.proofs.OfConverting.{holds-value, holds-convert}
 use Rattle.check_sound.proofs.Arguments.{unit-there}
 use Rattle.check_sound.proofs.Stating.{Does, States, step-more, there-any, holds-states}

@@ -1,5 +1,6 @@
 -- A `var` leaves a typed statement, and its names in scope.
-use Rattle.std.proofs.Common.{◌≡◌, ℕ, true, List, [], ◌∷◌, ◌++◌, length, append_assoc, append-nil, Option, Some, None, refl, sym, ap, ◌∙◌, subst}
+use Rattle.std.proofs.Common.{◌≡◌, ℕ, true, List, [], ◌∷◌, ◌++◌, length, append_assoc, append-nil, Option, Some, None, refl, sym, ap, ◌∙◌}
+use Rattle.std.proofs.Common.{subst}
 use Rattle.std.specs.Prelude.{◌&&◌, ◌||◌, ◌⊎◌, nat_eq, unwrap_or}
 use mathlib.Core.Logic.{inl, inr}
 use Rattle.std.proofs.lemmas.Bool.{and_from, and_parts, ltb-true, or_left, or_right}
@@ -15,7 +16,8 @@ use Rattle.terra_term.specs.declared.lists.VarName.{VarName}
 use Rattle.terra_term.specs.declared.typed.TypedStatement.TheVariants as ts
 use Rattle.terra_term.specs.Planted.{typed_trees, typed_list_at}
 use Rattle.terra_term.specs.TypedTerms as typed
-use Rattle.terra_term.specs.WellTyped.{Scope, is_placed, is_usable, all_usable, are_same, types_of_names, types_in, no_values, names_laid_out, has_layout}
+use Rattle.terra_term.specs.WellTyped.{Scope, is_placed, is_usable, all_usable, are_same, types_of_names, types_in, no_values}
+use Rattle.terra_term.specs.WellTyped.{names_laid_out, has_layout}
 use Rattle.exotype.specs.World.{StageState}
 use Rattle.check_model.specs.declared.site.Site.{Site}
 use Rattle.check_model.specs.declared.end.PartEnd.{PartEnd}
@@ -31,7 +33,8 @@ use Rattle.check_sound.proofs.Grows.{Grows}
 use Rattle.check_sound.proofs.Leading.{leads-itself}
 use Rattle.check_sound.proofs.Worlds.{fair-of, any-grows}
 use Rattle.check_sound.proofs.Running.{AllThere, Known, Holds, ResultThere}
-use Rattle.check_sound.proofs.Combining.{In, Step, Refuses, step-itself, step-twice, refuses-on, all-there, there-still, holds-refuse, holds-if, holds-laid, holds-typing}
+use Rattle.check_sound.proofs.Combining.{In, Step, Refuses, step-itself, step-twice, refuses-on, all-there, there-still, holds-refuse}
+use Rattle.check_sound.proofs.Combining.{holds-if, holds-laid, holds-typing}
 use Rattle.check_sound.proofs.Parts.{part-as, Listed, listed-snoc, listed-grows, listed-typed, listed-types, usable-all, usable-snoc}
 use Rattle.check_sound.proofs.OfConverting.{holds-value, holds-convert}
 use Rattle.check_sound.proofs.Blocks.{more-to, result-grows}

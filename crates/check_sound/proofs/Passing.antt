@@ -1,5 +1,6 @@
 -- The tests of operations stay passed where types are kept and what is called keeps its type.
-use Rattle.std.proofs.Common.{◌≡◌, ℕ, zero, suc, ◌+◌, ◌≤◌, Bool, true, false, List, [], ◌∷◌, Option, Some, None, refl, sym, ap, ◌∙◌, arith, slice_get}
+use Rattle.std.proofs.Common.{◌≡◌, ℕ, zero, suc, ◌+◌, ◌≤◌, Bool, true, false, List, [], ◌∷◌, Option, Some, None, refl, sym, ap, ◌∙◌, arith}
+use Rattle.std.proofs.Common.{slice_get}
 use Rattle.std.specs.Prelude.{◌&&◌, ◌⊎◌, nat_eq, nat_le, nat_lt, unwrap_or, is_some, if◌then◌else◌}
 use mathlib.Core.Logic.{inl, inr}
 use Rattle.std.proofs.lemmas.Bool.{and_parts, and_from, eqb-true, le-leb, or_cases}
@@ -25,7 +26,12 @@ use Rattle.terra_term.specs.declared.operators.Operation.TheVariants as operatio
 use Rattle.terra_term.specs.Stores.{Contents, callable_of}
 use Rattle.terra_term.specs.Events.{events_of, operation_events}
 use Rattle.terra_term.specs.TypedTerms.{typed, Constant'}
-use Rattle.terra_term.specs.WellTyped.{same, form_at, integer_form, pointer_form, function_form, struct_form, is_struct, is_integer, is_pointer, is_function, points_in, points_to, array_in, is_array_of, has_layout, small, is_usable, has_entry, bytes_at, entry_of, follows_in, all_usable, has_type, function_type_in, calls_in, is_word_of, constant_typed, compares, comparable, shifts, binary_typed, converts, primitive_typed, target_in, is_sized, step_typed, entries_typed, first_type, second_type, has_operands, others, operation_typed, names_laid_out, are_bounds}
+use Rattle.terra_term.specs.WellTyped.{same, form_at, integer_form, pointer_form, function_form, struct_form, is_struct, is_integer}
+use Rattle.terra_term.specs.WellTyped.{is_pointer, is_function, points_in, points_to, array_in, is_array_of, has_layout, small, is_usable}
+use Rattle.terra_term.specs.WellTyped.{has_entry, bytes_at, entry_of, follows_in, all_usable, has_type, function_type_in, calls_in}
+use Rattle.terra_term.specs.WellTyped.{is_word_of, constant_typed, compares, comparable, shifts, binary_typed, converts, primitive_typed}
+use Rattle.terra_term.specs.WellTyped.{target_in, is_sized, step_typed, entries_typed, first_type, second_type, has_operands, others}
+use Rattle.terra_term.specs.WellTyped.{operation_typed, names_laid_out, are_bounds}
 use Rattle.check_sound.proofs.Tests.{no, keep, keep_or, stay, three, same-id}
 use Rattle.check_sound.proofs.Shapes.{form-stays, stays-is, struct-stays, measure-kept, size-kept}
 use Rattle.check_sound.proofs.Naming.{Names}

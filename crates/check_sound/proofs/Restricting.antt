@@ -1,5 +1,6 @@
 -- A store with what a check reached alone is typed.
-use Rattle.std.proofs.Common.{◌≡◌, ℕ, zero, suc, ◌+◌, Bool, true, false, List, [], ◌∷◌, Option, Some, None, refl, sym, ap, ◌∙◌, subst, arith, slice_get}
+use Rattle.std.proofs.Common.{◌≡◌, ℕ, zero, suc, ◌+◌, Bool, true, false, List, [], ◌∷◌, Option, Some, None, refl, sym, ap, ◌∙◌, subst}
+use Rattle.std.proofs.Common.{arith, slice_get}
 use Rattle.std.specs.Prelude.{if◌then◌else◌}
 use Rattle.tl_base.specs.declared.ids.FnId.{FnId}
 use Rattle.tl_base.specs.declared.ids.TermId.{TermId}

@@ -17,11 +17,13 @@ use Rattle.terra_term.specs.declared.typed.TypedExpression.TheVariants as te
 use Rattle.terra_term.specs.Planted.{typed_trees, typed_list_at}
 use Rattle.terra_term.specs.TypedTerms as typed
 use Rattle.terra_term.specs.Stores.{Contents}
-use Rattle.terra_term.specs.WellTyped.{Scope, same, is_placed, is_usable, is_integer, is_pointer, integer_form, pointer_form, compares, shifts, equates, comparable, binary_typed, operation_typed}
+use Rattle.terra_term.specs.WellTyped.{Scope, same, is_placed, is_usable, is_integer, is_pointer, integer_form, pointer_form, compares}
+use Rattle.terra_term.specs.WellTyped.{shifts, equates, comparable, binary_typed, operation_typed}
 use Rattle.exotype.specs.World.{StageState}
 use Rattle.check_model.specs.declared.made.Made.{Made}
 use Rattle.check_model.specs.declared.rule.Rule.{Rule}
-use Rattle.check_model.specs.declared.rule.Rule.TheVariants.{Meets, Compares, Shifts, Tells, Ands, Ors, Addresses, Forward, Back, Differs, Unknown}
+use Rattle.check_model.specs.declared.rule.Rule.TheVariants.{Meets, Compares, Shifts, Tells, Ands, Ors, Addresses, Forward, Back, Differs}
+use Rattle.check_model.specs.declared.rule.Rule.TheVariants.{Unknown}
 use Rattle.check_model.specs.Operators.{on_integers, on_truths, on_pointer, on_pointers, rule_of}
 use Rattle.check_sound.specs.Sound.{foreseen, IsThere, IsSound, is_plain_operation}
 use Rattle.check_sound.proofs.Tests.{no, same-id, same-refl}

@@ -16,7 +16,8 @@ use Rattle.terra_term.proofs.Staying.{stays-same}
 use Rattle.exotype.specs.World.{StageState}
 use Rattle.check_model.specs.declared.known.KnownResult.TheVariants.{Is, NotYet, BeingTyped}
 use Rattle.check_model.specs.Typing.{function_at}
-use Rattle.check_model.specs.Calls.{known_result, parameter_types, params_of, params_in, result_in, declared_params, declared_result, written_in, found_in, known_or, parameters_in_state, result_in_state}
+use Rattle.check_model.specs.Calls.{known_result, parameter_types, params_of, params_in, result_in, declared_params, declared_result}
+use Rattle.check_model.specs.Calls.{written_in, found_in, known_or, parameters_in_state, result_in_state}
 use Rattle.check_sound.specs.Sound.{TermIsThere}
 use Rattle.check_sound.proofs.Tests.{none-some}
 use Rattle.check_sound.proofs.Shapes.{form-stays}

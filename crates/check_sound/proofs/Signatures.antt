@@ -1,5 +1,6 @@
 -- The types that functions and terms name are there.
-use Rattle.std.proofs.Common.{◌≡◌, ℕ, zero, suc, ◌<◌, true, List, [], ◌∷◌, length, Option, Some, None, refl, sym, ap, ◌∙◌, subst, arith, slice_get}
+use Rattle.std.proofs.Common.{◌≡◌, ℕ, zero, suc, ◌<◌, true, List, [], ◌∷◌, length, Option, Some, None, refl, sym, ap, ◌∙◌, subst, arith}
+use Rattle.std.proofs.Common.{slice_get}
 use Rattle.std.specs.Prelude.{is_some}
 use Rattle.std.proofs.lemmas.Bool.{lt-ltb}
 use Rattle.tl_base.specs.declared.ids.FnId.{FnId}
@@ -19,7 +20,8 @@ use Rattle.exotype.specs.World.{StageState}
 use Rattle.check_model.specs.declared.known.KnownResult.{KnownResult}
 use Rattle.check_model.specs.declared.known.KnownResult.TheVariants.{Is, NotYet, BeingTyped}
 use Rattle.check_model.specs.Typing.{function_at, expression_at, expression_in}
-use Rattle.check_model.specs.Calls.{known_result, parameter_types, params_of, params_in, result_in, declared_params, declared_result, written_in, found_in, types_of, result_of, result_in_state, known_or}
+use Rattle.check_model.specs.Calls.{known_result, parameter_types, params_of, params_in, result_in, declared_params, declared_result}
+use Rattle.check_model.specs.Calls.{written_in, found_in, types_of, result_of, result_in_state, known_or}
 use Rattle.check_sound.specs.Sound.{IsThere, IsThereIfAny, ParametersAreThere, ExpressionIsSound, IsSound}
 use Rattle.check_sound.proofs.Tests.{none-some, same-some}
 use Rattle.check_sound.proofs.Knowing.{known-some, not-yet, being}

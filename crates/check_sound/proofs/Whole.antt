@@ -35,7 +35,8 @@ use Rattle.check_model.specs.declared.known.KnownResult.TheVariants.{Is, NotYet,
 use Rattle.check_model.specs.Typing.{TypingState, function_at}
 use Rattle.check_model.specs.Plans.{BodyPlan}
 use Rattle.check_model.specs.Calls.{known_or, known_result, parameter_types, written_in, found_in, result_of, result_in_state}
-use Rattle.check_model.specs.Bodies.{BodyGiven, body, close_body, definition_plan, close_function, site_of, begun_in, function_plan, for_function}
+use Rattle.check_model.specs.Bodies.{BodyGiven, body, close_body, definition_plan, close_function, site_of, begun_in, function_plan}
+use Rattle.check_model.specs.Bodies.{for_function}
 use Rattle.check_sound.specs.Sound.{foreseen, TermIsThere, IsSound, HasBodyOf, typed_body}
 use Rattle.check_sound.specs.Growing.{Grows, StaysDeclared, AreFine, Leads}
 use Rattle.check_sound.specs.Layers.{IsTypedAs, BodyStaysSound, MayBeTyped, KeepsSound}

@@ -33,13 +33,16 @@ use Rattle.terra_term.specs.Held.{term_in}
 use Rattle.terra_term.specs.Planted.{nowhere, typed_trees, typed_at}
 use Rattle.terra_term.specs.TypedTerms as typed
 use Rattle.terra_term.specs.Events.{Event, events_of, doing_events, block_events, body_events}
-use Rattle.terra_term.specs.WellTyped.{Within, Scope, is_typed, one_typed, all_typed, body_typed, constant_typed, has_layout, is_usable, is_placed}
+use Rattle.terra_term.specs.WellTyped.{Within, Scope, is_typed, one_typed, all_typed, body_typed, constant_typed, has_layout, is_usable}
+use Rattle.terra_term.specs.WellTyped.{is_placed}
 use Rattle.exotype.specs.World.{StageState}
 use Rattle.exotype.specs.Properties.{known_of}
 use Rattle.exotype.specs.declared.property.Property.TheVariants.{Entries}
 use Rattle.exotype.specs.declared.property.Known.TheVariants as known
 use Rattle.check_model.specs.Typing.{function_at}
-use Rattle.check_sound.specs.Sound.{foreseen, outermost, IsTypedSomewhere, QuoteIsSound, IsThere, IsThereIfAny, TermIsThere, ParametersAreThere, NamesAreThere, is_statement, AreStatements, AreStatementsIfAny, ExpressionIsSound, StatementIsSound, TermIsSound, ConstantIsSound, StaticsFit, IsSound, is_plain_node, typed_body}
+use Rattle.check_sound.specs.Sound.{foreseen, outermost, IsTypedSomewhere, QuoteIsSound, IsThere, IsThereIfAny, TermIsThere}
+use Rattle.check_sound.specs.Sound.{ParametersAreThere, NamesAreThere, is_statement, AreStatements, AreStatementsIfAny, ExpressionIsSound}
+use Rattle.check_sound.specs.Sound.{StatementIsSound, TermIsSound, ConstantIsSound, StaticsFit, IsSound, is_plain_node, typed_body}
 use Rattle.check_sound.proofs.Tests.{got, keep_or, stay, no}
 use Rattle.check_sound.proofs.Knowing.{BodiesThere, knows-to, knows-from}
 use Rattle.check_sound.proofs.Shapes.{size-kept}

@@ -1,13 +1,11 @@
 -- What is known of the exports of a world: their names, their types, and how many typed nodes they have with all that they reach.
-use Rattle.std.specs.Prelude.{◌≡◌, ℕ, ◌+◌, ◌≤◌, Bool, true, false, not, ◌==◌, ◌&&◌, List, [], ◌∷◌, length, Option, Some, None, slice_get}
+use Rattle.std.specs.Prelude.{◌≡◌, ℕ, ◌+◌, ◌≤◌, Bool, true, not, ◌==◌, ◌&&◌, List, [], ◌∷◌, length, Some, slice_get}
 use Rattle.std.specs.List.{list_all}
 use Rattle.tl_base.specs.declared.ids.FnId.{FnId}
 use Rattle.tl_base.specs.declared.ids.TypeId.{TypeId}
 use Rattle.tl_base.specs.declared.place.Place.{Place}
-use Rattle.terra_types.specs.declared.types.TypeForm.{TypeForm}
-use Rattle.terra_types.specs.declared.types.TypeForm.TheVariants as forms
+use Rattle.tl_base.specs.declared.limits.TheConstants.{MAX_COMPILED_NODES, MAX_NAME_BYTES, MAX_PARAMETERS}
 use Rattle.terra_term.specs.declared.store.Export.{Export}
-use Rattle.terra_term.specs.Sizes.{body_size}
 use Rattle.terra_term.specs.Stores.{Callable, contents_of, callable_of}
 use Rattle.terra_term.specs.WellTyped.{body_typed}
 use Rattle.exotype.specs.World.{StageState}
@@ -15,25 +13,16 @@ use Rattle.check_model.specs.declared.known.KnownResult.TheVariants.{Is}
 use Rattle.check_model.specs.Typing.{form_in}
 use Rattle.check_model.specs.Calls.{parameters_of, result_of}
 use Rattle.check_model.specs.Checks.{mentions_at}
+pub use Rattle.terra_types.specs.Scalars.{is_scalar as is_word_form, is_result as is_result_form}
+pub use Rattle.terra_term.specs.Sizes.{nodes_of as body_nodes}
 
 -- ---- names and types
 
 -- a name of 1 to 255 bytes, none of them zero
 pub record HasName (e : Export) : Type 0 where
   pub least : 1 ≤ length e.name
-  pub most : length e.name ≤ 255
+  pub most : length e.name ≤ MAX_NAME_BYTES
   pub no_zero : list_all (λ b. not (b == 0)) e.name ≡ true
-
--- integers, bools and pointers, which have one word
-abbrev pub is_word_form : TypeForm → Bool
-is_word_form (forms.Integer i) = true
-is_word_form forms.Bool = true
-is_word_form (forms.Pointer t) = true
-is_word_form form = false
-
-abbrev pub is_result_form : TypeForm → Bool
-is_result_form forms.Unit = true
-is_result_form form = is_word_form form
 
 abbrev pub all_words : StageState → List TypeId → Bool
 all_words w [] = true
@@ -43,7 +32,7 @@ all_words w (t ∷ ts) = is_word_form (form_in w t) && all_words w ts
 pub record IsOutward (w : StageState) (f : FnId) : Type 0 where
   pub parameters : List TypeId
   pub parameters_are : parameters_of w f ≡ Some parameters
-  pub eight : length parameters ≤ 8
+  pub eight : length parameters ≤ MAX_PARAMETERS
   pub words : all_words w parameters ≡ true
   pub result : TypeId
   pub result_is : result_of w f ≡ Is result
@@ -56,10 +45,6 @@ Stands fs f = (k : ℕ) × (slice_get fs k ≡ Some f)
 
 abbrev pub numbered : ℕ → FnId
 numbered f = record { 0 = f }
-
-abbrev pub body_nodes : Option Callable → ℕ
-body_nodes (Some k) = (body_size k.body).nodes
-body_nodes None = 0
 
 -- how many typed nodes functions have, which are given by their numbers
 abbrev pub nodes_in : StageState → List ℕ → ℕ
@@ -79,4 +64,4 @@ pub record AreCounted (w : StageState) (exports : List Export) (fs : List ℕ) (
   pub once : (i j f : ℕ) → slice_get fs i ≡ Some f → slice_get fs j ≡ Some f → i ≡ j
   pub closed : (k f : ℕ) → slice_get fs k ≡ Some f → IsClosed w fs f
   pub sum : nodes_in w fs ≡ nodes
-  pub most : nodes ≤ 131072
+  pub most : nodes ≤ MAX_COMPILED_NODES

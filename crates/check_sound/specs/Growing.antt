@@ -4,6 +4,7 @@ use Rattle.lua_table.specs.Keeping.{IsFront}
 use Rattle.tl_base.specs.declared.ids.FnId.{FnId}
 use Rattle.tl_base.specs.declared.ids.TermId.{TermId}
 use Rattle.tl_base.specs.declared.ids.TypeId.{TypeId}
+use Rattle.tl_base.specs.declared.limits.TheConstants.Limits.{MAX_BUDGET}
 use Rattle.terra_types.specs.Keeping.{KeepsTypes}
 use Rattle.terra_term.specs.Keeping.{AllStay, AreKept}
 use Rattle.terra_term.specs.Held.{state_of}
@@ -59,7 +60,7 @@ pub record AreFine (v : StageState) : Type 0 where
       d.name ≡ e.name → i ≡ j
   pub ready : (i : ℕ) (e : Export) → slice_get v.exports.list i ≡ Some e → WasReady v e.function
   pub outward : (i : ℕ) (e : Export) → slice_get v.exports.list i ≡ Some e → IsOutward v e.function
-  pub many : length v.exports.list ≤ 4000000
+  pub many : length v.exports.list ≤ MAX_BUDGET
   pub functions : List ℕ
   pub nodes : ℕ
   pub counted : WereCounted v v.exports.list functions nodes

@@ -7,6 +7,7 @@ use Rattle.tl_base.specs.declared.place.Place.{Place}
 use Rattle.tl_base.specs.declared.ids.FnId.{FnId}
 use Rattle.tl_base.specs.declared.ids.TermId.{TermId}
 use Rattle.tl_base.specs.declared.ids.TypeId.{TypeId}
+use Rattle.tl_base.specs.declared.limits.TheConstants.Limits.{MAX_MEMORY}
 use Rattle.lua_value.specs.declared.value.Value.{Value}
 use Rattle.terra_types.specs.declared.layout.Laid.{Laid}
 use Rattle.terra_types.specs.Sizes.{size_of}
@@ -32,8 +33,6 @@ use Rattle.terra_term.specs.declared.term.Expression.TheVariants as e
 use Rattle.terra_term.specs.declared.term.Statement.{Statement}
 use Rattle.terra_term.specs.declared.term.Statement.TheVariants as s
 use Rattle.terra_term.specs.declared.operators.Constant.TheVariants as constants
-use Rattle.terra_term.specs.declared.operators.Operation.{Operation}
-use Rattle.terra_term.specs.declared.operators.Operation.TheVariants as operations
 use Rattle.terra_term.specs.declared.typed.Typed.{Typed}
 use Rattle.terra_term.specs.declared.typed.Typed.TheVariants as nodes
 use Rattle.terra_term.specs.declared.typed.TypedExpression.{TypedExpression}
@@ -56,6 +55,8 @@ use Rattle.check_model.specs.Calls.{known_result, parameter_types, params_of}
 use Rattle.check_model.specs.Bodies.{most_nodes}
 use Rattle.check_model.specs.Checks.{was_reached, mentions_at}
 use Rattle.check_model.specs.declared.job.Reached.{Reached}
+pub use Rattle.terra_term.specs.WellTyped.{is_plain_operation}
+pub use Rattle.terra_term.specs.Stores.{body_in}
 
 -- ---- functions as they are foreseen
 
@@ -100,10 +101,6 @@ foreseen w =
     record (contents_of w.store) { functions = (foreseen_functions w).functions; typed = (foreseen_functions w).typed }
 
 -- ---- worlds whose typed terms are typed
-
-abbrev pub body_in : Option typed.Item → Option typed.Body
-body_in (Some (typed.body b)) = Some b
-body_in _ = None
 
 abbrev pub typed_body : StageState → TermId → Option typed.Body
 typed_body w made = body_in (slice_get (typed_trees w.store.typed) made.0)
@@ -185,11 +182,6 @@ TermIsSound w (kinds.Function params result body) = ParametersAreThere w params 
 abbrev pub ConstantIsSound : StageState → TerraConstant → Type 0
 ConstantIsSound w c = (same_type c.of boolean || constant_typed (foreseen w) c.of (constants.Number c.value)) ≡ true
 
--- no node calls a function that is a value
-abbrev pub is_plain_operation : Operation → Bool
-is_plain_operation operations.CallValue = false
-is_plain_operation op = true
-
 abbrev pub is_plain_form : TypedExpression → Bool
 is_plain_form (of_typed.Operate op es) = is_plain_operation op
 is_plain_form x = true
@@ -222,7 +214,7 @@ pub record StaticsFit (w : StageState) : Type 0 where
 pub record IsSound (w : StageState) : Type 0 where
   pub types : AreTypes w.store.types
   pub entries : (t : TypeId) (i : ℕ) (l : Laid) → slice_get (entries_of w.store.types t) i ≡ Some l → LiesWithin w t l
-  pub memory : w.memory ≤ 67108864
+  pub memory : w.memory ≤ MAX_MEMORY
   pub typed_bodies : (f : FnId) (t made : TermId) (g : Function) → function_at w f ≡ Some g → g.state ≡ standing.Typed t made →
       HasBodyOf w t made
   pub bodies : (f : FnId) (t made : TermId) (b : typed.Body) (g : Function) →
@@ -243,7 +235,7 @@ pub record IsSound (w : StageState) : Type 0 where
 
 -- A staging begins in such a world.
 abbrev pub BeginsSound : Type 0
-BeginsSound = (memory : ℕ) → memory ≤ 67108864 → IsSound (opening opening_types memory)
+BeginsSound = (memory : ℕ) → memory ≤ MAX_MEMORY → IsSound (opening opening_types memory)
 
 -- ---- behind a check
 

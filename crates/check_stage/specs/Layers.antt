@@ -43,6 +43,7 @@ use Rattle.check_stage.specs.Asking.{called, exporting, asking_rest}
 use Rattle.check_stage.specs.Results.{result_meaning, result_rest, ResultFits}
 use Rattle.check_stage.specs.declared.staged.Staged.{Staged}
 use Rattle.check_stage.specs.declared.staged.Staged.TheVariants as layers
+pub use Rattle.check_expr.specs.Steps.{with_stage}
 
 -- ---- what needs no check and no layout by itself
 
@@ -61,9 +62,6 @@ lua_answer _ = lua_answers.Values []
 abbrev pub lua_end : LuaEnd → JobEnd
 lua_end (lua_ends.Done vs) = ends.Values vs
 lua_end (lua_ends.Raised v place) = ends.Raised v place
-
-abbrev pub with_stage : TypingState → StageState → TypingState
-with_stage w stage = record w { stage = stage }
 
 abbrev pub stage_fitting : Fitting TypingState StageState Task Job LuaAnswer CheckAnswer LuaEnd JobEnd
 stage_fitting = record { part = λ w. w.stage; with_part = with_stage; question = job_of; answer = lua_answer; end = lua_end }

@@ -29,6 +29,7 @@ use Rattle.check_stage.specs.Staging.{Ending, outcome}
 abbrev pub number_text : FnId → List ℕ
 number_text f = decimal (suc f.0)
 
+-- a place, as line and number of the token on it
 abbrev pub place_text : Place → List ℕ
 place_text place = decimal place.line ++ codes ":" ++ decimal place.word
 

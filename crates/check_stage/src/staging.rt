@@ -3,6 +3,7 @@
 ghost use Rattle.std.specs.Prelude.{ℕ, ◌≡◌, ◌≤◌, [], length, IfOk, OnOk, Some};
 ghost use Rattle.tl_base.specs.Layer.{state};
 ghost use Rattle.tl_base.specs.declared.place.Place.{Place as PlaceOf};
+ghost use Rattle.tl_base.specs.declared.limits.TheConstants.Limits.{MAX_MEMORY};
 ghost use Rattle.stage_form.specs.Stage.{final_of};
 ghost use Rattle.tl_tree.specs.Arena.{items_of, end_of as finish_of};
 ghost use Rattle.tl_tree.specs.Code.{Items};
@@ -81,7 +82,7 @@ pub fn stage(
     memory: u64,
     mode: Mode,
 ) -> Result<Outcome, NoMemory>
-    requires { memory ≤ 67108864 }
+    requires { memory ≤ MAX_MEMORY }
     ensures means { IfOk result (λ it. (n : ℕ) × (outcome (items_of tree.now) (finish_of tree.now) mode n units memory
         ≡ Some (ending it.end it.checks.items (state it.typing it.left)))) }
     ensures paid { IfOk result (λ it. it.left ≤ units) }
@@ -137,7 +138,7 @@ fn stage_from(
 
 /// What bodies are typed in at the begin of a source.
 fn open(alloc: Global, memory: u64) -> Result<Typing, NoMemory>
-    requires { memory ≤ 67108864 }
+    requires { memory ≤ MAX_MEMORY }
     ensures { IfOk result (λ typing. typing ≡ begun memory) }
 {
     let mut world = World::new(alloc, Types::new(alloc)?, memory);

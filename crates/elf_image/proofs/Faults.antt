@@ -6,9 +6,12 @@ use Rattle.elf_image.specs.declared.error.ImageError.TheVariants.{Short, BadMagi
 use Rattle.elf_image.specs.declared.layout.Layout.{Layout}
 use Rattle.elf_image.specs.declared.rule.Rule.TheVariants.{Any, Is, Between}
 use Rattle.elf_image.specs.Fields.{u64_at, Field, field, or_else, first_of, unless, bad_field, bad_fields, bad_bytes}
-use Rattle.elf_image.specs.Layout.{layout_of, identification_fields, header_fields, segment_fields, section_fields, terra_fields, text_size_rule, memory_rule, private_rule, text_address, region_address, private_address}
+use Rattle.elf_image.specs.Layout.{layout_of, identification_fields, header_fields, segment_fields, section_fields, terra_fields}
+use Rattle.elf_image.specs.Layout.{text_size_rule, memory_rule, private_rule, text_address, region_address, private_address}
 use Rattle.elf_image.specs.Exports.{export_count, record_fields, bad_record, bad_records}
-use Rattle.elf_image.specs.Tests.{short_header, bad_magic, bad_header, short_segments, bad_segments, short_sections, bad_sections, short_parts, overlapping_parts, short_tables, bad_terra, bad_counts, bad_terra_records, bad_first_symbol, section_name, bad_section_names, bad_exports, verdict_headers, verdict_tables, verdict_of}
+use Rattle.elf_image.specs.Tests.{short_header, bad_magic, bad_header, short_segments, bad_segments, short_sections, bad_sections}
+use Rattle.elf_image.specs.Tests.{short_parts, overlapping_parts, short_tables, bad_terra, bad_counts, bad_terra_records, bad_first_symbol}
+use Rattle.elf_image.specs.Tests.{section_name, bad_section_names, bad_exports, verdict_headers, verdict_tables, verdict_of}
 
 abbrev IsFault : Option ImageError → Type 0
 IsFault verdict = verdict ≡ Some NoMemory → ⊥

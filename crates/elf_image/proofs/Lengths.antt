@@ -10,7 +10,9 @@ use Rattle.elf_image.specs.declared.image.Image.{Image}
 use Rattle.elf_image.specs.declared.layout.Layout.{Layout}
 use Rattle.elf_image.specs.Layout.{text_address, region_address, private_address}
 use Rattle.elf_image.specs.Lawful.{IsLawful, is_lawful_symbol}
-use Rattle.elf_image.specs.Written.{numbers, names_size, layout_for, file_size, header_bytes, segment_bytes, segments_bytes, words_bytes, codes_bytes, record_bytes, records_bytes, terra_bytes, symbol_bytes, symbols_bytes, names_bytes, section_names, symtab_bytes, strtab_bytes, section_bytes, sections_bytes, bytes_of}
+use Rattle.elf_image.specs.Written.{numbers, names_size, layout_for, file_size, header_bytes, segment_bytes, segments_bytes, words_bytes}
+use Rattle.elf_image.specs.Written.{codes_bytes, record_bytes, records_bytes, terra_bytes, symbol_bytes, symbols_bytes, names_bytes}
+use Rattle.elf_image.specs.Written.{section_names, symtab_bytes, strtab_bytes, section_bytes, sections_bytes, bytes_of}
 use Rattle.elf_image.proofs.Steps.{and_true}
 use Rattle.elf_image.proofs.Has.{Has, Has-all, Has-left, Has-next, length-numbers}
 

@@ -1,5 +1,6 @@
 -- What tests that found no fault say.
-use Rattle.std.proofs.Common.{◌≡◌, ℕ, ◌+◌, ◌-◌, ◌*◌, ◌/◌, ◌^◌, ◌≤◌, Bool, true, leb, List, [], ◌∷◌, length, Option, None, refl, sym, ap, subst, ◌∙◌, arith}
+use Rattle.std.proofs.Common.{◌≡◌, ℕ, ◌+◌, ◌-◌, ◌*◌, ◌/◌, ◌^◌, ◌≤◌, Bool, true, leb, List, [], ◌∷◌, length, Option, None, refl, sym, ap}
+use Rattle.std.proofs.Common.{subst, ◌∙◌, arith}
 use Rattle.std.specs.List.{list_all}
 use Rattle.std.proofs.lemmas.Bool.{leb-true, eqb-true}
 use Rattle.elf_image.specs.declared.error.ImageError.{ImageError}
@@ -8,9 +9,12 @@ use Rattle.elf_image.specs.declared.rule.Rule.TheVariants.{Is, Between}
 use Rattle.elf_image.specs.declared.layout.Part.{Part}
 use Rattle.elf_image.specs.declared.layout.Layout.{Layout}
 use Rattle.elf_image.specs.Fields.{u64_at, number_at, Field, field, allows, or_else, unless, first_of, bad_field, bad_fields}
-use Rattle.elf_image.specs.Layout.{layout_of, parts_of, text_size_rule, memory_rule, private_rule, segment_fields, text_address, region_address, private_address, heap_start, terra_fields}
+use Rattle.elf_image.specs.Layout.{layout_of, parts_of, text_size_rule, memory_rule, private_rule, segment_fields, text_address}
+use Rattle.elf_image.specs.Layout.{region_address, private_address, heap_start, terra_fields}
 use Rattle.elf_image.specs.Exports.{export_count}
-use Rattle.elf_image.specs.Tests.{short_header, bad_magic, bad_header, short_segments, bad_segments, short_sections, bad_sections, verdict_headers, short_parts, overlapping_parts, short_tables, bad_terra, bad_counts, bad_terra_records, bad_first_symbol, bad_section_names, verdict_tables}
+use Rattle.elf_image.specs.Tests.{short_header, bad_magic, bad_header, short_segments, bad_segments, short_sections, bad_sections}
+use Rattle.elf_image.specs.Tests.{verdict_headers, short_parts, overlapping_parts, short_tables, bad_terra, bad_counts, bad_terra_records}
+use Rattle.elf_image.specs.Tests.{bad_first_symbol, bad_section_names, verdict_tables}
 use Rattle.elf_image.proofs.Steps.{or_else_none, unless_none, and_true}
 
 -- no test found a fault

@@ -1,5 +1,7 @@
 -- What is read can be written.
-use Rattle.std.proofs.Common.{◌≡◌, ℕ, zero, suc, ◌+◌, ◌-◌, ◌*◌, ◌/◌, ◌%◌, ◌^◌, ◌<◌, ◌≤◌, Bool, true, false, cond, eqb, leb, ltb, List, [], ◌∷◌, length, get_or, take, drop, slice_range, Option, None, Result, Ok, Err, refl, sym, ap, subst, ◌∙◌, inl, inr, arith}
+use Rattle.std.proofs.Common.{◌≡◌, ℕ, zero, suc, ◌+◌, ◌-◌, ◌*◌, ◌/◌, ◌%◌, ◌^◌, ◌<◌, ◌≤◌, Bool, true, false, cond, eqb, leb, ltb, List, []}
+use Rattle.std.proofs.Common.{◌∷◌, length, get_or, take, drop, slice_range, Option, None, Result, Ok, Err, refl, sym, ap, subst, ◌∙◌, inl}
+use Rattle.std.proofs.Common.{inr, arith}
 use Rattle.std.specs.List.{list_all}
 use Rattle.std.specs.Option.{is_none}
 use Rattle.std.specs.Prelude.{IfOk}
@@ -14,7 +16,9 @@ use Rattle.elf_image.specs.declared.image.Symbol.{Symbol}
 use Rattle.elf_image.specs.declared.image.Image.{Image}
 use Rattle.elf_image.specs.Fields.{u8_at, u32_at, u64_at, number_at, field, allows, bad_field, bad_fields}
 use Rattle.elf_image.specs.Layout.{layout_of, heap_start}
-use Rattle.elf_image.specs.Exports.{export_count, names_of, before_zero, code_rule, param_rule, result_rule, code_fields, record_fields, bad_record, bad_records, symbol_at, symbols_at, symbol_fields, is_in_text, is_name_at, is_right, are_right, names_differ}
+use Rattle.elf_image.specs.Exports.{export_count, names_of, before_zero, code_rule, param_rule, result_rule, code_fields, record_fields}
+use Rattle.elf_image.specs.Exports.{bad_record, bad_records, symbol_at, symbols_at, symbol_fields, is_in_text, is_name_at, is_right}
+use Rattle.elf_image.specs.Exports.{are_right, names_differ}
 use Rattle.elf_image.specs.Tests.{verdict_headers, verdict_tables, bad_terra_records, bad_exports, verdict_of}
 use Rattle.elf_image.specs.Loads.{words_at, image_at}
 use Rattle.elf_image.specs.Answers.{Gives}

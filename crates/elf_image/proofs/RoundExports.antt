@@ -1,5 +1,7 @@
 -- The exports of a file that was written are read.
-use Rattle.std.proofs.Common.{◌≡◌, ℕ, zero, suc, ◌+◌, ◌-◌, ◌^◌, ◌<◌, ◌≤◌, Bool, true, false, ◌&&◌, cond, eqb, leb, ltb, List, [], ◌∷◌, ◌++◌, length, get_or, drop, replicate, slice_range, Option, None, refl, sym, ap, ◌∙◌, inl, inr, arith, add-zero, append_assoc}
+use Rattle.std.proofs.Common.{◌≡◌, ℕ, zero, suc, ◌+◌, ◌-◌, ◌^◌, ◌<◌, ◌≤◌, Bool, true, false, ◌&&◌, cond, eqb, leb, ltb, List, [], ◌∷◌, ◌++◌}
+use Rattle.std.proofs.Common.{length, get_or, drop, replicate, slice_range, Option, None, refl, sym, ap, ◌∙◌, inl, inr, arith, add-zero}
+use Rattle.std.proofs.Common.{append_assoc}
 use Rattle.std.specs.List.{list_all}
 use Rattle.std.specs.Option.{is_none}
 use Rattle.std.proofs.lemmas.Bool.{leb-true, le-leb, ne_eqb, lt-ltb, le-ltb, ltb-true, cases_lt}
@@ -11,7 +13,8 @@ use Rattle.elf_image.specs.declared.image.Symbol.{Symbol}
 use Rattle.elf_image.specs.declared.layout.Layout.{Layout}
 use Rattle.elf_image.specs.Fields.{number_at, u8_at, u32_at, u64_at, allows, unless, or_else, bad_field, bad_fields}
 use Rattle.elf_image.specs.Layout.{text_address}
-use Rattle.elf_image.specs.Exports.{names_of, before_zero, code_rule, param_rule, result_rule, code_fields, record_fields, bad_record, bad_records, symbol_at, symbols_at, symbol_fields, is_in_text, is_name_at, is_right, are_right}
+use Rattle.elf_image.specs.Exports.{names_of, before_zero, code_rule, param_rule, result_rule, code_fields, record_fields, bad_record}
+use Rattle.elf_image.specs.Exports.{bad_records, symbol_at, symbols_at, symbol_fields, is_in_text, is_name_at, is_right, are_right}
 use Rattle.elf_image.specs.Lawful.{is_name, is_lawful_symbol, names_fit}
 use Rattle.elf_image.specs.Written.{numbers, codes_bytes, record_bytes, records_bytes, symbol_bytes, symbols_bytes, names_bytes}
 use Rattle.elf_image.proofs.Steps.{and_true}

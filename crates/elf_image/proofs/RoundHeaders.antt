@@ -1,5 +1,6 @@
 -- The headers of a file that was written are read.
-use Rattle.std.proofs.Common.{◌≡◌, ℕ, ◌+◌, ◌-◌, ◌*◌, ◌/◌, ◌%◌, ◌^◌, ◌<◌, ◌≤◌, Bool, true, leb, ltb, List, [], ◌∷◌, ◌++◌, length, Option, None, refl, sym, ap, subst, ◌∙◌, arith, add-zero}
+use Rattle.std.proofs.Common.{◌≡◌, ℕ, ◌+◌, ◌-◌, ◌*◌, ◌/◌, ◌%◌, ◌^◌, ◌<◌, ◌≤◌, Bool, true, leb, ltb, List, [], ◌∷◌, ◌++◌, length, Option}
+use Rattle.std.proofs.Common.{None, refl, sym, ap, subst, ◌∙◌, arith, add-zero}
 use Rattle.std.proofs.lemmas.Bool.{leb-true, le-leb, eq-eqb, ltb-true}
 use Rattle.elf_image.specs.declared.error.ImageError.{ImageError}
 use Rattle.elf_image.specs.declared.error.ImageError.TheVariants.{Short, BadMagic}
@@ -8,8 +9,10 @@ use Rattle.elf_image.specs.declared.rule.Rule.TheVariants.{Is, Any, Between, Mul
 use Rattle.elf_image.specs.declared.image.Image.{Image}
 use Rattle.elf_image.specs.declared.layout.Layout.{Layout}
 use Rattle.elf_image.specs.Fields.{u32_at, u64_at, allows, unless, or_else, first_of, bad_fields}
-use Rattle.elf_image.specs.Layout.{layout_of, identification_fields, header_fields, segment_fields, section_fields, text_size_rule, memory_rule, private_rule, text_address, region_address, private_address}
-use Rattle.elf_image.specs.Tests.{short_header, bad_magic, bad_header, short_segments, bad_segments, short_sections, bad_sections, verdict_headers}
+use Rattle.elf_image.specs.Layout.{layout_of, identification_fields, header_fields, segment_fields, section_fields, text_size_rule}
+use Rattle.elf_image.specs.Layout.{memory_rule, private_rule, text_address, region_address, private_address}
+use Rattle.elf_image.specs.Tests.{short_header, bad_magic, bad_header, short_segments, bad_segments, short_sections, bad_sections}
+use Rattle.elf_image.specs.Tests.{verdict_headers}
 use Rattle.elf_image.specs.Lawful.{IsLawful}
 use Rattle.elf_image.specs.Written.{layout_for, header_bytes, segment_bytes, segments_bytes, section_bytes, sections_bytes, bytes_of}
 use Rattle.elf_image.proofs.Steps.{and_true}

@@ -1,5 +1,6 @@
 -- The file of a lawful image is this image.
-use Rattle.std.proofs.Common.{◌≡◌, ℕ, suc, ◌+◌, ◌-◌, ◌*◌, ◌/◌, ◌^◌, ◌<◌, ◌≤◌, Bool, true, false, ◌&&◌, ◌||◌, eqb, leb, List, [], ◌∷◌, ◌++◌, length, get_or, take, drop, replicate, slice_range, None, refl, sym, ap, subst, ◌∙◌, arith}
+use Rattle.std.proofs.Common.{◌≡◌, ℕ, suc, ◌+◌, ◌-◌, ◌*◌, ◌/◌, ◌^◌, ◌<◌, ◌≤◌, Bool, true, false, ◌&&◌, ◌||◌, eqb, leb, List, [], ◌∷◌, ◌++◌}
+use Rattle.std.proofs.Common.{length, get_or, take, drop, replicate, slice_range, None, refl, sym, ap, subst, ◌∙◌, arith}
 use Rattle.std.specs.Prelude.{codes}
 use Rattle.std.specs.List.{list_all}
 use Rattle.std.proofs.lemmas.Bool.{le-leb}
@@ -14,13 +15,17 @@ use Rattle.elf_image.specs.declared.layout.Layout.{Layout}
 use Rattle.elf_image.specs.Fields.{u64_at, field, unless, first_of, bad_bytes}
 use Rattle.elf_image.specs.Layout.{parts_of, heap_start, terra_fields}
 use Rattle.elf_image.specs.Exports.{export_count, names_of, bad_records, symbols_at, are_right, names_differ}
-use Rattle.elf_image.specs.Tests.{is_apart, are_apart, short_parts, overlapping_parts, short_tables, bad_terra, bad_counts, bad_terra_records, bad_first_symbol, section_name, bad_section_names, bad_exports, verdict_headers, verdict_tables, verdict_of}
+use Rattle.elf_image.specs.Tests.{is_apart, are_apart, short_parts, overlapping_parts, short_tables, bad_terra, bad_counts}
+use Rattle.elf_image.specs.Tests.{bad_terra_records, bad_first_symbol, section_name, bad_section_names, bad_exports, verdict_headers}
+use Rattle.elf_image.specs.Tests.{verdict_tables, verdict_of}
 use Rattle.elf_image.specs.Loads.{words_at, image_at, Loads}
 use Rattle.elf_image.specs.Lawful.{IsLawful}
-use Rattle.elf_image.specs.Written.{numbers, layout_for, words_bytes, records_bytes, terra_bytes, symbols_bytes, names_bytes, section_names, symtab_bytes, strtab_bytes, bytes_of}
+use Rattle.elf_image.specs.Written.{numbers, layout_for, words_bytes, records_bytes, terra_bytes, symbols_bytes, names_bytes, section_names}
+use Rattle.elf_image.specs.Written.{symtab_bytes, strtab_bytes, bytes_of}
 use Rattle.elf_image.proofs.Passed.{none_first_of, none_bad_fields}
 use Rattle.elf_image.proofs.LawfulLemmas.{and_intro}
-use Rattle.elf_image.proofs.Has.{Has, Has-left, Has-next, Holds, holds, number-has, length-numbers, range-has, is_allowed, by_rule, bytes_stand}
+use Rattle.elf_image.proofs.Has.{Has, Has-left, Has-next, Holds, holds, number-has, length-numbers, range-has, is_allowed, by_rule}
+use Rattle.elf_image.proofs.Has.{bytes_stand}
 use Rattle.elf_image.proofs.Lengths.{stands, length-strtab}
 use Rattle.elf_image.proofs.RoundHeaders.{small, Has-start, bounded, HeadersHold, headers_hold, layout_read, headers_round, multiple_le}
 use Rattle.elf_image.proofs.RoundExports.{ExportsRound, exports_round}

@@ -1,5 +1,6 @@
 -- One step of each recursion of the definitions, as a loop takes it.
-use Rattle.std.proofs.Common.{◌≡◌, ℕ, suc, ◌+◌, ◌-◌, ◌*◌, ◌<◌, ◌≤◌, Bool, true, false, ◌&&◌, leb, List, [], ◌∷◌, ◌++◌, Option, None, Some, refl, sym, ap, ◌∙◌, append_assoc, arith}
+use Rattle.std.proofs.Common.{◌≡◌, ℕ, suc, ◌+◌, ◌-◌, ◌*◌, ◌<◌, ◌≤◌, Bool, true, false, ◌&&◌, leb, List, [], ◌∷◌, ◌++◌, Option, None, Some}
+use Rattle.std.proofs.Common.{refl, sym, ap, ◌∙◌, append_assoc, arith}
 use Rattle.std.proofs.lemmas.Bool.{leb-true}
 use Rattle.std.proofs.lemmas.List.{append-nil}
 use Rattle.elf_image.specs.declared.error.ImageError.{ImageError}
@@ -8,7 +9,8 @@ use Rattle.elf_image.specs.declared.layout.Layout.{Layout}
 use Rattle.elf_image.specs.declared.rule.Rule.TheVariants.{Is, Between}
 use Rattle.elf_image.specs.Fields.{u8_at, u32_at, field, allows, or_else, unless, bad_field, bad_fields}
 use Rattle.elf_image.specs.Loads.{words_at}
-use Rattle.elf_image.specs.Exports.{code_rule, result_rule, code_fields, record_fields, bad_record, bad_records, symbol_at, symbols_at, is_right, are_right}
+use Rattle.elf_image.specs.Exports.{code_rule, result_rule, code_fields, record_fields, bad_record, bad_records, symbol_at, symbols_at}
+use Rattle.elf_image.specs.Exports.{is_right, are_right}
 
 pub code_fields_step : (bytes : List ℕ) (entry params i n : ℕ) → i < n → bad_fields bytes entry (code_fields params i (n - i)) ≡ or_else (bad_field bytes entry (field (8 + i) 1 (code_rule params i))) (bad_fields bytes entry (code_fields params (i + 1) (n - (i + 1))))
 unfolding code_fields
@@ -115,3 +117,5 @@ unfolding words_at
 words_at_none bytes at i n le =
     let e : n - i ≡ 0 = omega arith in
     rw e refl
+
+pub ruleset each_export = (symbols_at_step, symbols_at_none, are_right_step, are_right_none)

@@ -24,7 +24,8 @@ known number (Some part) = Is (number part)
 -- the fields of a section's header, its place being the part, where there is one
 abbrev pub section_rows : Section → Option Part → List Field
 section_rows s place =
-    section_fields s.name s.kind s.flags s.address (known (λ p. p.offset) place) (known (λ p. p.size) place) s.link s.info s.align s.entry_size
+    section_fields s.name s.kind s.flags s.address (known (λ p. p.offset) place) (known (λ p. p.size) place)
+    s.link s.info s.align s.entry_size
 
 -- The value, seen by view, where there is no fault, and the fault where there is one, but for want of memory.
 abbrev pub Gives : {X Y : Type 0} → (X → Y) → Result X ImageError → Option ImageError → Y → Type 0

@@ -1,7 +1,9 @@
 -- The exports, as the records of `.terra`, the symbols of `.symtab` and the names in `.strtab` have them.
-use Rattle.std.specs.Prelude.{ℕ, zero, suc, ◌+◌, ◌%◌, Bool, true, false, ◌&&◌, ◌==◌, nat_le, nat_lt, if◌then◌else◌, List, [], ◌∷◌, length, drop, slice_range, Option, None, is_none}
+use Rattle.std.specs.Prelude.{ℕ, zero, suc, ◌+◌, ◌%◌, Bool, true, false, ◌&&◌, ◌==◌, nat_le, nat_lt, if◌then◌else◌, List, [], ◌∷◌, length}
+use Rattle.std.specs.Prelude.{drop, slice_range, Option, None, is_none}
 use Rattle.std.specs.List.{list_any}
 use Rattle.std.specs.Str.{bytes_eq}
+use Rattle.tl_base.specs.declared.limits.TheConstants.{MAX_NAME_BYTES}
 use Rattle.elf_image.specs.declared.error.ImageError.{ImageError}
 use Rattle.elf_image.specs.declared.layout.Layout.{Layout}
 use Rattle.elf_image.specs.declared.image.Symbol.{Symbol}
@@ -83,7 +85,7 @@ is_in_text text address = nat_le text_address address && (nat_lt address (text_a
 abbrev pub is_name_at : List ℕ → Bool
 is_name_at names =
     let n = length (before_zero names) in
-    nat_lt n (length names) && (nat_le 1 n && nat_le n 255)
+    nat_lt n (length names) && (nat_le 1 n && nat_le n MAX_NAME_BYTES)
 
 -- The entry of `.symtab` at offset `symbol` says what the record at offset `at` does, and the address and the name are right.
 unfoldable pub is_right : Layout → List ℕ → ℕ → ℕ → Bool

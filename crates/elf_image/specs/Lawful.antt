@@ -1,6 +1,7 @@
 -- Which images have a file.
 use Rattle.std.specs.Prelude.{◌≡◌, ℕ, ◌+◌, ◌*◌, ◌<◌, ◌≤◌, ◌^◌, Bool, true, ◌&&◌, nat_le, nat_lt, List, [], ◌∷◌, length, slice_index, IsTrue}
 use Rattle.std.specs.List.{list_all}
+use Rattle.tl_base.specs.declared.limits.TheConstants.{MAX_NAME_BYTES, MAX_PARAMETERS}
 use Rattle.elf_image.specs.declared.image.Symbol.{Symbol}
 use Rattle.elf_image.specs.declared.image.Image.{Image}
 use Rattle.elf_image.specs.declared.rule.Rule.TheVariants.{Between}
@@ -11,14 +12,14 @@ use Rattle.elf_image.specs.Written.{file_size}
 
 -- 1 to 255 bytes, none of them zero
 abbrev pub is_name : List ℕ → Bool
-is_name name = (nat_le 1 (length name) && nat_le (length name) 255) && list_all (allows (Between 1 255)) name
+is_name name = (nat_le 1 (length name) && nat_le (length name) MAX_NAME_BYTES) && list_all (allows (Between 1 255)) name
 
 -- a symbol that can stand in an image with that many bytes of text
 abbrev pub is_lawful_symbol : ℕ → Symbol → Bool
 is_lawful_symbol text s =
     is_name s.name
     && (is_in_text text s.address
-    && ((nat_le (length s.params) 8 && list_all (allows param_rule) s.params)
+    && ((nat_le (length s.params) MAX_PARAMETERS && list_all (allows param_rule) s.params)
     && allows result_rule s.result))
 
 -- the offsets of the names in `.strtab`, the first of which is `at`, fit their fields

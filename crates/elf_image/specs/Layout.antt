@@ -1,5 +1,7 @@
 -- Where the parts of an image's file lie, and the tables of fields of ELF-64's headers.
 use Rattle.std.specs.Prelude.{ℕ, ◌+◌, ◌-◌, ◌*◌, ◌/◌, ◌^◌, List, [], ◌∷◌}
+use Rattle.tl_base.specs.declared.limits.TheConstants.Limits.{MIN_MEMORY, MAX_MEMORY, MEMORY_UNIT}
+use Rattle.tl_base.specs.declared.limits.TheConstants.{TEXT_ADDRESS, REGION_ADDRESS, PRIVATE_ADDRESS, MAX_PRIVATE}
 use Rattle.elf_image.specs.declared.layout.Part.{Part}
 use Rattle.elf_image.specs.declared.layout.Layout.{Layout}
 use Rattle.elf_image.specs.declared.rule.Rule.{Rule}
@@ -36,13 +38,13 @@ parts_of l = part 0 232 ∷ l.text ∷ l.statics ∷ l.terra ∷ l.symtab ∷ l.
 
 -- the addresses at which the segments begin
 abbrev pub text_address : ℕ
-text_address = 0x10000
+text_address = TEXT_ADDRESS
 
 abbrev pub region_address : ℕ
-region_address = 0x40000000
+region_address = REGION_ADDRESS
 
 abbrev pub private_address : ℕ
-private_address = 0x100000000
+private_address = PRIVATE_ADDRESS
 
 -- the heap begins at the first multiple of 16 at or after the end of the static bytes
 abbrev pub heap_start : ℕ → ℕ
@@ -77,10 +79,10 @@ abbrev pub text_size_rule : Rule
 text_size_rule = Multiple 4 0 (2 ^ 64 - 1)
 
 abbrev pub memory_rule : Rule
-memory_rule = Multiple 1024 65536 67108864
+memory_rule = Multiple MEMORY_UNIT MIN_MEMORY MAX_MEMORY
 
 abbrev pub private_rule : Rule
-private_rule = Multiple 512 0 603979776
+private_rule = Multiple 512 0 MAX_PRIVATE
 
 -- a section header, Elf64_Shdr
 abbrev pub section_fields : (name kind flags address : ℕ) (offset size : Rule) (link info align entry : ℕ) → List Field
@@ -95,4 +97,5 @@ section_fields name kind flags address offset size link info align entry =
 -- the first 32 bytes of `.terra`: version, number of exports, memory, start of the heap, private size
 abbrev pub terra_fields : Layout → List Field
 terra_fields l =
-    field 0 4 (Is 1) ∷ field 4 4 Any ∷ field 8 8 (Is l.memory) ∷ field 16 8 (Is (heap_start l.statics.size)) ∷ field 24 8 (Is l.private) ∷ []
+    field 0 4 (Is 1) ∷ field 4 4 Any ∷ field 8 8 (Is l.memory)
+    ∷ field 16 8 (Is (heap_start l.statics.size)) ∷ field 24 8 (Is l.private) ∷ []

@@ -35,5 +35,7 @@ BadBytes bytes error = verdict_of bytes ≡ Some error
 -- The file is one image and no other, and has no fault; or it has one fault and no other, and is no image.
 abbrev pub HasOneAnswer : List ℕ → Type 0
 HasOneAnswer bytes =
-    ((image : Image) × Loads bytes image × ((other : Image) → Loads bytes other → other ≡ image) × ((error : ImageError) → BadBytes bytes error → ⊥))
-    ⊎ ((error : ImageError) × BadBytes bytes error × ((other : ImageError) → BadBytes bytes other → other ≡ error) × ((image : Image) → Loads bytes image → ⊥))
+    ((image : Image) × Loads bytes image × ((other : Image) → Loads bytes other → other ≡ image)
+    × ((error : ImageError) → BadBytes bytes error → ⊥))
+    ⊎ ((error : ImageError) × BadBytes bytes error × ((other : ImageError) → BadBytes bytes other → other ≡ error)
+    × ((image : Image) → Loads bytes image → ⊥))

@@ -1,5 +1,6 @@
 -- The tests of a file, in order. Each gives its fault where it fails.
-use Rattle.std.specs.Prelude.{ℕ, ◌<◌, ◌≤◌, ◌+◌, ◌-◌, ◌*◌, ◌/◌, ◌^◌, Bool, true, ◌&&◌, ◌||◌, ◌==◌, nat_le, List, [], ◌∷◌, ◌++◌, length, replicate, codes, Option}
+use Rattle.std.specs.Prelude.{ℕ, ◌<◌, ◌≤◌, ◌+◌, ◌-◌, ◌*◌, ◌/◌, ◌^◌, Bool, true, ◌&&◌, ◌||◌, ◌==◌, nat_le, List, [], ◌∷◌, ◌++◌, length}
+use Rattle.std.specs.Prelude.{replicate, codes, Option}
 use Rattle.std.specs.List.{list_all}
 use Rattle.elf_image.specs.declared.error.ImageError.{ImageError}
 use Rattle.elf_image.specs.declared.error.ImageError.TheVariants.{Short, BadMagic, Overlap, BadSymbol}
@@ -7,7 +8,8 @@ use Rattle.elf_image.specs.declared.layout.Part.{Part}
 use Rattle.elf_image.specs.declared.layout.Layout.{Layout}
 use Rattle.elf_image.specs.declared.rule.Rule.TheVariants.{Any, Is, Between}
 use Rattle.elf_image.specs.Fields.{u32_at, u64_at, field, bad_fields, bad_bytes, or_else, first_of, unless}
-use Rattle.elf_image.specs.Layout.{layout_of, parts_of, identification_fields, header_fields, segment_fields, section_fields, terra_fields, text_size_rule, memory_rule, private_rule, text_address, region_address, private_address}
+use Rattle.elf_image.specs.Layout.{layout_of, parts_of, identification_fields, header_fields, segment_fields, section_fields, terra_fields}
+use Rattle.elf_image.specs.Layout.{text_size_rule, memory_rule, private_rule, text_address, region_address, private_address}
 use Rattle.elf_image.specs.Exports.{export_count, bad_records, symbols_at, are_right, names_differ}
 
 -- 1. the header is there

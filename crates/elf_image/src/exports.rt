@@ -5,18 +5,19 @@ ghost use Rattle.std.specs.Global.{Vec};
 ghost use Rattle.elf_image.specs.declared.image.Symbol.{Symbol};
 ghost use Rattle.elf_image.specs.declared.error.ImageError.TheVariants.{BadSymbol};
 ghost use Rattle.elf_image.specs.Fields.{u8_at, bad_fields, unless};
-ghost use Rattle.elf_image.specs.Exports.{export_count, names_of, before_zero, bad_record, bad_records, symbol_at, symbols_at, symbol_fields, is_in_text, is_name_at, is_right, are_right};
+ghost use Rattle.elf_image.specs.Exports.{export_count, names_of, before_zero, bad_record, bad_records, symbol_at, symbols_at};
+ghost use Rattle.elf_image.specs.Exports.{symbol_fields, is_in_text, is_name_at, is_right, are_right};
 ghost use Rattle.elf_image.specs.Tests.{bad_terra_records, bad_exports};
 ghost use Rattle.elf_image.specs.Answers.{Says, Gives};
 
 use crate::error::ImageError;
 use crate::fields::{check_u8, check_u16, check_u32, check_u64, u8_at, u32_at, u64_at};
-use crate::headers::TEXT_ADDRESS;
 use crate::image::{Bytes, Symbol};
 use crate::layout::Layout;
 use crate::names::names_differ;
 use crate::rule::Rule;
 use std::alloc::Global;
+use tl_base::limits::TEXT_ADDRESS;
 
 // The longest name, with the zero byte behind it.
 const NAME_LIMIT: usize = 256;
@@ -79,7 +80,8 @@ fn read_export(
     requires symbol { symbol + 24 ≤ length bytes.now }
     requires names { names.now ≡ names_of layout.now bytes.now }
     requires params { u8_at bytes.now (entry + 16) ≤ 8 }
-    ensures { Gives (λ (s : Symbol). s) result (unless (is_right layout.now bytes.now entry symbol) BadSymbol) (symbol_at layout.now bytes.now entry) }
+    ensures { Gives (λ (s : Symbol). s) result
+        (unless (is_right layout.now bytes.now entry symbol) BadSymbol) (symbol_at layout.now bytes.now entry) }
 {
     let name = u32_at(bytes, entry + 20);
     let address = u64_at(bytes, entry);
@@ -102,7 +104,7 @@ fn read_export(
 }
 
 // The exports whose records begin at `first` and whose symbols begin at `symbols`.
-#[tactic(auto, using(crate::proofs::Steps::symbols_at_step, crate::proofs::Steps::symbols_at_none, crate::proofs::Steps::are_right_step, crate::proofs::Steps::are_right_none))]
+#[tactic(auto, using(crate::proofs::Steps::each_export))]
 fn read_each(
     alloc: Global,
     bytes: &[u8],
@@ -116,7 +118,8 @@ fn read_each(
     requires symbols { symbols + 24 * count ≤ length bytes.now }
     requires names { names.now ≡ names_of layout.now bytes.now }
     requires params { bad_records count bytes.now first ≡ None }
-    ensures { Gives (λ (v : Vec Symbol). v.items) result (unless (are_right count layout.now bytes.now first symbols) BadSymbol) (symbols_at count layout.now bytes.now first) }
+    ensures { Gives (λ (v : Vec Symbol). v.items) result
+        (unless (are_right count layout.now bytes.now first symbols) BadSymbol) (symbols_at count layout.now bytes.now first) }
 {
     let mut exports = Vec::new(alloc);
     for i in 0..count as usize {
@@ -141,7 +144,8 @@ pub fn read_exports(
     requires symbols { layout.now.symtab.offset + 24 + 24 * count ≤ length bytes.now }
     requires names { layout.now.strtab.offset + layout.now.strtab.size ≤ length bytes.now }
     requires params { bad_terra_records layout.now bytes.now ≡ None }
-    ensures { Gives (λ (v : Vec Symbol). v.items) result (bad_exports layout.now bytes.now) (symbols_at count layout.now bytes.now (layout.now.terra.offset + 32)) }
+    ensures { Gives (λ (v : Vec Symbol). v.items) result (bad_exports layout.now bytes.now)
+        (symbols_at count layout.now bytes.now (layout.now.terra.offset + 32)) }
 {
     let begin = layout.strtab.offset as usize;
     let names = &bytes[begin..begin + layout.strtab.size as usize];

@@ -11,6 +11,8 @@ use crate::fields::{check_u8, check_u16, check_u32, check_u64, u32_at, u64_at};
 use crate::layout::{Layout, Part};
 use crate::parts::is_within;
 use crate::rule::Rule;
+use tl_base::Limits;
+use tl_base::limits::{MAX_PRIVATE, PRIVATE_ADDRESS, REGION_ADDRESS, TEXT_ADDRESS};
 
 // The four bytes 7F 45 4C 46.
 pub const MAGIC: u32 = 0x464C_457F;
@@ -20,12 +22,6 @@ const HEADER_SIZE: usize = 64;
 const HEADERS_SIZE: usize = 232;
 // Six section headers of 64 bytes.
 const SECTIONS_SIZE: u64 = 384;
-
-pub const TEXT_ADDRESS: u64 = 0x1_0000;
-
-pub const REGION_ADDRESS: u64 = 0x4000_0000;
-
-pub const PRIVATE_ADDRESS: u64 = 0x1_0000_0000;
 
 /// The fields of a section header that do not depend on the file.
 #[derive(Clone, Copy, Debug)]
@@ -123,7 +119,7 @@ fn check_segments(bytes: &[u8]) -> Result<(), ImageError>
         6,
         REGION_ADDRESS,
         Rule::Between(0, memory / 2),
-        Rule::Multiple(1024, 65_536, 67_108_864),
+        Rule::Multiple(Limits::MEMORY_UNIT, Limits::MIN_MEMORY, Limits::MAX_MEMORY),
     )?;
     check_segment(
         bytes,
@@ -131,7 +127,7 @@ fn check_segments(bytes: &[u8]) -> Result<(), ImageError>
         6,
         PRIVATE_ADDRESS,
         Rule::Is(0),
-        Rule::Multiple(512, 0, 603_979_776),
+        Rule::Multiple(512, 0, MAX_PRIVATE),
     )
 }
 

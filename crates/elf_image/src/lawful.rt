@@ -12,6 +12,8 @@ use crate::image::{Image, Symbol};
 use crate::names::have_own_names;
 use crate::rule::Rule;
 use crate::tables::heap_start;
+use tl_base::Limits;
+use tl_base::limits::{MAX_NAME_BYTES, MAX_PARAMETERS, MAX_PRIVATE};
 
 // The names of more exports or longer ones would begin past what a field of four bytes can say.
 const LIMIT: u64 = 1 << 32;
@@ -27,14 +29,16 @@ fn text_size(words: &[u32]) -> u64
 
 // Whether the memories have lawful sizes, the static bytes at most half of the region, and the heap its place behind them.
 fn has_lawful_memories(image: &Image, statics: &[u8]) -> bool
-    ensures lawful { result ≡ (allows memory_rule image.now.memory && (nat_le (2 * length statics.now) image.now.memory && ((image.now.heap == heap_start (length statics.now)) && allows private_rule image.now.private))) }
+    ensures lawful { result ≡ (allows memory_rule image.now.memory
+        && (nat_le (2 * length statics.now) image.now.memory
+        && ((image.now.heap == heap_start (length statics.now)) && allows private_rule image.now.private))) }
     ensures bytes { (k : ℕ) → slice_index statics.now k < 2 ^ 8 }
 {
     let size = statics.len() as u64;
-    Rule::Multiple(1_024, 65_536, 67_108_864).allows(image.memory)
+    Rule::Multiple(Limits::MEMORY_UNIT, Limits::MIN_MEMORY, Limits::MAX_MEMORY).allows(image.memory)
         && 2 * size <= image.memory
         && image.heap == heap_start(size)
-        && Rule::Multiple(512, 0, 603_979_776).allows(image.private)
+        && Rule::Multiple(512, 0, MAX_PRIVATE).allows(image.private)
 }
 
 fn are_allowed(rule: Rule, bytes: &[u8]) -> bool
@@ -47,13 +51,13 @@ fn is_name(name: &[u8]) -> bool
     ensures { result ≡ is_name name.now }
 {
     let len = name.len();
-    1 <= len && len <= 255 && are_allowed(Rule::Between(1, 255), name)
+    1 <= len && len <= MAX_NAME_BYTES && are_allowed(Rule::Between(1, 255), name)
 }
 
 fn are_params(params: &[u8]) -> bool
-    ensures { result ≡ (nat_le (length params.now) 8 && list_all (allows param_rule) params.now) }
+    ensures { result ≡ (nat_le (length params.now) MAX_PARAMETERS && list_all (allows param_rule) params.now) }
 {
-    params.len() <= 8 && are_allowed(Rule::Between(1, 10), params)
+    params.len() <= MAX_PARAMETERS && are_allowed(Rule::Between(1, 10), params)
 }
 
 fn is_lawful_symbol(text: u64, symbol: &Symbol) -> bool
@@ -87,7 +91,8 @@ fn names_fit(symbols: &[Symbol]) -> bool
 
 // Whether the exports can stand in an image with that many bytes of text.
 fn has_lawful_exports(text: u64, symbols: &[Symbol]) -> bool
-    ensures { result ≡ (list_all (is_lawful_symbol text) symbols.now && (names_differ symbols.now && (nat_lt (length symbols.now) (2 ^ 32) && names_fit 36 symbols.now))) }
+    ensures { result ≡ (list_all (is_lawful_symbol text) symbols.now
+        && (names_differ symbols.now && (nat_lt (length symbols.now) (2 ^ 32) && names_fit 36 symbols.now))) }
 {
     are_lawful_symbols(text, symbols)
         && have_own_names(symbols)

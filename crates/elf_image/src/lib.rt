@@ -47,5 +47,5 @@ pub use laws::{
     a_name_is_one_symbols, apart_shares_no_byte, memory_is_no_fault, one_answer, written_is_tight,
     written_loads,
 };
-pub use reading::read;
+pub use reading::{LONGEST_IMAGE, read};
 pub use writing::write;

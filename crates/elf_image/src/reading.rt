@@ -89,6 +89,9 @@ fn read_image(alloc: Global, bytes: &[u8]) -> Result<Image, ImageError>
     })
 }
 
+/// The most bytes of a file that is read.
+pub const LONGEST_IMAGE: usize = 268_435_456;
+
 /// Reads the image that a file is.
 ///
 /// # Errors
@@ -96,7 +99,7 @@ fn read_image(alloc: Global, bytes: &[u8]) -> Result<Image, ImageError>
 /// The fault of the first test of the format that the file fails, exactly where it fails one. Beside these only
 /// [`ImageError::NoMemory`] is answered, which may come at any file.
 pub fn read(alloc: Global, bytes: &[u8]) -> Result<Image, ImageError>
-    requires { length bytes.now ≤ 268435456 }
+    requires { length bytes.now ≤ LONGEST_IMAGE }
     // What is read is what the file says, and can be written.
     ensures ok { IfOk result (λ image. Loads bytes.now image) }
     ensures lawful { IfOk result (λ image. IsLawful image) }
@@ -104,7 +107,8 @@ pub fn read(alloc: Global, bytes: &[u8]) -> Result<Image, ImageError>
     ensures bad { IfErr result (λ error. error ≢ NoMemory → BadBytes bytes.now error) }
     // A file that is an image is read as it, and one that is none gets its fault, unless memory runs out.
     ensures loads { (image : Image) → Loads bytes.now image → MatchResult result (λ found. found ≡ image) (λ error. error ≡ NoMemory) }
-    ensures refuses { (fault : ImageError) → BadBytes bytes.now fault → MatchResult result (λ _. ⊥) (λ error. (error ≡ fault) ⊎ (error ≡ NoMemory)) }
+    ensures refuses { (fault : ImageError) → BadBytes bytes.now fault →
+        MatchResult result (λ _. ⊥) (λ error. (error ≡ fault) ⊎ (error ≡ NoMemory)) }
 {
     read_image(alloc, bytes)
 }

@@ -1,6 +1,7 @@
 // Tests of the tables `.terra`, `.symtab` and `.strtab` but for the symbols and names of exports.
 
 ghost use Rattle.std.specs.Prelude.{◌≡◌, ◌+◌, ◌*◌, ◌<◌, ◌≤◌, length};
+ghost use Rattle.tl_base.specs.declared.limits.TheConstants.Limits.{MAX_MEMORY};
 ghost use Rattle.elf_image.specs.Fields.{bad_fields};
 ghost use Rattle.elf_image.specs.Exports.{export_count, code_rule, code_fields, bad_record, bad_records};
 ghost use Rattle.elf_image.specs.Layout.{heap_start};
@@ -9,9 +10,9 @@ ghost use Rattle.elf_image.specs.Answers.{Says};
 
 use crate::error::ImageError;
 use crate::fields::{check_bytes, check_u8, check_u32, check_u64, u8_at};
-use crate::headers::REGION_ADDRESS;
 use crate::layout::Layout;
 use crate::rule::Rule;
+use tl_base::limits::REGION_ADDRESS;
 
 /// Tests that `.terra` and `.strtab` have their fixed parts.
 #[tactic(auto, unfolding(crate::specs::Tests::short_tables))]
@@ -26,7 +27,7 @@ pub fn check_tables(bytes: &[u8], layout: &Layout) -> Result<(), ImageError>
 
 /// Where the heap begins behind that many static bytes.
 pub fn heap_start(statics: u64) -> u64
-    requires { statics ≤ 67108864 }
+    requires { statics ≤ MAX_MEMORY }
     ensures { result ≡ heap_start statics }
 {
     (REGION_ADDRESS + statics).div_ceil(16) * 16
@@ -36,7 +37,7 @@ pub fn heap_start(statics: u64) -> u64
 #[tactic(auto, unfolding(crate::specs::Tests::bad_terra))]
 pub fn check_terra(bytes: &[u8], layout: &Layout) -> Result<(), ImageError>
     requires within { layout.now.terra.offset + 32 ≤ length bytes.now }
-    requires statics { layout.now.statics.size ≤ 67108864 }
+    requires statics { layout.now.statics.size ≤ MAX_MEMORY }
     ensures { Says result (bad_terra layout.now bytes.now) }
 {
     let terra = layout.terra.offset as usize;

@@ -4,17 +4,17 @@ ghost use Rattle.std.specs.Prelude.{◌≡◌, ◌+◌, ◌++◌, ◌<◌, ◌�
 ghost use Rattle.std.specs.List.{list_all};
 ghost use Rattle.elf_image.specs.declared.image.Symbol.{Symbol};
 ghost use Rattle.elf_image.specs.Lawful.{IsLawful, is_lawful_symbol, names_fit};
-ghost use Rattle.elf_image.specs.Written.{names_size, layout_for, file_size, header_bytes, segment_bytes, segments_bytes, codes_bytes, record_bytes, records_bytes, terra_bytes, symbol_bytes, symbols_bytes, names_bytes, symtab_bytes, strtab_bytes, section_bytes, sections_bytes, bytes_of};
+ghost use Rattle.elf_image.specs.Written.{names_size, layout_for, file_size, header_bytes, segment_bytes, segments_bytes, codes_bytes};
+ghost use Rattle.elf_image.specs.Written.{record_bytes, records_bytes, terra_bytes, symbol_bytes, symbols_bytes, names_bytes, symtab_bytes};
+ghost use Rattle.elf_image.specs.Written.{strtab_bytes, section_bytes, sections_bytes, bytes_of};
 
-use crate::headers::{
-    DATA, MAGIC, NULL, PRIVATE_ADDRESS, REGION_ADDRESS, STRTAB, SYMTAB, Section, TERRA, TEXT,
-    TEXT_ADDRESS,
-};
+use crate::headers::{DATA, MAGIC, NULL, STRTAB, SYMTAB, Section, TERRA, TEXT};
 use crate::image::{Image, Symbol};
 use crate::layout::{Layout, Part};
 use crate::putting::{Number, put_numbers, put_words};
 use std::alloc::{AllocError, Global};
 use tl_base::NoMemory;
+use tl_base::limits::{PRIVATE_ADDRESS, REGION_ADDRESS, TEXT_ADDRESS};
 
 // The bytes of the names, with a zero byte behind each.
 fn names_size(symbols: &[Symbol]) -> u64
@@ -267,7 +267,8 @@ fn put_strtab(out: &mut Vec<u8>, symbols: &[Symbol]) -> Result<(), AllocError>
 #[tactic(auto, unfolding(crate::specs::Written::section_bytes))]
 fn put_section(out: &mut Vec<u8>, section: Section, part: Part) -> Result<(), AllocError>
     ensures { OnOk result (out.new.items ≡ out.old.items
-        ++ section_bytes section.name section.kind section.flags section.address part.offset part.size section.link section.info section.align section.entry_size) }
+        ++ section_bytes section.name section.kind section.flags section.address part.offset part.size
+        section.link section.info section.align section.entry_size) }
 {
     put_numbers(
         out,

@@ -1,5 +1,6 @@
 -- Which term a Lua value becomes where one term is wanted.
-use Rattle.std.specs.Prelude.{ℕ, ◌==◌, ℤ, pos, negsuc, Bool, true, false, not, ◌&&◌, int_le, List, Option, Some, None, slice_get, if◌then◌else◌}
+use Rattle.std.specs.Prelude.{ℕ, ◌==◌, ℤ, pos, negsuc, Bool, true, false, not, ◌&&◌, int_le, List, Option, Some, None, slice_get}
+use Rattle.std.specs.Prelude.{if◌then◌else◌}
 use Rattle.std.specs.Int.{cast_unsigned}
 use Rattle.std.specs.Int.{w64}
 use Rattle.tl_base.specs.declared.place.Place.{Place}

@@ -2,8 +2,10 @@
 
 ghost use Rattle.std.specs.Prelude.{◌≡◌, ◌≤◌, ◌<◌, IfOk, OnOk, slice_get, length};
 ghost use Rattle.std.specs.Option.{option_copied};
+ghost use Rattle.tl_base.specs.declared.limits.TheConstants.Limits.{MAX_MEMORY};
 ghost use Rattle.terra_term.specs.Held.{NamesTyped};
-ghost use Rattle.exotype.specs.Becoming.{Becoming, number, library_function, type_found, quote_found, constant_found, constant_leaf, fits_int32};
+ghost use Rattle.exotype.specs.Becoming.{Becoming, number, library_function, type_found, quote_found, constant_found, constant_leaf};
+ghost use Rattle.exotype.specs.Becoming.{fits_int32};
 ghost use Rattle.exotype.specs.Becoming.{became_in, store_after, became_of, after, term_of, with_term_of, spliced_nodes};
 ghost use Rattle.exotype.specs.Terms.{term_size, typed_size};
 ghost use Rattle.exotype.specs.Types.{is_type};
@@ -148,7 +150,7 @@ fn fits_int32(value: i64) -> bool
 
 /// The term of a text: the address of its bytes, which are a static from then on.
 fn text_term(store: &mut Store, memory: u64, at: Place, bytes: &[u8]) -> Result<Became, NoMemory>
-    requires { memory ≤ 67108864 }
+    requires { memory ≤ MAX_MEMORY }
     ensures term { IfOk result (λ became. became ≡ became_in store.old memory (Becoming.Text bytes.now)) }
     ensures ok { OnOk result (store.new ≡ store_after store.old memory at (Becoming.Text bytes.now)) }
 {

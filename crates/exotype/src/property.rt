@@ -50,7 +50,8 @@ impl PartialEq for Property {
 }
 
 impl Eq for Property {
-    ghost laws = { and_equiv (and_equiv (on_equiv rank nat_eq_equiv) (on_equiv type_number nat_eq_equiv)) (on_equiv name_number nat_eq_equiv) };
+    ghost laws = { and_equiv (and_equiv (on_equiv rank nat_eq_equiv) (on_equiv type_number nat_eq_equiv))
+        (on_equiv name_number nat_eq_equiv) };
 }
 
 impl Hash for Property {

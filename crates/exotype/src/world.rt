@@ -1,6 +1,7 @@
 // The world of a staging.
 
-ghost use Rattle.std.specs.Prelude.{◌≡◌, ◌≤◌};
+ghost use Rattle.std.specs.Prelude.{◌≡◌, ◌≤◌, IfOk};
+ghost use Rattle.tl_base.specs.declared.limits.TheConstants.Limits.{MAX_MEMORY};
 ghost use Rattle.exotype.specs.World.{opening};
 
 use crate::exports::Exports;
@@ -10,6 +11,7 @@ use std::alloc::Global;
 use std::marker::Model;
 use terra_term::Store;
 use terra_types::Types;
+use tl_base::{NoMemory, Text2};
 
 /// What a staging has made so far: Lua's heap, Terra's store, what is kept of types, and the exports; with the bytes of memory
 /// that a run of its program has, which are at most 67,108,864.
@@ -27,19 +29,20 @@ pub struct World {
 
 impl Model for World {
     ghost use Rattle.std.specs.Prelude.{◌≤◌};
+    ghost use Rattle.tl_base.specs.declared.limits.TheConstants.Limits.{MAX_MEMORY};
     ghost use Rattle.exotype.specs.World.{StageState};
 
     ghost Value = { StageState };
 
     ghost view = { λ w. record { heap = w.heap; store = w.store; kept = w.kept; exports = w.exports; memory = w.memory } };
 
-    ghost invariant = { λ w. w.memory ≤ 67108864 };
+    ghost invariant = { λ w. w.memory ≤ MAX_MEMORY };
 }
 
 impl World {
     /// A world with nothing in it but these types, whose program will have so many bytes of memory.
     pub fn new(alloc: Global, types: Types, memory: u64) -> World
-        requires { memory ≤ 67108864 }
+        requires { memory ≤ MAX_MEMORY }
         ensures { result ≡ opening types memory }
     {
         World {
@@ -54,8 +57,17 @@ impl World {
     /// The bytes of memory that a run has.
     pub fn memory(&self) -> u64
         ensures same { result ≡ self.now.memory }
-        ensures within { result ≤ 67108864 }
+        ensures within { result ≤ MAX_MEMORY }
     {
         self.memory
+    }
+
+    /// What the staging printed.
+    pub fn printed(&self) -> Result<Text2, NoMemory>
+        ensures { IfOk result (λ text. text ≡ self.now.heap.printed) }
+    {
+        let mut text = Text2::new(self.heap.allocator());
+        text.push_bytes(self.heap.printed())?;
+        Ok(text)
     }
 }

@@ -1,5 +1,6 @@
 -- The exports that weren't counted yet are counted, and behind them one more.
-use Rattle.std.proofs.Common.{◌≡◌, ℕ, zero, suc, ◌+◌, ◌<◌, ◌≤◌, List, [], ◌∷◌, ◌++◌, append_assoc, append-nil, length, take, drop, Option, Some, None, refl, sym, ap, ◌∙◌, subst, arith, slice_get, length-drop, ◌-◌}
+use Rattle.std.proofs.Common.{◌≡◌, ℕ, zero, suc, ◌+◌, ◌<◌, ◌≤◌, List, [], ◌∷◌, ◌++◌, append_assoc, append-nil, length, take, drop, Option}
+use Rattle.std.proofs.Common.{Some, None, refl, sym, ap, ◌∙◌, subst, arith, slice_get, length-drop, ◌-◌}
 use Rattle.std.specs.Prelude.{◌⊎◌, true}
 use mathlib.Core.Logic.{inl, inr}
 use Rattle.std.proofs.lemmas.List.{take-append-drop}
@@ -11,7 +12,8 @@ use Rattle.terra_term.specs.WellTyped.{body_typed}
 use Rattle.exotype.specs.World.{StageState}
 use Rattle.check_model.specs.declared.job.Reached.{Reached}
 use Rattle.check_model.specs.Checks.{was_reached}
-use Rattle.check_library.specs.Counting.{CountedState, numbered, with_function, mentioned, with_reached, summed, count_function, count_on, count_exports}
+use Rattle.check_library.specs.Counting.{CountedState, numbered, with_function, mentioned, with_reached, summed, count_function, count_on}
+use Rattle.check_library.specs.Counting.{count_exports}
 use Rattle.check_sound.specs.Exports.{Stands, IsClosed, AreCounted, nodes_in}
 use Rattle.check_sound.specs.Layers.{ReachesReady}
 use Rattle.check_sound.specs.Sound.{IsSound}

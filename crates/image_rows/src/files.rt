@@ -2,12 +2,9 @@
 
 use crate::images::shown;
 use crate::words::{byte_of, bytes_of, count_at, word_at};
-use elf_image::{ImageError, read};
+use elf_image::{ImageError, LONGEST_IMAGE, read};
 use std::alloc::Global;
 use tl_base::NoMemory;
-
-/// How many bytes a file may have that is read.
-const LONGEST_IMAGE: usize = 268_435_456;
 
 /// The file that stands.
 #[derive(Drop)]

@@ -51,10 +51,14 @@ use Rattle.check_library.specs.declared.ask.AskTurn.{AskTurn}
 use Rattle.check_library.specs.declared.ask.AskTurn.TheVariants as asked_for
 use Rattle.check_library.specs.declared.ask.ExportNext.{ExportNext}
 use Rattle.check_library.specs.Answers.{Asked, asked, said, with_one, refused, on_layout, on_check}
-use Rattle.check_library.specs.Layouts.{sizeof_asked, sizeof_backed, struct_in, name_in, offsetof_asked, offset_turned, offsetof_backed, initial_bits, type_if, type_there, global_asked, first_bytes, with_global_in, global_or_full, global_turned, global_backed, struct_place}
-use Rattle.check_library.specs.Checks.{compile_of, compile_backed, function_of, typed_or, type_or, with_bytes, primitive_type, gettype_of, gettype_backed}
+use Rattle.check_library.specs.Layouts.{sizeof_asked, sizeof_backed, struct_in, name_in, offsetof_asked, offset_turned, offsetof_backed}
+use Rattle.check_library.specs.Layouts.{initial_bits, type_if, type_there, global_asked, first_bytes, with_global_in, global_or_full}
+use Rattle.check_library.specs.Layouts.{global_turned, global_backed, struct_place}
+use Rattle.check_library.specs.Checks.{compile_of, compile_backed, function_of, typed_or, type_or, with_bytes, primitive_type, gettype_of}
+use Rattle.check_library.specs.Checks.{gettype_backed}
 use Rattle.check_library.specs.Counting.{CountedState, nothing, count_with, numbered}
-use Rattle.check_library.specs.Exports.{fate_by, fate_after, found_result, next_of, waiting, fared, exported, raised_at, place_of_function, added_to, added_by, checked, export_backed, taken, table_exported, saveobj_asked, chunk_ended}
+use Rattle.check_library.specs.Exports.{fate_by, fate_after, found_result, next_of, waiting, fared, exported, raised_at, place_of_function}
+use Rattle.check_library.specs.Exports.{added_to, added_by, checked, export_backed, taken, table_exported, saveobj_asked, chunk_ended}
 use Rattle.check_library.specs.Calls.{answered, called, backed}
 use Rattle.check_sound.specs.Exports.{AreCounted}
 use Rattle.check_sound.specs.Growing.{WasReady, AreFine, Leads}
@@ -63,7 +67,8 @@ use Rattle.check_sound.proofs.Scalars.{flat-layout, sized-layout}
 use Rattle.check_sound.proofs.Leading.{leads-itself, leads-twice}
 use Rattle.library_sound.specs.Leaving.{Leaves, IsCounted, AskIsFine, AsksSound, FitsAsk, goes_on_with}
 use Rattle.library_sound.proofs.Extending.{there-kept}
-use Rattle.library_sound.proofs.Writes.{leaves-itself, leaves-twice, heap-leaves, saved-leaves, MayCome, exporting-grows, exporting-sound, exporting-leads, global-leaves}
+use Rattle.library_sound.proofs.Writes.{leaves-itself, leaves-twice, heap-leaves, saved-leaves, MayCome, exporting-grows, exporting-sound}
+use Rattle.library_sound.proofs.Writes.{exporting-leads, global-leaves}
 use Rattle.library_sound.proofs.Exporting.{may-come, nothing-counted, counted-on, counted-with, counted-behind}
 use Rattle.library_sound.proofs.OfTypes.{pointer-leaves, function-leaves}
 use Rattle.library_sound.proofs.Turns.{either-way, Good, bad-good, raised-good}

@@ -1,5 +1,6 @@
 -- What is known of a new export, by the tests that it passed: its name is free, and its type has words alone.
-use Rattle.std.proofs.Common.{◌≡◌, ℕ, zero, suc, ◌+◌, ◌≤◌, true, false, List, [], ◌∷◌, ◌++◌, length, Option, Some, None, refl, sym, ap, ◌∙◌, subst, arith, slice_get}
+use Rattle.std.proofs.Common.{◌≡◌, ℕ, zero, suc, ◌+◌, ◌≤◌, true, false, List, [], ◌∷◌, ◌++◌, length, Option, Some, None, refl, sym, ap, ◌∙◌}
+use Rattle.std.proofs.Common.{subst, arith, slice_get}
 use Rattle.std.specs.Prelude.{not, ◌==◌, ◌||◌, bytes_eq, nat_le, nat_lt, take, unwrap_or}
 use Rattle.std.specs.List.{list_all}
 use Rattle.std.proofs.lemmas.Bool.{and_parts, and_from, or_parts, not-true, leb-true, ltb-true}
@@ -16,7 +17,8 @@ use Rattle.terra_term.specs.declared.term.Term.{Term}
 use Rattle.terra_term.specs.declared.term.Term.TheVariants as kinds
 use Rattle.exotype.specs.World.{StageState}
 use Rattle.terra_lib.specs.Symbols.{is_scalar}
-use Rattle.terra_lib.specs.Exports.{is_name, is_used, is_free, is_unit, all_scalar, takes_scalars, gives_scalar, parameters_in, term_of_function}
+use Rattle.terra_lib.specs.Exports.{is_name, is_used, is_free, is_unit, all_scalar, takes_scalars, gives_scalar, parameters_in}
+use Rattle.terra_lib.specs.Exports.{term_of_function}
 use Rattle.check_model.specs.declared.known.KnownResult.TheVariants.{Is, NotYet}
 use Rattle.check_model.specs.Calls.{types_of, params_of, parameters_of, result_of, result_in_state, known_result, known_or}
 use Rattle.check_model.specs.Typing.{form_in, function_at}

@@ -25,7 +25,8 @@ use Rattle.exotype.specs.Types.{is_type}
 use Rattle.exotype.specs.declared.property.Property.TheVariants.{Entries}
 use Rattle.check_model.specs.Typing.{function_at}
 use Rattle.check_model.specs.Calls.{params_of}
-use Rattle.check_sound.specs.Sound.{foreseen, IsThereIfAny, TermIsThere, ConstantIsSound, StaticsFit, IsSound, HasBodyOf, typed_body, body_in}
+use Rattle.check_sound.specs.Sound.{foreseen, IsThereIfAny, TermIsThere, ConstantIsSound, StaticsFit, IsSound, HasBodyOf, typed_body}
+use Rattle.check_sound.specs.Sound.{body_in}
 use Rattle.check_sound.proofs.Tests.{got}
 use Rattle.check_sound.proofs.Passing.{Lies}
 use Rattle.check_sound.specs.Growing.{Grows}

@@ -20,7 +20,8 @@ use Rattle.spec_model.specs.Making.{form_at}
 use Rattle.spec_model.specs.Plans.{values_in}
 use Rattle.terra_lib.specs.Answers.{gives, type_in, bad_argument, raised, paying}
 use Rattle.terra_lib.specs.Symbols.{symbol_of, macro_of, constant_turned, is_scalar, scalar_bits, constant}
-use Rattle.terra_lib.specs.Types.{pointer_of, pointer_turned, is_too_large, array_of, array_turned, count_in, test_turned, isdefined_turned, defined_in}
+use Rattle.terra_lib.specs.Types.{pointer_of, pointer_turned, is_too_large, array_of, array_turned, count_in, test_turned, isdefined_turned}
+use Rattle.terra_lib.specs.Types.{defined_in}
 use Rattle.terra_lib.specs.Fields.{pointer_type, array_type, function_of, parameters_in, result_in}
 use Rattle.terra_lib.specs.Lists.{list_of, insert_turned, insertall_turned, map_turned, begun_map, end_of, all_appended}
 use Rattle.terra_lib.specs.Calls.{told, answered, called, backed}

@@ -1,5 +1,6 @@
 -- What calls of the library write, each kind: a sound world stays sound, and keeps what was there.
-use Rattle.std.proofs.Common.{◌≡◌, ℕ, ◌+◌, ◌/◌, ◌<◌, ◌≤◌, Bool, true, false, List, [], ◌∷◌, ◌++◌, length, Option, Some, None, refl, sym, ap, ◌∙◌, subst, arith, slice_get}
+use Rattle.std.proofs.Common.{◌≡◌, ℕ, ◌+◌, ◌/◌, ◌<◌, ◌≤◌, Bool, true, false, List, [], ◌∷◌, ◌++◌, length, Option, Some, None, refl, sym, ap}
+use Rattle.std.proofs.Common.{◌∙◌, subst, arith, slice_get}
 use Rattle.std.specs.Prelude.{◌^◌, ◌⊎◌, if◌then◌else◌}
 use Rattle.std.proofs.lemmas.List.{length-append}
 use mathlib.Core.Logic.{inl, inr}

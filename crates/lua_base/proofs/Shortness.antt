@@ -4,7 +4,13 @@ use Rattle.std.specs.Fmt.{decimal}
 use Rattle.std.proofs.lemmas.Fmt.{length-decimal-le}
 use Rattle.std.proofs.lemmas.List.{length-append, append_assoc}
 use Rattle.lua_value.specs.declared.library.LibFn.{LibFn}
-use Rattle.lua_value.specs.declared.library.LibFn.TheVariants.{Assert, Error, GetMetatable, Ipairs, IpairsNext, Next, Pairs, Pcall, Print, RawEqual, RawGet, RawSet, Select, SetMetatable, ToNumber, ToString, «Type» as TypeOf, Unpack, Byte, Char, Format, Len, Rep, Sub, Concat, TableInsert, Remove, Field, ArrayType, PointerType, FunctionType, Symbol, Macro, Global, Constant, SizeOf, OffsetOf, NewList, Insert, InsertAll, Map, NewStruct, Pointer, Array, SaveObj, Compile, IsDefined, GetType, IsIntegral, IsLogical, IsPointer, IsArray, IsStruct}
+use Rattle.lua_value.specs.declared.library.LibFn.TheVariants.{Assert, Error, GetMetatable, Ipairs, IpairsNext, Next, Pairs, Pcall, Print}
+use Rattle.lua_value.specs.declared.library.LibFn.TheVariants.{RawEqual, RawGet, RawSet, Select, SetMetatable, ToNumber, ToString}
+use Rattle.lua_value.specs.declared.library.LibFn.TheVariants.{«Type» as TypeOf, Unpack, Byte, Char, Format, Len, Rep, Sub, Concat}
+use Rattle.lua_value.specs.declared.library.LibFn.TheVariants.{TableInsert, Remove, Field, ArrayType, PointerType, FunctionType, Symbol}
+use Rattle.lua_value.specs.declared.library.LibFn.TheVariants.{Macro, Global, Constant, SizeOf, OffsetOf, NewList, Insert, InsertAll, Map}
+use Rattle.lua_value.specs.declared.library.LibFn.TheVariants.{NewStruct, Pointer, Array, SaveObj, Compile, IsDefined, GetType, IsIntegral}
+use Rattle.lua_value.specs.declared.library.LibFn.TheVariants.{IsLogical, IsPointer, IsArray, IsStruct}
 use Rattle.lua_value.specs.Library.{library_text}
 use Rattle.lua_base.specs.Calls.{placed, bad_argument_text}
 

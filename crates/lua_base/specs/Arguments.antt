@@ -1,5 +1,5 @@
 -- Arguments of functions of the library (Lua 5.1 manual, section 5.1). Further arguments than a function has do nothing.
-use Rattle.std.specs.Prelude.{ℕ, ℤ, Bool, List, length, slice_index_or, nat_lt, Option, Some, None, if◌then◌else◌}
+use Rattle.std.specs.Prelude.{ℕ, ℤ, Bool, List, length, nat_lt, Option, Some, None, if◌then◌else◌}
 use Rattle.tl_base.specs.declared.ids.TableId.{TableId}
 use Rattle.lua_value.specs.declared.value.Value.{Value}
 use Rattle.lua_value.specs.declared.value.Value.TheVariants as values
@@ -7,10 +7,8 @@ use Rattle.lua_value.specs.Values.{is_nil}
 use Rattle.lua_table.specs.LuaState.{LuaState}
 use Rattle.lua_table.specs.Heap.{text_at}
 use Rattle.lua_ops.specs.Numerals.{numeral_in}
-
 -- the argument of a number, from 0; one that isn't there reads as nil
-abbrev pub argument : List Value → ℕ → Value
-argument vs i = slice_index_or vs i values.Nil
+pub use Rattle.lua_table.specs.Cells.{nth_value as argument}
 
 -- whether there is an argument of a number, from 0
 abbrev pub has_argument : List Value → ℕ → Bool

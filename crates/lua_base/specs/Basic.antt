@@ -4,7 +4,9 @@ use Rattle.tl_base.specs.Layer.{State}
 use Rattle.tl_base.specs.declared.place.Place.{Place}
 use Rattle.lua_value.specs.declared.value.Value.{Value}
 use Rattle.lua_value.specs.declared.library.LibFn.{LibFn}
-use Rattle.lua_value.specs.declared.library.LibFn.TheVariants.{Assert, Error, GetMetatable, Ipairs, IpairsNext, Next, Pairs, Pcall, Print, RawEqual, RawGet, RawSet, Select, SetMetatable, ToNumber, ToString, «Type» as TypeOf, Unpack}
+use Rattle.lua_value.specs.declared.library.LibFn.TheVariants.{Assert, Error, GetMetatable, Ipairs, IpairsNext, Next, Pairs, Pcall, Print}
+use Rattle.lua_value.specs.declared.library.LibFn.TheVariants.{RawEqual, RawGet, RawSet, Select, SetMetatable, ToNumber, ToString}
+use Rattle.lua_value.specs.declared.library.LibFn.TheVariants.{«Type» as TypeOf, Unpack}
 use Rattle.lua_table.specs.LuaState.{LuaState}
 use Rattle.lua_table.specs.declared.call.Back.{Back}
 use Rattle.lua_table.specs.declared.call.LibCall.{LibCall}
@@ -12,7 +14,8 @@ use Rattle.lua_table.specs.declared.call.LibNext.{LibNext}
 use Rattle.lua_table.specs.declared.call.LibNext.TheVariants as nexts
 use Rattle.lua_base.specs.Calls.{Turned, gives}
 use Rattle.lua_base.specs.Errors.{assert_turned, error_turned, pcall_turned, pcall_back}
-use Rattle.lua_base.specs.Tables.{getmetatable_turned, setmetatable_turned, rawequal_turned, rawget_turned, rawset_turned, next_turned, pairs_turned, ipairs_turned, ipairs_next_turned, unpack_turned}
+use Rattle.lua_base.specs.Tables.{getmetatable_turned, setmetatable_turned, rawequal_turned, rawget_turned, rawset_turned, next_turned}
+use Rattle.lua_base.specs.Tables.{pairs_turned, ipairs_turned, ipairs_next_turned, unpack_turned}
 use Rattle.lua_base.specs.Printing.{type_turned, print_turned, print_back, tostring_turned, tostring_back, tonumber_turned, select_turned}
 
 -- what a function gives of arguments, at the place of its call, and of that of the function that calls it; one that is no basic function

@@ -1,8 +1,9 @@
 -- What a call of the library answers, and what it pays: the words in which the functions are defined.
-use Rattle.std.specs.Prelude.{ℕ, ◌+◌, ◌-◌, ◌/◌, nat_le, if◌then◌else◌, List, ◌++◌, length, codes}
+use Rattle.std.specs.Prelude.{ℕ, ◌+◌, ◌-◌, nat_le, if◌then◌else◌, List, ◌++◌, length, codes}
 use Rattle.std.specs.Fmt.{decimal}
 use Rattle.tl_base.specs.declared.place.Place.{Place}
 use Rattle.tl_base.specs.Layer.{State, state}
+use Rattle.tl_base.specs.declared.text.TheConstants.Text.{MAX_LEN}
 use Rattle.lua_value.specs.declared.value.Value.{Value}
 use Rattle.lua_value.specs.declared.value.Value.TheVariants as values
 use Rattle.lua_value.specs.declared.library.LibFn.{LibFn}
@@ -11,6 +12,7 @@ use Rattle.lua_table.specs.LuaState.{LuaState}
 use Rattle.lua_table.specs.Heap.{with_text, interned_id}
 use Rattle.lua_table.specs.declared.call.LibTurn.{LibTurn}
 use Rattle.lua_table.specs.declared.call.LibTurn.TheVariants as turns
+pub use Rattle.lua_table.specs.Heap.{text_units}
 
 -- what a function answers, with the heap and the units that it leaves
 pub record Turned : Type 0 where
@@ -21,10 +23,6 @@ abbrev pub turned : LibTurn → State LuaState → Turned
 turned turn left = record { turn = turn; left = left }
 
 -- ---- what is paid
-
--- a text pays a unit for each 64 bytes begun
-abbrev pub text_units : ℕ → ℕ
-text_units n = (n + 63) / 64
 
 -- an answer in a heap, for so many units; where they are more than what is left, nothing is done
 abbrev pub paying : State LuaState → ℕ → LibTurn → LuaState → Turned
@@ -61,4 +59,4 @@ raised s place text = with_made s (placed place.line place.word text) (λ v. tur
 -- too long is raised.
 abbrev pub making : State LuaState → Place → List ℕ → (Value → LibTurn) → Turned
 making s place bytes turn =
-    if nat_le (length bytes) 65535 then with_made s bytes turn else raised s place (codes "text too long")
+    if nat_le (length bytes) MAX_LEN then with_made s bytes turn else raised s place (codes "text too long")

@@ -5,10 +5,13 @@ use Rattle.tl_base.specs.declared.ids.TableId.{TableId}
 use Rattle.lua_value.specs.declared.value.Value.{Value}
 use Rattle.lua_value.specs.declared.value.Value.TheVariants as values
 use Rattle.lua_value.specs.declared.library.LibFn.{LibFn}
-use Rattle.lua_value.specs.declared.library.LibFn.TheVariants.{Assert, Error, GetMetatable, Ipairs, Next, Pairs, Pcall, Print, RawEqual, RawGet, RawSet, Select, SetMetatable, ToNumber, ToString, «Type» as TypeOf, Unpack, Byte, Char, Format, Len, Rep, Sub, Concat, TableInsert, Remove}
+use Rattle.lua_value.specs.declared.library.LibFn.TheVariants.{Assert, Error, GetMetatable, Ipairs, Next, Pairs, Pcall, Print, RawEqual}
+use Rattle.lua_value.specs.declared.library.LibFn.TheVariants.{RawGet, RawSet, Select, SetMetatable, ToNumber, ToString, «Type» as TypeOf}
+use Rattle.lua_value.specs.declared.library.LibFn.TheVariants.{Unpack, Byte, Char, Format, Len, Rep, Sub, Concat, TableInsert, Remove}
 use Rattle.lua_value.specs.Library.{library_text}
 use Rattle.lua_table.specs.LuaState.{LuaState}
 use Rattle.lua_table.specs.Heap.{empty, with_table, with_text, interned_id, with_stored}
+pub use Rattle.lua_table.specs.Heap.{globals, text_functions}
 
 -- a value under a name of a table
 abbrev pub with_named : LuaState → TableId → List ℕ → Value → LuaState
@@ -18,12 +21,6 @@ with_named s table name v = with_stored (with_text s name) table (values.Text (i
 unfoldable pub with_functions : LuaState → TableId → List LibFn → LuaState
 with_functions s table [] = s
 with_functions s table (f ∷ fs) = with_functions (with_named s table (library_text f) (values.Library f)) table fs
-
-abbrev pub globals : TableId
-globals = record { 0 = 0 }
-
-abbrev pub text_functions : TableId
-text_functions = record { 0 = 1 }
 
 abbrev pub table_functions : TableId
 table_functions = record { 0 = 2 }

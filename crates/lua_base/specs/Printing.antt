@@ -1,5 +1,6 @@
 -- The functions that tell what values are, and that write them (Lua 5.1 manual, section 5.1).
-use Rattle.std.specs.Prelude.{ℕ, ◌+◌, ◌-◌, ℤ, pos, negsuc, Bool, false, ◌==◌, List, [], ◌∷◌, ◌++◌, length, drop, codes, bytes_eq, Option, Some, None, if◌then◌else◌}
+use Rattle.std.specs.Prelude.{ℕ, ◌+◌, ◌-◌, ℤ, pos, negsuc, Bool, false, ◌==◌, List, [], ◌∷◌, ◌++◌, length, drop, codes, bytes_eq, Option}
+use Rattle.std.specs.Prelude.{Some, None, if◌then◌else◌}
 use Rattle.tl_base.specs.declared.ids.TypeId.{TypeId}
 use Rattle.tl_base.specs.declared.place.Place.{Place}
 use Rattle.tl_base.specs.Layer.{State}
@@ -21,11 +22,9 @@ use Rattle.lua_ops.specs.declared.numeral.Numeral.TheVariants as numerals
 use Rattle.lua_base.specs.Arguments.{argument, number_in}
 use Rattle.lua_base.specs.Calls.{Turned, turned, gives, text_units, paying, with_made, raised, making, bad_argument}
 use Rattle.lua_base.specs.Texts.{value_text}
-
 -- the type that a value is; its text is asked for
-abbrev pub type_in : Value → Option TypeId
-type_in (values.TerraType t) = Some t
-type_in v = None
+pub use Rattle.lua_value.specs.Values.{type_in}
+pub use Rattle.lua_value.specs.Values.{number_or_nil}
 
 -- the bytes of a text; of what is none there are none
 abbrev pub bytes_of : LuaState → Value → List ℕ
@@ -125,10 +124,6 @@ tonumber_turned s [] place = bad_argument s place 1 ToNumber
 tonumber_turned s (v ∷ vs) place = number_of s v place
 
 -- ---- select
-
-abbrev pub number_or_nil : Option ℤ → Value
-number_or_nil (Some z) = values.Number z
-number_or_nil None = values.Nil
 
 -- so many arguments there are; no call has so many that the number is out of the profile
 abbrev pub count_of : List Value → Value

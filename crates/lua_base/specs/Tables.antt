@@ -4,7 +4,8 @@ use Rattle.tl_base.specs.declared.ids.TableId.{TableId}
 use Rattle.tl_base.specs.declared.place.Place.{Place}
 use Rattle.tl_base.specs.Layer.{State, state}
 use Rattle.lua_value.specs.declared.library.LibFn.{LibFn}
-use Rattle.lua_value.specs.declared.library.LibFn.TheVariants.{GetMetatable, Ipairs, IpairsNext, Next, Pairs as PairsFn, RawEqual, RawGet, RawSet, SetMetatable, Unpack}
+use Rattle.lua_value.specs.declared.library.LibFn.TheVariants.{GetMetatable, Ipairs, IpairsNext, Next, Pairs as PairsFn, RawEqual, RawGet}
+use Rattle.lua_value.specs.declared.library.LibFn.TheVariants.{RawSet, SetMetatable, Unpack}
 use Rattle.lua_value.specs.declared.value.Value.{Value}
 use Rattle.lua_value.specs.declared.value.Value.TheVariants as values
 use Rattle.lua_value.specs.Numbers.{number_from}

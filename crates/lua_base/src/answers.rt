@@ -9,10 +9,7 @@ ghost use Rattle.lua_base.specs.Calls.{turned, text_units, gives, making, placed
 use lua_table::{Heap, LibTurn};
 use lua_value::{LibFn, Value, Values};
 use std::alloc::Global;
-use tl_base::{Budget, NoMemory, Place, Text2};
-
-/// The most bytes that a text has.
-const LONGEST: usize = 65_535;
+use tl_base::{Budget, NoMemory, Place, Text, Text2};
 
 /// The units that a text of so many bytes costs.
 pub fn text_units(length: usize) -> u64
@@ -60,7 +57,7 @@ pub fn give_text(
     ensures kept { OnOk result (KeepsHeap heap.old heap.new) }
     ensures paid { OnOk result (budget.new ≤ budget.old) }
 {
-    if bytes.len() > LONGEST {
+    if bytes.len() > Text::MAX_LEN {
         return raise(heap, budget, place, b"text too long");
     }
     if !budget.pay(text_units(bytes.len())) {
@@ -84,7 +81,7 @@ pub fn raise_text(
     ensures kept { OnOk result (KeepsHeap heap.old heap.new) }
     ensures paid { OnOk result (budget.new ≤ budget.old) }
 {
-    if bytes.len() > LONGEST {
+    if bytes.len() > Text::MAX_LEN {
         return raise(heap, budget, place, b"text too long");
     }
     raise_short(heap, budget, place, bytes)
@@ -131,7 +128,7 @@ fn raise_short(
     place: Place,
     bytes: &[u8],
 ) -> Result<LibTurn, NoMemory>
-    requires { length bytes.now ≤ 65535 }
+    requires { length bytes.now ≤ Text.MAX_LEN }
     ensures does { IfOk result (λ turn. turned turn (state heap.new budget.new)
         ≡ with_made (state heap.old budget.old) bytes.now (λ made. LibTurn.Raise made place)) }
     ensures kept { OnOk result (KeepsHeap heap.old heap.new) }
@@ -174,7 +171,7 @@ fn bad_argument_text(
     function: LibFn,
 ) -> Result<String, NoMemory>
     ensures text { IfOk result (λ text. string_bytes text ≡ bad_argument_text line word position function) }
-    ensures short { IfOk result (λ text. length (string_bytes text) ≤ 65535) }
+    ensures short { IfOk result (λ text. length (string_bytes text) ≤ Text.MAX_LEN) }
 {
     let name = function.name();
     Ok(format!(in alloc; "{line}:{word}: bad argument {position} to {name}")?)

@@ -1,6 +1,7 @@
 // The globals with which a source begins.
 
 ghost use Rattle.std.specs.Prelude.{◌≡◌, ◌≤◌, length, IfOk, OnOk};
+ghost use Rattle.tl_base.specs.declared.text.TheConstants.Text.{MAX_LEN};
 ghost use Rattle.lua_base.specs.Opening.{opening, with_functions, with_globals, with_named, bare};
 
 use lua_table::Heap;
@@ -81,7 +82,7 @@ fn name_globals(
 
 #[tactic(auto, unfolding(crate::specs::Opening::with_functions))]
 /// Puts functions under their names of a table.
-fn name_functions(heap: &mut Heap, table: TableId, functions: &[LibFn]) -> Result<(), NoMemory>
+pub fn name_functions(heap: &mut Heap, table: TableId, functions: &[LibFn]) -> Result<(), NoMemory>
     ensures { OnOk result (heap.new ≡ with_functions heap.old table functions.now) }
 {
     for function in functions {
@@ -96,8 +97,8 @@ fn name_functions(heap: &mut Heap, table: TableId, functions: &[LibFn]) -> Resul
 }
 
 /// Puts a value under a name of a table.
-fn name(heap: &mut Heap, table: TableId, name: &[u8], value: Value) -> Result<(), NoMemory>
-    requires { length name.now ≤ 65535 }
+pub fn name(heap: &mut Heap, table: TableId, name: &[u8], value: Value) -> Result<(), NoMemory>
+    requires { length name.now ≤ MAX_LEN }
     ensures { OnOk result (heap.new ≡ with_named heap.old table name.now value) }
 {
     let key = heap.intern(name)?;

@@ -5,7 +5,9 @@ ghost use Rattle.tl_base.specs.Layer.{state};
 ghost use Rattle.lua_table.specs.Keeping.{KeepsHeap};
 ghost use Rattle.lua_base.specs.Calls.{turned};
 ghost use Rattle.lua_base.specs.Texts.{value_text};
-ghost use Rattle.lua_base.specs.Printing.{type_in, bytes_of, type_turned, printed, tab_before, print_rest, text_unless, asked_or_printed, print_turned, print_back, text_made, tostring_turned, given_paid, tostring_back, read_number, number_of, tonumber_turned, count_of, selected, is_count, select_turned};
+ghost use Rattle.lua_base.specs.Printing.{type_in, bytes_of, type_turned, printed, tab_before, print_rest, text_unless, asked_or_printed};
+ghost use Rattle.lua_base.specs.Printing.{print_turned, print_back, text_made, tostring_turned, given_paid, tostring_back, read_number};
+ghost use Rattle.lua_base.specs.Printing.{number_of, tonumber_turned, count_of, selected, is_count, select_turned};
 
 use crate::answers::{bad_argument, copied, give, give_text, raise, text_units};
 use crate::arguments::{argument, number_in};

@@ -5,7 +5,9 @@ ghost use Rattle.tl_base.specs.Layer.{state};
 ghost use Rattle.lua_table.specs.Heap.{table_at};
 ghost use Rattle.lua_table.specs.Keeping.{KeepsHeap};
 ghost use Rattle.lua_base.specs.Calls.{turned};
-ghost use Rattle.lua_base.specs.Tables.{metatable_of, value_under, values_from, counted, getmetatable_turned, given_metatable, setmetatable_turned, rawequal_turned, rawget_turned, stored_raw, rawset_turned, found, next_turned, pairs_turned, ipairs_turned, step_from, ipairs_next_turned, unpacked, unpack_to, unpack_turned};
+ghost use Rattle.lua_base.specs.Tables.{metatable_of, value_under, values_from, counted, getmetatable_turned, given_metatable};
+ghost use Rattle.lua_base.specs.Tables.{setmetatable_turned, rawequal_turned, rawget_turned, stored_raw, rawset_turned, found, next_turned};
+ghost use Rattle.lua_base.specs.Tables.{pairs_turned, ipairs_turned, step_from, ipairs_next_turned, unpacked, unpack_to, unpack_turned};
 
 use crate::answers::{bad_argument, give, raise};
 use crate::arguments::{argument, has_argument, number_in, number_or, table_in};

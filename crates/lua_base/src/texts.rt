@@ -7,9 +7,9 @@ use lua_table::Heap;
 use lua_value::Value;
 use tl_base::{NoMemory, Text2};
 
-/// Puts the text of a value behind a line: that of a text is its bytes, and that of what has none is its kind, and its number among those of
-/// its kind, from 1. A function of the library, and a primitive of Terra, has its name in place of the number. What has a text of its own
-/// that stands elsewhere, as a type, isn't asked about here.
+/// Puts the text of a value behind a line: that of a text is its bytes, and that of what has none is its kind, and its number among those
+/// of its kind, from 1. A function of the library, and a primitive of Terra, has its name in place of the number. What has a text of its
+/// own that stands elsewhere, as a type, isn't asked about here.
 pub fn push_text(heap: &Heap, line: &mut Text2, value: Value) -> Result<(), NoMemory>
     ensures { OnOk result (line.new ≡ line.old ++ value_text heap.now value) }
 {

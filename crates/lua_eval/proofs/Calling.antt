@@ -21,7 +21,8 @@ use Rattle.lua_model.specs.declared.question.LuaQuestion.TheVariants.{Library}
 use Rattle.lua_model.specs.declared.job.Caller.{Caller}
 use Rattle.lua_model.specs.declared.scope.Scope.{Scope}
 use Rattle.lua_model.specs.Plans.{LuaPlan, statements, raise}
-use Rattle.lua_model.specs.Calls.{most_calls, leave, returned, called_state, called_scope, ask_library, call_library, call_closure, call_handler, call}
+use Rattle.lua_model.specs.Calls.{most_calls, leave, returned, called_state, called_scope, ask_library, call_library, call_closure}
+use Rattle.lua_model.specs.Calls.{call_handler, call}
 use Rattle.lua_eval.specs.declared.frame.LuaFrame.{LuaFrame}
 use Rattle.lua_eval.specs.declared.frame.LuaFrame.TheVariants as frames
 use Rattle.lua_eval.specs.Calls.{entered_state, entered_scope, call_fault}

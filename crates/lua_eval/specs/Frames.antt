@@ -32,7 +32,8 @@ use Rattle.lua_model.specs.Operators.{answered, operate, unary_at}
 use Rattle.lua_model.specs.Expressions.{closing}
 use Rattle.lua_model.specs.Tables.{store_values, fields}
 use Rattle.lua_model.specs.Assignments.{held, targets, store_target, stores, define_in}
-use Rattle.lua_model.specs.Loops.{turn, over, after_turn, while_test, repeat_test, step_plan, on_numbers, count, count_from, listed, list_next}
+use Rattle.lua_model.specs.Loops.{turn, over, after_turn, while_test, repeat_test, step_plan, on_numbers, count, count_from, listed}
+use Rattle.lua_model.specs.Loops.{list_next}
 use Rattle.lua_model.specs.Statements.{block_plan, arms_plan}
 use Rattle.lua_model.specs.Meaning.{job_plan, first_plan, close}
 use Rattle.lua_eval.specs.declared.frame.LuaFrame.{LuaFrame}

@@ -1,12 +1,8 @@
 -- Where the uses of locals find their cells: how many environments outwards, and at which position there.
-use Rattle.std.specs.Prelude.{◌≡◌, ℕ, List, get_or, Option, None, option_map}
-use Rattle.tl_base.specs.declared.ids.NodeId.{NodeId}
-use Rattle.tl_tree.specs.Code.{Items}
-use Rattle.tl_tree.specs.Scopes.{Found, binder}
+use Rattle.std.specs.Prelude.{ℕ, Option, option_map}
+use Rattle.tl_tree.specs.Scopes.{Found}
+-- the binders are those of a tree
+pub use Rattle.tl_rename.specs.Answers.{ArePaths}
 
 abbrev pub path_of : Option Found → Option (ℕ × ℕ)
 path_of = option_map (λ found. (found.depth, found.position))
-
--- the binders are those of a tree
-abbrev pub ArePaths : Items → List (Option Found) → Type 0
-ArePaths items binders = (n : NodeId) → get_or binders n.0 None ≡ binder items n

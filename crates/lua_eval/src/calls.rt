@@ -23,15 +23,16 @@ use lua_model::{Caller, End, Job, LuaQuestion, Scope};
 use lua_ops::{Fault, handler_of};
 use lua_table::{Closure, Heap, LibCall};
 use lua_value::{Kind, Value, Values};
+use tl_base::limits::MAX_LUA_CALLS;
 use tl_base::{Budget, ClosureId, NoMemory, NodeId, Place, Step};
 use tl_tree::Tree;
 
 /// Holds where one more call may be in progress.
 fn may_call(heap: &Heap) -> bool
     ensures same { result ≡ nat_lt heap.now.calls most_calls }
-    ensures few { OnTrue result (heap.now.calls < 200) }
+    ensures few { OnTrue result (heap.now.calls < MAX_LUA_CALLS) }
 {
-    heap.calls() < 200
+    heap.calls() < MAX_LUA_CALLS
 }
 
 #[tactic(auto, using(tl_base::proofs::Steps::pushes))]

@@ -19,7 +19,7 @@ use crate::quick::{Depth, Quick, spend};
 use lua_model::Scope;
 use lua_table::Heap;
 use lua_value::{Value, Values};
-use tl_base::{Budget, NoMemory, NodeId, TableId};
+use tl_base::{Budget, NoMemory, NodeId, TableId, Text};
 use tl_rename::Slots;
 use tl_tree::{Expression, Node, Tree};
 
@@ -170,7 +170,7 @@ fn named_spot(heap: &Heap, object: Value, name: &[u8]) -> Option<Spot>
         Goes items [] (with_text_of name.now (λ k. plans.held object k)) heap.now left
         [] (Return (Many (held_in spot))) heap.now left) }
 {
-    if name.len() > 65535 {
+    if name.len() > Text::MAX_LEN {
         return None;
     }
     match heap.find(name) {

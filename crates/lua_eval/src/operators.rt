@@ -20,6 +20,7 @@ use lua_model::{Caller, End, LuaQuestion};
 use lua_ops::{Arithmetic, Comparison, Fault, Handler, Outcome};
 use lua_table::{Heap, LibCall};
 use lua_value::{LibFn, Number, Value, Values};
+use tl_base::limits::LARGEST_NUMBER;
 use tl_base::{Budget, NoMemory, Place, Step};
 use tl_tree::{BinaryOperator, Tree, UnaryOperator};
 
@@ -27,7 +28,7 @@ use tl_tree::{BinaryOperator, Tree, UnaryOperator};
 pub fn whole(number: u64) -> Value
     ensures { result ≡ whole number }
 {
-    if number > 99_999_999_999_999 {
+    if number > LARGEST_NUMBER {
         return Value::Nil;
     }
     match Number::new(number as i64) {

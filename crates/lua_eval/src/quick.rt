@@ -28,7 +28,7 @@ use lua_model::Scope;
 use lua_ops::{Arithmetic, Outcome};
 use lua_table::Heap;
 use lua_value::Value;
-use tl_base::{Budget, NodeId};
+use tl_base::{Budget, NodeId, Text};
 use tl_rename::Slots;
 use tl_tree::{BinaryOperator, Expression, Node, Tree, UnaryOperator};
 
@@ -383,7 +383,7 @@ fn named_field(heap: &Heap, object: Value, name: &[u8]) -> Option<Value>
         Goes items [] (with_text_of name.now (λ key. read object key place outer give))
         heap.now left [] (Return (One value)) heap.now left) }
 {
-    if name.len() > 65535 {
+    if name.len() > Text::MAX_LEN {
         return None;
     }
     match heap.find(name) {

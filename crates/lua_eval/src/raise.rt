@@ -11,7 +11,7 @@ use lua_model::{End, Job, LuaQuestion};
 use lua_ops::Fault;
 use lua_table::Heap;
 use lua_value::Value;
-use tl_base::{Budget, NoMemory, Place, Step, Text2};
+use tl_base::{Budget, NoMemory, Place, Step, Text, Text2};
 
 /// What the machine does next.
 pub type LuaStep = Step<Job, End, LuaQuestion>;
@@ -44,7 +44,7 @@ pub fn text_value(heap: &mut Heap, bytes: &[u8]) -> Result<Value, NoMemory>
     ensures heap { OnOk result (heap.new ≡ text_state heap.old bytes.now) }
     ensures kept { OnOk result (KeepsHeap heap.old heap.new) }
 {
-    if bytes.len() > 65535 {
+    if bytes.len() > Text::MAX_LEN {
         return Ok(Value::Nil);
     }
     let id = heap.intern(bytes)?;

@@ -30,46 +30,12 @@ use Rattle.lua_model.specs.declared.question.LuaQuestion.{LuaQuestion}
 use Rattle.lua_model.specs.declared.question.LuaQuestion.TheVariants as questions
 use Rattle.lua_model.specs.declared.question.LuaAnswer.{LuaAnswer}
 use Rattle.tl_tree.specs.Code.{Items, function_at, statements_at}
-use Rattle.lua_model.specs.Fields.{
-  text_functions,
-  type_function,
-  read_by,
-  read_table,
-  read_terra,
-  read,
-  store_raw,
-  store_by,
-  store_table,
-  store,
-}
-use Rattle.lua_model.specs.Plans.{
-  LuaPlan,
-  give,
-  fell,
-  on_one,
-  on_all,
-  on_fell,
-  reply,
-  statements,
-  with_text_of,
-  text_units,
-  error_text,
-  raise,
-}
-use Rattle.lua_model.specs.Calls.{
-  most_calls,
-  leave,
-  deepen,
-  returned,
-  called_state,
-  called_scope,
-  call_function,
-  ask_library,
-  call_library,
-  call_handler,
-  call_lua,
-  call,
-}
+use Rattle.lua_model.specs.Fields.{text_functions, type_function, read_by, read_table, read_terra, read, store_raw, store_by, store_table}
+use Rattle.lua_model.specs.Fields.{store}
+use Rattle.lua_model.specs.Plans.{LuaPlan, give, fell, on_one, on_all, on_fell, reply, statements, with_text_of, text_units, error_text}
+use Rattle.lua_model.specs.Plans.{raise}
+use Rattle.lua_model.specs.Calls.{most_calls, leave, deepen, returned, called_state, called_scope, call_function, ask_library, call_library}
+use Rattle.lua_model.specs.Calls.{call_handler, call_lua, call}
 use Rattle.lua_model.specs.Meaning.{LuaGiven}
 
 abbrev pub LuaCourse : Type 0

@@ -1,6 +1,7 @@
 -- Calls (Lua 5.1 manual, sections 2.5.8 and 2.5.9).
 use Rattle.std.specs.Prelude.{ℕ, ◌+◌, List, [], ◌∷◌, length, drop, codes, nat_lt, Option, Some, if◌then◌else◌}
 use Rattle.tl_base.specs.declared.ids.ClosureId.{ClosureId}
+use Rattle.tl_base.specs.declared.limits.TheConstants.{MAX_LUA_CALLS}
 use Rattle.tl_base.specs.declared.place.Place.{Place}
 use Rattle.tl_base.specs.Plan.{Do, AskFor, Read, Write}
 use Rattle.tl_tree.specs.Code.{Items, Parts, function_at, statements_at}
@@ -25,7 +26,7 @@ use Rattle.lua_model.specs.Plans.{LuaPlan, statements, reply, raise}
 
 -- at most so many calls are in progress
 abbrev pub most_calls : ℕ
-most_calls = 200
+most_calls = MAX_LUA_CALLS
 
 -- ends a call, however it ended
 abbrev pub leave : End → (End → LuaPlan) → LuaPlan

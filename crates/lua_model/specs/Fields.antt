@@ -15,13 +15,8 @@ use Rattle.lua_ops.specs.declared.fault.Fault.TheVariants as faults
 use Rattle.lua_model.specs.declared.job.Job.TheVariants as jobs
 use Rattle.lua_model.specs.Plans.{LuaPlan, on_one, on_all, raise}
 use Rattle.lua_model.specs.Calls.{ask_library, call_library}
-
 -- the opening tables of globals and of functions on texts, which are made first
-abbrev pub globals : TableId
-globals = record { 0 = 0 }
-
-abbrev pub text_functions : TableId
-text_functions = record { 0 = 1 }
+pub use Rattle.lua_table.specs.Heap.{globals, text_functions}
 
 -- ---- reading
 

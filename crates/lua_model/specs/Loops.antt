@@ -1,23 +1,5 @@
 -- Loops (Lua 5.1 manual, sections 2.4.4 and 2.4.5). Each turn is a job, which goes over to the next one.
-use Rattle.std.specs.Prelude.{
-  Bool,
-  List,
-  [],
-  ◌∷◌,
-  length,
-  ℤ,
-  pos,
-  ◌+ℤ◌,
-  int_lt,
-  int_le,
-  Option,
-  Some,
-  None,
-  Result,
-  Ok,
-  Err,
-  if◌then◌else◌,
-}
+use Rattle.std.specs.Prelude.{Bool, List, [], ◌∷◌, length, ℤ, pos, ◌+ℤ◌, int_lt, int_le, Option, Some, None, Result, Ok, Err, if◌then◌else◌}
 use Rattle.tl_base.specs.declared.ids.NodeId.{NodeId}
 use Rattle.tl_base.specs.declared.ids.EnvId.{EnvId}
 use Rattle.tl_base.specs.declared.place.Place.{Place}

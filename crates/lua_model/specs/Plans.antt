@@ -1,27 +1,10 @@
 -- What plans are made of: how they go on with ends, how they raise, and how they make and find texts.
-use Rattle.std.specs.Prelude.{
-  ℕ,
-  ◌+◌,
-  ◌/◌,
-  ℤ,
-  pos,
-  List,
-  [],
-  ◌∷◌,
-  ◌++◌,
-  length,
-  codes,
-  decimal,
-  nat_le,
-  Option,
-  Some,
-  None,
-  if◌then◌else◌,
-}
+use Rattle.std.specs.Prelude.{ℕ, ◌+◌, pos, List, [], ◌∷◌, ◌++◌, length, codes, decimal, nat_le, Some, None, if◌then◌else◌}
 use Rattle.tl_base.specs.declared.ids.NodeId.{NodeId}
 use Rattle.tl_base.specs.declared.ids.EnvId.{EnvId}
 use Rattle.tl_base.specs.declared.place.Place.{Place}
 use Rattle.tl_base.specs.Plan.{Plan, Give, Do, AskFor, Read, Write, Pay}
+use Rattle.tl_base.specs.declared.text.TheConstants.Text.{MAX_LEN}
 use Rattle.lua_value.specs.Numbers.{number_from}
 use Rattle.lua_value.specs.declared.value.Value.{Value}
 use Rattle.lua_value.specs.declared.value.Value.TheVariants as values
@@ -39,6 +22,8 @@ use Rattle.lua_model.specs.declared.question.LuaQuestion.{LuaQuestion}
 use Rattle.lua_model.specs.declared.question.LuaQuestion.TheVariants.{Specialise}
 use Rattle.lua_model.specs.declared.question.LuaAnswer.{LuaAnswer}
 use Rattle.lua_model.specs.declared.question.LuaAnswer.TheVariants as answers
+pub use Rattle.lua_value.specs.Values.{number_or_nil as whole_from}
+pub use Rattle.lua_table.specs.Heap.{text_units}
 
 abbrev pub LuaPlan : Type 0
 LuaPlan = Plan Job LuaState LuaQuestion LuaAnswer End
@@ -136,18 +121,10 @@ specialise n scope go = AskFor (Specialise n scope.env) (λ a. go (reply a))
 -- and so the last case is met in no source's tree.
 abbrev pub with_text_of : List ℕ → (Value → LuaPlan) → LuaPlan
 with_text_of bytes go =
-    if nat_le (length bytes) 65535 then Read (λ s. Write (with_text s bytes) (go (values.Text (interned_id s bytes))))
+    if nat_le (length bytes) MAX_LEN then Read (λ s. Write (with_text s bytes) (go (values.Text (interned_id s bytes))))
     else go values.Nil
 
--- what a text of so many bytes costs: one unit for each 64 bytes begun
-abbrev pub text_units : ℕ → ℕ
-text_units n = (n + 63) / 64
-
 -- ---- numbers
-
-abbrev pub whole_from : Option ℤ → Value
-whole_from (Some z) = values.Number z
-whole_from None = values.Nil
 
 -- the value of a number from 0 up. No source has one out of the profile, and that is nil
 abbrev pub whole : ℕ → Value

@@ -1,5 +1,6 @@
 -- Each word of a heap keeps what the heap has.
-use Rattle.std.proofs.Common.{ℕ, ◌<◌, ◌≤◌, ◌≡◌, Bool, true, false, ◌==◌, List, [], ◌∷◌, ◌++◌, length, get_or, set, Option, Some, None, refl, sym, ◌∙◌, ap, subst, arith}
+use Rattle.std.proofs.Common.{ℕ, ◌<◌, ◌≤◌, ◌≡◌, Bool, true, false, ◌==◌, List, [], ◌∷◌, ◌++◌, length, get_or, set, Option, Some, None, refl}
+use Rattle.std.proofs.Common.{sym, ◌∙◌, ap, subst, arith}
 use Rattle.std.proofs.Math.ListN.{get_or-append, length-set}
 use Rattle.std.proofs.lemmas.Bool.Decides.{nat_tests}
 use Rattle.std.proofs.lemmas.List.{length-append, append-nil, append_assoc, get_or-set_same, get_or-set_other}
@@ -12,7 +13,8 @@ use Rattle.lua_value.specs.declared.value.Value.{Value}
 use Rattle.lua_table.specs.declared.env.Closure.{Closure}
 use Rattle.lua_table.specs.declared.env.Env.{Env}
 use Rattle.lua_table.specs.LuaState.{LuaState}
-use Rattle.lua_table.specs.Heap.{with_table, with_stored, with_metatable, with_cell, with_set, with_env, env_at, with_declared, with_closure, with_macro, text_place, texts_with, with_text, with_printed, deeper, shallower}
+use Rattle.lua_table.specs.Heap.{with_table, with_stored, with_metatable, with_cell, with_set, with_env, env_at, with_declared}
+use Rattle.lua_table.specs.Heap.{with_closure, with_macro, text_place, texts_with, with_text, with_printed, deeper, shallower}
 use Rattle.lua_table.specs.Keeping.{IsFront, KeepsEnv, KeepsHeap}
 
 pub front_self : {X : Type 0} (xs : List X) → IsFront xs xs

@@ -1,5 +1,6 @@
 -- The list of places beside a table's pairs.
-use Rattle.std.proofs.Common.{ℕ, zero, suc, ◌+◌, ◌-◌, ◌<◌, ◌≤◌, pos, ◌≡◌, Bool, true, false, cond, not, ltb, List, [], ◌∷◌, ◌++◌, length, take, get_or, slice_get, Some, None, refl, sym, ◌∙◌, ap, subst, arith}
+use Rattle.std.proofs.Common.{ℕ, zero, suc, ◌+◌, ◌-◌, ◌<◌, ◌≤◌, pos, ◌≡◌, Bool, true, false, cond, not, ltb, List, [], ◌∷◌, ◌++◌, length}
+use Rattle.std.proofs.Common.{take, get_or, slice_get, Some, None, refl, sym, ◌∙◌, ap, subst, arith}
 use Rattle.std.proofs.Math.ListN.{get_or-append}
 use Rattle.std.proofs.Math.Seq.{get_or-append_seam}
 use Rattle.std.proofs.lemmas.Bool.Decides.{nat_tests}
@@ -17,7 +18,8 @@ use Rattle.lua_table.specs.Keys.{IsKey}
 use Rattle.lua_table.specs.Borders.{IsFull, IsBorder, AreListed, AreFull, AreTable, IsStored, index_in}
 use Rattle.lua_table.specs.Pairs.{Pairs, value_at, with_value}
 use Rattle.lua_table.proofs.Border.{none_beyond}
-use Rattle.lua_table.proofs.Stored.{keyed_stored, is_stored, emptied, kept_empty, kept_full, grown, key_at, stored_full, differs, apart_test}
+use Rattle.lua_table.proofs.Stored.{keyed_stored, is_stored, emptied, kept_empty, kept_full, grown, key_at, stored_full, differs}
+use Rattle.lua_table.proofs.Stored.{apart_test}
 
 -- ---- places stay
 

@@ -1,5 +1,6 @@
 -- What a store does to the values under other keys, to the keys, and to the border.
-use Rattle.std.proofs.Common.{ℕ, suc, ◌+◌, ◌-◌, ◌<◌, ◌≤◌, pos, ◌≡◌, ◌≢◌, Bool, true, false, cond, [], ◌∷◌, Some, is_some, refl, sym, ◌∙◌, ap, arith}
+use Rattle.std.proofs.Common.{ℕ, suc, ◌+◌, ◌-◌, ◌<◌, ◌≤◌, pos, ◌≡◌, ◌≢◌, Bool, true, false, cond, [], ◌∷◌, Some, is_some, refl, sym, ◌∙◌}
+use Rattle.std.proofs.Common.{ap, arith}
 use Rattle.std.specs.Map.{lookup}
 use Rattle.std.specs.List.{AllByRecursion}
 use Rattle.std.proofs.lemmas.List.Elements.{recursion_from_All, All-from_recursion}

@@ -9,7 +9,8 @@ ghost use Rattle.tl_base.specs.declared.ids.ClosureId.{ClosureId};
 ghost use Rattle.lua_value.specs.declared.value.Value.{Value};
 ghost use Rattle.lua_table.specs.declared.env.Closure.{Closure};
 ghost use Rattle.lua_table.specs.LuaState.{LuaState};
-ghost use Rattle.lua_table.specs.Heap.{with_table, with_stored, with_metatable, with_cell, with_set, with_env, with_declared, with_closure, with_macro, with_text, with_printed, deeper, shallower};
+ghost use Rattle.lua_table.specs.Heap.{with_table, with_stored, with_metatable, with_cell, with_set, with_env, with_declared, with_closure};
+ghost use Rattle.lua_table.specs.Heap.{with_macro, with_text, with_printed, deeper, shallower};
 ghost use Rattle.lua_table.specs.Keeping.{KeepsHeap};
 
 /// Whatever a heap's calls make of it, texts, functions, macros and what was printed are fronts of what comes later, environments keep

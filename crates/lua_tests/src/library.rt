@@ -16,7 +16,8 @@ pub fn answer(heap: &mut Heap, word: &str, words: &[&str]) -> Result<Option<Stri
     }
 }
 
-/// Calls a function of the library with so many units, at the place 3:7, and tells what it answers, what is left, and what was printed by it.
+/// Calls a function of the library with so many units, at the place 3:7, and tells what it answers, what is left, and what was
+/// printed by it.
 fn called(heap: &mut Heap, words: &[&str]) -> Result<String, NoMemory> {
     let alloc = heap.allocator();
     let function = match value_at(heap, words, 1)? {

@@ -2,6 +2,7 @@
 use Rattle.std.specs.Prelude.{ℕ, List, [], ◌∷◌, ◌++◌, length, codes, nat_le, Result, Ok, Err, if◌then◌else◌}
 use Rattle.tl_base.specs.declared.place.Place.{Place}
 use Rattle.tl_base.specs.Layer.{State}
+use Rattle.tl_base.specs.declared.text.TheConstants.Text.{MAX_LEN}
 use Rattle.lua_value.specs.declared.library.LibFn.{LibFn}
 use Rattle.lua_value.specs.declared.value.Value.{Value}
 use Rattle.lua_table.specs.LuaState.{LuaState}
@@ -32,4 +33,4 @@ making_or s (Err Spent) place f = turned turns.Spent s
 
 -- a text that is being made with more bytes behind it, where it doesn't become too long by them
 abbrev pub grown : List ℕ → List ℕ → Result (List ℕ) Refusal
-grown made more = if nat_le (length (made ++ more)) 65535 then Ok (made ++ more) else Err TooLong
+grown made more = if nat_le (length (made ++ more)) MAX_LEN then Ok (made ++ more) else Err TooLong

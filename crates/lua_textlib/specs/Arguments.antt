@@ -1,13 +1,13 @@
 -- Arguments of functions of the library. Further arguments than a function has do nothing.
 use Rattle.std.specs.Prelude.{ℕ, List, [], Option, Some, None, if◌then◌else◌}
-use Rattle.std.specs.Fmt.{signed_decimal}
 use Rattle.lua_value.specs.Values.{is_nil}
 use Rattle.lua_value.specs.declared.value.Value.{Value}
-use Rattle.lua_value.specs.declared.value.Value.TheVariants as values
 use Rattle.lua_table.specs.LuaState.{LuaState}
 use Rattle.lua_table.specs.Heap.{text_at}
 use Rattle.lua_textlib.specs.declared.arguments.Piece.{Piece}
 use Rattle.lua_textlib.specs.declared.arguments.Piece.TheVariants.{Text, Decimal, Empty}
+-- the bytes that a value is as a text: a number stands for its decimal text (Lua 5.1 manual, section 2.2.1)
+pub use Rattle.lua_ops.specs.Outcomes.{piece_of as text_in}
 
 -- what is done with a value, or else where there is none
 abbrev pub given : {X Y : Type 0} → Option X → Y → (X → Y) → Y
@@ -19,12 +19,6 @@ abbrev pub bytes_in : LuaState → Piece → List ℕ
 bytes_in s (Text id) = text_at s id
 bytes_in s (Decimal bytes) = bytes
 bytes_in s Empty = []
-
--- the bytes that a value is as a text: a number stands for its decimal text (Lua 5.1 manual, section 2.2.1)
-abbrev pub text_in : LuaState → Value → Option (List ℕ)
-text_in s (values.Text id) = Some (text_at s id)
-text_in s (values.Number z) = Some (signed_decimal z)
-text_in s v = None
 
 -- the same of an argument that need not be there
 abbrev pub text_or : LuaState → Value → List ℕ → Option (List ℕ)

@@ -30,8 +30,8 @@ numbered s made next v = given (number_in s v) (Err (BadArgument (next + 1))) (�
 abbrev pub worded : LuaState → List ℕ → ℕ → Value → Result Formatting Refusal
 worded s made next v = given (text_in s v) (Err (BadArgument (next + 1))) (λ bytes. put made (next + 1) bytes)
 
--- The byte behind a `%`: another `%` stands for itself, `d` for the next argument as a number and `s` for it as a text. No other byte stands
--- there
+-- The byte behind a `%`: another `%` stands for itself, `d` for the next argument as a number and `s` for it as a text. No other byte
+-- stands there
 abbrev pub directed : LuaState → List Value → List ℕ → ℕ → ℕ → Result Formatting Refusal
 directed s vs made next byte =
     if byte == 37 then put made next (codes "%")

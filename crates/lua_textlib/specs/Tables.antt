@@ -1,6 +1,7 @@
--- The functions on tables (Lua 5.1 manual, section 5.5). They read and store what a table holds itself, and ask for no handler. The end of a
--- table's list is its border.
-use Rattle.std.specs.Prelude.{ℕ, zero, suc, ◌+◌, ◌-◌, ℤ, pos, ◌+ℤ◌, List, [], ◌∷◌, ◌++◌, length, ◌==◌, ◌&&◌, nat_le, nat_lt, int_le, Option, Some, None, Result, Ok, Err, if◌then◌else◌}
+-- The functions on tables (Lua 5.1 manual, section 5.5). They read and store what a table holds itself, and ask for no handler. The end of
+-- a table's list is its border.
+use Rattle.std.specs.Prelude.{ℕ, zero, suc, ◌+◌, ◌-◌, ℤ, pos, ◌+ℤ◌, List, [], ◌∷◌, ◌++◌, length, ◌==◌, ◌&&◌, nat_le, nat_lt, int_le, Option}
+use Rattle.std.specs.Prelude.{Some, None, Result, Ok, Err, if◌then◌else◌}
 use Rattle.std.specs.Int.{int_gap}
 use Rattle.tl_base.specs.declared.ids.TableId.{TableId}
 use Rattle.tl_base.specs.declared.place.Place.{Place}
@@ -10,7 +11,7 @@ use Rattle.lua_value.specs.declared.value.Value.{Value}
 use Rattle.lua_value.specs.declared.value.Value.TheVariants as values
 use Rattle.lua_table.specs.LuaState.{LuaState}
 use Rattle.lua_table.specs.Heap.{table_at, with_stored}
-use Rattle.lua_table.specs.Pairs.{value_in, border_of}
+use Rattle.lua_table.specs.Pairs.{value_in}
 use Rattle.lua_table.specs.declared.call.LibTurn.TheVariants as turns
 use Rattle.lua_base.specs.Arguments.{argument, number_in, number_or, table_in}
 use Rattle.lua_base.specs.Calls.{Turned, gives, paying, bad_argument}
@@ -18,10 +19,7 @@ use Rattle.lua_textlib.specs.Arguments.{given, text_in, text_or}
 use Rattle.lua_textlib.specs.Answers.{one_value, making_or, grown}
 use Rattle.lua_textlib.specs.declared.refusal.Refusal.{Refusal}
 use Rattle.lua_textlib.specs.declared.refusal.Refusal.TheVariants.{BadArgument, Spent}
-
--- the end of a table's list
-abbrev pub end_of : LuaState → TableId → ℕ
-end_of s t = border_of (table_at s t)
+pub use Rattle.lua_table.specs.Heap.{end_of}
 
 -- what a table holds under a whole number
 abbrev pub held : LuaState → TableId → ℤ → Value
@@ -88,7 +86,8 @@ inserted s t z v =
     let shift = int_gap z (pos (end_of s.world t + 1)) in
     paying s (shift + 1) (turns.Values []) (with_held (shifted_up s.world t z shift) t z v)
 
--- `insert` puts a value behind the end of a list, or under a number, for which the values from there on make way. It has two arguments or three
+-- `insert` puts a value behind the end of a list, or under a number, for which the values from there on make way. It has
+-- two arguments or three
 abbrev pub insert_turned : State LuaState → List Value → Place → Turned
 insert_turned s vs place =
     given (table_in (argument vs 0)) (bad_argument s place 1 TableInsert) (λ t.

@@ -34,7 +34,7 @@ pub fn give_value(heap: &Heap, value: Value) -> Result<LibTurn, NoMemory>
 
 /// Gives the text of these bytes, which is paid for already.
 pub fn give_text(heap: &mut Heap, bytes: &[u8]) -> Result<LibTurn, NoMemory>
-    requires { length bytes.now ≤ 65535 }
+    requires { length bytes.now ≤ Text.MAX_LEN }
     ensures turn { IfOk result (λ turn. turn ≡ one_value (values.Text (interned_id heap.old bytes.now))) }
     ensures heap { OnOk result (heap.new ≡ with_text heap.old bytes.now) }
     ensures kept { OnOk result (KeepsHeap heap.old heap.new) }
@@ -122,7 +122,7 @@ fn raise_bad_argument(
 
 /// Puts bytes behind a text that is being made, unless it becomes too long by them. Whether it does not.
 pub fn push_within(made: &mut Text2, more: &[u8]) -> Result<bool, NoMemory>
-    ensures fits { IfOk result (λ fits. fits ≡ nat_le (length (made.old ++ more.now)) 65535) }
+    ensures fits { IfOk result (λ fits. fits ≡ nat_le (length (made.old ++ more.now)) Text.MAX_LEN) }
     ensures made { IfOk result (λ fits. made.new ≡ (if fits then made.old ++ more.now else made.old)) }
 {
     if made.bytes().len() > Text::MAX_LEN || more.len() > Text::MAX_LEN - made.bytes().len() {

@@ -25,7 +25,7 @@ impl Piece {
     /// The bytes.
     pub fn bytes<'a>(&'a self, heap: &'a Heap) -> &'a [u8]
         ensures bytes { result.now ≡ bytes_in heap.now self.now }
-        ensures within { length result.now ≤ 65535 }
+        ensures within { length result.now ≤ Text.MAX_LEN }
     {
         match self {
             Piece::Text(text) => heap.text(*text),

@@ -14,8 +14,8 @@ use lua_table::{Heap, LibCall, LibTurn};
 use lua_value::LibFn;
 use tl_base::{Budget, NoMemory};
 
-/// Calls a function on texts or on tables (Lua 5.1 manual, sections 5.4 and 5.5), which pays for the text that it makes and for each value that
-/// it moves. Nothing more is done where a payment is larger than what is left. A function that is not of this crate gives no values.
+/// Calls a function on texts or on tables (Lua 5.1 manual, sections 5.4 and 5.5), which pays for the text that it makes and for each value
+/// that it moves. Nothing more is done where a payment is larger than what is left. A function that is not of this crate gives no values.
 pub fn call(heap: &mut Heap, call: &LibCall, budget: &mut Budget) -> Result<LibTurn, NoMemory>
     ensures does { IfOk result (λ turn.
         turned turn (state heap.new budget.new) ≡ called (state heap.old budget.old) call.now) }

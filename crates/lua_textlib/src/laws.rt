@@ -8,8 +8,8 @@ ghost use Rattle.lua_value.specs.declared.value.Value.TheVariants as values;
 ghost use Rattle.lua_table.specs.LuaState.{LuaState};
 ghost use Rattle.lua_textlib.specs.Tables.{held, with_held, shifted_up, shifted_down};
 
-/// Where a value is put under z behind a shift of n values, it stands there, each of the n values from z on stands one number higher, and the
-/// values below z and above z + n are as they were.
+/// Where a value is put under z behind a shift of n values, it stands there, each of the n values from z on stands one number higher, and
+/// the values below z and above z + n are as they were.
 pub fn values_make_way()
     ensures there { (s : LuaState) (t : TableId) (z : ℤ) (n : ℕ) (v : Value) → t.0 < length s.tables →
         held (with_held (shifted_up s t z n) t z v) t z ≡ v }

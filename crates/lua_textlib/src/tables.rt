@@ -7,7 +7,8 @@ ghost use Rattle.lua_value.specs.Numbers.{IsInProfile, largest_size};
 ghost use Rattle.lua_value.specs.declared.value.Value.TheVariants as values;
 ghost use Rattle.lua_table.specs.Keeping.{KeepsHeap};
 ghost use Rattle.lua_base.specs.Calls.{turned};
-ghost use Rattle.lua_textlib.specs.Tables.{concat_turned, insert_turned, remove_turned, inserted, removed, joined, joined_step, joined_value, grew, shifted_up, shifted_down, end_of, held, with_held, count_between};
+ghost use Rattle.lua_textlib.specs.Tables.{concat_turned, insert_turned, remove_turned, inserted, removed, joined, joined_step};
+ghost use Rattle.lua_textlib.specs.Tables.{joined_value, grew, shifted_up, shifted_down, end_of, held, with_held, count_between};
 
 use crate::answers::{give_nothing, give_value, make_or, push_within};
 use crate::arguments::{number, number_or, text_in, text_or_empty};
@@ -17,8 +18,8 @@ use lua_table::{Heap, LibTurn};
 use lua_value::{LibFn, Number, Value};
 use tl_base::{Budget, NoMemory, Place, TableId, Text2};
 
-/// Gives the text of a table's values from a number to another one, or of its list, with a separator between them, or nothing. Each value is
-/// paid for before it is read, and the text before it is made.
+/// Gives the text of a table's values from a number to another one, or of its list, with a separator between them, or nothing. Each value
+/// is paid for before it is read, and the text before it is made.
 pub fn concat(
     heap: &mut Heap,
     budget: &mut Budget,

@@ -5,7 +5,8 @@ ghost use Rattle.lua_value.specs.Numbers.{largest_size};
 ghost use Rattle.tl_base.specs.Layer.{state};
 ghost use Rattle.lua_table.specs.Keeping.{KeepsHeap};
 ghost use Rattle.lua_base.specs.Calls.{turned};
-ghost use Rattle.lua_textlib.specs.Texts.{len_turned, sub_turned, byte_turned, rep_turned, char_turned, place_of, part, number_of_byte, repeated, times, byte_from, chars_from};
+ghost use Rattle.lua_textlib.specs.Texts.{len_turned, sub_turned, byte_turned, rep_turned, char_turned, place_of, part, number_of_byte};
+ghost use Rattle.lua_textlib.specs.Texts.{repeated, times, byte_from, chars_from};
 ghost use Rattle.lua_base.specs.Arguments.{number_in};
 ghost use Rattle.lua_textlib.specs.Arguments.{bytes_in};
 ghost use Rattle.lua_textlib.specs.Answers.{making};
@@ -40,7 +41,7 @@ pub fn len(
 
 /// How many bytes there are, as a number.
 fn size_of(bytes: &[u8]) -> Number
-    requires { length bytes.now ≤ 65535 }
+    requires { length bytes.now ≤ Text.MAX_LEN }
     ensures { result ≡ pos (length bytes.now) }
 {
     number(bytes.len() as i64)
@@ -114,9 +115,9 @@ fn byte_values(heap: &Heap, bytes: &[u8]) -> Result<Values, NoMemory>
 
 /// The bytes of a text from one place to another one, which is among them, as far as they are there.
 fn part(bytes: &[u8], first: Number, last: Number) -> &[u8]
-    requires { length bytes.now ≤ 65535 }
+    requires { length bytes.now ≤ Text.MAX_LEN }
     ensures part { result.now ≡ part bytes.now first last }
-    ensures within { length result.now ≤ 65535 }
+    ensures within { length result.now ≤ Text.MAX_LEN }
 {
     let from = place_of(bytes.len(), first).saturating_sub(1);
     let to = place_of(bytes.len(), last).min(bytes.len());
@@ -125,7 +126,7 @@ fn part(bytes: &[u8], first: Number, last: Number) -> &[u8]
 
 /// The place in a text of so many bytes that a number names: from 1 on, or from the end where it is negative, which is 0 before the begin.
 fn place_of(size: usize, number: Number) -> usize
-    requires { size ≤ 65535 }
+    requires { size ≤ Text.MAX_LEN }
     ensures place { result ≡ place_of size number }
     ensures within { result ≤ largest_size }
 {
@@ -139,7 +140,7 @@ fn place_of(size: usize, number: Number) -> usize
 
 /// The place that a number names, as a number.
 fn place_number(bytes: &[u8], first: Number) -> Number
-    requires { length bytes.now ≤ 65535 }
+    requires { length bytes.now ≤ Text.MAX_LEN }
     ensures { result ≡ pos (place_of (length bytes.now) first) }
 {
     number(place_of(bytes.len(), first) as i64)
@@ -204,7 +205,7 @@ fn times(number: Number) -> usize
 #[tactic(auto, using(crate::proofs::Repeats::repeated_more))]
 /// Bytes so many times.
 fn repeated(alloc: Global, bytes: &[u8], times: usize) -> Result<Vec<u8>, NoMemory>
-    requires { length bytes.now * times ≤ 65535 }
+    requires { length bytes.now * times ≤ Text.MAX_LEN }
     ensures { IfOk result (λ made. made.items ≡ repeated times bytes.now) }
 {
     let mut made = Vec::with_capacity(alloc, bytes.len() * times)?;

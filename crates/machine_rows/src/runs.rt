@@ -4,8 +4,9 @@ ghost use Rattle.std.specs.Prelude.{◌<◌};
 
 use crate::words::{number_of, numbers_from, text_of, word_at};
 use elf_image::{Bytes, Image, Symbol, Symbols, Words, is_lawful};
-use rv_machine::{Machine, Stop, TEXT, run_image};
+use rv_machine::{Machine, Stop, run_image};
 use std::alloc::Global;
+use tl_base::limits::TEXT_ADDRESS;
 use tl_base::{Failed, MemSink, NoMemory, Sink};
 
 /// The static bytes of each image.
@@ -81,7 +82,14 @@ impl Bench {
             return Ok(String::from_str(alloc, "no such image")?);
         }
         let steps = number_of(word_at(words, 1));
-        let stop = run_image(alloc, &image, TEXT, &arguments, steps, &mut self.out)?;
+        let stop = run_image(
+            alloc,
+            &image,
+            TEXT_ADDRESS,
+            &arguments,
+            steps,
+            &mut self.out,
+        )?;
         shown(alloc, stop)
     }
 
@@ -100,7 +108,7 @@ impl Bench {
         let arguments = numbers_from(self.alloc, words, 1)?;
         match &mut self.machine {
             Some(machine) if arguments.len() <= 8 => {
-                machine.start(TEXT, &arguments);
+                machine.start(TEXT_ADDRESS, &arguments);
                 Ok(String::from_str(self.alloc, "started")?)
             }
             _ => Ok(String::from_str(self.alloc, "no machine")?),
@@ -140,7 +148,7 @@ fn image_of(alloc: Global, text: &str) -> Result<Image, NoMemory> {
     let mut exports = Symbols::new(alloc);
     exports.push(Symbol {
         name: Bytes::from(b"f".to_vec(alloc)?),
-        address: TEXT,
+        address: TEXT_ADDRESS,
         params: Bytes::new(alloc),
         result: 3,
     })?;

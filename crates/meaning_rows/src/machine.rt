@@ -7,12 +7,9 @@ use tac_form::{Address, Block, Destination, Edge, Exit, Instruction, Operand, Pa
 use terra_eval::memory::put;
 use terra_eval::{End, Run, Value};
 use terra_memory::Region;
-use terra_memory::region::FIRST_ADDRESS;
 use terra_words::FaultKind;
+use tl_base::limits::{MAX_CALLS, REGION_ADDRESS};
 use tl_base::{FnId, NoMemory, Place};
-
-/// The most calls in progress.
-const MOST_CALLS: usize = 512;
 
 /// What temporaries hold before they are written. Lowered code never reads it, so any other word would do.
 const UNWRITTEN: u64 = 0xA5A5_A5A5_A5A5_A5A5;
@@ -97,7 +94,7 @@ pub fn run(
     f: FnId,
     arguments: &[Value],
 ) -> Result<Run, NoMemory> {
-    let top = FIRST_ADDRESS + region.memory_size();
+    let top = REGION_ADDRESS + region.memory_size();
     let mut m = Machine {
         alloc,
         here: fresh(alloc, f, top),
@@ -247,7 +244,7 @@ impl Machine {
         depth: usize,
         arguments: &[Value],
     ) -> Result<Activation, Stop> {
-        if depth >= MOST_CALLS {
+        if depth >= MAX_CALLS as usize {
             return Err(Stop::Fault(FaultKind::CallDepth, at));
         }
         if !self.has_room(top, code.frame) {
@@ -266,7 +263,7 @@ impl Machine {
     /// Whether a frame under `top` ends above the heap's limit.
     fn has_room(&self, top: u64, frame: u64) -> bool {
         let memory = self.region.memory_size();
-        let limit = FIRST_ADDRESS + memory - memory / 4;
+        let limit = REGION_ADDRESS + memory - memory / 4;
         top >= limit.saturating_add(frame)
     }
 

@@ -9,7 +9,7 @@ use tac_lower::lower;
 use terra_eval::{End, Run, Value, evaluate, static_bytes};
 use terra_memory::Region;
 use terra_words::FaultKind;
-use tl_base::{FnId, NoMemory};
+use tl_base::{FnId, Limits, NoMemory};
 
 /// What runs a function, or shows its code.
 pub fn row(work: &mut Work, word: &str, words: &[&str]) -> Result<Option<String>, NoMemory> {
@@ -174,7 +174,10 @@ fn add(text: &mut String, part: &str) -> Result<(), NoMemory> {
 fn answer(work: &Work, words: &[&str], n: u64, arguments: &[Value]) -> Result<String, NoMemory> {
     let alloc = work.store.allocator();
     let memory = number_at(words, 2);
-    if memory % 1024 != 0 || memory < 65_536 || memory > 67_108_864 {
+    if memory % Limits::MEMORY_UNIT != 0
+        || memory < Limits::MIN_MEMORY
+        || memory > Limits::MAX_MEMORY
+    {
         return Ok(String::from_str(alloc, "bad memory")?);
     }
     let statics = static_bytes(&work.store)?;

@@ -14,15 +14,18 @@ use Rattle.tac_form.specs.declared.tac.Part.TheVariants as parts
 use Rattle.tac_form.specs.declared.tac.Destination.{Destination}
 use Rattle.tac_form.specs.declared.tac.Destination.TheVariants as destinations
 use Rattle.tac_form.specs.declared.tac.Instruction.{Instruction}
-use Rattle.tac_form.specs.declared.tac.Instruction.TheVariants.{Compute, TestDivisor, Copy, Locate, Load, Store, Move, Clear, Call, CallValue, PutByte, Write, Alloc}
+use Rattle.tac_form.specs.declared.tac.Instruction.TheVariants.{Compute, TestDivisor, Copy, Locate, Load, Store, Move, Clear, Call}
+use Rattle.tac_form.specs.declared.tac.Instruction.TheVariants.{CallValue, PutByte, Write, Alloc}
 use Rattle.tac_form.specs.declared.tac.Exit.{Exit}
 use Rattle.tac_form.specs.declared.tac.Exit.TheVariants.{Jump, Branch, Return, Fail}
 use Rattle.tac_form.specs.declared.tac.Block.{Block}
 use Rattle.tac_form.specs.declared.tac.Tac.{Tac}
 use Rattle.tac_form.specs.Flow.{area_size, bytes_of}
 use Rattle.tac_form.specs.Weights.{most_moved}
-use Rattle.tac_form.specs.Graph.{address_reads, block_of, destination_write, exit_reads, graph_of, instruction_reads, operand_reads, part_reads, parts_reads, spot_reads, step_of}
-use Rattle.tac_form.specs.Fits.{are_apart, area_fits, area_there, block_fits, destination_fits, edge_fits, exit_fits, instruction_fits, is_within, operand_fits, part_fits, place_fits, spot_fits}
+use Rattle.tac_form.specs.Graph.{address_reads, block_of, destination_write, exit_reads, graph_of, instruction_reads, operand_reads}
+use Rattle.tac_form.specs.Graph.{part_reads, parts_reads, spot_reads, step_of}
+use Rattle.tac_form.specs.Fits.{are_apart, area_fits, area_there, block_fits, destination_fits, edge_fits, exit_fits, instruction_fits}
+use Rattle.tac_form.specs.Fits.{is_within, operand_fits, part_fits, place_fits, spot_fits}
 use Rattle.reg_alloc.specs.Homes.{all_below, are_below, block_below, step_below, write_below}
 
 both : (a b : Bool) → a ≡ true → b ≡ true → (a && b) ≡ true

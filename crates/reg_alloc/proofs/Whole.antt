@@ -1,20 +1,24 @@
 -- Right at every place of every block is right.
-use Rattle.std.proofs.Common.{◌≡◌, ◌≢◌, ℕ, zero, suc, ◌+◌, ◌<◌, ◌≤◌, ◌↔◌, Bool, true, false, not, ◌&&◌, ◌||◌, ltb, eqb, List, [], ◌∷◌, ◌++◌, length, get_or, drop, Option, Some, None, refl, sym, ap, ◌∙◌, subst, ⊎_elim, inl, inr, arith, rules}
+use Rattle.std.proofs.Common.{◌≡◌, ◌≢◌, ℕ, zero, suc, ◌+◌, ◌<◌, ◌≤◌, ◌↔◌, Bool, true, false, not, ◌&&◌, ◌||◌, ltb, eqb, List, [], ◌∷◌, ◌++◌}
+use Rattle.std.proofs.Common.{length, get_or, drop, Option, Some, None, refl, sym, ap, ◌∙◌, subst, ⊎_elim, inl, inr, arith, rules}
 use Rattle.std.specs.Prelude.{slice_get}
 use Rattle.std.specs.List.{list_any, list_all}
 use Rattle.std.proofs.lemmas.List.{drop_all, length_push, get_or_push, get_or_append_left}
 use Rattle.std.proofs.lemmas.Option.{slice_get_within, slice_get-get_or, slice_get_past}
-use Rattle.std.proofs.lemmas.Bool.{cases_eq, cases_lt, cases_Bool, or_cases, or_left, or_right, and_parts, and_cases, eqb-true, eq-eqb, ltb-true, ltb-false, lt-ltb, true≢false, false≢true}
+use Rattle.std.proofs.lemmas.Bool.{cases_eq, cases_lt, cases_Bool, or_cases, or_left, or_right, and_parts, and_cases, eqb-true, eq-eqb}
+use Rattle.std.proofs.lemmas.Bool.{ltb-true, ltb-false, lt-ltb, true≢false, false≢true}
 use Rattle.tac_form.specs.declared.tac.Tac.{Tac}
 use Rattle.reg_alloc.specs.declared.assignment.Home.{Home}
 use Rattle.reg_alloc.specs.declared.assignment.Home.TheVariants.{Slot}
 use Rattle.tac_form.specs.declared.graph.Step.{Step}
 use Rattle.tac_form.specs.declared.graph.FlowBlock.{FlowBlock}
 use Rattle.tac_form.specs.Graph.{graph_of}
-use Rattle.tac_form.specs.Live.{has, is_written, before_step, before_exit, at_step, at_place, read_within, IsLive, step_writes, written_in, is_just_written, InUse}
+use Rattle.tac_form.specs.Live.{has, is_written, before_step, before_exit, at_step, at_place, read_within, IsLive, step_writes, written_in}
+use Rattle.tac_form.specs.Live.{is_just_written, InUse}
 use Rattle.reg_alloc.specs.Right.{is_some_home, has_home, IsRight}
 use Rattle.reg_alloc.specs.Sets.{in_table, before_steps, before_from, IsLiveTable}
-use Rattle.reg_alloc.specs.Homes.{AreRightBelow, just_written, used_from, IsBlockRight, AreBlocksRight, all_below, write_below, step_below, steps_below, block_below, are_below, own_slots}
+use Rattle.reg_alloc.specs.Homes.{AreRightBelow, just_written, used_from, IsBlockRight, AreBlocksRight, all_below, write_below, step_below}
+use Rattle.reg_alloc.specs.Homes.{steps_below, block_below, are_below, own_slots}
 use Rattle.reg_alloc.proofs.Ways.{before-live, live-before}
 
 -- tests of all, at one

@@ -1,5 +1,6 @@
 -- Views of the code, which private contracts cite: homes that are taken one after the other.
-use Rattle.std.specs.Prelude.{◌≡◌, ◌≢◌, ℕ, zero, suc, ◌+◌, ◌-◌, ◌<◌, ◌≤◌, ◌↔◌, Bool, true, false, ◌&&◌, ◌||◌, nat_lt, nat_le, if◌then◌else◌, List, [], ◌∷◌, ◌++◌, length, Option, Some, None, slice_get, slice_set, slice_index_or}
+use Rattle.std.specs.Prelude.{◌≡◌, ◌≢◌, ℕ, zero, suc, ◌+◌, ◌-◌, ◌<◌, ◌≤◌, ◌↔◌, Bool, true, false, ◌&&◌, ◌||◌, nat_lt, nat_le, if◌then◌else◌}
+use Rattle.std.specs.Prelude.{List, [], ◌∷◌, ◌++◌, length, Option, Some, None, slice_get, slice_set, slice_index_or}
 use Rattle.std.specs.List.{list_all}
 use Rattle.reg_alloc.specs.declared.assignment.Home.{Home}
 use Rattle.reg_alloc.specs.declared.assignment.Home.TheVariants.{Register, Slot}
@@ -53,7 +54,8 @@ AreBlocksRight homes table graph below =
 pub record IsTaken (homes : List (Option Home)) (set : List Bool) (below : ℕ) (taken : List Bool) : Type 0 where
   pub long : length taken ≡ length homes + 10
   pub right : AreRightBelow homes below (λ t. at set t)
-  pub theirs : (t n : ℕ) → t < below → at set t ≡ true → home_number (length homes) (slice_index_or homes t None) ≡ Some n → at taken n ≡ true
+  pub theirs : (t n : ℕ) → t < below → at set t ≡ true →
+      home_number (length homes) (slice_index_or homes t None) ≡ Some n → at taken n ≡ true
   pub no_others : (n : ℕ) → at taken n ≡ true →
       (t : ℕ) × (t < below) × (at set t ≡ true) × (home_number (length homes) (slice_index_or homes t None) ≡ Some n)
 

@@ -4,7 +4,8 @@ ghost use Rattle.std.specs.Prelude.{◌≡◌, ◌+◌, ◌^◌, ◌<◌, ◌↔
 ghost use Rattle.std.specs.List.{list_all};
 ghost use Rattle.tac_form.specs.Graph.{graph_of};
 ghost use Rattle.reg_alloc.specs.Right.{IsRight};
-ghost use Rattle.reg_alloc.specs.Homes.{home_number, Takes, TakesIf, IsRightSet, IsBlockRight, AreBlocksRight, all_below, write_below, step_below, steps_below, block_below, are_below};
+ghost use Rattle.reg_alloc.specs.Homes.{home_number, Takes, TakesIf, IsRightSet, IsBlockRight, AreBlocksRight, all_below, write_below};
+ghost use Rattle.reg_alloc.specs.Homes.{step_below, steps_below, block_below, are_below};
 
 use crate::assignment::{Assignment, Home};
 use crate::live::{live_at_begins, live_at_exit};

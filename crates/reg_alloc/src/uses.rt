@@ -1,7 +1,8 @@
 // The flow graph is made from the code.
 
 ghost use Rattle.std.specs.Prelude.{◌≡◌, ◌++◌, IfOk};
-ghost use Rattle.tac_form.specs.Graph.{operand_reads, spot_reads, part_reads, parts_reads, instruction_reads, instruction_write, destination_write, exit_reads, exit_next, step_of, steps_of, block_of, graph_of};
+ghost use Rattle.tac_form.specs.Graph.{operand_reads, spot_reads, part_reads, parts_reads, instruction_reads, instruction_write};
+ghost use Rattle.tac_form.specs.Graph.{destination_write, exit_reads, exit_next, step_of, steps_of, block_of, graph_of};
 
 use std::alloc::Global;
 use tac_form::{

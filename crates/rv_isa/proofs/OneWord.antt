@@ -6,10 +6,14 @@ use Rattle.rv_isa.specs.declared.operation.ImmediateOp.{ImmediateOp}
 use Rattle.rv_isa.specs.declared.operation.ShiftOp.{ShiftOp}
 use Rattle.rv_isa.specs.Table.{word_of}
 use Rattle.rv_isa.specs.declared.instr.Instr.{Instr}
-use Rattle.rv_isa.specs.declared.instr.Instr.TheVariants.{Lui, Auipc, Jal, Jalr, Branch, Load, Store, RegisterImmediate, Shift, Addiw, ShiftWord, RegisterRegister, RegisterRegisterWord, Fence, Ecall, Ebreak}
-use Rattle.rv_isa.proofs.Operands.{register_same, immediate_same, upper_immediate_same, branch_offset_same, jump_offset_same, shift_count_same, word_shift_count_same, fence_fields_same}
-use Rattle.rv_isa.proofs.RowsApart.{branch_same, load_same, store_same, immediate_same as immediate_op_same, shift_same, shift_word_same, register_same as register_op_same, register_word_same}
-use Rattle.rv_isa.proofs.Parts.{Same, parts_of, parts_of-same, jump_bits, branch_upper, branch_lower, store_upper, immediate_below, branch_offset_below, jump_offset_below}
+use Rattle.rv_isa.specs.declared.instr.Instr.TheVariants.{Lui, Auipc, Jal, Jalr, Branch, Load, Store, RegisterImmediate, Shift, Addiw}
+use Rattle.rv_isa.specs.declared.instr.Instr.TheVariants.{ShiftWord, RegisterRegister, RegisterRegisterWord, Fence, Ecall, Ebreak}
+use Rattle.rv_isa.proofs.Operands.{register_same, immediate_same, upper_immediate_same, branch_offset_same, jump_offset_same}
+use Rattle.rv_isa.proofs.Operands.{shift_count_same, word_shift_count_same, fence_fields_same}
+use Rattle.rv_isa.proofs.RowsApart.{branch_same, load_same, store_same, immediate_same as immediate_op_same, shift_same, shift_word_same}
+use Rattle.rv_isa.proofs.RowsApart.{register_same as register_op_same, register_word_same}
+use Rattle.rv_isa.proofs.Parts.{Same, parts_of, parts_of-same, jump_bits, branch_upper, branch_lower, store_upper, immediate_below}
+use Rattle.rv_isa.proofs.Parts.{branch_offset_below, jump_offset_below}
 
 -- The parts tell operands apart that share an upper part.
 jump_bits_same : (m n : ℕ) → m < 2097152 → n < 2097152 → m % 2 ≡ 0 → n % 2 ≡ 0 → jump_bits m ≡ jump_bits n → m ≡ n

@@ -29,7 +29,8 @@ s_type imm rs2 rs1 funct3 opcode =
 -- imm[0] is 0, and has no field
 abbrev pub b_type : (imm rs2 rs1 funct3 opcode : ℕ) → ℕ
 b_type imm rs2 rs1 funct3 opcode =
-    bits 12 12 imm * 2 ^ 31 + bits 10 5 imm * 2 ^ 25 + rs2 * 2 ^ 20 + rs1 * 2 ^ 15 + funct3 * 2 ^ 12 + bits 4 1 imm * 2 ^ 8 + bits 11 11 imm * 2 ^ 7 + opcode
+    bits 12 12 imm * 2 ^ 31 + bits 10 5 imm * 2 ^ 25 + rs2 * 2 ^ 20 + rs1 * 2 ^ 15
+    + funct3 * 2 ^ 12 + bits 4 1 imm * 2 ^ 8 + bits 11 11 imm * 2 ^ 7 + opcode
 
 -- imm[31:12] is one field, and here the immediate is this field alone
 abbrev pub u_type : (imm rd opcode : ℕ) → ℕ

@@ -12,7 +12,8 @@ use Rattle.rv_isa.specs.declared.operation.ImmediateOp.TheVariants.{Addi, Slti, 
 use Rattle.rv_isa.specs.declared.operation.ShiftOp.{ShiftOp}
 use Rattle.rv_isa.specs.declared.operation.ShiftOp.TheVariants.{Slli, Srli, Srai}
 use Rattle.rv_isa.specs.declared.operation.RegisterOp.{RegisterOp}
-use Rattle.rv_isa.specs.declared.operation.RegisterOp.TheVariants.{Add, Sub, Sll, Slt, Sltu, Xor, Srl, Sra, Or, And, Mul, Mulh, Mulhsu, Mulhu, Div, Divu, Rem, Remu}
+use Rattle.rv_isa.specs.declared.operation.RegisterOp.TheVariants.{Add, Sub, Sll, Slt, Sltu, Xor, Srl, Sra, Or, And, Mul, Mulh, Mulhsu}
+use Rattle.rv_isa.specs.declared.operation.RegisterOp.TheVariants.{Mulhu, Div, Divu, Rem, Remu}
 use Rattle.rv_isa.specs.declared.operation.RegisterWordOp.{RegisterWordOp}
 use Rattle.rv_isa.specs.declared.operation.RegisterWordOp.TheVariants.{Addw, Subw, Sllw, Srlw, Sraw, Mulw, Divw, Divuw, Remw, Remuw}
 

@@ -2,9 +2,11 @@
 -- Instruction Set Listings", the tables of RV32I, RV64I, RV32M and RV64M.
 use Rattle.std.specs.Prelude.{ℕ, ◌+◌, ◌*◌, ◌^◌}
 use Rattle.rv_isa.specs.Formats.{twos_complement, r_type, i_type, s_type, b_type, u_type, j_type}
-use Rattle.rv_isa.specs.Rows.{branch_funct3, load_funct3, store_funct3, immediate_funct3, shift_funct3, shift_funct6, shift_word_funct7, register_funct7, register_funct3, register_word_funct7, register_word_funct3}
+use Rattle.rv_isa.specs.Rows.{branch_funct3, load_funct3, store_funct3, immediate_funct3, shift_funct3, shift_funct6, shift_word_funct7}
+use Rattle.rv_isa.specs.Rows.{register_funct7, register_funct3, register_word_funct7, register_word_funct3}
 use Rattle.rv_isa.specs.declared.instr.Instr.{Instr}
-use Rattle.rv_isa.specs.declared.instr.Instr.TheVariants.{Lui, Auipc, Jal, Jalr, Branch, Load, Store, RegisterImmediate, Shift, Addiw, ShiftWord, RegisterRegister, RegisterRegisterWord, Fence, Ecall, Ebreak}
+use Rattle.rv_isa.specs.declared.instr.Instr.TheVariants.{Lui, Auipc, Jal, Jalr, Branch, Load, Store, RegisterImmediate, Shift, Addiw}
+use Rattle.rv_isa.specs.declared.instr.Instr.TheVariants.{ShiftWord, RegisterRegister, RegisterRegisterWord, Fence, Ecall, Ebreak}
 
 -- An instruction's operands stand in the order of its declaration in `Instr`.
 abbrev pub word_of : Instr → ℕ

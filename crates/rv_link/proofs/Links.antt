@@ -1,5 +1,6 @@
 -- In a text of functions one behind the other each function stands at its place.
-use Rattle.std.proofs.Common.{◌≡◌, ℕ, ◌+◌, ◌*◌, ◌%◌, ◌^◌, ◌≤◌, Bool, true, false, List, [], ◌∷◌, ◌++◌, length, append_assoc, Some, refl, sym, ap, ◌∙◌, subst, ⊎_elim, arith}
+use Rattle.std.proofs.Common.{◌≡◌, ℕ, ◌+◌, ◌*◌, ◌%◌, ◌^◌, ◌≤◌, Bool, true, false, List, [], ◌∷◌, ◌++◌, length, append_assoc, Some, refl}
+use Rattle.std.proofs.Common.{sym, ap, ◌∙◌, subst, ⊎_elim, arith}
 use Rattle.std.specs.Prelude.{map, nat_eq, nat_le, if◌then◌else◌}
 use Rattle.std.proofs.lemmas.Bool.{cases_lt, le-leb, leb-true}
 use Rattle.std.proofs.lemmas.List.{length-append, length-map}
@@ -22,7 +23,8 @@ use Rattle.rv_select.specs.Waiting.{IsPlaced, PassesAll, Placed, entry_of}
 use Rattle.rv_select.proofs.Lengths.{blocks-length}
 use Rattle.rv_link.specs.declared.function.Function.{Function}
 use Rattle.rv_link.specs.Filling.{entry_in}
-use Rattle.rv_link.specs.Linked.{AreSelected, AreSound, IsSound, LinkedTextsAreLinked, code_in, function_words, image_of, larger, most_frame, placed_in, places_of, program_of, text_from, text_of}
+use Rattle.rv_link.specs.Linked.{AreSelected, AreSound, IsSound, LinkedTextsAreLinked, code_in, function_words, image_of, larger}
+use Rattle.rv_link.specs.Linked.{most_frame, placed_in, places_of, program_of, text_from, text_of}
 
 -- a function's code is as long wherever it and others stand
 pub function-length : (y : Layout) (code : Tac) (places others : FnId → ℕ) (at other : ℕ) →

@@ -1,5 +1,6 @@
 -- What linking puts into a text, part by part.
-use Rattle.std.proofs.Common.{◌≡◌, ℕ, zero, suc, ◌+◌, ◌-◌, ◌*◌, ◌^◌, ◌<◌, ◌≤◌, true, ◌&&◌, List, [], ◌∷◌, ◌++◌, length, take, drop, append_assoc, refl, sym, ap, ◌∙◌, subst, arith}
+use Rattle.std.proofs.Common.{◌≡◌, ℕ, zero, suc, ◌+◌, ◌-◌, ◌*◌, ◌^◌, ◌<◌, ◌≤◌, true, ◌&&◌, List, [], ◌∷◌, ◌++◌, length, take, drop}
+use Rattle.std.proofs.Common.{append_assoc, refl, sym, ap, ◌∙◌, subst, arith}
 use Rattle.std.specs.Prelude.{get_or, map, nat_lt}
 use Rattle.std.specs.List.{list_all}
 use Rattle.std.proofs.lemmas.List.{drop-drop, drop_more, length-append, length-map}
@@ -11,7 +12,8 @@ use Rattle.tac_form.specs.declared.tac.Exit.{Exit}
 use Rattle.tac_form.specs.declared.tac.Exit.TheVariants.{Branch, Fail, Jump, Return}
 use Rattle.tac_form.specs.declared.tac.Block.{Block}
 use Rattle.tac_form.specs.declared.tac.Tac.{Tac}
-use Rattle.tac_form.specs.Fits.{area_fits, block_fits, destination_fits, edge_fits, exit_fits, instruction_fits, is_within, operand_fits, place_fits}
+use Rattle.tac_form.specs.Fits.{area_fits, block_fits, destination_fits, edge_fits, exit_fits, instruction_fits, is_within, operand_fits}
+use Rattle.tac_form.specs.Fits.{place_fits}
 use Rattle.rv_select.specs.declared.selected.Call.{Call as Site}
 use Rattle.rv_select.specs.Places.{Layout, frame_bytes, layout_of}
 use Rattle.rv_select.specs.Entering.{begun, entered, left, received, words_offset}

@@ -1,6 +1,7 @@
 -- Runs of an image whose text was linked.
 use Rattle.std.specs.Prelude.{◌≡◌, ℕ, ◌+◌, ◌*◌, ◌^◌, ◌<◌, ◌≤◌, List, length, map, Some, slice_get}
 use Rattle.tl_base.specs.declared.ids.FnId.{FnId}
+use Rattle.tl_base.specs.declared.limits.TheConstants.{MAX_CALLS}
 use Rattle.elf_image.specs.declared.image.Image.{Image}
 use Rattle.elf_image.specs.Lawful.{IsLawful}
 use Rattle.rv_machine.specs.declared.stops.Stop.{Stop}
@@ -64,14 +65,14 @@ EndsLike image at arguments n most (Over (Fault kind place) out) =
 EndsLike image at arguments n most (Over Stuck out) = Unit {0}
 EndsLike image at arguments n most (More out) = ImageGoesOn image at arguments n most out
 
--- Linked functions in a lawful image: a run of the image, from where one of them begins as the entry, ends as that of its three-address code
--- does at each count n, in at most n + 1 times the words that a function may have.
+-- Linked functions in a lawful image: a run of the image, from where one of them begins as the entry, ends as that of its three-address
+-- code does at each count n, in at most n + 1 times the words that a function may have.
 abbrev pub ImagesAreCarried : Type 0
 ImagesAreCarried =
     (functions : List Function) (values : List FnId) (linked : Linked) (image : Image) (f : FnId) (code : Tac) (words n : ℕ)
     (arguments : List ℕ) (r : Run) →
     AreSelected functions → AreSound (program_of functions values) functions → IsLinkedText functions linked → IsLawful image →
-    image.text ≡ linked.words.items → 512 * linked.frame ≤ image.private → AreShort (program_of functions values) words →
+    image.text ≡ linked.words.items → MAX_CALLS * linked.frame ≤ image.private → AreShort (program_of functions values) words →
     code_in functions f ≡ Some code → AreWords arguments → length arguments ≤ 8 → length arguments ≡ length code.parameters →
     TacRun (program_of functions values) image.statics image.memory n f (map word arguments) r →
     EndsLike image (image_of functions f).at arguments n ((n + 1) * words) r

@@ -1,5 +1,6 @@
 -- Functions one behind the other in a text, and the program that they are.
-use Rattle.std.specs.Prelude.{◌≡◌, ℕ, ◌+◌, ◌*◌, ◌^◌, ◌≤◌, Bool, true, ◌&&◌, nat_eq, nat_le, nat_lt, if◌then◌else◌, IsTrue, List, [], ◌∷◌, ◌++◌, length, map, Option, Some, None}
+use Rattle.std.specs.Prelude.{◌≡◌, ℕ, ◌+◌, ◌*◌, ◌^◌, ◌≤◌, Bool, true, ◌&&◌, nat_eq, nat_le, if◌then◌else◌, IsTrue, List, [], ◌∷◌, ◌++◌}
+use Rattle.std.specs.Prelude.{length, map, Option, Some, None}
 use Rattle.std.specs.List.{list_all}
 use Rattle.tl_base.specs.declared.ids.FnId.{FnId}
 use Rattle.rv_isa.specs.declared.instr.Instr.{Instr}
@@ -7,7 +8,6 @@ use Rattle.rv_isa.specs.Table.{word_of}
 use Rattle.elf_image.specs.Layout.{text_address}
 use Rattle.rv_machine.specs.Program.{IsProgram}
 use Rattle.reg_alloc.specs.Right.{IsRight}
-use Rattle.tac_form.specs.declared.tac.Edge.{Edge}
 use Rattle.tac_form.specs.declared.tac.Exit.{Exit}
 use Rattle.tac_form.specs.declared.tac.Exit.TheVariants.{Branch, Jump}
 use Rattle.tac_form.specs.declared.tac.Block.{Block}
@@ -19,6 +19,7 @@ use Rattle.rv_select.specs.Calls.{IsSelected, all_has_code, function_code}
 use Rattle.rv_select.specs.Waiting.{Image, IsLinked, PassesAll, entries_of}
 use Rattle.rv_link.specs.declared.function.Function.{Function}
 use Rattle.rv_link.specs.declared.function.Linked.{Linked}
+pub use Rattle.tac_form.specs.Fits.{edge_fits as edge_there}
 
 -- the code of a function: of the first that has its number
 abbrev pub code_in : List Function → FnId → Option Tac
@@ -72,9 +73,6 @@ AreSelected [] = Unit {0}
 AreSelected (x ∷ xs) = IsSelected x.tac x.homes x.code × AreSelected xs
 
 -- Each way on from a block of code leads to one of its blocks, as in all code that machine code may be made of.
-abbrev pub edge_there : Tac → Edge → Bool
-edge_there code e = nat_lt e.block (length code.blocks)
-
 abbrev pub exit_there : Tac → Exit → Bool
 exit_there code (Jump e) = edge_there code e
 exit_there code (Branch a e f) = edge_there code e && edge_there code f

@@ -8,10 +8,11 @@ ghost use Rattle.rv_link.specs.Filling.{AreIn, entry_at, filled, words_in};
 ghost use Rattle.rv_link.specs.Linked.{AreSelected, AreThere, IsLinkedText, places_of, text_of};
 
 use crate::function::{Function, Linked};
-use crate::placing::{TEXT, entry_of, largest_frame, place_all};
+use crate::placing::{entry_of, largest_frame, place_all};
 use rv_select::{Call, push_call_jump};
 use std::alloc::Global;
 use tl_base::NoMemory;
+use tl_base::limits::TEXT_ADDRESS;
 
 /// Words of a function from one on, as far as a call's, and the jump of the call to where its function is entered.
 fn push_to_call(
@@ -25,7 +26,9 @@ fn push_to_call(
     requires from { from ≤ call.now.at }
     requires there { call.now.at + 2 ≤ length words.now }
     requires near { base + 4 * length words.now ≤ 2 ^ 32 }
-    ensures { OnOk result (text.new.items ≡ text.old.items ++ (take (call.now.at - from) (drop from words.now) ++ map word_of (call_jump (base + 4 * call.now.at) (entry_at entries.now call.now.callee)))) }
+    ensures { OnOk result (text.new.items ≡ text.old.items
+        ++ (take (call.now.at - from) (drop from words.now)
+        ++ map word_of (call_jump (base + 4 * call.now.at) (entry_at entries.now call.now.callee)))) }
 {
     text.extend_from_slice(&words[from as usize..call.at as usize])?;
     push_call_jump(text, base + 4 * call.at, entry_of(entries, call.callee))
@@ -61,12 +64,12 @@ fn linked_words(
     requires selected { AreSelected functions.now }
     requires there { AreThere functions.now }
     requires places { (f : FnId) → entry_at entries.now f ≡ places_of functions.now f }
-    requires near { 65536 + 4 * words_in functions.now + 256 ≤ 2 ^ 30 }
+    requires near { TEXT_ADDRESS + 4 * words_in functions.now + 256 ≤ 2 ^ 30 }
     ensures { IfOk result (λ text. text.items ≡ text_of functions.now) }
 {
     let mut text = Vec::new(alloc);
     for function in functions {
-        let base = TEXT + 4 * text.len() as u64;
+        let base = TEXT_ADDRESS + 4 * text.len() as u64;
         push_filled(
             &mut text,
             entries,
@@ -83,7 +86,7 @@ fn linked_words(
 pub fn link(alloc: Global, functions: &[Function]) -> Result<Linked, NoMemory>
     requires selected { AreSelected functions.now }
     requires there { AreThere functions.now }
-    requires near { 65536 + 4 * words_in functions.now + 256 ≤ 2 ^ 30 }
+    requires near { TEXT_ADDRESS + 4 * words_in functions.now + 256 ≤ 2 ^ 30 }
     ensures { IfOk result (λ linked. IsLinkedText functions.now linked) }
 {
     let places = place_all(alloc, functions)?;

@@ -1,16 +1,15 @@
 // Where functions stand that lie one behind the other, and where calls enter them.
 
-ghost use Rattle.std.specs.Prelude.{◌≡◌, ℕ, ◌*◌, ◌+◌, ◌-◌, ◌^◌, ◌<◌, ◌≤◌, ◌++◌, length, replicate, slice_index, nat_eq, if◌then◌else◌, ◌↔◌, IfOk, IsTrue, OnOk};
+ghost use Rattle.std.specs.Prelude.{◌≡◌, ℕ, ◌*◌, ◌+◌, ◌-◌, ◌^◌, ◌<◌, ◌≤◌, ◌++◌, length, replicate, slice_index, nat_eq, if◌then◌else◌, ◌↔◌};
+ghost use Rattle.std.specs.Prelude.{IfOk, IsTrue, OnOk};
 ghost use Rattle.tl_base.specs.declared.ids.FnId.{FnId};
 ghost use Rattle.rv_link.specs.Filling.{entry_at, entry_in, first_of, words_in};
 ghost use Rattle.rv_link.specs.Linked.{AreSelected, larger, most_frame, starts_in};
 
 use crate::function::Function;
 use std::alloc::Global;
+use tl_base::limits::TEXT_ADDRESS;
 use tl_base::{FnId, NoMemory};
-
-/// The address of the first word of a text.
-pub(crate) const TEXT: u64 = 0x10000;
 
 /// The address behind a function that stands at an address.
 fn behind(at: u64, function: &Function) -> u64
@@ -52,7 +51,8 @@ fn reach(table: &mut Vec<u64>, index: u64) -> Result<(), NoMemory>
 
 /// Puts a number to an index of a table that has none there yet.
 fn put_first(table: &mut Vec<u64>, index: u64, number: u64) -> Result<(), NoMemory>
-    ensures { OnOk result ((k : ℕ) → slice_index table.new.items k ≡ first_of (slice_index table.old.items k) (if nat_eq index k then number else 0)) }
+    ensures { OnOk result ((k : ℕ) →
+        slice_index table.new.items k ≡ first_of (slice_index table.old.items k) (if nat_eq index k then number else 0)) }
 {
     reach(table, index)?;
     if table[index as usize] == 0 {
@@ -73,13 +73,13 @@ pub(crate) struct Places {
 /// Where functions stand that lie one behind the other from the begin of a text on. Of two that have one number the first counts.
 pub(crate) fn place_all(alloc: Global, functions: &[Function]) -> Result<Places, NoMemory>
     requires selected { AreSelected functions.now }
-    requires near { 65536 + 4 * words_in functions.now + 256 ≤ 2 ^ 30 }
-    ensures starts { IfOk result (λ places. places.starts.items ≡ starts_in 65536 functions.now) }
-    ensures entries { IfOk result (λ places. (f : FnId) → entry_at places.entries.items f ≡ entry_in 65536 functions.now f) }
+    requires near { TEXT_ADDRESS + 4 * words_in functions.now + 256 ≤ 2 ^ 30 }
+    ensures starts { IfOk result (λ places. places.starts.items ≡ starts_in TEXT_ADDRESS functions.now) }
+    ensures entries { IfOk result (λ places. (f : FnId) → entry_at places.entries.items f ≡ entry_in TEXT_ADDRESS functions.now f) }
 {
     let mut starts = Vec::new(alloc);
     let mut entries = Vec::new(alloc);
-    let mut at = TEXT;
+    let mut at = TEXT_ADDRESS;
     for function in functions {
         starts.push(at)?;
         put_first(&mut entries, function.id.0, entered_at(at, function))?;
@@ -93,9 +93,9 @@ const LAST: u64 = (1 << 30) - 256;
 
 /// Whether a text of functions ends where each jump still reaches, at 2 ^ 30 - 256 or below.
 pub fn is_near(functions: &[Function]) -> bool
-    ensures { IsTrue result ↔ 65536 + 4 * words_in functions.now + 256 ≤ 2 ^ 30 }
+    ensures { IsTrue result ↔ TEXT_ADDRESS + 4 * words_in functions.now + 256 ≤ 2 ^ 30 }
 {
-    let mut at = TEXT;
+    let mut at = TEXT_ADDRESS;
     for function in functions {
         let count = function.code.words.len();
         if count > 1 << 28 {

@@ -7,7 +7,8 @@ use Rattle.rv_machine.specs.Machine.{State, start_state, loaded_state, run_of}
 use Rattle.rv_machine.specs.Program.{IsProgram}
 use Rattle.rv_machine.specs.Runs.{Agrees, IsBeforeWrite}
 use Rattle.rv_machine.specs.declared.stops.Stop.{Stop}
-use Rattle.rv_machine.specs.ImageRun.{RvRun, region_bytes, private_bytes, image_start, OneEnd, OneRun, ImageRunsGoOn, ImageRunsStayOver, MachinesRunImages, RanImage, RanImageToWrite, WritesAreFronts}
+use Rattle.rv_machine.specs.ImageRun.{RvRun, region_bytes, private_bytes, image_start, OneEnd, OneRun, ImageRunsGoOn, ImageRunsStayOver}
+use Rattle.rv_machine.specs.ImageRun.{MachinesRunImages, RanImage, RanImageToWrite, WritesAreFronts}
 use Rattle.rv_machine.proofs.Runs.{run_of-add, run_of-over}
 use Rattle.rv_machine.proofs.Reaches.{writes_front, writes_more}
 use Rattle.rv_machine.proofs.Programs.{one_program}

@@ -1,5 +1,6 @@
 -- Where a run stands after some turns of its loop, and what it then comes to.
-use Rattle.std.proofs.Common.{◌≡◌, ◌≢◌, ℕ, suc, ◌+◌, ◌-◌, ◌<◌, List, [], ◌∷◌, ◌++◌, ◌⊎◌, inl, inr, length, take, drop, Option, refl, sym, ap, ◌∙◌, append-nil, append_assoc, arith, length-drop}
+use Rattle.std.proofs.Common.{◌≡◌, ◌≢◌, ℕ, suc, ◌+◌, ◌-◌, ◌<◌, List, [], ◌∷◌, ◌++◌, ◌⊎◌, inl, inr, length, take, drop, Option, refl, sym}
+use Rattle.std.proofs.Common.{ap, ◌∙◌, append-nil, append_assoc, arith, length-drop}
 use Rattle.std.proofs.lemmas.List.{take-append-drop}
 use Rattle.rv_isa.specs.declared.instr.Instr.{Instr}
 use Rattle.rv_machine.specs.declared.stops.Stop.{Stop}

@@ -1,6 +1,7 @@
 -- What the instructions that compute give, by the operations of RISC-V Unprivileged ISA, chapters "RV32I", "RV64I" and "M".
 -- Operands and results are words of 64 bits, as natural numbers.
-use Rattle.std.specs.Prelude.{ℕ, ◌+◌, ◌-◌, ◌*◌, ◌/◌, ◌%◌, ◌^◌, ℤ, pos, ◌*ℤ◌, Bool, not, nat_eq, nat_lt, if◌then◌else◌, bit_and, bit_or, bit_xor, int_lt, int_rem}
+use Rattle.std.specs.Prelude.{ℕ, ◌+◌, ◌-◌, ◌*◌, ◌/◌, ◌%◌, ◌^◌, ℤ, pos, ◌*ℤ◌, Bool, not, nat_eq, nat_lt, if◌then◌else◌, bit_and, bit_or}
+use Rattle.std.specs.Prelude.{bit_xor, int_lt, int_rem}
 use Rattle.std.specs.Int.{w32, w64, w128, cast_unsigned, int_wrap, int_wrapping_div, int_shr}
 use Rattle.rv_isa.specs.declared.operation.BranchCondition.{BranchCondition}
 use Rattle.rv_isa.specs.declared.operation.BranchCondition.TheVariants.{Eq, Ne, Lt, Ge, Ltu, Geu}
@@ -9,7 +10,8 @@ use Rattle.rv_isa.specs.declared.operation.ImmediateOp.TheVariants.{Addi, Slti, 
 use Rattle.rv_isa.specs.declared.operation.ShiftOp.{ShiftOp}
 use Rattle.rv_isa.specs.declared.operation.ShiftOp.TheVariants.{Slli, Srli, Srai}
 use Rattle.rv_isa.specs.declared.operation.RegisterOp.{RegisterOp}
-use Rattle.rv_isa.specs.declared.operation.RegisterOp.TheVariants.{Add, Sub, Sll, Slt, Sltu, Xor, Srl, Sra, Or, And, Mul, Mulh, Mulhsu, Mulhu, Div, Divu, Rem, Remu}
+use Rattle.rv_isa.specs.declared.operation.RegisterOp.TheVariants.{Add, Sub, Sll, Slt, Sltu, Xor, Srl, Sra, Or, And, Mul, Mulh, Mulhsu}
+use Rattle.rv_isa.specs.declared.operation.RegisterOp.TheVariants.{Mulhu, Div, Divu, Rem, Remu}
 use Rattle.rv_isa.specs.declared.operation.RegisterWordOp.{RegisterWordOp}
 use Rattle.rv_isa.specs.declared.operation.RegisterWordOp.TheVariants.{Addw, Subw, Sllw, Srlw, Sraw, Mulw, Divw, Divuw, Remw, Remuw}
 use Rattle.rv_machine.specs.Word.{low, difference, signed, signed_word, word, extended_word}

@@ -9,7 +9,11 @@ use Rattle.rv_isa.specs.declared.operation.RegisterOp.TheVariants as operations
 use Rattle.rv_isa.specs.declared.operation.ShiftOp.TheVariants.{Slli}
 use Rattle.rv_isa.specs.declared.operation.StoreOp.TheVariants.{Sb, Sw, Sd}
 use Rattle.rv_machine.specs.declared.decoded.Decoded.{Decoded}
-use Rattle.rv_machine.specs.declared.decoded.Decoded.TheVariants.{Illegal, LoadUpper, Jump, JumpRegister, BranchEqual, BranchNotEqual, AddImmediate, ShiftLeft, Add, Subtract, Xor, Multiply, LoadByte, LoadWord, LoadDouble, StoreByte, StoreWord, StoreDouble, AddUpper, Branch, Load, Store, RegisterImmediate, Shift, AddImmediateWord, ShiftWord, Registers, RegistersWord, Fence, Call, Break}
+use Rattle.rv_machine.specs.declared.decoded.Decoded.TheVariants.{Illegal, LoadUpper, Jump, JumpRegister, BranchEqual, BranchNotEqual}
+use Rattle.rv_machine.specs.declared.decoded.Decoded.TheVariants.{AddImmediate, ShiftLeft, Add, Subtract, Xor, Multiply, LoadByte, LoadWord}
+use Rattle.rv_machine.specs.declared.decoded.Decoded.TheVariants.{LoadDouble, StoreByte, StoreWord, StoreDouble, AddUpper, Branch, Load}
+use Rattle.rv_machine.specs.declared.decoded.Decoded.TheVariants.{Store, RegisterImmediate, Shift, AddImmediateWord, ShiftWord, Registers}
+use Rattle.rv_machine.specs.declared.decoded.Decoded.TheVariants.{RegistersWord, Fence, Call, Break}
 
 -- the instruction of a word, if it is one
 abbrev pub found_of : Decoded → Option Instr

@@ -75,7 +75,9 @@ OneEnd =
     EndsAfter image address arguments steps one → EndsAfter image address arguments more other → (steps ≡ more) × (one ≡ other)
 
 -- The call stopped where the run of the image does, and the sink took the run's output: where that has no byte, it stays the same.
-pub record RanImage (image : Image) (address : ℕ) (arguments : List ℕ) (steps : ℕ) (stop : Stop) (before after : Option (List ℕ)) (Same : Type 0) : Type 0 where
+pub record RanImage
+    (image : Image) (address : ℕ) (arguments : List ℕ) (steps : ℕ)
+    (stop : Stop) (before after : Option (List ℕ)) (Same : Type 0) : Type 0 where
   pub ran : Ran
   pub runs : RvRun image address arguments steps ran
   pub stops : ran.stop ≡ stop

@@ -1,6 +1,8 @@
 -- What the machine does: its state, each instruction, one step and a run. Addresses and the program counter wrap at 2 ^ 64. The
 -- rows are those of the RISC-V Unprivileged ISA manual, chapters "RV32I", "RV64I" and "M".
-use Rattle.std.specs.Prelude.{ℕ, zero, suc, ◌+◌, ◌-◌, ◌*◌, ◌/◌, ◌%◌, ◌^◌, Bool, ◌&&◌, nat_eq, nat_lt, nat_le, if◌then◌else◌, List, [], ◌++◌, length, Option, Some, None, slice_get, slice_index}
+use Rattle.std.specs.Prelude.{ℕ, zero, suc, ◌+◌, ◌-◌, ◌*◌, ◌/◌, ◌%◌, ◌^◌, Bool, ◌&&◌, nat_eq, nat_lt, nat_le, if◌then◌else◌, List, [], ◌++◌}
+use Rattle.std.specs.Prelude.{length, Option, Some, None, slice_get, slice_index}
+use Rattle.tl_base.specs.declared.limits.TheConstants.{TEXT_ADDRESS, REGION_ADDRESS, PRIVATE_ADDRESS}
 use Rattle.terra_memory.specs.Numbers.{low_bytes, overwritten}
 use Rattle.rv_isa.specs.declared.operand.Register.{Register}
 use Rattle.rv_isa.specs.declared.operand.UpperImmediate.{UpperImmediate}
@@ -8,7 +10,8 @@ use Rattle.rv_isa.specs.declared.operand.BranchOffset.{BranchOffset}
 use Rattle.rv_isa.specs.declared.operation.LoadOp.{LoadOp}
 use Rattle.rv_isa.specs.declared.operation.StoreOp.{StoreOp}
 use Rattle.rv_isa.specs.declared.instr.Instr.{Instr}
-use Rattle.rv_isa.specs.declared.instr.Instr.TheVariants.{Lui, Auipc, Jal, Jalr, Branch, Load, Store, RegisterImmediate, Shift, Addiw, ShiftWord, RegisterRegister, RegisterRegisterWord, Fence, Ecall, Ebreak}
+use Rattle.rv_isa.specs.declared.instr.Instr.TheVariants.{Lui, Auipc, Jal, Jalr, Branch, Load, Store, RegisterImmediate, Shift, Addiw}
+use Rattle.rv_isa.specs.declared.instr.Instr.TheVariants.{ShiftWord, RegisterRegister, RegisterRegisterWord, Fence, Ecall, Ebreak}
 use Rattle.rv_machine.specs.declared.memory.Place.{Place}
 use Rattle.rv_machine.specs.declared.memory.Place.TheVariants.{Region, Private}
 use Rattle.rv_machine.specs.declared.stops.MachineKind.{MachineKind}
@@ -142,8 +145,8 @@ act Ebreak s = Faults Break
 -- the instruction of text at an address, if it is one of text: None where its word is no instruction
 unfoldable pub fetch : List (Option Instr) → ℕ → Option (Option Instr)
 fetch program pc =
-    if nat_lt pc 0x10000 then None
-    else (if nat_eq (pc % 4) 0 then slice_get program ((pc - 0x10000) / 4) else None)
+    if nat_lt pc TEXT_ADDRESS then None
+    else (if nat_eq (pc % 4) 0 then slice_get program ((pc - TEXT_ADDRESS) / 4) else None)
 
 abbrev pub obeys : Option (Option Instr) → State → Moved
 obeys None s = Faults BadFetch
@@ -198,7 +201,7 @@ abbrev pub start_state : (address heap : ℕ) → (arguments region private : Li
 start_state address heap arguments region private =
     record {
       pc = address;
-      registers = start_registers (2 ^ 32 + length private) heap (0x40000000 + length region) arguments;
+      registers = start_registers (PRIVATE_ADDRESS + length private) heap (REGION_ADDRESS + length region) arguments;
       region = region;
       private = private;
     }

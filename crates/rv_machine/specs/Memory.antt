@@ -1,7 +1,8 @@
 -- Memory: where bytes lie, and what loads and stores of each width do. The region lies at 0x40000000 and private memory at
 -- 2 ^ 32; both are read and written, misaligned too. Numbers lie in them as in Terra's memory, the lowest byte first.
-use Rattle.std.specs.Prelude.{ℕ, ◌+◌, ◌-◌, ◌^◌, ◌≤◌, nat_lt, nat_le, if◌then◌else◌, List, Option, Some, None}
+use Rattle.std.specs.Prelude.{ℕ, ◌+◌, ◌-◌, ◌≤◌, nat_lt, nat_le, if◌then◌else◌, List, Option, Some, None}
 use Rattle.std.specs.Int.{w8, w16, w32, cast_signed}
+use Rattle.tl_base.specs.declared.limits.TheConstants.{REGION_ADDRESS, PRIVATE_ADDRESS}
 use Rattle.rv_isa.specs.declared.operation.LoadOp.{LoadOp}
 use Rattle.rv_isa.specs.declared.operation.LoadOp.TheVariants.{Lb, Lh, Lw, Ld, Lbu, Lhu, Lwu}
 use Rattle.rv_isa.specs.declared.operation.StoreOp.{StoreOp}
@@ -28,7 +29,7 @@ place_in None private = place_in_private private
 -- where bytes at an address lie, if they lie wholly in one of the two areas of these sizes
 unfoldable pub place_of : (region private address width : ℕ) → Option Place
 place_of region private address width =
-    place_in (offset_in 0x40000000 region address width) (offset_in (2 ^ 32) private address width)
+    place_in (offset_in REGION_ADDRESS region address width) (offset_in PRIVATE_ADDRESS private address width)
 
 -- the bytes at a place
 abbrev pub bytes_at : (region private : List ℕ) → Place → ℕ → List ℕ

@@ -14,7 +14,8 @@ pub record Agrees (ran : Ran) (stop : Stop) (s : State) (before after : Option (
 
 -- The call came, in fewer than its steps, to an instruction that writes, and stands before it. The sink took the output up to
 -- there and a front of that instruction's bytes, and not all of them.
-pub record IsBeforeWrite (program : List (Option Instr)) (start : State) (steps : ℕ) (s : State) (before after : Option (List ℕ)) : Type 0 where
+pub record IsBeforeWrite
+    (program : List (Option Instr)) (start : State) (steps : ℕ) (s : State) (before after : Option (List ℕ)) : Type 0 where
   pub done : ℕ
   pub fewer : done < steps
   pub output : List ℕ

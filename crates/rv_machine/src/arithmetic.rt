@@ -3,7 +3,11 @@
 ghost use Rattle.std.specs.Prelude.{◌≡◌, ◌+◌, ◌*◌, ◌/◌, ◌%◌, ◌^◌, ◌<◌};
 ghost use Rattle.std.specs.Int.{w128, cast_unsigned};
 ghost use Rattle.rv_machine.specs.Word.{low, difference, word, signed_word, extended_word};
-ghost use Rattle.rv_machine.specs.Arithmetic.{shifted_left, shifted_right, shifted_signed, word_shifted_left, word_shifted_right, word_shifted_signed, product_signed, product_mixed, product_unsigned, quotient_signed, remainder_signed, quotient_unsigned, remainder_unsigned, word_quotient_signed, word_remainder_signed, word_quotient_unsigned, word_remainder_unsigned, register_value, register_word_value, immediate_value, shift_value, shift_word_value, is_taken};
+ghost use Rattle.rv_machine.specs.Arithmetic.{shifted_left, shifted_right, shifted_signed, word_shifted_left, word_shifted_right};
+ghost use Rattle.rv_machine.specs.Arithmetic.{word_shifted_signed, product_signed, product_mixed, product_unsigned, quotient_signed};
+ghost use Rattle.rv_machine.specs.Arithmetic.{remainder_signed, quotient_unsigned, remainder_unsigned, word_quotient_signed};
+ghost use Rattle.rv_machine.specs.Arithmetic.{word_remainder_signed, word_quotient_unsigned, word_remainder_unsigned, register_value};
+ghost use Rattle.rv_machine.specs.Arithmetic.{register_word_value, immediate_value, shift_value, shift_word_value, is_taken};
 
 use rv_isa::{BranchCondition, ImmediateOp, RegisterOp, RegisterWordOp, ShiftOp};
 

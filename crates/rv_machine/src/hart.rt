@@ -1,6 +1,8 @@
 // The hart: the program counter, the registers and the memory that they reach, and what each instruction does to them.
 
 ghost use Rattle.std.specs.Prelude.{◌≡◌, ◌≢◌, ◌+◌, ◌-◌, ◌%◌, ◌<◌, ◌≤◌, length, slice_index, IfErr, OnOk, OnErr};
+ghost use Rattle.tl_base.specs.declared.limits.TheConstants.Limits.{MAX_MEMORY};
+ghost use Rattle.tl_base.specs.declared.limits.TheConstants.{MAX_PRIVATE};
 ghost use Rattle.rv_machine.specs.Word.{low, word};
 ghost use Rattle.rv_machine.specs.Machine.{upper_word, written, start_registers};
 
@@ -9,9 +11,7 @@ use crate::arithmetic::{
     shift_value, shift_word_value,
 };
 use crate::decoded::Decoded;
-use crate::memory::{
-    PRIVATE, Place, REGION, find_place, load_value, load_width, put_value, store_width,
-};
+use crate::memory::{Place, find_place, load_value, load_width, put_value, store_width};
 use crate::output::write_all;
 use crate::stops::{MachineKind, Stop};
 use rv_isa::{
@@ -19,6 +19,7 @@ use rv_isa::{
     StoreOp, UpperImmediate,
 };
 use tl_base::Sink;
+use tl_base::limits::{PRIVATE_ADDRESS, REGION_ADDRESS};
 
 /// The program counter, the registers, and the region and private memory.
 #[derive(Drop)]
@@ -30,8 +31,8 @@ pub(crate) struct Hart {
     /// At how many places of the region eight bytes begin, and of private memory.
     pub region_starts: usize,
     pub private_starts: usize,
-    ghost region_fits: { length region.items ≤ 67108864 },
-    ghost private_fits: { length private.items ≤ 603979776 },
+    ghost region_fits: { length region.items ≤ MAX_MEMORY },
+    ghost private_fits: { length private.items ≤ MAX_PRIVATE },
     ghost region_within: { region_starts ≤ length region.items - 7 },
     ghost private_within: { private_starts ≤ length private.items - 7 },
     ghost zero: { slice_index registers 0 ≡ 0 },
@@ -39,7 +40,25 @@ pub(crate) struct Hart {
 
 impl Hart {
     ghost use Rattle.std.specs.Prelude.{Some, IfSome};
-    ghost use Rattle.rv_machine.specs.Machine.{value_at, GoesOn, Faults, writes, jumps, goes_to, branches, loads, stores, act, obeys, calls, write_call, throw_call, at_with, start_state, loaded_state};
+    ghost use Rattle.rv_machine.specs.Machine.{
+      value_at,
+      GoesOn,
+      Faults,
+      writes,
+      jumps,
+      goes_to,
+      branches,
+      loads,
+      stores,
+      act,
+      obeys,
+      calls,
+      write_call,
+      throw_call,
+      at_with,
+      start_state,
+      loaded_state,
+    };
     ghost use Rattle.rv_machine.specs.Decoded.{found_of};
     ghost use Rattle.rv_machine.specs.declared.stops.MachineKind.TheVariants.{BadAccess};
     ghost use Rattle.rv_machine.specs.declared.stops.Stop.TheVariants.{MachineFault, WriteFault};
@@ -49,8 +68,8 @@ impl Hart {
 
     /// A hart with this memory, which stands at 0 with registers of zero.
     pub(crate) fn new(region: Vec<u8>, private: Vec<u8>) -> Hart
-        requires region { length region.items ≤ 67108864 }
-        requires private { length private.items ≤ 603979776 }
+        requires region { length region.items ≤ MAX_MEMORY }
+        requires private { length private.items ≤ MAX_PRIVATE }
         ensures { hart_state result ≡ loaded_state region.items private.items }
     {
         let region_starts = region.len().saturating_sub(7);
@@ -70,17 +89,20 @@ impl Hart {
         requires { length arguments.now ≤ 8 }
         ensures { hart_state self.new ≡ start_state address heap arguments.now (hart_state self.old).region (hart_state self.old).private }
     {
-        let end = PRIVATE + self.private.len() as u64;
-        let limit = REGION + self.region.len() as u64;
+        let end = PRIVATE_ADDRESS + self.private.len() as u64;
+        let limit = REGION_ADDRESS + self.region.len() as u64;
         self.pc = address;
         self.registers = registers_for(end, heap, limit, arguments);
     }
 
     /// Carries out a word of text. One that stops the run leaves the hart as it was.
     pub(crate) fn perform<K: Sink>(&mut self, word: &Decoded, out: &mut K) -> Result<(), Stop>
-        ensures ok { OnOk result (WentOn (obeys (Some (found_of word.now)) (hart_state self.old)) (hart_state self.new) (K.taken out.old) (K.taken out.new) (out.new ≡ out.old)) }
+        ensures ok { OnOk result (WentOn (obeys (Some (found_of word.now)) (hart_state self.old)) (hart_state self.new)
+            (K.taken out.old) (K.taken out.new) (out.new ≡ out.old)) }
         ensures quiet { OnOk result (K.faults out.new ≡ K.faults out.old) }
-        ensures err { IfErr result (λ stop. StoppedAt stop (hart_state self.old).pc (obeys (Some (found_of word.now)) (hart_state self.old)) (K.taken out.old) (K.taken out.new)) }
+        ensures err { IfErr result (λ stop.
+            StoppedAt stop (hart_state self.old).pc (obeys (Some (found_of word.now)) (hart_state self.old))
+            (K.taken out.old) (K.taken out.new)) }
         ensures counted { IfErr result (λ stop. Counted stop (K.faults out.old) (K.faults out.new)) }
         ensures untouched { IfErr result (λ stop. stop ≢ WriteFault → out.new ≡ out.old) }
         ensures same { OnErr result (hart_state self.new ≡ hart_state self.old) }
@@ -93,9 +115,11 @@ impl Hart {
 
     // What any instruction does. One that stops the run leaves the hart as it was.
     fn execute<K: Sink>(&mut self, instr: Instr, out: &mut K) -> Result<(), Stop>
-        ensures ok { OnOk result (WentOn (act instr (hart_state self.old)) (hart_state self.new) (K.taken out.old) (K.taken out.new) (out.new ≡ out.old)) }
+        ensures ok { OnOk result (WentOn (act instr (hart_state self.old)) (hart_state self.new)
+            (K.taken out.old) (K.taken out.new) (out.new ≡ out.old)) }
         ensures quiet { OnOk result (K.faults out.new ≡ K.faults out.old) }
-        ensures err { IfErr result (λ stop. StoppedAt stop (hart_state self.old).pc (act instr (hart_state self.old)) (K.taken out.old) (K.taken out.new)) }
+        ensures err { IfErr result (λ stop.
+            StoppedAt stop (hart_state self.old).pc (act instr (hart_state self.old)) (K.taken out.old) (K.taken out.new)) }
         ensures counted { IfErr result (λ stop. Counted stop (K.faults out.old) (K.faults out.new)) }
         ensures untouched { IfErr result (λ stop. stop ≢ WriteFault → out.new ≡ out.old) }
         ensures same { OnErr result (hart_state self.new ≡ hart_state self.old) }
@@ -170,9 +194,11 @@ impl Hart {
 
     /// What ECALL does. One that stops the run leaves the hart as it was.
     pub(crate) fn call<K: Sink>(&mut self, out: &mut K) -> Result<(), Stop>
-        ensures ok { OnOk result (WentOn (calls (hart_state self.old)) (hart_state self.new) (K.taken out.old) (K.taken out.new) (out.new ≡ out.old)) }
+        ensures ok { OnOk result (WentOn (calls (hart_state self.old)) (hart_state self.new)
+            (K.taken out.old) (K.taken out.new) (out.new ≡ out.old)) }
         ensures quiet { OnOk result (K.faults out.new ≡ K.faults out.old) }
-        ensures err { IfErr result (λ stop. StoppedAt stop (hart_state self.old).pc (calls (hart_state self.old)) (K.taken out.old) (K.taken out.new)) }
+        ensures err { IfErr result (λ stop.
+            StoppedAt stop (hart_state self.old).pc (calls (hart_state self.old)) (K.taken out.old) (K.taken out.new)) }
         ensures counted { IfErr result (λ stop. Counted stop (K.faults out.old) (K.faults out.new)) }
         ensures untouched { IfErr result (λ stop. stop ≢ WriteFault → out.new ≡ out.old) }
         ensures same { OnErr result (hart_state self.new ≡ hart_state self.old) }
@@ -187,9 +213,11 @@ impl Hart {
     // The call that writes bytes to the output.
     #[tactic(auto, unfolding(crate::specs::Word::low))]
     fn write_call<K: Sink>(&mut self, out: &mut K) -> Result<(), Stop>
-        ensures ok { OnOk result (WentOn (write_call (hart_state self.old)) (hart_state self.new) (K.taken out.old) (K.taken out.new) (out.new ≡ out.old)) }
+        ensures ok { OnOk result (WentOn (write_call (hart_state self.old)) (hart_state self.new)
+            (K.taken out.old) (K.taken out.new) (out.new ≡ out.old)) }
         ensures quiet { OnOk result (K.faults out.new ≡ K.faults out.old) }
-        ensures err { IfErr result (λ stop. StoppedAt stop (hart_state self.old).pc (write_call (hart_state self.old)) (K.taken out.old) (K.taken out.new)) }
+        ensures err { IfErr result (λ stop.
+            StoppedAt stop (hart_state self.old).pc (write_call (hart_state self.old)) (K.taken out.old) (K.taken out.new)) }
         ensures counted { IfErr result (λ stop. Counted stop (K.faults out.old) (K.faults out.new)) }
         ensures untouched { IfErr result (λ stop. stop ≢ WriteFault → out.new ≡ out.old) }
         ensures same { OnErr result (hart_state self.new ≡ hart_state self.old) }

@@ -3,7 +3,8 @@
 ghost use Rattle.std.specs.Prelude.{◌≡◌, ◌≢◌, ◌≤◌, length, IfOk, OnErr};
 ghost use Rattle.elf_image.specs.Lawful.{IsLawful};
 ghost use Rattle.rv_machine.specs.declared.stops.Stop.TheVariants.{WriteFault};
-ghost use Rattle.rv_machine.specs.ImageRun.{MachinesRunImages, OneEnd, OneRun, ImageRunsGoOn, ImageRunsStayOver, RanImage, RanImageToWrite, WritesAreFronts};
+ghost use Rattle.rv_machine.specs.ImageRun.{MachinesRunImages, OneEnd, OneRun, ImageRunsGoOn, ImageRunsStayOver, RanImage, RanImageToWrite};
+ghost use Rattle.rv_machine.specs.ImageRun.{WritesAreFronts};
 ghost use Rattle.rv_machine.specs.Steps.{Counted};
 
 use crate::machine::Machine;
@@ -25,8 +26,10 @@ pub fn run_image<K: Sink>(
 ) -> Result<Stop, NoMemory>
     requires lawful { IsLawful image.now }
     requires arguments { length arguments.now ≤ 8 }
-    ensures run { IfOk result (λ stop. stop ≢ WriteFault → RanImage image.now address arguments.now steps stop (K.taken out.old) (K.taken out.new) (out.new ≡ out.old)) }
-    ensures fault { IfOk result (λ stop. stop ≡ WriteFault → RanImageToWrite image.now address arguments.now steps (K.taken out.old) (K.taken out.new)) }
+    ensures run { IfOk result (λ stop. stop ≢ WriteFault →
+        RanImage image.now address arguments.now steps stop (K.taken out.old) (K.taken out.new) (out.new ≡ out.old)) }
+    ensures fault { IfOk result (λ stop. stop ≡ WriteFault →
+        RanImageToWrite image.now address arguments.now steps (K.taken out.old) (K.taken out.new)) }
     ensures counted { IfOk result (λ stop. Counted stop (K.faults out.old) (K.faults out.new)) }
     ensures err { OnErr result (out.new ≡ out.old) }
 {

@@ -28,5 +28,5 @@ mod quiet;
 pub mod stops;
 
 pub use image_run::{images_have_runs, run_image};
-pub use machine::{Machine, TEXT, runs_go_on};
+pub use machine::{Machine, runs_go_on};
 pub use stops::{MachineKind, Stop};

@@ -1,6 +1,7 @@
 // The machine and its run.
 
-ghost use Rattle.std.specs.Prelude.{◌≡◌, ◌≢◌, ◌+◌, ◌-◌, ◌*◌, ◌≤◌, ◌<◌, ◌^◌, ◌++◌, map, option_map, length, replicate, drop, IfOk, IfErr, OnOk, OnErr};
+ghost use Rattle.std.specs.Prelude.{◌≡◌, ◌≢◌, ◌+◌, ◌-◌, ◌*◌, ◌≤◌, ◌<◌, ◌^◌, ◌++◌, map, option_map, length, replicate, drop, IfOk, IfErr};
+ghost use Rattle.std.specs.Prelude.{OnOk, OnErr};
 ghost use Rattle.rv_machine.specs.Laws.{RunsGoOn, RunsStayOver, RunsStopAgain, OneProgram};
 ghost use Rattle.rv_machine.specs.Program.{IsProgram};
 ghost use Rattle.rv_machine.specs.Decoded.{found_of};
@@ -14,9 +15,6 @@ use elf_image::Image;
 use rv_isa::decode;
 use std::alloc::Global;
 use tl_base::{NoMemory, Sink};
-
-/// The address of the first word of text.
-pub const TEXT: u64 = 0x1_0000;
 
 /// A machine: its text, where its heap begins, and its hart.
 #[derive(Drop)]
@@ -43,7 +41,9 @@ impl Machine {
         requires lawful { IsLawful image.now }
         ensures program { IfOk result (λ machine. IsProgram image.now.text (program_of machine)) }
         ensures heap { IfOk result (λ machine. heap_of machine ≡ image.now.heap) }
-        ensures state { IfOk result (λ machine. state_of machine ≡ loaded_state (image.now.statics ++ replicate (image.now.memory - length image.now.statics) 0) (replicate image.now.private 0)) }
+        ensures state { IfOk result (λ machine. state_of machine
+            ≡ loaded_state (image.now.statics ++ replicate (image.now.memory - length image.now.statics) 0)
+            (replicate image.now.private 0)) }
     {
         let text = decode_text(alloc, image.text.as_slice())?;
         let region = region_of(alloc, image.memory, image.statics.as_slice())?;
@@ -58,7 +58,8 @@ impl Machine {
     /// Makes the machine ready to run from `address` with at most eight arguments. Its memory stays as it is.
     pub fn start(&mut self, address: u64, arguments: &[u64])
         requires { length arguments.now ≤ 8 }
-        ensures state { state_of self.new ≡ start_state address (heap_of self.old) arguments.now (state_of self.old).region (state_of self.old).private }
+        ensures state { state_of self.new
+            ≡ start_state address (heap_of self.old) arguments.now (state_of self.old).region (state_of self.old).private }
         ensures program { program_of self.new ≡ program_of self.old }
         ensures heap { heap_of self.new ≡ heap_of self.old }
     {
@@ -71,8 +72,11 @@ impl Machine {
     /// It answers `WriteFault` where the sink failed, or took nothing of some bytes. The machine then stands before the
     /// instruction that wrote them. A run that writes nothing leaves the sink as it was.
     pub fn run<K: Sink>(&mut self, steps: u64, out: &mut K) -> Stop
-        ensures run { result ≢ WriteFault → Agrees (run_of (program_of self.old) (state_of self.old) steps) result (state_of self.new) (K.taken out.old) (K.taken out.new) }
-        ensures fault { result ≡ WriteFault → IsBeforeWrite (program_of self.old) (state_of self.old) steps (state_of self.new) (K.taken out.old) (K.taken out.new) }
+        ensures run { result ≢ WriteFault →
+            Agrees (run_of (program_of self.old) (state_of self.old) steps) result (state_of self.new)
+            (K.taken out.old) (K.taken out.new) }
+        ensures fault { result ≡ WriteFault →
+            IsBeforeWrite (program_of self.old) (state_of self.old) steps (state_of self.new) (K.taken out.old) (K.taken out.new) }
         ensures counted { Counted result (K.faults out.old) (K.faults out.new) }
         ensures unwritten { result ≢ WriteFault → (run_of (program_of self.old) (state_of self.old) steps).output ≡ [] → out.new ≡ out.old }
         ensures program { program_of self.new ≡ program_of self.old }
@@ -96,10 +100,14 @@ impl Machine {
     // One instruction, or none where the run is over. One that stops the run leaves the state as it was.
     fn step<K: Sink>(&mut self, out: &mut K) -> Result<(), Stop>
         ensures going { OnOk result ((state_of self.old).pc ≢ 0) }
-        ensures over { IfErr result (λ stop. (state_of self.old).pc ≡ 0 → stop ≡ Returned ((state_of self.old).registers 10) × K.taken out.new ≡ K.taken out.old) }
-        ensures ok { OnOk result (WentOn (step (program_of self.old) (state_of self.old)) (state_of self.new) (K.taken out.old) (K.taken out.new) (out.new ≡ out.old)) }
+        ensures over { IfErr result (λ stop. (state_of self.old).pc ≡ 0 →
+            stop ≡ Returned ((state_of self.old).registers 10) × K.taken out.new ≡ K.taken out.old) }
+        ensures ok { OnOk result (WentOn (step (program_of self.old) (state_of self.old)) (state_of self.new)
+            (K.taken out.old) (K.taken out.new) (out.new ≡ out.old)) }
         ensures quiet { OnOk result (K.faults out.new ≡ K.faults out.old) }
-        ensures err { IfErr result (λ stop. (state_of self.old).pc ≢ 0 → StoppedAt stop (state_of self.old).pc (step (program_of self.old) (state_of self.old)) (K.taken out.old) (K.taken out.new)) }
+        ensures err { IfErr result (λ stop. (state_of self.old).pc ≢ 0 →
+            StoppedAt stop (state_of self.old).pc (step (program_of self.old) (state_of self.old))
+            (K.taken out.old) (K.taken out.new)) }
         ensures counted { IfErr result (λ stop. Counted stop (K.faults out.old) (K.faults out.new)) }
         ensures untouched { IfErr result (λ stop. stop ≢ WriteFault → out.new ≡ out.old) }
         ensures same { OnErr result (state_of self.new ≡ state_of self.old) }

@@ -1,18 +1,15 @@
 // Memory: where bytes lie, and loads and stores of each width.
 
 ghost use Rattle.std.specs.Prelude.{◌≡◌, ℕ, ◌+◌, ◌^◌, ◌<◌, ◌≤◌, List, length, take, IfSome};
+ghost use Rattle.tl_base.specs.declared.limits.TheConstants.Limits.{MAX_MEMORY};
+ghost use Rattle.tl_base.specs.declared.limits.TheConstants.{MAX_PRIVATE};
 ghost use Rattle.byteorder.specs.Endian.{little_number, little_bytes};
 ghost use Rattle.terra_memory.specs.Numbers.{number_of, low_bytes, overwritten, part};
 ghost use Rattle.rv_machine.specs.Memory.{offset_in, place_of, FitsIn, load_width, load_value, store_width};
 
 use rv_isa::{LoadOp, StoreOp};
 use terra_memory::number::{number_at, put_number};
-
-/// The address of the first byte of the region.
-pub const REGION: u64 = 0x4000_0000;
-
-/// The address of the first byte of private memory.
-pub const PRIVATE: u64 = 0x1_0000_0000;
+use tl_base::limits::{PRIVATE_ADDRESS, REGION_ADDRESS};
 
 /// Where bytes lie: in which of the two areas, and how far from its begin.
 #[derive(Clone, Copy, PartialEq, Eq, Debug)]
@@ -28,18 +25,18 @@ pub enum Place {
 #[inline]
 #[tactic(auto, unfolding(crate::specs::Memory::place_of, crate::specs::Memory::offset_in))]
 pub(crate) fn find_place(region: usize, private: usize, address: u64, width: u64) -> Option<Place>
-    requires region { region ≤ 67108864 }
-    requires private { private ≤ 603979776 }
+    requires region { region ≤ MAX_MEMORY }
+    requires private { private ≤ MAX_PRIVATE }
     ensures place { result ≡ place_of region private address width }
     ensures within { IfSome result (FitsIn region private width) }
 {
-    if address < PRIVATE {
-        match offset(REGION, region, address, width) {
+    if address < PRIVATE_ADDRESS {
+        match offset(REGION_ADDRESS, region, address, width) {
             Some(at) => Some(Place::Region(at)),
             None => None,
         }
     } else {
-        match offset(PRIVATE, private, address, width) {
+        match offset(PRIVATE_ADDRESS, private, address, width) {
             Some(at) => Some(Place::Private(at)),
             None => None,
         }

@@ -17,19 +17,20 @@ ghost use Rattle.rv_machine.specs.Shown.{hart_state, stands_at};
 use crate::arithmetic::{register_value, shift_value};
 use crate::decoded::Decoded;
 use crate::hart::{Hart, branch_word, even, jump_word, put, upper};
-use crate::machine::TEXT;
-use crate::memory::{PRIVATE, REGION, load_value, put_value};
+use crate::memory::{load_value, put_value};
 use rv_isa::{
     BranchOffset, Immediate, Instr, JumpOffset, LoadOp, Register, RegisterOp, ShiftCount, ShiftOp,
     StoreOp,
 };
+use tl_base::limits::{PRIVATE_ADDRESS, REGION_ADDRESS, TEXT_ADDRESS};
 
 impl Hart {
     /// Takes at most `steps` steps, as long as they write nothing and don't stop the run. It says how many are left.
     pub(crate) fn run_quietly(&mut self, text: &[Decoded], steps: u64) -> u64
         requires short { length text.now < 2 ^ 62 - 2 ^ 14 }
         ensures left { result ≤ steps }
-        ensures run { (rest : ℕ) → run_of (map found_of text.now) (hart_state self.old) (steps - result + rest) ≡ run_of (map found_of text.now) (hart_state self.new) rest }
+        ensures run { (rest : ℕ) → run_of (map found_of text.now) (hart_state self.old) (steps - result + rest)
+            ≡ run_of (map found_of text.now) (hart_state self.new) rest }
     {
         let mut at = place_at(self.pc);
         let mut left = steps;
@@ -60,7 +61,8 @@ impl Hart {
     fn advance(&mut self, text: &[Decoded], at: usize) -> Option<usize>
         requires short { length text.now < 2 ^ 62 - 2 ^ 14 }
         ensures on { IfSome result (λ next. address_at at ≢ 0) }
-        ensures some { IfSome result (λ next. step (map found_of text.now) (stands_at self.old (address_at at)) ≡ GoesOn (stands_at self.new (address_at next))) }
+        ensures some { IfSome result (λ next.
+            step (map found_of text.now) (stands_at self.old (address_at at)) ≡ GoesOn (stands_at self.new (address_at next))) }
         ensures none { result ≡ None → (pc : ℕ) → stands_at self.new pc ≡ stands_at self.old pc }
     {
         match text.get(at) {
@@ -73,7 +75,8 @@ impl Hart {
     #[inline(always)]
     fn obey(&mut self, word: &Decoded, at: usize) -> Option<usize>
         requires within { at < 2 ^ 62 - 2 ^ 14 }
-        ensures some { IfSome result (λ next. obeys (Some (found_of word.now)) (stands_at self.old (address_at at)) ≡ GoesOn (stands_at self.new (address_at next))) }
+        ensures some { IfSome result (λ next.
+            obeys (Some (found_of word.now)) (stands_at self.old (address_at at)) ≡ GoesOn (stands_at self.new (address_at next))) }
         ensures none { result ≡ None → (pc : ℕ) → stands_at self.new pc ≡ stands_at self.old pc }
     {
         match *word {
@@ -154,7 +157,8 @@ impl Hart {
     // What any instruction does at a place.
     #[inline(never)]
     fn obey_other(&mut self, instr: Instr, at: usize) -> Option<usize>
-        ensures some { IfSome result (λ next. act instr (stands_at self.old (address_at at)) ≡ GoesOn (stands_at self.new (address_at next))) }
+        ensures some { IfSome result (λ next.
+            act instr (stands_at self.old (address_at at)) ≡ GoesOn (stands_at self.new (address_at next))) }
         ensures none { result ≡ None → (pc : ℕ) → stands_at self.new pc ≡ stands_at self.old pc }
     {
         self.stand(at);
@@ -200,7 +204,8 @@ impl Hart {
     #[inline(always)]
     fn set_shifted(&mut self, rd: Register, rs1: Register, count: ShiftCount, at: usize) -> usize
         requires within { at < 2 ^ 62 - 2 ^ 14 }
-        ensures { writes (stands_at self.old (address_at at)) rd (shift_value Slli (value_at (hart_state self.old) rs1) count.count) ≡ GoesOn (stands_at self.new (address_at result)) }
+        ensures { writes (stands_at self.old (address_at at)) rd (shift_value Slli (value_at (hart_state self.old) rs1) count.count)
+            ≡ GoesOn (stands_at self.new (address_at result)) }
     {
         let value = shift_value(ShiftOp::Slli, self.read(rs1), u32::from(count.count));
         self.set(rd, value, at)
@@ -217,7 +222,9 @@ impl Hart {
         at: usize,
     ) -> usize
         requires within { at < 2 ^ 62 - 2 ^ 14 }
-        ensures { writes (stands_at self.old (address_at at)) rd (register_value op (value_at (hart_state self.old) rs1) (value_at (hart_state self.old) rs2)) ≡ GoesOn (stands_at self.new (address_at result)) }
+        ensures { writes (stands_at self.old (address_at at)) rd
+            (register_value op (value_at (hart_state self.old) rs1) (value_at (hart_state self.old) rs2))
+            ≡ GoesOn (stands_at self.new (address_at result)) }
     {
         self.set(rd, register_value(op, self.read(rs1), self.read(rs2)), at)
     }
@@ -226,7 +233,8 @@ impl Hart {
     #[inline(always)]
     fn jump_from(&mut self, at: usize, register: Register, offset: JumpOffset) -> usize
         requires within { at < 2 ^ 62 - 2 ^ 14 }
-        ensures { jumps (stands_at self.old (address_at at)) register (low (address_at at + word offset.bytes)) ≡ GoesOn (stands_at self.new (address_at result)) }
+        ensures { jumps (stands_at self.old (address_at at)) register (low (address_at at + word offset.bytes))
+            ≡ GoesOn (stands_at self.new (address_at result)) }
     {
         self.jump_to(ahead(at, jump_word(offset)), register, at)
     }
@@ -251,15 +259,16 @@ impl Hart {
         at: usize,
     ) -> Option<usize>
         requires within { at < 2 ^ 62 - 2 ^ 14 }
-        ensures some { IfSome result (λ next. loads (stands_at self.old (address_at at)) op register address ≡ GoesOn (stands_at self.new (address_at next))) }
+        ensures some { IfSome result (λ next.
+            loads (stands_at self.old (address_at at)) op register address ≡ GoesOn (stands_at self.new (address_at next))) }
         ensures none { result ≡ None → (pc : ℕ) → stands_at self.new pc ≡ stands_at self.old pc }
     {
-        let place = address.wrapping_sub(PRIVATE) as usize;
+        let place = address.wrapping_sub(PRIVATE_ADDRESS) as usize;
         if place < self.private_starts {
             let value = load_value(op, &self.private, place);
             return Some(self.set(register, value, at));
         }
-        let place = address.wrapping_sub(REGION) as usize;
+        let place = address.wrapping_sub(REGION_ADDRESS) as usize;
         if place < self.region_starts {
             let value = load_value(op, &self.region, place);
             return Some(self.set(register, value, at));
@@ -271,15 +280,16 @@ impl Hart {
     #[inline(always)]
     fn store_inside(&mut self, op: StoreOp, address: u64, value: u64, at: usize) -> Option<usize>
         requires within { at < 2 ^ 62 - 2 ^ 14 }
-        ensures some { IfSome result (λ next. stores (stands_at self.old (address_at at)) op address value ≡ GoesOn (stands_at self.new (address_at next))) }
+        ensures some { IfSome result (λ next.
+            stores (stands_at self.old (address_at at)) op address value ≡ GoesOn (stands_at self.new (address_at next))) }
         ensures none { result ≡ None → (pc : ℕ) → stands_at self.new pc ≡ stands_at self.old pc }
     {
-        let place = address.wrapping_sub(PRIVATE) as usize;
+        let place = address.wrapping_sub(PRIVATE_ADDRESS) as usize;
         if place < self.private_starts {
             put_value(op, &mut self.private, place, value);
             return Some(next_place(at));
         }
-        let place = address.wrapping_sub(REGION) as usize;
+        let place = address.wrapping_sub(REGION_ADDRESS) as usize;
         if place < self.region_starts {
             put_value(op, &mut self.region, place, value);
             return Some(next_place(at));
@@ -318,7 +328,7 @@ fn ahead(at: usize, distance: u64) -> u64
     requires within { at < 2 ^ 62 - 2 ^ 14 }
     ensures { result ≡ low (address_at at + distance) }
 {
-    (TEXT + at as u64 * 4).wrapping_add(distance)
+    (TEXT_ADDRESS + at as u64 * 4).wrapping_add(distance)
 }
 
 // The address of a place.
@@ -328,7 +338,7 @@ fn address_of(at: usize) -> u64
     ensures { result ≡ address_at at }
 {
     let at = at as u64;
-    (at % (1 << 62) * 4 + at / (1 << 62)).wrapping_add(TEXT)
+    (at % (1 << 62) * 4 + at / (1 << 62)).wrapping_add(TEXT_ADDRESS)
 }
 
 // The place of an address.
@@ -337,6 +347,6 @@ fn address_of(at: usize) -> u64
 pub(crate) fn place_at(address: u64) -> usize
     ensures { address_at result ≡ address }
 {
-    let distance = address.wrapping_sub(TEXT);
+    let distance = address.wrapping_sub(TEXT_ADDRESS);
     (distance / 4 + distance % 4 * (1 << 62)) as usize
 }

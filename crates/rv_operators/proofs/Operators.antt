@@ -11,14 +11,17 @@ use Rattle.rv_machine.specs.Word.{difference, signed, extended_word}
 use Rattle.rv_machine.specs.Arithmetic.{flag, word_shifted_left}
 use Rattle.terra_words.specs.declared.words.Width.{Width}
 use Rattle.terra_words.specs.declared.words.BinaryOperator.{BinaryOperator}
-use Rattle.terra_words.specs.declared.words.BinaryOperator.TheVariants.{Add, Subtract, Multiply, Divide, Modulo, Xor, And, Or, ShiftLeft, ShiftRight, Equal, NotEqual, Less, LessEqual, Greater, GreaterEqual}
+use Rattle.terra_words.specs.declared.words.BinaryOperator.TheVariants.{Add, Subtract, Multiply, Divide, Modulo, Xor, And, Or, ShiftLeft}
+use Rattle.terra_words.specs.declared.words.BinaryOperator.TheVariants.{ShiftRight, Equal, NotEqual, Less, LessEqual, Greater, GreaterEqual}
 use Rattle.terra_words.specs.Words.{applied}
 use Rattle.rv_operators.specs.Claims.{Computes}
-use Rattle.rv_operators.specs.Codes.{is_width, x0, x5, x6, one_immediate, is_comparison, operation, word_operation, in_one, in_parts, code_of}
+use Rattle.rv_operators.specs.Codes.{is_width, x0, x5, x6, one_immediate, is_comparison, operation, word_operation, in_one, in_parts}
+use Rattle.rv_operators.specs.Codes.{code_of}
 use Rattle.rv_operators.proofs.Sequences.{one, two}
 use Rattle.rv_operators.proofs.Values.{width, wrapped-32, equal-words, other-words, turned, difference-32, signed-less}
 use Rattle.rv_operators.proofs.Cuts.{then-cut}
-use Rattle.rv_operators.proofs.Lows.{add-low, subtract-low, multiply-low, divide-low, modulo-low, signed-divide-low, signed-modulo-low, xor-low, and-low, or-low, shift-left-low, shift-right-low, signed-shift-right-low}
+use Rattle.rv_operators.proofs.Lows.{add-low, subtract-low, multiply-low, divide-low, modulo-low, signed-divide-low, signed-modulo-low}
+use Rattle.rv_operators.proofs.Lows.{xor-low, and-low, or-low, shift-left-low, shift-right-low, signed-shift-right-low}
 
 -- 32 bits with a sign
 shift-left-32 : Computes (RegisterRegisterWord word_ops.Sllw x5 x5 x6 ∷ []) (width true 32) ShiftLeft

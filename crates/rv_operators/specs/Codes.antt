@@ -15,7 +15,9 @@ use Rattle.rv_isa.specs.declared.operand.Immediate.{Immediate}
 use Rattle.rv_isa.specs.declared.operand.ShiftCount.{ShiftCount}
 use Rattle.terra_words.specs.declared.words.Width.{Width}
 use Rattle.terra_words.specs.declared.words.BinaryOperator.{BinaryOperator}
-use Rattle.terra_words.specs.declared.words.BinaryOperator.TheVariants.{Add, Subtract, Multiply, Divide, Modulo, Xor, And, Or, ShiftLeft, ShiftRight, Equal, NotEqual, Less, LessEqual, Greater, GreaterEqual}
+use Rattle.terra_words.specs.declared.words.BinaryOperator.TheVariants.{Add, Subtract, Multiply, Divide, Modulo, Xor, And, Or, ShiftLeft}
+use Rattle.terra_words.specs.declared.words.BinaryOperator.TheVariants.{ShiftRight, Equal, NotEqual, Less, LessEqual, Greater, GreaterEqual}
+pub use Rattle.terra_words.specs.Words.{is_comparison}
 
 -- the widths of types: a bool is one bit
 abbrev pub is_width : ℕ → Bool
@@ -106,16 +108,6 @@ operation w LessEqual = with_other_result (test_turned (below w.signed))
 operation w Greater = test_turned (below w.signed)
 operation w GreaterEqual = with_other_result (of_both (below w.signed))
 
--- 1 and 0 are words of every width
-abbrev pub is_comparison : BinaryOperator → Bool
-is_comparison Equal = true
-is_comparison NotEqual = true
-is_comparison Less = true
-is_comparison LessEqual = true
-is_comparison Greater = true
-is_comparison GreaterEqual = true
-is_comparison _ = false
-
 -- how far a word of a width is from the upper end
 abbrev pub gap_32 : ShiftCount
 gap_32 = record { count = 32; in_range = lit≤ tt }
@@ -163,7 +155,8 @@ in_one None other = other
 abbrev pub in_parts : Width → BinaryOperator → List Instr
 in_parts w op = operation w op ++ cut w
 
--- The table. The words of x5 and x6 are any, and the result is a word of the width.
+-- The table. The words of x5 and x6 are any, and the result is a word of the width: 1 and 0, which comparisons give, are words of every
+-- width.
 abbrev pub code_of : Width → BinaryOperator → List Instr
 code_of w op =
     if is_comparison op then operation w op

@@ -1,8 +1,10 @@
 -- From what instructions do to runs of the whole machine.
 use Rattle.std.specs.Prelude.{◌≡◌, ℕ, ◌+◌, ◌*◌, ◌^◌, ◌≤◌, Bool, true, false, IsTrue, List, [], ◌∷◌, ◌++◌, length, map, Option, Some}
 use Rattle.std.specs.List.{list_all}
+use Rattle.tl_base.specs.declared.limits.TheConstants.{TEXT_ADDRESS}
 use Rattle.rv_isa.specs.declared.instr.Instr.{Instr}
-use Rattle.rv_isa.specs.declared.instr.Instr.TheVariants.{Lui, Auipc, Load, Store, RegisterImmediate, Shift, Addiw, ShiftWord, RegisterRegister, RegisterRegisterWord}
+use Rattle.rv_isa.specs.declared.instr.Instr.TheVariants.{Lui, Auipc, Load, Store, RegisterImmediate, Shift, Addiw, ShiftWord}
+use Rattle.rv_isa.specs.declared.instr.Instr.TheVariants.{RegisterRegister, RegisterRegisterWord}
 use Rattle.rv_isa.specs.Table.{word_of}
 use Rattle.rv_machine.specs.Word.{low}
 use Rattle.rv_machine.specs.Machine.{State, GoesOn, fetch, run_of}
@@ -44,5 +46,5 @@ abbrev pub WordsStand : Type 0
 WordsStand =
     (before rest : List ℕ) (code : List Instr) (program : List (Option Instr)) →
     IsProgram (before ++ (map word_of code ++ rest)) program →
-    0x10000 + 4 * (length before + length code) ≤ 2 ^ 64 →
-    Stands program (0x10000 + 4 * length before) code
+    TEXT_ADDRESS + 4 * (length before + length code) ≤ 2 ^ 64 →
+    Stands program (TEXT_ADDRESS + 4 * length before) code

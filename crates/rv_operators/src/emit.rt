@@ -2,7 +2,8 @@
 
 ghost use Rattle.std.specs.Prelude.{◌≡◌, ◌+◌, ◌≤◌, ◌<◌, IsTrue, [], ◌∷◌, ◌++◌, map, OnOk, OnErr, vec_len, vec_capacity};
 ghost use Rattle.rv_isa.specs.Table.{word_of};
-ghost use Rattle.rv_operators.specs.Codes.{x5, one_immediate, of_both, test_turned, code_of, counted, cut, operation, word_operation, is_comparison, mask_of, gap_of, below, divided, left_over, shifted_down};
+ghost use Rattle.rv_operators.specs.Codes.{x5, one_immediate, of_both, test_turned, code_of, counted, cut, operation, word_operation};
+ghost use Rattle.rv_operators.specs.Codes.{is_comparison, mask_of, gap_of, below, divided, left_over, shifted_down};
 
 use rv_isa::{
     Immediate, ImmediateOp, Instr, Register, RegisterOp, RegisterWordOp, ShiftCount, ShiftOp,

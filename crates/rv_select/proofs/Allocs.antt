@@ -1,5 +1,6 @@
 -- Bytes of the heap.
-use Rattle.std.proofs.Common.{◌≡◌, ◌≢◌, ℕ, ◌+◌, ◌-◌, ◌*◌, ◌/◌, ◌%◌, ◌^◌, ◌<◌, ◌≤◌, true, false, pos, negsuc, List, ◌∷◌, ◌++◌, length, take, drop, Option, Some, refl, sym, ap, ◌∙◌, subst, ⊎_elim, arith, inl}
+use Rattle.std.proofs.Common.{◌≡◌, ◌≢◌, ℕ, ◌+◌, ◌-◌, ◌*◌, ◌/◌, ◌%◌, ◌^◌, ◌<◌, ◌≤◌, true, false, pos, negsuc, List, ◌∷◌, ◌++◌, length, take}
+use Rattle.std.proofs.Common.{drop, Option, Some, refl, sym, ap, ◌∙◌, subst, ⊎_elim, arith, inl}
 use Rattle.std.specs.Prelude.{if◌then◌else◌, nat_lt}
 use Rattle.std.proofs.lemmas.Bool.{cases_lt, le-leb, le-ltb, lt-leb, lt-ltb}
 use Rattle.rv_isa.specs.declared.instr.Instr.{Instr}
@@ -22,13 +23,15 @@ use Rattle.rv_machine.specs.Machine.{GoesOn, State, act, at_with, fetch, run_of}
 use Rattle.rv_operators.specs.Codes.{x0, x5, x6}
 use Rattle.rv_operators.specs.Runs.{Stands}
 use Rattle.rv_select.specs.Numbers.{immediate_of, upper_of}
-use Rattle.rv_select.specs.Places.{AreBytes, Holds, Housed, IsFirst, IsHeld, IsHome, Keeps, Layout, World, area_offset, frame_bytes, home_of, slot_offset, value_in, word_at}
+use Rattle.rv_select.specs.Places.{AreBytes, Holds, Housed, IsFirst, IsHeld, IsHome, Keeps, Layout, World, area_offset, frame_bytes}
+use Rattle.rv_select.specs.Places.{home_of, slot_offset, value_in, word_at}
 use Rattle.rv_select.specs.Shapes.{allocated, first_taken, four, moved, offset_of, put_at, two, x3, x4, x7}
 use Rattle.rv_select.specs.Steps.{Follows, behind, with_temp}
 use Rattle.rv_select.proofs.Claims.{Gives, with_region}
 use Rattle.rv_select.proofs.Straight.{Loads, behind-both, loads-five, low-below, low-small, written-elsewhere}
 use Rattle.rv_select.proofs.Numbers.{immediate-is}
-use Rattle.rv_select.proofs.Ways.{Near, Way, at_pc, near-both, near-same, scratch-near, stands-back, stands-front, step-way, straight-way, way-both, way-none}
+use Rattle.rv_select.proofs.Ways.{Near, Way, at_pc, near-both, near-same, scratch-near, stands-back, stands-front, step-way, straight-way}
+use Rattle.rv_select.proofs.Ways.{way-both, way-none}
 use Rattle.rv_select.proofs.Homes.{first-count, take-first}
 use Rattle.rv_select.proofs.Faults.{branch-way}
 use Rattle.rv_select.proofs.Moves.{keeps-both, lasts-not, near-holds, near-keeps, PutsAway, first-small, put-away, then-put}

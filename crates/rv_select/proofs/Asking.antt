@@ -1,5 +1,6 @@
 -- What the code of a function asks for has a home.
-use Rattle.std.proofs.Common.{◌≡◌, ◌≢◌, ℕ, zero, suc, ◌+◌, ◌-◌, ◌<◌, ◌≤◌, Bool, true, false, ◌||◌, List, [], ◌∷◌, ◌++◌, length, set, replicate, Option, Some, None, refl, sym, ap, ◌∙◌, subst, ⊎_elim, inl, inr, arith}
+use Rattle.std.proofs.Common.{◌≡◌, ◌≢◌, ℕ, zero, suc, ◌+◌, ◌-◌, ◌<◌, ◌≤◌, Bool, true, false, ◌||◌, List, [], ◌∷◌, ◌++◌, length, set}
+use Rattle.std.proofs.Common.{replicate, Option, Some, None, refl, sym, ap, ◌∙◌, subst, ⊎_elim, inl, inr, arith}
 use Rattle.std.specs.Prelude.{if◌then◌else◌, nat_eq, slice_get, ◌⊎◌}
 use Rattle.std.specs.List.{flat_map, list_any}
 use Rattle.std.proofs.lemmas.Bool.{cases_Bool, cases_eq, cases_lt, eq-eqb, eqb-true}
@@ -17,15 +18,19 @@ use Rattle.tac_form.specs.declared.tac.Part.TheVariants as parts
 use Rattle.tac_form.specs.declared.tac.Spot.{Spot}
 use Rattle.tac_form.specs.declared.tac.Spot.TheVariants as spots
 use Rattle.tac_form.specs.declared.tac.Instruction.{Instruction}
-use Rattle.tac_form.specs.declared.tac.Instruction.TheVariants.{Alloc, Call, CallValue, Clear, Compute, Copy, Load, Locate, Move, PutByte, Store, TestDivisor, Write}
+use Rattle.tac_form.specs.declared.tac.Instruction.TheVariants.{Alloc, Call, CallValue, Clear, Compute, Copy, Load, Locate, Move, PutByte}
+use Rattle.tac_form.specs.declared.tac.Instruction.TheVariants.{Store, TestDivisor, Write}
 use Rattle.tac_form.specs.declared.tac.Exit.{Exit}
 use Rattle.tac_form.specs.declared.tac.Exit.TheVariants.{Branch, Fail, Jump, Return}
 use Rattle.tac_form.specs.declared.tac.Block.{Block}
 use Rattle.tac_form.specs.declared.tac.Tac.{Tac}
-use Rattle.tac_form.specs.Graph.{address_reads, block_of, exit_reads, graph_of, instruction_reads, instruction_write, operand_reads, part_reads, parts_reads, spot_reads, step_of}
+use Rattle.tac_form.specs.Graph.{address_reads, block_of, exit_reads, graph_of, instruction_reads, instruction_write, operand_reads}
+use Rattle.tac_form.specs.Graph.{part_reads, parts_reads, spot_reads, step_of}
 use Rattle.tac_form.specs.Live.{InUse, has, is_written}
 use Rattle.rv_select.specs.declared.pairs.Pair.{Pair}
-use Rattle.rv_select.specs.Asked.{address_asks, all_ask, asked_homes, asked_of, asks, block_asks, both_ask, compared_asks, computed_asks, end_asks, exit_asks, first_asks, held_after, held_behind, home_in, is_held, is_second, is_turned, part_asks, passed_asks, spot_asks, with_given}
+use Rattle.rv_select.specs.Asked.{address_asks, all_ask, asked_homes, asked_of, asks, block_asks, both_ask, compared_asks, computed_asks}
+use Rattle.rv_select.specs.Asked.{end_asks, exit_asks, first_asks, held_after, held_behind, home_in, is_held, is_second, is_turned}
+use Rattle.rv_select.specs.Asked.{part_asks, passed_asks, spot_asks, with_given}
 use Rattle.rv_select.specs.Pairs.{but_pair, pair_of, plain_of, reads_of}
 use Rattle.rv_select.specs.Places.{HasHome, HaveHomes, is_given, layout_of}
 use Rattle.rv_select.specs.Waiting.{held_at, held_in, plain_in}

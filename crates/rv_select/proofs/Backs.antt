@@ -1,5 +1,6 @@
 -- A return of three-address code is carried out.
-use Rattle.std.proofs.Common.{◌≡◌, ℕ, zero, suc, ◌+◌, ◌*◌, ◌%◌, ◌^◌, ◌<◌, ◌≤◌, true, ◌&&◌, List, [], ◌∷◌, ◌++◌, length, take, drop, Option, Some, None, refl, sym, ap, ◌∙◌, subst, ⊎_elim, inl, inr, arith}
+use Rattle.std.proofs.Common.{◌≡◌, ℕ, zero, suc, ◌+◌, ◌*◌, ◌%◌, ◌^◌, ◌<◌, ◌≤◌, true, ◌&&◌, List, [], ◌∷◌, ◌++◌, length, take, drop, Option}
+use Rattle.std.proofs.Common.{Some, None, refl, sym, ap, ◌∙◌, subst, ⊎_elim, inl, inr, arith}
 use Rattle.std.specs.Prelude.{if◌then◌else◌, nat_eq, slice_get}
 use Rattle.std.specs.List.{list_all}
 use Rattle.std.proofs.lemmas.Bool.{cases_eq, eq-eqb, eqb-true, ltb-true}
@@ -33,12 +34,14 @@ use Rattle.rv_machine.specs.declared.stops.Stop.TheVariants as stops
 use Rattle.rv_operators.specs.Runs.{Stands}
 use Rattle.rv_select.specs.Pairs.{pair_of, plain_of, reads_of}
 use Rattle.rv_select.specs.Asked.{exit_asks, given_asks}
-use Rattle.rv_select.specs.Places.{AreBytes, HasHome, Holds, Housed, IsHeld, Layout, World, area_offset, frame_bytes, home_of, layout_of, link_in, private_word}
+use Rattle.rv_select.specs.Places.{AreBytes, HasHome, Holds, Housed, IsHeld, Layout, World, area_offset, frame_bytes, home_of, layout_of}
+use Rattle.rv_select.specs.Places.{link_in, private_word}
 use Rattle.rv_select.specs.Shapes.{put_at}
 use Rattle.rv_select.specs.Steps.{Comes, world_of}
 use Rattle.rv_select.specs.Calls.{blocks_length, call_begun, call_ended, call_jump, head_code, last_address}
 use Rattle.rv_select.specs.Entering.{result_put, result_words, size_in}
-use Rattle.rv_select.specs.Waiting.{Arrives, HasRoom, Image, IsLinked, IsPlaced, StandsIn, Stepped, Waiting, Waits, entries_of, held_at, held_in, place_in, plain_in, restored}
+use Rattle.rv_select.specs.Waiting.{Arrives, HasRoom, Image, IsLinked, IsPlaced, StandsIn, Stepped, Waiting, Waits, entries_of, held_at}
+use Rattle.rv_select.specs.Waiting.{held_in, place_in, plain_in, restored}
 use Rattle.rv_select.proofs.Asking.{exit-homes}
 use Rattle.rv_select.proofs.Carries.{by-test, first-read, nothing-written}
 use Rattle.rv_select.proofs.Copies.{copies-there, size-small}
@@ -50,7 +53,8 @@ use Rattle.rv_select.proofs.Moves.{Settles, first-small, put-away, settled}
 use Rattle.rv_select.proofs.Passes.{IsPartGiven, part_value}
 use Rattle.rv_select.proofs.Receives.{housed-fewer}
 use Rattle.rv_select.proofs.Returns.{BackIn, HeldIn, Resumes, UsedBut, back-holds, goes-back, resumes}
-use Rattle.rv_select.proofs.Stands.{AtExit, AtPlace, at-plain-exit, at-instruction, both-true, exit-within, instruction-within, the-function, within-parts}
+use Rattle.rv_select.proofs.Stands.{AtExit, AtPlace, at-plain-exit, at-instruction, both-true, exit-within, instruction-within}
+use Rattle.rv_select.proofs.Stands.{the-function, within-parts}
 use Rattle.rv_select.proofs.Reached.{short-bytes}
 use Rattle.rv_select.proofs.Waits.{SameAbove, link-kept, restored-same, waits-keeps, waits-same, waits-within}
 use Rattle.rv_select.proofs.Ways.{Way, near-same, way-both, way-none}

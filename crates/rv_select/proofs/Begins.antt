@@ -1,5 +1,6 @@
 -- How the machine comes from its start into the first function.
-use Rattle.std.proofs.Common.{◌≡◌, ◌≢◌, ℕ, zero, suc, ◌+◌, ◌-◌, ◌*◌, ◌/◌, ◌^◌, ◌<◌, ◌≤◌, true, false, List, [], ◌∷◌, ◌++◌, length, take, drop, map, append_assoc, Option, Some, refl, sym, ap, ◌∙◌, subst, ⊎_elim, inl, inr, arith}
+use Rattle.std.proofs.Common.{◌≡◌, ◌≢◌, ℕ, zero, suc, ◌+◌, ◌-◌, ◌*◌, ◌/◌, ◌^◌, ◌<◌, ◌≤◌, true, false, List, [], ◌∷◌, ◌++◌, length, take}
+use Rattle.std.proofs.Common.{drop, map, append_assoc, Option, Some, refl, sym, ap, ◌∙◌, subst, ⊎_elim, inl, inr, arith}
 use Rattle.std.specs.Prelude.{if◌then◌else◌, nat_lt, slice_get, ◌⊎◌}
 use Rattle.std.proofs.lemmas.Bool.{cases_eq, cases_lt, le-leb, ltb-true, lt-ltb}
 use Rattle.std.proofs.lemmas.List.{length-append}
@@ -26,7 +27,8 @@ use Rattle.rv_select.specs.Asked.{asked_homes}
 use Rattle.rv_select.specs.Places.{AreBytes, frame_bytes, layout_of, private_word, uses}
 use Rattle.rv_select.specs.Shapes.{moved, place_number, x4, x8, x11}
 use Rattle.rv_select.specs.Calls.{blocks_length, head_code, last_address}
-use Rattle.rv_select.specs.Entering.{arguments_stored, begun, entered, kept_offset, place_given, received, receiving, stored_below, words_offset}
+use Rattle.rv_select.specs.Entering.{arguments_stored, begun, entered, kept_offset, place_given, received, receiving, stored_below}
+use Rattle.rv_select.specs.Entering.{words_offset}
 use Rattle.rv_select.specs.Frames.{BeforeEntering, Enters, HasWords, Received, seen, without_words}
 use Rattle.rv_select.specs.Waiting.{Arrives, Image, IsLinked, IsPlaced, Stepped, entries_of, place_in, plain_in}
 use Rattle.rv_select.specs.Whole.{EntriesAreCarried, Starts, before_entry}

@@ -1,5 +1,6 @@
 -- The code of a function from its parts.
-use Rattle.std.proofs.Common.{◌≡◌, ℕ, ◌+◌, ◌*◌, Bool, true, false, List, [], ◌++◌, length, append_assoc, Option, None, refl, sym, ap, subst, ◌∙◌, arith}
+use Rattle.std.proofs.Common.{◌≡◌, ℕ, ◌+◌, ◌*◌, Bool, true, false, List, [], ◌++◌, length, append_assoc, Option, None, refl, sym, ap, subst}
+use Rattle.std.proofs.Common.{◌∙◌, arith}
 use Rattle.std.specs.Prelude.{map, Result, OnOk}
 use Rattle.std.specs.List.{list_all}
 use Rattle.std.proofs.lemmas.List.{map-append}
@@ -26,7 +27,9 @@ use Rattle.rv_select.specs.Asked.{asked_homes}
 use Rattle.rv_select.specs.Places.{Layout, extent_of, frame_bytes, layout_with, with_extent, with_homes, with_reads}
 use Rattle.rv_select.specs.Shapes.{start_of}
 use Rattle.rv_select.specs.Entering.{begun, entered, left, received, words_offset}
-use Rattle.rv_select.specs.Calls.{IsSelected, block_code, block_has_code, block_starts, blocks_calls, blocks_code, body_code, call_begun, call_ended, call_jump, called, end_code, function_calls, function_code, has_code, has_exit_code, head_code, held_behind, instruction_code, instructions_code, last_address, starts_from}
+use Rattle.rv_select.specs.Calls.{IsSelected, block_code, block_has_code, block_starts, blocks_calls, blocks_code, body_code, call_begun}
+use Rattle.rv_select.specs.Calls.{call_ended, call_jump, called, end_code, function_calls, function_code, has_code, has_exit_code}
+use Rattle.rv_select.specs.Calls.{head_code, held_behind, instruction_code, instructions_code, last_address, starts_from}
 use Rattle.rv_select.proofs.Layouts.{blocks-calls-same, blocks-same, end-same, instructions-same, received-same, starts-same}
 use Rattle.rv_select.proofs.Lengths.{blocks-length}
 use Rattle.rv_select.proofs.Numbers.{pushed_words}

@@ -1,5 +1,6 @@
 -- Branches to blocks, of which one may stand behind them.
-use Rattle.std.proofs.Common.{◌≡◌, ℕ, ◌+◌, ◌*◌, ◌%◌, ◌^◌, ◌<◌, ◌≤◌, Bool, true, false, not, List, ◌∷◌, ◌++◌, length, Option, Some, None, refl, sym, ap, ◌∙◌, subst, arith}
+use Rattle.std.proofs.Common.{◌≡◌, ℕ, ◌+◌, ◌*◌, ◌%◌, ◌^◌, ◌<◌, ◌≤◌, Bool, true, false, not, List, ◌∷◌, ◌++◌, length, Option, Some, None}
+use Rattle.std.proofs.Common.{refl, sym, ap, ◌∙◌, subst, arith}
 use Rattle.std.specs.Prelude.{if◌then◌else◌, nat_eq, nat_lt, int_lt}
 use Rattle.std.proofs.lemmas.Bool.{eqb-true}
 use Rattle.rv_isa.specs.declared.instr.Instr.{Instr}
@@ -17,7 +18,8 @@ use Rattle.rv_select.specs.declared.settings.Follows.TheVariants.{Neither, First
 use Rattle.rv_select.specs.Settings.{follower, is_next}
 use Rattle.rv_select.specs.Shapes.{branch_bytes, branch_offset, branched, branched_bytes, chosen, distance, jump, negated}
 use Rattle.rv_select.proofs.Faults.{branch-way}
-use Rattle.rv_select.proofs.Jumps.{Jumped, Reaches, branched-count, branched_words, chosen-count, fetched-even, jump-few, jump_words, jumps-there, near-target}
+use Rattle.rv_select.proofs.Jumps.{Jumped, Reaches, branched-count, branched_words, chosen-count, fetched-even, jump-few, jump_words}
+use Rattle.rv_select.proofs.Jumps.{jumps-there, near-target}
 use Rattle.rv_select.proofs.Ways.{Near, Way, at_pc, near-both, near-pc, stands-back, stands-front, step-way, way-both}
 
 pub low-near : (n : ℕ) → n < 2 ^ 30 → low n ≡ n

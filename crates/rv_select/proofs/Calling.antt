@@ -1,5 +1,6 @@
 -- A call of three-address code is carried out.
-use Rattle.std.proofs.Common.{◌≡◌, ◌≢◌, ℕ, zero, suc, ◌+◌, ◌-◌, ◌*◌, ◌/◌, ◌%◌, ◌^◌, ◌<◌, ◌≤◌, true, false, ◌&&◌, List, [], ◌∷◌, ◌++◌, length, take, drop, Option, Some, None, refl, sym, ap, ◌∙◌, subst, ⊎_elim, inl, arith}
+use Rattle.std.proofs.Common.{◌≡◌, ◌≢◌, ℕ, zero, suc, ◌+◌, ◌-◌, ◌*◌, ◌/◌, ◌%◌, ◌^◌, ◌<◌, ◌≤◌, true, false, ◌&&◌, List, [], ◌∷◌, ◌++◌}
+use Rattle.std.proofs.Common.{length, take, drop, Option, Some, None, refl, sym, ap, ◌∙◌, subst, ⊎_elim, inl, arith}
 use Rattle.std.specs.Prelude.{nat_le, nat_lt, slice_get}
 use Rattle.std.specs.List.{list_all}
 use Rattle.std.proofs.lemmas.Bool.{eqb-true, leb-true, ltb-true}
@@ -30,14 +31,20 @@ use Rattle.rv_machine.specs.Machine.{State, run_of}
 use Rattle.rv_operators.specs.Runs.{Stands}
 use Rattle.rv_select.specs.Pairs.{pair_of, plain_of, reads_of}
 use Rattle.rv_select.specs.Asked.{asked_homes, part_asks, passed_asks}
-use Rattle.rv_select.specs.Places.{HasHome, Holds, Housed, Layout, World, area_offset, frame_bytes, home_of, layout_of, link_in, private_word}
+use Rattle.rv_select.specs.Places.{HasHome, Holds, Housed, Layout, World, area_offset, frame_bytes, home_of, layout_of, link_in}
+use Rattle.rv_select.specs.Places.{private_word}
 use Rattle.rv_select.specs.Shapes.{place_number, start_of}
 use Rattle.rv_select.specs.Steps.{Ends, world_of}
-use Rattle.rv_select.specs.Calls.{block_starts, blocks_length, call_begun, call_ended, call_jump, head_code, instruction_code, last_address, starts_from}
+use Rattle.rv_select.specs.Calls.{block_starts, blocks_length, call_begun, call_ended, call_jump, head_code, instruction_code, last_address}
+use Rattle.rv_select.specs.Calls.{starts_from}
 use Rattle.rv_select.specs.Entering.{begun, entered, received, receiving, words_offset}
 use Rattle.rv_select.specs.Frames.{ArePassed, BeforeEntering, Enters, IsPartFirst, Received, part_value, seen, without_words}
-use Rattle.rv_select.specs.Waiting.{Arrives, HasRoom, Image, IsLinked, IsPlaced, StandsIn, Stepped, Waiting, Waits, entries_of, entry_of, held_in, place_in, plain_in, restored}
-use Rattle.rv_select.proofs.Amounts.{all-few, args-room, bytes-least, chain, deep-is, entry-facts, far, few-deep, frame-fits, goes, head-in, least, less-frame, link-facts, link-low, link-word, nearer, not-le, not-lt, shallow-is, shorter, some-steps, stack-less, stack-more, steps-few, still-below, top-is, word-high, word-near, word-of, words-under, zero-first}
+use Rattle.rv_select.specs.Waiting.{Arrives, HasRoom, Image, IsLinked, IsPlaced, StandsIn, Stepped, Waiting, Waits, entries_of, entry_of}
+use Rattle.rv_select.specs.Waiting.{held_in, place_in, plain_in, restored}
+use Rattle.rv_select.proofs.Amounts.{all-few, args-room, bytes-least, chain, deep-is, entry-facts, far, few-deep, frame-fits, goes, head-in}
+use Rattle.rv_select.proofs.Amounts.{least, less-frame, link-facts, link-low, link-word, nearer, not-le, not-lt, shallow-is, shorter}
+use Rattle.rv_select.proofs.Amounts.{some-steps, stack-less, stack-more, steps-few, still-below, top-is, word-high, word-near, word-of}
+use Rattle.rv_select.proofs.Amounts.{words-under, zero-first}
 use Rattle.rv_select.proofs.Asking.{instruction-homes}
 use Rattle.rv_select.proofs.Arrivals.{InFunction, areas-lie, begin-holds, enters-call, has-words, link-after, room-next, same-after}
 use Rattle.rv_select.proofs.Callings.{Begun, JumpedTo, begins, jumps-to, too-deep}

@@ -1,5 +1,6 @@
 -- States that share what an activation's words rest on, and runs that write to the output.
-use Rattle.std.proofs.Common.{◌≡◌, ◌≢◌, ℕ, suc, ◌+◌, ◌^◌, ◌<◌, ◌≤◌, Bool, true, false, ◌&&◌, ◌||◌, List, [], length, take, drop, Option, Some, refl, sym, ap, ◌∙◌, subst, arith}
+use Rattle.std.proofs.Common.{◌≡◌, ◌≢◌, ℕ, suc, ◌+◌, ◌^◌, ◌<◌, ◌≤◌, Bool, true, false, ◌&&◌, ◌||◌, List, [], length, take, drop, Option}
+use Rattle.std.proofs.Common.{Some, refl, sym, ap, ◌∙◌, subst, arith}
 use Rattle.std.specs.Prelude.{if◌then◌else◌, nat_eq, nat_le}
 use Rattle.std.proofs.lemmas.Bool.{le-leb, ne_eqb}
 use Rattle.rv_isa.specs.declared.instr.Instr.{Instr}
@@ -11,9 +12,11 @@ use Rattle.rv_machine.specs.declared.memory.Place.{Place}
 use Rattle.rv_machine.specs.declared.stops.MachineKind.TheVariants.{BadCall}
 use Rattle.rv_machine.specs.declared.stops.Stop.TheVariants.{Returned}
 use Rattle.rv_machine.specs.Memory.{bytes_at, place_of}
-use Rattle.rv_machine.specs.Machine.{Faults, GoesOn, State, Writes, act, after_output, after_step, at_with, fetch, obeys, returned, run_of, stands, step, throw_call, write_call, writes_from}
+use Rattle.rv_machine.specs.Machine.{Faults, GoesOn, State, Writes, act, after_output, after_step, at_with, fetch, obeys, returned, run_of}
+use Rattle.rv_machine.specs.Machine.{stands, step, throw_call, write_call, writes_from}
 use Rattle.rv_operators.proofs.Runs.{not-zero}
-use Rattle.rv_select.specs.Places.{AreBytes, Holds, Housed, IsHome, Keeps, Layout, World, area_offset, frame_bytes, home_of, is_lasting, slot_offset, word_at}
+use Rattle.rv_select.specs.Places.{AreBytes, Holds, Housed, IsHome, Keeps, Layout, World, area_offset, frame_bytes, home_of, is_lasting}
+use Rattle.rv_select.specs.Places.{slot_offset, word_at}
 use Rattle.rv_select.specs.Steps.{AreFewer, Comes}
 use Rattle.rv_select.proofs.Straight.{written-elsewhere}
 use Rattle.rv_select.proofs.Ways.{Near, Way}

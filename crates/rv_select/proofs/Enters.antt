@@ -1,5 +1,6 @@
 -- How functions are entered.
-use Rattle.std.proofs.Common.{◌≡◌, ◌≢◌, ℕ, zero, suc, ◌+◌, ◌-◌, ◌*◌, ◌/◌, ◌^◌, ◌<◌, ◌≤◌, Bool, true, false, List, [], ◌∷◌, ◌++◌, length, take, drop, append_assoc, Option, refl, sym, ap, ◌∙◌, subst, inl, inr, arith}
+use Rattle.std.proofs.Common.{◌≡◌, ◌≢◌, ℕ, zero, suc, ◌+◌, ◌-◌, ◌*◌, ◌/◌, ◌^◌, ◌<◌, ◌≤◌, Bool, true, false, List, [], ◌∷◌, ◌++◌, length}
+use Rattle.std.proofs.Common.{take, drop, append_assoc, Option, refl, sym, ap, ◌∙◌, subst, inl, inr, arith}
 use Rattle.std.specs.Prelude.{nat_lt, not}
 use Rattle.std.proofs.lemmas.Bool.{le-ltb, lt-ltb}
 use Rattle.std.proofs.lemmas.List.{length-append}
@@ -22,7 +23,8 @@ use Rattle.rv_select.specs.Numbers.{constant, immediate_of, register_of, upper_o
 use Rattle.rv_select.specs.Places.{AreBytes, Layout, private_word, uses}
 use Rattle.rv_select.specs.Shapes.{fault_call, limit_found, place_number, two, x2, x4, x7, x8, x10, x17}
 use Rattle.rv_select.specs.Steps.{Ends}
-use Rattle.rv_select.specs.Entering.{frame_taken, if_used, kept_offset, link_saved, pointer_down, region_taken, saved, stack_branch, stack_tested, x1}
+use Rattle.rv_select.specs.Entering.{frame_taken, if_used, kept_offset, link_saved, pointer_down, region_taken, saved, stack_branch}
+use Rattle.rv_select.specs.Entering.{stack_tested, x1}
 use Rattle.rv_select.proofs.Allocs.{less, right-two}
 use Rattle.rv_select.proofs.Faults.{branch-way, later-ends, small-load, throws}
 use Rattle.terra_memory.specs.Numbers.{number_of}
@@ -31,7 +33,8 @@ use Rattle.rv_select.proofs.Kept.{Saved, Stored, saves, stored-none, stored-one,
 use Rattle.rv_select.proofs.Numbers.{constant-count, constant-loads}
 use Rattle.rv_select.proofs.Pointers.{down-count, down-some, goes-down}
 use Rattle.rv_select.proofs.Straight.{Loads, loads-both, loads-one, low-below, low-small, written-elsewhere, written-there}
-use Rattle.rv_select.proofs.Ways.{Near, Way, at_pc, low-none, near-both, near-pc, stands-back, stands-front, step-way, straight-way, throw-step, way-both, way-none}
+use Rattle.rv_select.proofs.Ways.{Near, Way, at_pc, low-none, near-both, near-pc, stands-back, stands-front, step-way, straight-way}
+use Rattle.rv_select.proofs.Ways.{throw-step, way-both, way-none}
 
 -- the call by which a run ends, at a place that stands in x11
 pub call-fails : (program : List (Option Instr)) (m : State) (kind : FaultKind) (at : Place) → m.registers 11 ≡ place_number at →

@@ -1,5 +1,6 @@
 -- Each step takes no more of the machine's steps than are taken off what is left of them.
-use Rattle.std.proofs.Common.{◌≡◌, ℕ, zero, suc, ◌+◌, ◌*◌, ◌<◌, ◌≤◌, Bool, true, false, ◌&&◌, ◌||◌, List, [], ◌∷◌, length, drop, sum_by, Option, Some, None, refl, sym, ap, ◌∙◌, subst, ⊎_elim, inl, inr, arith}
+use Rattle.std.proofs.Common.{◌≡◌, ℕ, zero, suc, ◌+◌, ◌*◌, ◌<◌, ◌≤◌, Bool, true, false, ◌&&◌, ◌||◌, List, [], ◌∷◌, length, drop, sum_by}
+use Rattle.std.proofs.Common.{Option, Some, None, refl, sym, ap, ◌∙◌, subst, ⊎_elim, inl, inr, arith}
 use Rattle.std.specs.Prelude.{nat_le, nat_lt, slice_get, ◌⊎◌}
 use Rattle.std.proofs.Math.Nat.{suc-mul}
 use Rattle.std.proofs.lemmas.Bool.{cases_Bool, ltb-true}
@@ -20,7 +21,8 @@ use Rattle.tac_form.specs.declared.tac.Instruction.TheVariants.{Call}
 use Rattle.tac_form.specs.declared.tac.Block.{Block}
 use Rattle.tac_form.specs.declared.tac.Tac.{Tac}
 use Rattle.tac_form.specs.Flow as tac
-use Rattle.tac_form.specs.Flow.{Activation, Caller, Goes, Program, Stops, accepts, accepts_all, enter, give, given, step, takes, takes_all, value_of, values_of}
+use Rattle.tac_form.specs.Flow.{Activation, Caller, Goes, Program, Stops, accepts, accepts_all, enter, give, given, step, takes, takes_all}
+use Rattle.tac_form.specs.Flow.{value_of, values_of}
 use Rattle.tac_form.specs.Fits.{blocks_count}
 use Rattle.tac_form.specs.Weights.{block_words, code_words, exit_words, words_of}
 use Rattle.rv_select.specs.Entering.{receiving, result_words}

@@ -1,5 +1,6 @@
 -- Where the parts of a function's code stand.
-use Rattle.std.proofs.Common.{◌≡◌, ℕ, zero, suc, ◌+◌, ◌*◌, ◌%◌, ◌^◌, ◌<◌, ◌≤◌, List, [], ◌∷◌, ◌++◌, drop, length, append_assoc, Option, Some, None, refl, ap, ◌∙◌, subst, arith}
+use Rattle.std.proofs.Common.{◌≡◌, ℕ, zero, suc, ◌+◌, ◌*◌, ◌%◌, ◌^◌, ◌<◌, ◌≤◌, List, [], ◌∷◌, ◌++◌, drop, length, append_assoc, Option}
+use Rattle.std.proofs.Common.{Some, None, refl, ap, ◌∙◌, subst, arith}
 use Rattle.std.specs.Prelude.{slice_get}
 use Rattle.std.proofs.lemmas.List.{length-append}
 use Rattle.tl_base.specs.declared.ids.FnId.{FnId}
@@ -11,7 +12,8 @@ use Rattle.rv_machine.specs.Word.{low}
 use Rattle.rv_operators.specs.Runs.{Stands}
 use Rattle.rv_select.specs.Places.{Layout, frame_bytes}
 use Rattle.rv_select.specs.Shapes.{held_after, start_of}
-use Rattle.rv_select.specs.Calls.{block_code, block_starts, blocks_code, blocks_length, body_code, function_code, head_code, held_behind, instruction_code, instructions_code, last_address, starts_from}
+use Rattle.rv_select.specs.Calls.{block_code, block_starts, blocks_code, blocks_length, body_code, function_code, head_code, held_behind}
+use Rattle.rv_select.specs.Calls.{instruction_code, instructions_code, last_address, starts_from}
 use Rattle.rv_select.specs.Entering.{begun, entered, left, received, words_offset}
 use Rattle.rv_select.specs.Waiting.{held_at, instruction_at}
 use Rattle.rv_select.proofs.Lengths.{block-length, blocks-length}

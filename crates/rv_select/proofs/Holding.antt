@@ -1,5 +1,6 @@
 -- What instructions compute that hold a constant.
-use Rattle.std.proofs.Common.{◌≡◌, ℕ, ◌+◌, ◌-◌, ◌*◌, ◌/◌, ◌%◌, ◌^◌, ◌<◌, ◌≤◌, Bool, true, false, not, ◌&&◌, List, [], ◌∷◌, ◌++◌, length, refl, sym, ap, ◌∙◌, subst, ⊎_elim, arith, Option, Some, None}
+use Rattle.std.proofs.Common.{◌≡◌, ℕ, ◌+◌, ◌-◌, ◌*◌, ◌/◌, ◌%◌, ◌^◌, ◌<◌, ◌≤◌, Bool, true, false, not, ◌&&◌, List, [], ◌∷◌, ◌++◌, length}
+use Rattle.std.proofs.Common.{refl, sym, ap, ◌∙◌, subst, ⊎_elim, arith, Option, Some, None}
 use Rattle.std.specs.Prelude.{if◌then◌else◌, nat_eq, nat_le, nat_lt, ◌||◌, bit_and, bit_or, bit_xor, int_lt}
 use Rattle.std.proofs.lemmas.Bool.{cases_eq, cases_lt, eq-eqb, eqb-true, le-leb, le-ltb, leb-true, lt-leb, lt-ltb, ltb-true, ne_eqb}
 use Rattle.std.proofs.lemmas.List.{length-append}
@@ -18,14 +19,16 @@ use Rattle.rv_machine.specs.Machine.{State, GoesOn, act, at_with}
 use Rattle.rv_machine.specs.Arithmetic.{flag, immediate_value, shift_value, shifted_left, shifted_right, word_shifted_left}
 use Rattle.terra_words.specs.declared.words.Width.{Width}
 use Rattle.terra_words.specs.declared.words.BinaryOperator.{BinaryOperator}
-use Rattle.terra_words.specs.declared.words.BinaryOperator.TheVariants.{Add, Subtract, Multiply, Divide, Modulo, Xor, And, Or, ShiftLeft, ShiftRight, Equal, NotEqual, Less, LessEqual, Greater, GreaterEqual}
+use Rattle.terra_words.specs.declared.words.BinaryOperator.TheVariants.{Add, Subtract, Multiply, Divide, Modulo, Xor, And, Or, ShiftLeft}
+use Rattle.terra_words.specs.declared.words.BinaryOperator.TheVariants.{ShiftRight, Equal, NotEqual, Less, LessEqual, Greater, GreaterEqual}
 use Rattle.terra_words.specs.Words as words
 use Rattle.terra_words.specs.Words.{applied, is_negative, wrapped}
 use Rattle.tac_form.specs.declared.tac.Operand.{Operand}
 use Rattle.tac_form.specs.declared.tac.Operand.TheVariants.{Temp, Constant}
 use Rattle.tac_form.specs.Weights.{operand_words, operator_words}
 use Rattle.rv_operators.specs.Claims.{Leads}
-use Rattle.rv_operators.specs.Codes.{code_of, counted, cut, in_one, in_parts, is_comparison, is_width, one_immediate, operation, word_operation, x0, x5, x6}
+use Rattle.rv_operators.specs.Codes.{code_of, counted, cut, in_one, in_parts, is_comparison, is_width, one_immediate, operation}
+use Rattle.rv_operators.specs.Codes.{word_operation, x0, x5, x6}
 use Rattle.rv_operators.specs.Runs.{AreStraight}
 use Rattle.rv_operators.proofs.Cuts.{Low, by-width, low-bits, low-word, then-cut}
 use Rattle.rv_operators.proofs.Lows.{shifted_of}
@@ -36,7 +39,8 @@ use Rattle.rv_operators.proofs.Values.{and-small, equal-words, other-words, sign
 use Rattle.rv_select.specs.Numbers.{below_zero, constant, immediate_of, lower_of}
 use Rattle.rv_select.specs.Places.{Layout}
 use Rattle.rv_select.specs.Shapes.{applied_to, taken}
-use Rattle.rv_select.specs.Folded.{by_number, count_if, count_of, differing, folded, is_folded, is_near, is_power, opposite, shift_down, shift_for, shifted_up, sum_of, word_count_if, word_count_of}
+use Rattle.rv_select.specs.Folded.{by_number, count_if, count_of, differing, folded, is_folded, is_near, is_power, opposite, shift_down}
+use Rattle.rv_select.specs.Folded.{shift_for, shifted_up, sum_of, word_count_if, word_count_of}
 use Rattle.rv_select.proofs.Homes.{operand-count}
 use Rattle.rv_select.proofs.Numbers.{below-is, immediate-is}
 use Rattle.rv_select.proofs.Sequences.{operator-count}

@@ -1,5 +1,6 @@
 -- Words at homes.
-use Rattle.std.proofs.Common.{◌≡◌, ◌≢◌, ℕ, ◌+◌, ◌*◌, ◌^◌, ◌<◌, ◌≤◌, List, [], ◌∷◌, Bool, true, false, length, take, drop, refl, sym, ap, ◌∙◌, subst, ⊎_elim, inl, inr, arith}
+use Rattle.std.proofs.Common.{◌≡◌, ◌≢◌, ℕ, ◌+◌, ◌*◌, ◌^◌, ◌<◌, ◌≤◌, List, [], ◌∷◌, Bool, true, false, length, take, drop, refl, sym, ap}
+use Rattle.std.proofs.Common.{◌∙◌, subst, ⊎_elim, inl, inr, arith}
 use Rattle.std.specs.Prelude.{◌⊎◌, nat_lt, if◌then◌else◌, Option, Some, None, slice_get}
 use Rattle.std.proofs.lemmas.Bool.{cases_lt, eqb-true, ltb-true}
 use Rattle.rv_isa.specs.declared.instr.Instr.{Instr}
@@ -21,12 +22,14 @@ use Rattle.rv_operators.specs.Claims.{acts, then_on}
 use Rattle.rv_operators.specs.Codes.{x5}
 use Rattle.rv_operators.specs.Runs.{AreStraight}
 use Rattle.rv_operators.proofs.Runs.{straight-both}
-use Rattle.rv_select.specs.Places.{AreBytes, Layout, World, HasFrame, Holds, Housed, IsFirst, IsHeld, IsHome, IsRead, IsSlot, area_offset, frame_bytes, home_of, is_given, or_first, private_word, slot_offset, value_in, word_at}
+use Rattle.rv_select.specs.Places.{AreBytes, Layout, World, HasFrame, Holds, Housed, IsFirst, IsHeld, IsHome, IsRead, IsSlot, area_offset}
+use Rattle.rv_select.specs.Places.{frame_bytes, home_of, is_given, or_first, private_word, slot_offset, value_in, word_at}
 use Rattle.rv_select.specs.Numbers.{constant, register_of}
 use Rattle.rv_select.specs.Shapes.{first_taken, is_held, moved, put_at, put_from, put_in, put_to, taken, taken_from}
 use Rattle.rv_select.proofs.Bytes.{other-than-word, private-place, stored-length, stored-word}
 use Rattle.rv_select.proofs.Numbers.{constant-count, constant-loads, one-count, register-is, small-count}
-use Rattle.rv_select.proofs.Straight.{Loads, behind-both, goes-both, loads-one, low-first, low-here, low-small, register-value, written-elsewhere, written-there}
+use Rattle.rv_select.proofs.Straight.{Loads, behind-both, goes-both, loads-one, low-first, low-here, low-small, register-value}
+use Rattle.rv_select.proofs.Straight.{written-elsewhere, written-there}
 use Rattle.rv_select.proofs.Words.{low-are-bytes, overwritten-bytes}
 use Rattle.rv_select.proofs.Frames.{Reach, framed-count, framed-loads, reach}
 

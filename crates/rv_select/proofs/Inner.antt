@@ -1,5 +1,6 @@
 -- Steps of three-address code that stay within a function.
-use Rattle.std.proofs.Common.{◌≡◌, ℕ, zero, suc, ◌+◌, ◌-◌, Bool, true, false, ◌&&◌, List, [], ◌∷◌, length, Option, Some, None, refl, sym, ap, ◌∙◌, inl, inr, arith}
+use Rattle.std.proofs.Common.{◌≡◌, ℕ, zero, suc, ◌+◌, ◌-◌, Bool, true, false, ◌&&◌, List, [], ◌∷◌, length, Option, Some, None, refl, sym}
+use Rattle.std.proofs.Common.{ap, ◌∙◌, inl, inr, arith}
 use Rattle.std.specs.Prelude.{if◌then◌else◌, nat_eq, nat_le, ◌⊎◌}
 use Rattle.std.specs.Prelude.{ℤ, pos, negsuc}
 use Rattle.tl_base.specs.declared.place.Place.{Place}
@@ -14,9 +15,11 @@ use Rattle.tac_form.specs.declared.tac.Edge.{Edge}
 use Rattle.tac_form.specs.declared.tac.Exit.{Exit}
 use Rattle.tac_form.specs.declared.tac.Exit.TheVariants.{Branch, Fail, Jump, Return}
 use Rattle.tac_form.specs.declared.tac.Instruction.{Instruction}
-use Rattle.tac_form.specs.declared.tac.Instruction.TheVariants.{Alloc, Call, CallValue, Clear, Compute, Copy, Load, Locate, Move, PutByte, Store, TestDivisor, Write}
+use Rattle.tac_form.specs.declared.tac.Instruction.TheVariants.{Alloc, Call, CallValue, Clear, Compute, Copy, Load, Locate, Move, PutByte}
+use Rattle.tac_form.specs.declared.tac.Instruction.TheVariants.{Store, TestDivisor, Write}
 use Rattle.tac_form.specs.Flow as tac
-use Rattle.tac_form.specs.Flow.{Areas, Goes, Program, Stops, Temps, act, address, allocated, fetched, follow, from_spot, leave, operand, step, to_spot, written}
+use Rattle.tac_form.specs.Flow.{Areas, Goes, Program, Stops, Temps, act, address, allocated, fetched, follow, from_spot, leave, operand}
+use Rattle.tac_form.specs.Flow.{step, to_spot, written}
 use Rattle.terra_words.specs.Words.{divides, is_negative}
 use Rattle.rv_select.specs.Shapes.{has_exit_shape, has_shape}
 use Rattle.rv_select.proofs.Carries.{by-test}

@@ -1,5 +1,6 @@
 -- Jumps from block to block.
-use Rattle.std.proofs.Common.{◌≡◌, ℕ, suc, pos, negsuc, ◌+◌, ◌-◌, ◌*◌, ◌/◌, ◌%◌, ◌^◌, ◌<◌, ◌≤◌, Bool, true, false, List, [], length, Option, Some, None, refl, sym, ap, ◌∙◌, subst, ⊎_elim, arith}
+use Rattle.std.proofs.Common.{◌≡◌, ℕ, suc, pos, negsuc, ◌+◌, ◌-◌, ◌*◌, ◌/◌, ◌%◌, ◌^◌, ◌<◌, ◌≤◌, Bool, true, false, List, [], length, Option}
+use Rattle.std.proofs.Common.{Some, None, refl, sym, ap, ◌∙◌, subst, ⊎_elim, arith}
 use Rattle.std.specs.Prelude.{if◌then◌else◌, nat_eq, nat_le, nat_lt, slice_get}
 use Rattle.std.proofs.lemmas.Bool.{cases_lt, eq-eqb, eqb-true, le-leb, lt-leb}
 use Rattle.rv_isa.specs.declared.instr.Instr.{Instr}
@@ -16,7 +17,8 @@ use Rattle.rv_select.specs.declared.settings.Follows.{Follows}
 use Rattle.rv_select.specs.declared.settings.Follows.TheVariants.{Neither, First, Second}
 use Rattle.rv_select.specs.Calls.{jump_unless_last}
 use Rattle.rv_select.specs.Numbers.{below_zero, immediate_of, lower_of, upper_number, upper_of}
-use Rattle.rv_select.specs.Shapes.{ahead, ahead_if, back, back_if, before, before_if, branch_offset, branched, chosen, distance, jump, jump_offset, negated, offset_of}
+use Rattle.rv_select.specs.Shapes.{ahead, ahead_if, back, back_if, before, before_if, branch_offset, branched, chosen, distance, jump}
+use Rattle.rv_select.specs.Shapes.{jump_offset, negated, offset_of}
 use Rattle.rv_select.proofs.Straight.{written-elsewhere}
 use Rattle.rv_select.proofs.Numbers.{below-is, immediate-is, parts, upper-is}
 use Rattle.rv_select.proofs.Ways.{Near, Way, offset-is, step-way, way-both}

@@ -9,7 +9,8 @@ use Rattle.tac_form.specs.declared.tac.Operand.TheVariants as operands
 use Rattle.tac_form.specs.declared.tac.Destination.{Destination}
 use Rattle.tac_form.specs.declared.tac.Destination.TheVariants as destinations
 use Rattle.tac_form.specs.declared.tac.Instruction.{Instruction}
-use Rattle.tac_form.specs.declared.tac.Instruction.TheVariants.{Alloc, Call, CallValue, Clear, Compute, Copy, Load, Locate, Move, PutByte, Store, TestDivisor, Write}
+use Rattle.tac_form.specs.declared.tac.Instruction.TheVariants.{Alloc, Call, CallValue, Clear, Compute, Copy, Load, Locate, Move, PutByte}
+use Rattle.tac_form.specs.declared.tac.Instruction.TheVariants.{Store, TestDivisor, Write}
 use Rattle.tac_form.specs.declared.tac.Exit.{Exit}
 use Rattle.tac_form.specs.declared.tac.Exit.TheVariants.{Branch, Fail, Jump, Return}
 use Rattle.tac_form.specs.declared.tac.Block.{Block}
@@ -24,7 +25,9 @@ use Rattle.rv_select.specs.Pairs.{pair_of, plain_of}
 use Rattle.rv_select.specs.Places.{Layout}
 use Rattle.rv_select.specs.Shapes.{held_after, place_number, x11}
 use Rattle.rv_select.specs.Entering.{received, received_one, stored_below}
-use Rattle.rv_select.specs.Calls.{block_code, blocks_calls, blocks_code, call_ended, call_jump, depth_tested, end_code, exit_code, held_behind, instruction_calls, instruction_code, instructions_calls, instructions_code, one_more, pair_code, part_passed, passed, starts_from}
+use Rattle.rv_select.specs.Calls.{block_code, blocks_calls, blocks_code, call_ended, call_jump, depth_tested, end_code, exit_code}
+use Rattle.rv_select.specs.Calls.{held_behind, instruction_calls, instruction_code, instructions_calls, instructions_code, one_more}
+use Rattle.rv_select.specs.Calls.{pair_code, part_passed, passed, starts_from}
 
 abbrev laid : List (Option Home) → (a p : ℕ) → List Reads → Extent → Layout
 laid h a p r v = record { homes = h; areas = a; parameters = p; reads = r; extent = v }

@@ -4,7 +4,8 @@ use Rattle.std.proofs.lemmas.List.{length-append}
 use Rattle.tl_base.specs.declared.ids.FnId.{FnId}
 use Rattle.rv_isa.specs.declared.instr.Instr.{Instr}
 use Rattle.tac_form.specs.declared.tac.Instruction.{Instruction}
-use Rattle.tac_form.specs.declared.tac.Instruction.TheVariants.{Alloc, Call, CallValue, Clear, Compute, Copy, Load, Locate, Move, PutByte, Store, TestDivisor, Write}
+use Rattle.tac_form.specs.declared.tac.Instruction.TheVariants.{Alloc, Call, CallValue, Clear, Compute, Copy, Load, Locate, Move, PutByte}
+use Rattle.tac_form.specs.declared.tac.Instruction.TheVariants.{Store, TestDivisor, Write}
 use Rattle.tac_form.specs.declared.tac.Exit.{Exit}
 use Rattle.tac_form.specs.declared.tac.Exit.TheVariants.{Branch, Fail, Jump, Return}
 use Rattle.tac_form.specs.declared.tac.Block.{Block}
@@ -17,7 +18,8 @@ use Rattle.rv_select.specs.Compared.{condition_of, first_register, left_of, oper
 use Rattle.rv_select.specs.Pairs.{pair_of, plain_of}
 use Rattle.rv_select.specs.Places.{Layout}
 use Rattle.rv_select.specs.Shapes.{first_taken, held_after}
-use Rattle.rv_select.specs.Calls.{block_code, blocks_code, call_begun, call_ended, call_jump, end_code, exit_code, held_behind, instruction_code, instructions_code, pair_code, part_given}
+use Rattle.rv_select.specs.Calls.{block_code, blocks_code, call_begun, call_ended, call_jump, end_code, exit_code, held_behind}
+use Rattle.rv_select.specs.Calls.{instruction_code, instructions_code, pair_code, part_given}
 use Rattle.rv_select.proofs.Jumps.{chosen-count, edge-count, last-count}
 
 -- the code of an instruction is as long wherever it and functions stand

@@ -1,5 +1,6 @@
 -- Code that a loop puts, an item at a time, with what is still to come.
-use Rattle.std.proofs.Common.{◌≡◌, ℕ, ◌+◌, ◌-◌, ◌*◌, ◌<◌, ◌≤◌, true, List, [], ◌∷◌, ◌++◌, length, get_or, drop, append_assoc, Option, None, refl, sym, ap, ◌∙◌, subst, arith}
+use Rattle.std.proofs.Common.{◌≡◌, ℕ, ◌+◌, ◌-◌, ◌*◌, ◌<◌, ◌≤◌, true, List, [], ◌∷◌, ◌++◌, length, get_or, drop, append_assoc, Option, None}
+use Rattle.std.proofs.Common.{refl, sym, ap, ◌∙◌, subst, arith}
 use Rattle.std.specs.Prelude.{map}
 use Rattle.std.specs.List.{list_all}
 use Rattle.std.proofs.lemmas.List.{append-nil, drop_all, drop_more, length-drop}
@@ -11,7 +12,8 @@ use Rattle.rv_select.specs.declared.selected.Call.{Call as Site}
 use Rattle.rv_select.specs.Pairs.{plain_of}
 use Rattle.rv_select.specs.Places.{Layout}
 use Rattle.rv_select.specs.Shapes.{held_after}
-use Rattle.rv_select.specs.Calls.{block_code, block_has_code, blocks_calls, blocks_code, has_code, held_behind, instruction_calls, instruction_code, instructions_calls, instructions_code, starts_from}
+use Rattle.rv_select.specs.Calls.{block_code, block_has_code, blocks_calls, blocks_code, has_code, held_behind, instruction_calls}
+use Rattle.rv_select.specs.Calls.{instruction_code, instructions_calls, instructions_code, starts_from}
 use Rattle.rv_select.proofs.Lengths.{block-length, instruction-length}
 use Rattle.rv_select.proofs.Numbers.{pushed_words}
 use Rattle.rv_select.proofs.Pushed.{behind-placed}

@@ -1,5 +1,6 @@
 -- Copies and operators.
-use Rattle.std.proofs.Common.{◌≡◌, ◌≢◌, ℕ, suc, ◌+◌, ◌*◌, ◌^◌, ◌<◌, ◌≤◌, Bool, true, false, not, ◌&&◌, List, [], ◌∷◌, ◌++◌, length, take, drop, append_assoc, Option, None, Some, refl, sym, ap, ◌∙◌, subst, ⊎_elim, inl, inr, arith}
+use Rattle.std.proofs.Common.{◌≡◌, ◌≢◌, ℕ, suc, ◌+◌, ◌*◌, ◌^◌, ◌<◌, ◌≤◌, Bool, true, false, not, ◌&&◌, List, [], ◌∷◌, ◌++◌, length, take}
+use Rattle.std.proofs.Common.{drop, append_assoc, Option, None, Some, refl, sym, ap, ◌∙◌, subst, ⊎_elim, inl, inr, arith}
 use Rattle.std.specs.Prelude.{if◌then◌else◌, nat_eq, ◌⊎◌, IsTrue, slice_get}
 use Rattle.std.proofs.lemmas.Bool.{cases_Bool, cases_eq, eq-eqb, eqb-true, ne_eqb}
 use Rattle.std.proofs.lemmas.List.{length-append}
@@ -31,16 +32,19 @@ use Rattle.rv_operators.specs.Codes.{x0, x5, x6, code_of, is_width}
 use Rattle.rv_operators.specs.Runs.{Stands}
 use Rattle.rv_operators.proofs.Operators.{computed as operator-computes}
 use Rattle.rv_operators.proofs.Short.{code-short}
-use Rattle.rv_select.specs.Places.{AreBytes, HasHome, Layout, World, Holds, Housed, IsFirst, IsHeld, IsHome, IsRead, Keeps, area_offset, frame_bytes, home_of, is_given, is_lasting, slot_offset, uses, value_in, word_at}
+use Rattle.rv_select.specs.Places.{AreBytes, HasHome, Layout, World, Holds, Housed, IsFirst, IsHeld, IsHome, IsRead, Keeps, area_offset}
+use Rattle.rv_select.specs.Places.{frame_bytes, home_of, is_given, is_lasting, slot_offset, uses, value_in, word_at}
 use Rattle.rv_select.specs.Folded.{folded, is_folded}
 use Rattle.rv_select.specs.Numbers.{constant}
-use Rattle.rv_select.specs.Shapes.{applied_to, first_taken, is_held, is_second, is_symmetric, is_turned, moved, operated, operated_second, put_at, put_from, put_to, taken}
+use Rattle.rv_select.specs.Shapes.{applied_to, first_taken, is_held, is_second, is_symmetric, is_turned, moved, operated, operated_second}
+use Rattle.rv_select.specs.Shapes.{put_at, put_from, put_to, taken}
 use Rattle.rv_select.specs.Steps.{Comes, Follows, behind, with_temp}
 use Rattle.rv_select.proofs.Claims.{CopiesAreCarried, Gives, OperatorsAreCarried}
 use Rattle.rv_select.proofs.Straight.{Loads, Scratch, behind-both, leads-scratch, loads-five, loads-six, low-below, low-here, scratch-both}
 use Rattle.rv_select.proofs.Ways.{Near, Way, scratch-near, stands-back, stands-front, straight-way, way-both}
 use Rattle.rv_select.proofs.Frames.{framed-some}
-use Rattle.rv_select.proofs.Homes.{Puts, first-count, from-five, home-apart, home-inside, put-count, put-home, put-is, put-none, region-small, take-first, take-operand, held-is}
+use Rattle.rv_select.proofs.Homes.{Puts, first-count, from-five, home-apart, home-inside, put-count, put-home, put-is, put-none}
+use Rattle.rv_select.proofs.Homes.{region-small, take-first, take-operand, held-is}
 use Rattle.rv_select.proofs.Holding.{applied-count, applied-some, folded-few, folds}
 use Rattle.rv_select.proofs.Numbers.{constant-loads}
 use Rattle.rv_select.proofs.Sequences.{operator-count}

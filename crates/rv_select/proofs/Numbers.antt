@@ -1,5 +1,6 @@
 -- Numbers as operands, and the code that loads them.
-use Rattle.std.proofs.Common.{◌≡◌, ◌≢◌, ℕ, suc, ◌+◌, ◌-◌, ◌*◌, ◌/◌, ◌%◌, ◌^◌, ◌<◌, ◌≤◌, Bool, true, false, pos, negsuc, List, [], ◌∷◌, ◌++◌, length, map, refl, sym, ap, ◌∙◌, subst, ⊎_elim, arith}
+use Rattle.std.proofs.Common.{◌≡◌, ◌≢◌, ℕ, suc, ◌+◌, ◌-◌, ◌*◌, ◌/◌, ◌%◌, ◌^◌, ◌<◌, ◌≤◌, Bool, true, false, pos, negsuc, List, [], ◌∷◌, ◌++◌}
+use Rattle.std.proofs.Common.{length, map, refl, sym, ap, ◌∙◌, subst, ⊎_elim, arith}
 use Rattle.std.specs.Prelude.{if◌then◌else◌, nat_eq, nat_le, nat_lt, ◌&&◌}
 use Rattle.std.proofs.lemmas.List.{length-append, length-map}
 use Rattle.std.proofs.lemmas.Bool.{cases_Bool, cases_lt, le-leb, lt-leb, lt-ltb, le-ltb, eq-eqb, ne_eqb, eqb-true}
@@ -16,7 +17,8 @@ use Rattle.rv_machine.specs.Arithmetic.{shifted_left}
 use Rattle.terra_words.specs.Words.{wrapped}
 use Rattle.rv_operators.specs.Codes.{x0}
 use Rattle.rv_operators.proofs.Values.{width, wrapped-32}
-use Rattle.rv_select.specs.Numbers.{register_if, register_of, immediate_if, immediate_of, below_zero_if, below_zero, lower_of, upper_number, upper_if, upper_of}
+use Rattle.rv_select.specs.Numbers.{register_if, register_of, immediate_if, immediate_of, below_zero_if, below_zero, lower_of, upper_number}
+use Rattle.rv_select.specs.Numbers.{upper_if, upper_of}
 use Rattle.rv_select.specs.Numbers.{short_constant, half, half_added, in_both, in_halves, is_twice, long_constant, upper_half, x7, constant}
 use Rattle.rv_select.proofs.Straight.{Loads, loads-one, loads-both, loads-past, loads-as, loaded-value}
 

@@ -1,5 +1,6 @@
 -- Words that are stored below the frame: what is passed to a call.
-use Rattle.std.proofs.Common.{◌≡◌, ◌≢◌, ℕ, zero, suc, ◌+◌, ◌-◌, ◌*◌, ◌%◌, ◌^◌, ◌<◌, ◌≤◌, Bool, true, false, List, [], ◌∷◌, ◌++◌, length, take, drop, append_assoc, Option, Some, None, refl, sym, ap, ◌∙◌, subst, ⊎_elim, inr, arith}
+use Rattle.std.proofs.Common.{◌≡◌, ◌≢◌, ℕ, zero, suc, ◌+◌, ◌-◌, ◌*◌, ◌%◌, ◌^◌, ◌<◌, ◌≤◌, Bool, true, false, List, [], ◌∷◌, ◌++◌, length}
+use Rattle.std.proofs.Common.{take, drop, append_assoc, Option, Some, None, refl, sym, ap, ◌∙◌, subst, ⊎_elim, inr, arith}
 use Rattle.std.specs.Prelude.{if◌then◌else◌, nat_le, slice_get}
 use Rattle.std.proofs.lemmas.Bool.{cases_lt, le-leb, lt-leb}
 use Rattle.std.proofs.lemmas.List.{length-append}
@@ -23,7 +24,8 @@ use Rattle.rv_operators.specs.Codes.{x5}
 use Rattle.rv_operators.specs.Runs.{Stands}
 use Rattle.rv_operators.proofs.Runs.{straight-both}
 use Rattle.rv_select.specs.Numbers.{below_zero, lower_of, upper_of}
-use Rattle.rv_select.specs.Places.{AreBytes, Holds, Housed, IsFirst, IsHeld, IsHome, Layout, World, area_offset, frame_bytes, home_of, private_word, slot_offset, value_in, word_at}
+use Rattle.rv_select.specs.Places.{AreBytes, Holds, Housed, IsFirst, IsHeld, IsHome, Layout, World, area_offset, frame_bytes, home_of}
+use Rattle.rv_select.specs.Places.{private_word, slot_offset, value_in, word_at}
 use Rattle.rv_select.specs.Shapes.{far_part, is_held, moved, taken, x2, x7, x10}
 use Rattle.rv_select.specs.Entering.{stored_below}
 use Rattle.rv_select.specs.Calls.{part_given, part_taken, passed, word_given, part_passed}
@@ -36,7 +38,8 @@ use Rattle.rv_select.proofs.Moves.{near-holds, value-small, first-small}
 use Rattle.rv_select.proofs.Jumps.{sum-of}
 use Rattle.rv_select.proofs.Kept.{store-word}
 use Rattle.rv_select.proofs.Numbers.{below-is, constant-count, constant-loads}
-use Rattle.rv_select.proofs.Straight.{Loads, behind-both, goes-both, loads-both, loads-five, loads-one, low-below, low-first, register-value}
+use Rattle.rv_select.proofs.Straight.{Loads, behind-both, goes-both, loads-both, loads-five, loads-one, low-below, low-first}
+use Rattle.rv_select.proofs.Straight.{register-value}
 use Rattle.rv_select.proofs.Ways.{Near, Way, near-same, scratch-near, stands-back, stands-front, straight-way, way-both, way-none}
 use Rattle.rv_select.proofs.Words.{low-are-bytes, overwritten-bytes}
 

@@ -1,5 +1,6 @@
 -- Code that is put behind other code, a part at a time.
-use Rattle.std.proofs.Common.{◌≡◌, ◌≢◌, ℕ, zero, suc, ◌+◌, ◌-◌, ◌*◌, List, [], ◌∷◌, ◌++◌, length, append_assoc, refl, sym, ap, subst, ◌∙◌, arith}
+use Rattle.std.proofs.Common.{◌≡◌, ◌≢◌, ℕ, zero, suc, ◌+◌, ◌-◌, ◌*◌, List, [], ◌∷◌, ◌++◌, length, append_assoc, refl, sym, ap, subst, ◌∙◌}
+use Rattle.std.proofs.Common.{arith}
 use Rattle.std.specs.Prelude.{map, Result, Ok, Err, OnOk}
 use Rattle.std.proofs.lemmas.List.{map-append}
 use Rattle.tl_base.specs.declared.place.Place.{Place}
@@ -11,7 +12,8 @@ use Rattle.rv_isa.proofs.Operands.{register_same}
 use Rattle.rv_isa.specs.Table.{word_of}
 use Rattle.rv_operators.specs.Codes.{x5}
 use Rattle.rv_select.specs.Places.{Layout}
-use Rattle.rv_select.specs.Entering.{arguments_stored, place_given, put_back, put_back_one, region_given, region_taken, saved, saved_one, stack_tested, stored_below}
+use Rattle.rv_select.specs.Entering.{arguments_stored, place_given, put_back, put_back_one, region_given, region_taken, saved, saved_one}
+use Rattle.rv_select.specs.Entering.{stack_tested, stored_below}
 use Rattle.rv_select.specs.Numbers.{constant, register_of}
 use Rattle.rv_select.specs.Shapes.{place_number, x8, x11}
 use Rattle.rv_select.proofs.Numbers.{pushed_words}

@@ -1,5 +1,6 @@
 -- Bytes of the region that go to the output.
-use Rattle.std.proofs.Common.{◌≡◌, ◌≢◌, ℕ, zero, suc, ◌+◌, ◌-◌, ◌*◌, ◌^◌, ◌<◌, ◌≤◌, true, false, not, List, [], ◌∷◌, ◌++◌, length, Option, Some, None, refl, sym, ap, ◌∙◌, subst, ⊎_elim, arith}
+use Rattle.std.proofs.Common.{◌≡◌, ◌≢◌, ℕ, zero, suc, ◌+◌, ◌-◌, ◌*◌, ◌^◌, ◌<◌, ◌≤◌, true, false, not, List, [], ◌∷◌, ◌++◌, length, Option}
+use Rattle.std.proofs.Common.{Some, None, refl, sym, ap, ◌∙◌, subst, ⊎_elim, arith}
 use Rattle.std.specs.Prelude.{if◌then◌else◌, nat_eq, nat_lt, ◌⊎◌}
 use Rattle.std.proofs.lemmas.Bool.{cases_lt, eq-eqb, le-ltb, lt-ltb, ne_eqb}
 use Rattle.std.proofs.lemmas.List.{append_assoc, length-append}
@@ -30,7 +31,8 @@ use Rattle.rv_select.proofs.Ways.{Way, at_pc, near-pc, stands-back, stands-front
 use Rattle.rv_select.proofs.Homes.{operand-count, take-operand}
 use Rattle.rv_select.proofs.Faults.{branch-way, failed-count, fails, later-ends, small-load}
 use Rattle.rv_select.proofs.Regions.{end-small, inside-true, outside-false, region-place}
-use Rattle.rv_select.proofs.Calm.{Calm, Wrote, calm-both, calm-comes, calm-holds, calm-loads, held-not, near-calm, then-wrote, way-wrote, write-act, wrote}
+use Rattle.rv_select.proofs.Calm.{Calm, Wrote, calm-both, calm-comes, calm-holds, calm-loads, held-not, near-calm, then-wrote, way-wrote}
+use Rattle.rv_select.proofs.Calm.{write-act, wrote}
 
 less : (x y : ℕ) → y ≤ x → x < 2 ^ 64 → difference x y ≡ x - y
 unfolding low difference

@@ -1,5 +1,6 @@
 -- Parameters go from their words to where they are taken.
-use Rattle.std.proofs.Common.{◌≡◌, ◌≢◌, ℕ, ◌+◌, ◌*◌, ◌^◌, ◌<◌, ◌≤◌, Bool, true, false, ◌||◌, List, [], ◌∷◌, ◌++◌, length, take, drop, append_assoc, Option, Some, None, refl, sym, ap, ◌∙◌, subst, ⊎_elim, inl, inr, arith}
+use Rattle.std.proofs.Common.{◌≡◌, ◌≢◌, ℕ, ◌+◌, ◌*◌, ◌^◌, ◌<◌, ◌≤◌, Bool, true, false, ◌||◌, List, [], ◌∷◌, ◌++◌, length, take, drop}
+use Rattle.std.proofs.Common.{append_assoc, Option, Some, None, refl, sym, ap, ◌∙◌, subst, ⊎_elim, inl, inr, arith}
 use Rattle.std.specs.Prelude.{if◌then◌else◌, nat_eq, nat_lt, slice_get, ◌⊎◌}
 use Rattle.std.specs.List.{list_all, list_any}
 use Rattle.std.proofs.lemmas.Bool.{cases_Bool, cases_eq, eq-eqb, eqb-true, ltb-false, ltb-true}
@@ -24,7 +25,8 @@ use Rattle.rv_select.specs.declared.pairs.Reads.{Reads}
 use Rattle.rv_select.specs.Asked.{asked_homes, first_word}
 use Rattle.rv_select.specs.Pairs.{reads_of}
 use Rattle.rv_select.specs.declared.settings.Extent.{Extent}
-use Rattle.rv_select.specs.Places.{HasHome, Holds, Housed, IsHome, Keeps, Layout, World, area_offset, extent_of, frame_bytes, home_of, is_given, layout_of, or_first, private_word, slot_offset, with_homes, word_at}
+use Rattle.rv_select.specs.Places.{HasHome, Holds, Housed, IsHome, Keeps, Layout, World, area_offset, extent_of, frame_bytes, home_of}
+use Rattle.rv_select.specs.Places.{is_given, layout_of, or_first, private_word, slot_offset, with_homes, word_at}
 use Rattle.rv_select.specs.Shapes.{framed, put_at, to_area}
 use Rattle.rv_select.specs.Steps.{Comes, behind, with_temp}
 use Rattle.rv_select.specs.Entering.{is_before, received, received_one, receiving, size_in, words_offset}

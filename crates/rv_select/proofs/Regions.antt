@@ -1,5 +1,6 @@
 -- Loads from the region and stores to it.
-use Rattle.std.proofs.Common.{◌≡◌, ℕ, zero, suc, ◌+◌, ◌-◌, ◌*◌, ◌^◌, ◌<◌, ◌≤◌, true, false, not, List, [], ◌∷◌, ◌++◌, length, take, drop, Option, Some, None, refl, sym, ap, ◌∙◌, subst, ⊎_elim, inl, inr, arith}
+use Rattle.std.proofs.Common.{◌≡◌, ℕ, zero, suc, ◌+◌, ◌-◌, ◌*◌, ◌^◌, ◌<◌, ◌≤◌, true, false, not, List, [], ◌∷◌, ◌++◌, length, take, drop}
+use Rattle.std.proofs.Common.{Option, Some, None, refl, sym, ap, ◌∙◌, subst, ⊎_elim, inl, inr, arith}
 use Rattle.std.specs.Prelude.{if◌then◌else◌, nat_le, nat_lt, ◌⊎◌, ◌&&◌}
 use Rattle.std.proofs.lemmas.Bool.{cases_lt, le-leb, lt-leb, le-ltb, lt-ltb}
 use Rattle.std.proofs.lemmas.List.{length-drop, length-take-le}
@@ -28,11 +29,13 @@ use Rattle.rv_operators.specs.Runs.{Stands}
 use Rattle.rv_select.specs.Places.{AreBytes, World, Holds, Housed, IsFirst, IsHeld, Layout, home_of, value_in}
 use Rattle.rv_select.specs.Numbers.{below_zero}
 use Rattle.rv_select.specs.Shapes as shapes
-use Rattle.rv_select.specs.Shapes.{bounds_tested, failed, first_taken, load_of, loaded, located, offset_of, over, put_at, reached, store_of, stored, x4}
+use Rattle.rv_select.specs.Shapes.{bounds_tested, failed, first_taken, load_of, loaded, located, offset_of, over, put_at, reached, store_of}
+use Rattle.rv_select.specs.Shapes.{stored, x4}
 use Rattle.rv_select.specs.Steps.{Comes, Ends, Follows, IsPlace, behind, with_temp}
 use Rattle.rv_select.proofs.Straight.{Loads, behind-both, loads-five, low-below, low-small, written-elsewhere, written-there}
 use Rattle.rv_select.proofs.Numbers.{below-is}
-use Rattle.rv_select.proofs.Ways.{Near, Way, at_pc, near-both, near-pc, scratch-near, stands-back, stands-front, step-way, straight-way, way-both}
+use Rattle.rv_select.proofs.Ways.{Near, Way, at_pc, near-both, near-pc, scratch-near, stands-back, stands-front, step-way, straight-way}
+use Rattle.rv_select.proofs.Ways.{way-both}
 use Rattle.rv_select.proofs.Homes.{first-count, take-first}
 use Rattle.rv_select.proofs.Words.{load-bytes, load-is, size-range, take-bytes, drop-bytes}
 use Rattle.rv_select.proofs.Claims.{Gives, RegionLoadsAreCarried}

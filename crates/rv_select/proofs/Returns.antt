@@ -1,5 +1,6 @@
 -- Returns.
-use Rattle.std.proofs.Common.{◌≡◌, ◌≢◌, ℕ, suc, ◌+◌, ◌-◌, ◌*◌, ◌%◌, ◌^◌, ◌<◌, ◌≤◌, Bool, true, false, ◌||◌, List, ◌∷◌, ◌++◌, length, take, drop, Option, Some, None, refl, sym, ap, ◌∙◌, subst, ⊎_elim, inl, inr, arith}
+use Rattle.std.proofs.Common.{◌≡◌, ◌≢◌, ℕ, suc, ◌+◌, ◌-◌, ◌*◌, ◌%◌, ◌^◌, ◌<◌, ◌≤◌, Bool, true, false, ◌||◌, List, ◌∷◌, ◌++◌, length, take}
+use Rattle.std.proofs.Common.{drop, Option, Some, None, refl, sym, ap, ◌∙◌, subst, ⊎_elim, inl, inr, arith}
 use Rattle.std.specs.Prelude.{if◌then◌else◌, nat_eq, ◌⊎◌}
 use Rattle.std.proofs.lemmas.List.{length-append}
 use Rattle.rv_isa.specs.declared.instr.Instr.{Instr}
@@ -17,7 +18,8 @@ use Rattle.rv_machine.specs.Machine.{State, GoesOn, act, at_with}
 use Rattle.rv_operators.specs.Codes.{x5}
 use Rattle.rv_operators.specs.Runs.{Stands}
 use Rattle.rv_select.specs.Numbers.{below_zero}
-use Rattle.rv_select.specs.Places.{AreBytes, Holds, Housed, IsHeld, Layout, World, area_offset, frame_bytes, home_of, layout_of, link_in, private_word, uses}
+use Rattle.rv_select.specs.Places.{AreBytes, Holds, Housed, IsHeld, Layout, World, area_offset, frame_bytes, home_of, layout_of, link_in}
+use Rattle.rv_select.specs.Places.{private_word, uses}
 use Rattle.rv_select.specs.Shapes.{moved, x10}
 use Rattle.rv_select.specs.Entering.{kept_offset, left, x28}
 use Rattle.rv_select.specs.declared.settings.Setting.{Setting}

@@ -1,5 +1,6 @@
 -- Where the machine stands in a program of several functions.
-use Rattle.std.proofs.Common.{◌≡◌, ℕ, zero, suc, ◌+◌, ◌-◌, ◌*◌, ◌%◌, ◌^◌, ◌<◌, ◌≤◌, Bool, true, false, ◌&&◌, List, [], ◌∷◌, ◌++◌, drop, length, Option, Some, None, refl, sym, ap, ◌∙◌, subst, arith}
+use Rattle.std.proofs.Common.{◌≡◌, ℕ, zero, suc, ◌+◌, ◌-◌, ◌*◌, ◌%◌, ◌^◌, ◌<◌, ◌≤◌, Bool, true, false, ◌&&◌, List, [], ◌∷◌, ◌++◌, drop}
+use Rattle.std.proofs.Common.{length, Option, Some, None, refl, sym, ap, ◌∙◌, subst, arith}
 use Rattle.std.specs.Prelude.{nat_lt, slice_get}
 use Rattle.std.specs.List.{list_all}
 use Rattle.std.proofs.lemmas.Bool.{ltb-true}
@@ -20,9 +21,11 @@ use Rattle.rv_select.specs.Pairs.{but_pair, pair_of, plain_of, reads_of}
 use Rattle.rv_select.specs.Places.{Layout, frame_bytes, is_near, is_short, layout_of}
 use Rattle.rv_select.specs.Shapes.{start_of}
 use Rattle.rv_select.specs.Entering.{left}
-use Rattle.rv_select.specs.Calls.{block_starts, blocks_length, end_code, head_code, held_behind, instruction_code, instructions_code, last_address}
+use Rattle.rv_select.specs.Calls.{block_starts, blocks_length, end_code, head_code, held_behind, instruction_code, instructions_code}
+use Rattle.rv_select.specs.Calls.{last_address}
 use Rattle.rv_select.specs.Waiting.{Image, IsPlaced, Placed, entries_of, held_at, held_in, instruction_at, place_in, plain_in}
-use Rattle.rv_select.proofs.Finds.{Found, FoundBlock, FoundFunction, find-block, find-exit, find-function, find-instruction, held-last, instruction-aligned, starts-last, starts-least, starts-next}
+use Rattle.rv_select.proofs.Finds.{Found, FoundBlock, FoundFunction, find-block, find-exit, find-function, find-instruction, held-last}
+use Rattle.rv_select.proofs.Finds.{instruction-aligned, starts-last, starts-least, starts-next}
 
 pub both-true : (a b : Bool) → (a && b) ≡ true → (a ≡ true) × (b ≡ true)
 both-true true b e = (refl, e)

@@ -1,5 +1,6 @@
 -- Stores to the region.
-use Rattle.std.proofs.Common.{◌≡◌, ℕ, ◌+◌, ◌-◌, ◌*◌, ◌/◌, ◌%◌, ◌^◌, ◌<◌, ◌≤◌, List, [], ◌∷◌, ◌++◌, length, Option, Some, None, refl, sym, ap, ◌∙◌, subst, ⊎_elim, arith}
+use Rattle.std.proofs.Common.{◌≡◌, ℕ, ◌+◌, ◌-◌, ◌*◌, ◌/◌, ◌%◌, ◌^◌, ◌<◌, ◌≤◌, List, [], ◌∷◌, ◌++◌, length, Option, Some, None, refl, sym}
+use Rattle.std.proofs.Common.{ap, ◌∙◌, subst, ⊎_elim, arith}
 use Rattle.std.specs.Prelude.{if◌then◌else◌, ◌⊎◌}
 use Rattle.tl_base.specs.declared.place.Place.{Place}
 use Rattle.rv_isa.specs.declared.instr.Instr.{Instr}
@@ -33,7 +34,8 @@ use Rattle.rv_select.proofs.Homes.{operand-count, take-operand}
 use Rattle.rv_select.proofs.Words.{low-are-bytes, overwritten-bytes, size-range, store-bytes}
 use Rattle.rv_select.proofs.Claims.{RegionStoresAreCarried, with_region}
 use Rattle.rv_select.proofs.Moves.{first-small, near-holds, near-keeps, value-small}
-use Rattle.rv_select.proofs.Regions.{Reached, end-small, frame-reached, inside-true, insides, low-enough, outside-false, region-place, weaker, weaker-ends, word-inside, word-outside}
+use Rattle.rv_select.proofs.Regions.{Reached, end-small, frame-reached, inside-true, insides, low-enough, outside-false, region-place}
+use Rattle.rv_select.proofs.Regions.{weaker, weaker-ends, word-inside, word-outside}
 
 -- the region after a store
 abbrev pub stored-region : Contents → ℕ → List ℕ → Contents

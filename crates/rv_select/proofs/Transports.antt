@@ -1,5 +1,6 @@
 -- Moves of bytes from one spot to another.
-use Rattle.std.proofs.Common.{◌≡◌, ◌≢◌, ℕ, zero, suc, ◌+◌, ◌-◌, ◌*◌, ◌/◌, ◌%◌, ◌^◌, ◌<◌, ◌≤◌, Bool, true, false, List, [], ◌∷◌, ◌++◌, length, take, drop, Option, Some, None, refl, sym, ap, ◌∙◌, subst, ⊎_elim, inl, inr, arith}
+use Rattle.std.proofs.Common.{◌≡◌, ◌≢◌, ℕ, zero, suc, ◌+◌, ◌-◌, ◌*◌, ◌/◌, ◌%◌, ◌^◌, ◌<◌, ◌≤◌, Bool, true, false, List, [], ◌∷◌, ◌++◌}
+use Rattle.std.proofs.Common.{length, take, drop, Option, Some, None, refl, sym, ap, ◌∙◌, subst, ⊎_elim, inl, inr, arith}
 use Rattle.std.specs.Prelude.{if◌then◌else◌, nat_eq, ◌⊎◌}
 use Rattle.std.proofs.lemmas.Bool.{cases_lt, ne_eqb}
 use Rattle.std.proofs.lemmas.List.{length-append, length-drop, length-take-le}
@@ -29,7 +30,8 @@ use Rattle.rv_operators.specs.Codes.{x0, x5, x6}
 use Rattle.rv_operators.specs.Runs.{Stands}
 use Rattle.rv_operators.proofs.Runs.{straight-both}
 use Rattle.rv_select.specs.Places.{AreBytes, Layout, World, Holds, Housed, IsHeld, area_offset, frame_bytes, home_of, value_in}
-use Rattle.rv_select.specs.Shapes.{all_carried, area_reached, bounds_tested, bytes_moved, carried_eights, carried_if, first_taken, from_area, located, moved, some_moved, to_area}
+use Rattle.rv_select.specs.Shapes.{all_carried, area_reached, bounds_tested, bytes_moved, carried_eights, carried_if, first_taken}
+use Rattle.rv_select.specs.Shapes.{from_area, located, moved, some_moved, to_area}
 use Rattle.rv_select.specs.Steps.{AreFewer, Comes, Ends, IsPlace, behind}
 use Rattle.rv_select.proofs.Claims.{IsReached, address_in, with_area, with_region}
 use Rattle.rv_select.proofs.Areas.{Saves, area-comes, area-near, area-room, area-written, then-saves}
@@ -37,7 +39,8 @@ use Rattle.rv_select.proofs.Frames.{framed-address, framed-count, framed-some}
 use Rattle.rv_select.proofs.Homes.{region-small}
 use Rattle.rv_select.proofs.Moves.{fewer-holds, home-keeps, keeps-both, lasts-not, near-holds, near-keeps, scratch-holds}
 use Rattle.rv_select.proofs.Parts.{none-written, part-within}
-use Rattle.rv_select.proofs.Regions.{Reached, end-small, frame-reached, inside-true, insides, low-enough, outside-false, range-is, weaker, weaker-ends, word-inside, word-outside}
+use Rattle.rv_select.proofs.Regions.{Reached, end-small, frame-reached, inside-true, insides, low-enough, outside-false, range-is, weaker}
+use Rattle.rv_select.proofs.Regions.{weaker-ends, word-inside, word-outside}
 use Rattle.rv_select.proofs.Stores.{lawful-still, put-is, stored-count, stored-region}
 use Rattle.rv_select.proofs.Straight.{Loads, Scratch, behind-both, goes-both, loads-five, loads-six, low-below, low-first}
 use Rattle.rv_select.proofs.Transfers.{Moving, Transfer, all-moved, if-some}

@@ -1,5 +1,6 @@
 -- What waits goes on waiting where the words that it rests on are the same.
-use Rattle.std.proofs.Common.{◌≡◌, ℕ, zero, suc, ◌+◌, ◌^◌, ◌<◌, ◌≤◌, Bool, true, false, List, [], ◌∷◌, length, take, drop, Option, Some, refl, sym, ap, ◌∙◌, subst, inl, inr, arith}
+use Rattle.std.proofs.Common.{◌≡◌, ℕ, zero, suc, ◌+◌, ◌^◌, ◌<◌, ◌≤◌, Bool, true, false, List, [], ◌∷◌, length, take, drop, Option, Some}
+use Rattle.std.proofs.Common.{refl, sym, ap, ◌∙◌, subst, inl, inr, arith}
 use Rattle.std.specs.Prelude.{if◌then◌else◌, nat_le, nat_eq, ◌&&◌, ◌||◌, slice_get}
 use Rattle.std.specs.List.{list_any}
 use Rattle.std.proofs.lemmas.Bool.{le-leb}
@@ -12,7 +13,8 @@ use Rattle.tac_form.specs.declared.tac.Instruction.{Instruction}
 use Rattle.tac_form.specs.declared.tac.Tac.{Tac}
 use Rattle.tac_form.specs.Flow.{Caller, Program}
 use Rattle.rv_machine.specs.Machine.{State}
-use Rattle.rv_select.specs.Places.{Housed, IsHome, Keeps, Layout, area_offset, frame_bytes, has_call, home_of, is_call, is_lasting, layout_of, link_in, makes_calls, private_word, slot_offset, uses, word_at}
+use Rattle.rv_select.specs.Places.{Housed, IsHome, Keeps, Layout, area_offset, frame_bytes, has_call, home_of, is_call, is_lasting}
+use Rattle.rv_select.specs.Places.{layout_of, link_in, makes_calls, private_word, slot_offset, uses, word_at}
 use Rattle.rv_select.specs.Entering.{kept_offset}
 use Rattle.rv_select.specs.Waiting.{Image, IsLinked, Waiting, Waits, restored}
 use Rattle.rv_select.proofs.Lives.{housed}

@@ -1,5 +1,6 @@
 -- A function's code and its frame keep within their weights.
-use Rattle.std.proofs.Common.{◌≡◌, ℕ, suc, ◌+◌, ◌*◌, ◌-◌, ◌<◌, ◌≤◌, Bool, true, false, List, [], ◌∷◌, ◌++◌, length, sum_by, Option, Some, None, refl, sym, ap, ◌∙◌, subst, arith}
+use Rattle.std.proofs.Common.{◌≡◌, ℕ, suc, ◌+◌, ◌*◌, ◌-◌, ◌<◌, ◌≤◌, Bool, true, false, List, [], ◌∷◌, ◌++◌, length, sum_by, Option, Some}
+use Rattle.std.proofs.Common.{None, refl, sym, ap, ◌∙◌, subst, arith}
 use Rattle.std.specs.Prelude.{fold, slice_get}
 use Rattle.std.specs.List.{list_all}
 use Rattle.std.proofs.lemmas.List.{length-append, length-map}
@@ -13,7 +14,8 @@ use Rattle.tac_form.specs.declared.tac.Part.TheVariants.{Word}
 use Rattle.tac_form.specs.declared.tac.Exit.{Exit}
 use Rattle.tac_form.specs.declared.tac.Exit.TheVariants.{Branch, Fail, Jump, Return}
 use Rattle.tac_form.specs.declared.tac.Instruction.{Instruction}
-use Rattle.tac_form.specs.declared.tac.Instruction.TheVariants.{Alloc, Call, CallValue, Clear, Compute, Copy, Load, Locate, Move, PutByte, Store, TestDivisor, Write}
+use Rattle.tac_form.specs.declared.tac.Instruction.TheVariants.{Alloc, Call, CallValue, Clear, Compute, Copy, Load, Locate, Move, PutByte}
+use Rattle.tac_form.specs.declared.tac.Instruction.TheVariants.{Store, TestDivisor, Write}
 use Rattle.tac_form.specs.declared.tac.Block.{Block}
 use Rattle.tac_form.specs.declared.tac.Tac.{Tac}
 use Rattle.tac_form.specs.Fits.{area_fits}
@@ -27,7 +29,9 @@ use Rattle.rv_select.specs.Asked.{asked_homes}
 use Rattle.rv_select.specs.Places.{Layout, frame_bytes, layout_of}
 use Rattle.rv_select.specs.Shapes.{held_after, start_of}
 use Rattle.rv_select.specs.Entering.{begun, entered, left, received, receiving, words_offset}
-use Rattle.rv_select.specs.Calls.{IsSelected, KeepsWithin, all_has_code, block_code, block_has_code, block_starts, blocks_code, body_code, end_code, exit_code, function_code, has_code, has_exit_code, head_code, held_behind, instruction_code, instructions_code, last_address, pair_code}
+use Rattle.rv_select.specs.Calls.{IsSelected, KeepsWithin, all_has_code, block_code, block_has_code, block_starts, blocks_code, body_code}
+use Rattle.rv_select.specs.Calls.{end_code, exit_code, function_code, has_code, has_exit_code, head_code, held_behind, instruction_code}
+use Rattle.rv_select.specs.Calls.{instructions_code, last_address, pair_code}
 use Rattle.rv_select.proofs.Granted.{asked-length}
 use Rattle.rv_select.proofs.Compares.{compares-within}
 use Rattle.rv_select.proofs.Taken.{params-least}

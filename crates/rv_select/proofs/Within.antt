@@ -1,5 +1,6 @@
 -- The code of calls, and that of entering and leaving functions, keeps within its weight.
-use Rattle.std.proofs.Common.{◌≡◌, ℕ, zero, suc, ◌+◌, ◌-◌, ◌*◌, ◌^◌, ◌≤◌, Bool, true, false, List, [], ◌∷◌, ◌++◌, length, Option, None, refl, sym, subst, arith}
+use Rattle.std.proofs.Common.{◌≡◌, ℕ, zero, suc, ◌+◌, ◌-◌, ◌*◌, ◌^◌, ◌≤◌, Bool, true, false, List, [], ◌∷◌, ◌++◌, length, Option, None}
+use Rattle.std.proofs.Common.{refl, sym, subst, arith}
 use Rattle.std.specs.Prelude.{if◌then◌else◌, nat_le}
 use Rattle.std.specs.List.{list_all}
 use Rattle.std.proofs.lemmas.Bool.{le-leb, leb-true}
@@ -21,8 +22,12 @@ use Rattle.rv_operators.specs.Codes.{x0, x5, zero_immediate}
 use Rattle.rv_select.specs.Numbers.{below_zero, constant, lower_of, register_of}
 use Rattle.rv_select.specs.Places.{Layout, home_of}
 use Rattle.rv_select.specs.Shapes.{far_part, framed, limit_found, place_number, x2, x7, x8, x11}
-use Rattle.rv_select.specs.Entering.{arguments_stored, entered, frame_taken, frames_given, left, link_put_back, link_saved, region_given, region_taken, stack_tested, x1, most_arguments, place_given, pointer_down, pointer_up, put_back, received, received_one, is_received, receiving, result_put, result_words, saved, size_in, stack_branch, stored_below}
-use Rattle.rv_select.specs.Calls.{call_begun, call_ended, called, call_jump, depth_tested, jump_unless_last, one_more, part_given, part_taken, passed, part_passed}
+use Rattle.rv_select.specs.Entering.{arguments_stored, entered, frame_taken, frames_given, left, link_put_back, link_saved, region_given}
+use Rattle.rv_select.specs.Entering.{region_taken, stack_tested, x1, most_arguments, place_given, pointer_down, pointer_up, put_back}
+use Rattle.rv_select.specs.Entering.{received, received_one, is_received, receiving, result_put, result_words, saved, size_in, stack_branch}
+use Rattle.rv_select.specs.Entering.{stored_below}
+use Rattle.rv_select.specs.Calls.{call_begun, call_ended, called, call_jump, depth_tested, jump_unless_last, one_more, part_given}
+use Rattle.rv_select.specs.Calls.{part_taken, passed, part_passed}
 use Rattle.rv_select.specs.Frames.{CallsKeepWithin, FramesKeepWithin, ParametersKeepWithin}
 use Rattle.rv_select.proofs.Copies.{size-small}
 use Rattle.rv_select.proofs.Enters.{one-if, saved-count}

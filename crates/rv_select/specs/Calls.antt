@@ -1,5 +1,6 @@
 -- Calls and returns, and the code of a whole function.
-use Rattle.std.specs.Prelude.{◌≡◌, ℕ, ◌+◌, ◌*◌, ◌≤◌, IsTrue, Bool, ◌&&◌, true, if◌then◌else◌, List, [], ◌∷◌, ◌++◌, length, map, Option, Some, None}
+use Rattle.std.specs.Prelude.{◌≡◌, ℕ, ◌+◌, ◌*◌, ◌≤◌, IsTrue, Bool, ◌&&◌, true, if◌then◌else◌, List, [], ◌∷◌, ◌++◌, length, map, Option}
+use Rattle.std.specs.Prelude.{Some, None}
 use Rattle.std.specs.List.{list_all}
 use Rattle.tl_base.specs.declared.place.Place.{Place}
 use Rattle.tl_base.specs.declared.ids.FnId.{FnId}
@@ -35,7 +36,8 @@ use Rattle.rv_select.specs.Compared.{compared_shape}
 use Rattle.rv_select.specs.Pairs.{pair_of, plain_of}
 use Rattle.rv_select.specs.Numbers.{below_zero, constant, immediate_of, lower_of, upper_of}
 use Rattle.rv_select.specs.Places.{Layout, frame_bytes, layout_of}
-use Rattle.rv_select.specs.Shapes.{area_reached, distance, exit_shape, fault_call, has_exit_shape, has_shape, held_after, is_held, jump, moved, over, place_number, shape_of, small, start_of, taken, x10, x11, first_taken}
+use Rattle.rv_select.specs.Shapes.{area_reached, distance, exit_shape, fault_call, has_exit_shape, has_shape, held_after, is_held, jump}
+use Rattle.rv_select.specs.Shapes.{moved, over, place_number, shape_of, small, start_of, taken, x10, x11, first_taken}
 use Rattle.rv_select.specs.Entering.{begun, entered, left, received, result_put, stored_below, words_offset, x1, x28}
 
 -- The run fails at the place in x11 where 511 calls wait already. What x5 holds stays.
@@ -110,7 +112,8 @@ abbrev pub exit_code : Layout → Setting → (held : Option ℕ) → (at : ℕ)
 exit_code y setting held at starts last (Return v) = returned y setting held at last v
 exit_code y setting held at starts last e = exit_shape y setting held at starts e
 
-abbrev pub instructions_code : Layout → (sizes : List ℕ) → (places : FnId → ℕ) → (at : ℕ) → (held : Option ℕ) → List Instruction → List Instr
+abbrev pub instructions_code : Layout → (sizes : List ℕ) → (places : FnId → ℕ) → (at : ℕ) → (held : Option ℕ) → List Instruction →
+    List Instr
 instructions_code y sizes places at held [] = []
 instructions_code y sizes places at held (i ∷ is) =
     instruction_code y sizes places at held i
@@ -183,7 +186,8 @@ last_address y code at = at + 4 * (length (head_code y code) + blocks_length y c
 -- The code of a function that stands at an address, by the addresses at which functions are entered.
 abbrev pub body_code : Layout → Tac → (places : FnId → ℕ) → (at : ℕ) → List Instr
 body_code y code places at =
-    blocks_code y code.areas places (start_of (block_starts y code at)) (last_address y code at) (at + 4 * length (head_code y code)) code.blocks
+    blocks_code y code.areas places (start_of (block_starts y code at)) (last_address y code at) (at + 4 * length (head_code y code))
+    code.blocks
 
 abbrev pub function_code : Layout → Tac → (places : FnId → ℕ) → (at : ℕ) → List Instr
 function_code y code places at = head_code y code ++ (body_code y code places at ++ left y (frame_bytes y) code.frame)

@@ -1,5 +1,6 @@
 -- A comparison at a block's end and the branch on its result, as one branch of the machine.
-use Rattle.std.specs.Prelude.{◌≡◌, ℕ, suc, ◌+◌, ◌*◌, ◌%◌, ◌^◌, ◌<◌, ◌≤◌, Bool, true, false, if◌then◌else◌, IsTrue, List, [], ◌++◌, length, Option, Some, None, slice_get}
+use Rattle.std.specs.Prelude.{◌≡◌, ℕ, suc, ◌+◌, ◌*◌, ◌%◌, ◌^◌, ◌<◌, ◌≤◌, Bool, true, false, if◌then◌else◌, IsTrue, List, [], ◌++◌, length}
+use Rattle.std.specs.Prelude.{Option, Some, None, slice_get}
 use Rattle.rv_isa.specs.declared.instr.Instr.{Instr}
 use Rattle.rv_isa.specs.declared.operation.BranchCondition.{BranchCondition}
 use Rattle.rv_isa.specs.declared.operation.BranchCondition.TheVariants.{Eq, Ne, Lt, Ltu, Ge, Geu}
@@ -98,7 +99,8 @@ compared_shape y setting held at starts op form a b e f =
 
 -- Where a function's code stands at the last instruction of a block, a comparison, whose result the block's branch tests and nothing
 -- reads after that: its temporary is live at the begin of neither block. So no home gets it. Behind this code stands the next block.
-pub record StandsAtCompare (p : Program) (code : Tac) (homes : List (Option Home)) (held : Option ℕ) (d : ℕ) (op : BinaryOperator) (form : Number) (a b : Operand) (e f : Edge)
+pub record StandsAtCompare (p : Program) (code : Tac) (homes : List (Option Home)) (held : Option ℕ) (d : ℕ) (op : BinaryOperator)
+    (form : Number) (a b : Operand) (e f : Edge)
     (starts : ℕ → ℕ) (s : tac.State) (program : List (Option Instr)) (base : ℕ) (m : State) : Type 0 where
   pub block : Block
   pub function : p.code s.here.function ≡ Some code
@@ -132,7 +134,8 @@ ComparesAreCarried =
     (e f : Edge)
     (starts : ℕ → ℕ) (s : tac.State) (program : List (Option Instr)) (base : ℕ) (m : State) →
     StandsAtCompare p code homes held d op form a b e f starts s program base m →
-    Left (layout_of code homes) (graph_of code) program base (words_of (Compute d op form a b) + exit_words (Branch (Temp d) e f)) starts s m (steps p 2 (Goes s))
+    Left (layout_of code homes) (graph_of code) program base (words_of (Compute d op form a b) + exit_words (Branch (Temp d) e f)) starts s
+    m (steps p 2 (Goes s))
 
 -- It has at most 21 words, fewer than the two weigh, and as many wherever it and the blocks stand.
 abbrev pub ComparesKeepWithin : Type 0
@@ -140,5 +143,7 @@ ComparesKeepWithin =
     (y : Layout) (setting : Setting) (held : Option ℕ) (d : ℕ) (op : BinaryOperator) (form : Number) (a b : Operand) (e f : Edge)
     (at other : ℕ) (starts others : ℕ → ℕ) →
     (length (compared_shape y setting held at starts op form a b e f) ≤ 21)
-    × (length (compared_shape y setting held at starts op form a b e f) < words_of (Compute d op form a b) + exit_words (Branch (Temp d) e f))
-    × (length (compared_shape y setting held at starts op form a b e f) ≡ length (compared_shape y setting held other others op form a b e f))
+    × (length (compared_shape y setting held at starts op form a b e f) < words_of (Compute d op form a b) + exit_words
+    (Branch (Temp d) e f))
+    × (length (compared_shape y setting held at starts op form a b e f)
+    ≡ length (compared_shape y setting held other others op form a b e f))

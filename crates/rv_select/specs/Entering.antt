@@ -1,5 +1,6 @@
 -- How a function is entered and left.
-use Rattle.std.specs.Prelude.{ℕ, zero, suc, ◌+◌, ◌-◌, ◌*◌, ◌^◌, slice_get, Option, Some, None, unwrap_or, Bool, true, false, nat_le, nat_lt, if◌then◌else◌, List, [], ◌∷◌, ◌++◌, length}
+use Rattle.std.specs.Prelude.{ℕ, zero, suc, ◌+◌, ◌-◌, ◌*◌, ◌^◌, slice_get, Option, Some, None, unwrap_or, Bool, true, false, nat_le, nat_lt}
+use Rattle.std.specs.Prelude.{if◌then◌else◌, List, [], ◌∷◌, ◌++◌, length}
 use Rattle.std.proofs.Common.{lit≤}
 use Rattle.tl_base.specs.declared.place.Place.{Place}
 use Rattle.rv_isa.specs.declared.instr.Instr.{Instr}
@@ -20,7 +21,8 @@ use Rattle.tac_form.specs.Weights.{kept_bytes, most_moved}
 use Rattle.rv_operators.specs.Codes.{x0, x5, zero_immediate}
 use Rattle.rv_select.specs.Numbers.{below_zero, constant, immediate_of, lower_of, register_of, short_constant}
 use Rattle.rv_select.specs.Places.{Layout, slot_offset, uses}
-use Rattle.rv_select.specs.Shapes.{far_part, fault_call, framed, limit_found, moved, over, place_number, put_at, to_area, x2, x4, x7, x8, x11}
+use Rattle.rv_select.specs.Shapes.{far_part, fault_call, framed, limit_found, moved, over, place_number, put_at, to_area, x2, x4, x7, x8}
+use Rattle.rv_select.specs.Shapes.{x11}
 
 -- the return address, and the number of calls that wait
 abbrev pub x1 : Register
@@ -113,8 +115,8 @@ abbrev pub receiving : List Destination → ℕ
 receiving [] = 0
 receiving (d ∷ ds) = 3 + result_words d + receiving ds
 
--- Whether a parameter is taken from its word: into an area, or to a home that lies before all these words. Where its temporary's home is one
--- of them the word is there already, and where it has none nothing asks for it.
+-- Whether a parameter is taken from its word: into an area, or to a home that lies before all these words. Where its temporary's home
+-- is one of them the word is there already, and where it has none nothing asks for it.
 abbrev pub is_before : (last : ℕ) → Option (Option Home) → Bool
 is_before last (Some (Some (homes.Register x))) = true
 is_before last (Some (Some (homes.Slot k))) = nat_lt (slot_offset k) last

@@ -1,5 +1,6 @@
 -- Operators of x5 and a constant that instructions hold: in twelve bits with a sign, or as the count of a shift.
-use Rattle.std.specs.Prelude.{◌≡◌, ℕ, ◌+◌, ◌-◌, ◌%◌, ◌^◌, Bool, true, false, ◌&&◌, ◌||◌, nat_eq, nat_le, nat_lt, if◌then◌else◌, List, [], ◌∷◌, ◌++◌}
+use Rattle.std.specs.Prelude.{◌≡◌, ℕ, ◌+◌, ◌-◌, ◌%◌, ◌^◌, Bool, true, false, ◌&&◌, ◌||◌, nat_eq, nat_le, nat_lt, if◌then◌else◌, List, []}
+use Rattle.std.specs.Prelude.{◌∷◌, ◌++◌}
 use Rattle.std.proofs.Common.{lit≤, subst, sym, refl}
 use lib.Dec.{T, leb→le}
 use Rattle.std.specs.Int.Count.{count_trailing_zeros}
@@ -14,7 +15,8 @@ use Rattle.rv_isa.specs.declared.operand.ShiftCount.{ShiftCount}
 use Rattle.rv_isa.specs.declared.operand.WordShiftCount.{WordShiftCount}
 use Rattle.terra_words.specs.declared.words.Width.{Width}
 use Rattle.terra_words.specs.declared.words.BinaryOperator.{BinaryOperator}
-use Rattle.terra_words.specs.declared.words.BinaryOperator.TheVariants.{Add, Subtract, Multiply, Xor, And, Or, ShiftLeft, ShiftRight, Equal, NotEqual, Less, LessEqual, Greater, GreaterEqual}
+use Rattle.terra_words.specs.declared.words.BinaryOperator.TheVariants.{Add, Subtract, Multiply, Xor, And, Or, ShiftLeft, ShiftRight, Equal}
+use Rattle.terra_words.specs.declared.words.BinaryOperator.TheVariants.{NotEqual, Less, LessEqual, Greater, GreaterEqual}
 use Rattle.rv_operators.specs.Codes.{cut, one_immediate, x0, x5}
 use Rattle.rv_select.specs.Numbers.{lower_of}
 

@@ -1,6 +1,9 @@
 -- What the code that enters and leaves functions promises.
-use Rattle.std.specs.Prelude.{◌≡◌, Bool, ◌≢◌, ℕ, IsTrue, ◌∷◌, suc, ◌+◌, ◌-◌, ◌*◌, ◌/◌, ◌%◌, ◌^◌, ◌<◌, ◌≤◌, true, List, [], length, take, drop, Option, Some, None, slice_get, if◌then◌else◌}
+use Rattle.std.specs.Prelude.{◌≡◌, Bool, ◌≢◌, ℕ, IsTrue, ◌∷◌, suc, ◌+◌, ◌-◌, ◌*◌, ◌/◌, ◌%◌, ◌^◌, ◌<◌, ◌≤◌, true, List, [], length, take}
+use Rattle.std.specs.Prelude.{drop, Option, Some, None, slice_get, if◌then◌else◌}
 use Rattle.std.specs.List.{list_all}
+use Rattle.tl_base.specs.declared.limits.TheConstants.{MAX_PRIVATE, PRIVATE_ADDRESS, REGION_ADDRESS}
+use Rattle.tl_base.specs.declared.limits.TheConstants.Limits.{MAX_MEMORY}
 use Rattle.tl_base.specs.declared.ids.FnId.{FnId}
 use Rattle.tl_base.specs.declared.place.Place.{Place}
 use Rattle.rv_isa.specs.declared.instr.Instr.{Instr}
@@ -24,7 +27,8 @@ use Rattle.tac_form.specs.declared.tac.Part.{Part}
 use Rattle.tac_form.specs.declared.tac.Part.TheVariants as parts
 use Rattle.rv_operators.specs.Runs.{Stands}
 use Rattle.rv_select.specs.declared.settings.Setting.{Setting}
-use Rattle.rv_select.specs.Places.{AreBytes, Holds, IsFirst, IsHeld, IsRead, Keeps, Layout, World, area_offset, frame_bytes, layout_of, link_in, private_word, uses, value_in}
+use Rattle.rv_select.specs.Places.{AreBytes, Holds, IsFirst, IsHeld, IsRead, Keeps, Layout, World, area_offset, frame_bytes, layout_of}
+use Rattle.rv_select.specs.Places.{link_in, private_word, uses, value_in}
 use Rattle.rv_select.specs.Shapes.{place_number}
 use Rattle.rv_select.specs.Steps.{Ends}
 use Rattle.rv_select.specs.Entering.{begun, entered, kept_offset, left, received, receiving, words_offset}
@@ -33,7 +37,7 @@ use Rattle.rv_select.specs.Calls.{call_begun, called, returned}
 -- what is passed: a word, or the address of an area
 abbrev pub part_value : Layout → (base : ℕ) → World → Part → ℕ
 part_value y base w (parts.Word a) = value_in w.temps a
-part_value y base w (parts.Area n) = 2 ^ 32 + (base + area_offset y n)
+part_value y base w (parts.Area n) = PRIVATE_ADDRESS + (base + area_offset y n)
 
 abbrev pub IsPartRead : Layout → (ℕ → Type 0) → Part → Type 0
 IsPartRead y Used (parts.Word a) = IsRead y Used a
@@ -63,7 +67,7 @@ pub record Enters (program : List (Option Instr)) (y : Layout) (base under targe
   pub few : steps ≤ 36
   pub runs : (more : ℕ) → run_of program m (steps + more) ≡ run_of program after more
   pub at : after.pc ≡ target
-  pub pointer : after.registers 2 ≡ 2 ^ 32 + base
+  pub pointer : after.registers 2 ≡ PRIVATE_ADDRESS + base
   pub placed : after.registers 8 ≡ under
   pub others : (r : ℕ) → r ≢ 2 → r ≢ 5 → r ≢ 6 → r ≢ 7 → r ≢ 8 → after.registers r ≡ m.registers r
   pub region : after.region ≡ m.region
@@ -79,16 +83,16 @@ pub record BeforeEntering (program : List (Option Instr)) (y : Layout) (bytes fr
     (m : State) : Type 0 where
   pub stands : Stands program m.pc (entered y bytes frame)
   pub pc : m.pc < 2 ^ 64
-  pub pointer : m.registers 2 ≡ 2 ^ 32 + top
-  pub limit : m.registers 4 ≡ 2 ^ 30 + size
+  pub pointer : m.registers 2 ≡ PRIVATE_ADDRESS + top
+  pub limit : m.registers 4 ≡ REGION_ADDRESS + size
   pub placed_is : m.registers 8 ≡ placed
   pub place : 0 < frame → m.registers 11 ≡ place_number at
   pub small : frame < 2 ^ 63
-  pub above : 2 ^ 30 + size - size / 4 ≤ placed
-  pub below : placed ≤ 2 ^ 30 + size
-  pub region : length m.region ≤ 67108864
-  pub region_is : size ≤ 67108864
-  pub private : length m.private ≤ 603979776
+  pub above : REGION_ADDRESS + size - size / 4 ≤ placed
+  pub below : placed ≤ REGION_ADDRESS + size
+  pub region : length m.region ≤ MAX_MEMORY
+  pub region_is : size ≤ MAX_MEMORY
+  pub private : length m.private ≤ MAX_PRIVATE
   pub within : top ≤ length m.private
   pub least : 88 ≤ bytes
   pub room : bytes ≤ top
@@ -99,8 +103,8 @@ abbrev pub FunctionsAreEntered : Type 0
 FunctionsAreEntered =
     (program : List (Option Instr)) (y : Layout) (bytes frame top placed size : ℕ) (at : Place) (m : State) →
     BeforeEntering program y bytes frame top placed size at m →
-    (placed < 2 ^ 30 + size - size / 4 + frame → Ends program StackFull at 36 m) ×
-    (2 ^ 30 + size - size / 4 + frame ≤ placed →
+    (placed < REGION_ADDRESS + size - size / 4 + frame → Ends program StackFull at 36 m) ×
+    (REGION_ADDRESS + size - size / 4 + frame ≤ placed →
     Enters program y (top - bytes) (placed - frame) (low (m.pc + 4 * length (entered y bytes frame))) m)
 
 -- A call has come to its jump: the words of all that it passes lie below the frame, the first uppermost, one more call waits, and
@@ -144,7 +148,7 @@ pub record Returns (program : List (Option Instr)) (y : Layout) (base over link 
   pub runs : (more : ℕ) → run_of program m (steps + more) ≡ run_of program after more
   pub at : after.pc ≡ link
   pub result : after.registers 10 ≡ v
-  pub pointer : after.registers 2 ≡ 2 ^ 32 + (base + frame_bytes y)
+  pub pointer : after.registers 2 ≡ PRIVATE_ADDRESS + (base + frame_bytes y)
   pub placed : after.registers 8 ≡ over
   pub heap : after.registers 3 ≡ m.registers 3
   pub limit : after.registers 4 ≡ m.registers 4
@@ -177,7 +181,7 @@ seen a region depth =
 -- Bytes lie in private memory at an address, which is that of an offset or of one above it.
 pub record LiesAt (m : State) (least : ℕ) (bs : List ℕ) (address : ℕ) : Type 0 where
   pub offset : ℕ
-  pub address_is : address ≡ 2 ^ 32 + offset
+  pub address_is : address ≡ PRIVATE_ADDRESS + offset
   pub high : least ≤ offset
   pub within : offset + length bs ≤ length m.private
   pub bytes_are : take (length bs) (drop offset m.private) ≡ bs

@@ -1,6 +1,7 @@
 -- Which comparisons have one code with the branch on their result: those that are the last instruction of a block, and whose result the
 -- block's branch reads and nothing else in the function.
-use Rattle.std.specs.Prelude.{ℕ, ◌-◌, Bool, true, false, ◌&&◌, if◌then◌else◌, nat_eq, List, [], ◌∷◌, length, take, replicate, Option, Some, None, slice_get, slice_set, slice_index_or}
+use Rattle.std.specs.Prelude.{ℕ, ◌-◌, Bool, true, false, ◌&&◌, if◌then◌else◌, nat_eq, List, [], ◌∷◌, length, take, replicate, Option, Some}
+use Rattle.std.specs.Prelude.{None, slice_get, slice_set, slice_index_or}
 use Rattle.tac_form.specs.declared.tac.Operand.TheVariants.{Temp}
 use Rattle.tac_form.specs.declared.tac.Instruction.{Instruction}
 use Rattle.tac_form.specs.declared.tac.Instruction.TheVariants.{Compute}

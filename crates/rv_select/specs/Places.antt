@@ -10,8 +10,10 @@
 -- each of x18 to x27, in which a function that uses one keeps its caller's word; then the slots, a word each; then 128 bytes for each
 -- area; and at its end the words of the parameters, which the caller stores below its own frame, the first uppermost. These are
 -- slots too, of the temporaries that take them.
-use Rattle.std.specs.Prelude.{◌≡◌, ℕ, ◌+◌, ◌*◌, ◌^◌, ◌<◌, ◌≤◌, Bool, true, false, ◌&&◌, ◌||◌, nat_eq, nat_le, nat_lt, List, take, drop, length, Option, Some, None, slice_get, IsTrue, ◌⊎◌, [], ◌∷◌, if◌then◌else◌}
+use Rattle.std.specs.Prelude.{◌≡◌, ℕ, ◌+◌, ◌*◌, ◌^◌, ◌<◌, ◌≤◌, Bool, true, false, ◌&&◌, ◌||◌, nat_eq, nat_le, nat_lt, List, take, drop}
+use Rattle.std.specs.Prelude.{length, Option, Some, None, slice_get, IsTrue, ◌⊎◌, [], ◌∷◌, if◌then◌else◌}
 use Rattle.std.specs.List.{list_any}
+use Rattle.tl_base.specs.declared.limits.TheConstants.{MAX_PRIVATE, PRIVATE_ADDRESS}
 use Rattle.reg_alloc.specs.declared.assignment.Home.{Home}
 use Rattle.reg_alloc.specs.declared.assignment.Home.TheVariants.{Register, Slot}
 use Rattle.terra_memory.specs.Numbers.{number_of}
@@ -159,9 +161,9 @@ AreBytes (b ∷ bs) = (b < 256) × AreBytes bs
 
 -- The frame lies in private memory, and x2 is its address. Private memory is of a size that an image may ask for.
 pub record HasFrame (y : Layout) (base : ℕ) (m : State) : Type 0 where
-  pub pointer : m.registers 2 ≡ 2 ^ 32 + base
+  pub pointer : m.registers 2 ≡ PRIVATE_ADDRESS + base
   pub within : base + frame_bytes y ≤ length m.private
-  pub private : length m.private ≤ 603979776
+  pub private : length m.private ≤ MAX_PRIVATE
   pub bytes : AreBytes m.private
 
 -- What three-address code sees: the temporaries and areas of an activation, the region, the address of the activation's frame

@@ -1,10 +1,13 @@
 -- Which instructions carry out those of three-address code that stay within a function.
-use Rattle.std.specs.Prelude.{◌≡◌, ℕ, suc, zero, ◌+◌, ◌-◌, ◌*◌, ◌/◌, ◌%◌, ◌^◌, pos, negsuc, Bool, true, false, ◌&&◌, nat_eq, nat_le, if◌then◌else◌, List, [], ◌∷◌, ◌++◌, length, Option, Some, None, slice_get, unwrap_or}
+use Rattle.std.specs.Prelude.{◌≡◌, ℕ, suc, zero, ◌+◌, ◌-◌, ◌*◌, ◌/◌, ◌%◌, ◌^◌, pos, negsuc, Bool, true, false, ◌&&◌, nat_eq, nat_le}
+use Rattle.std.specs.Prelude.{if◌then◌else◌, List, [], ◌∷◌, ◌++◌, length, Option, Some, None, slice_get, unwrap_or}
 use Rattle.std.proofs.Common.{lit≤, subst, sym, refl, eqb→eq}
+use Rattle.tl_base.specs.declared.limits.TheConstants.{REGION_ADDRESS}
 use lib.Dec.{T}
 use Rattle.tl_base.specs.declared.place.Place.{Place}
 use Rattle.rv_isa.specs.declared.instr.Instr.{Instr}
-use Rattle.rv_isa.specs.declared.instr.Instr.TheVariants.{Lui, Auipc, Jal, Jalr, Branch, Load, Store, RegisterImmediate, Shift, RegisterRegister, Ecall}
+use Rattle.rv_isa.specs.declared.instr.Instr.TheVariants.{Lui, Auipc, Jal, Jalr, Branch, Load, Store, RegisterImmediate, Shift}
+use Rattle.rv_isa.specs.declared.instr.Instr.TheVariants.{RegisterRegister, Ecall}
 use Rattle.rv_isa.specs.declared.operation.BranchCondition.{BranchCondition}
 use Rattle.rv_isa.specs.declared.operation.BranchCondition.TheVariants.{Eq, Ne, Lt, Ge, Ltu, Geu}
 use Rattle.rv_isa.specs.declared.operation.ImmediateOp.TheVariants.{Addi}
@@ -199,7 +202,7 @@ located offset =
 -- The run fails unless so many bytes, at most 128, from the address in x5 on lie in the region: it begins at 0x40000000, and
 -- x4 has its end. A branch passes the second test where the address is too low already.
 abbrev pub first_address : Instr
-first_address = Lui x6 (upper_of 0x40000000)
+first_address = Lui x6 (upper_of REGION_ADDRESS)
 
 abbrev pub bounds_tested : Place → ℕ → List Instr
 bounds_tested at size =
@@ -324,7 +327,7 @@ byte_put y held a = byte_taken y held a ++ byte_written
 -- Bytes of the region are written. No bytes lie anywhere, and a count below zero is larger than every region.
 abbrev pub range_tested : Place → List Instr
 range_tested at =
-    Lui x7 (upper_of 0x40000000)
+    Lui x7 (upper_of REGION_ADDRESS)
     ∷ Branch Ltu x11 x7 (offset_of 16)
     ∷ Branch Ltu x4 x11 (offset_of 12)
     ∷ RegisterRegister Sub x7 x4 x11
@@ -350,7 +353,7 @@ two = record { count = 2; in_range = lit≤ tt }
 
 abbrev pub limit_found : List Instr
 limit_found =
-    Lui x7 (upper_of 0x40000000)
+    Lui x7 (upper_of REGION_ADDRESS)
     ∷ RegisterRegister Sub x7 x4 x7
     ∷ Shift Srli x7 x7 two
     ∷ RegisterRegister Sub x7 x4 x7

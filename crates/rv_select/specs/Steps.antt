@@ -1,6 +1,7 @@
 -- What the code of an instruction promises: one step of three-address code is at least one and at most its weight of the
 -- machine's steps, and the machine holds afterwards what three-address code sees then.
-use Rattle.std.specs.Prelude.{◌≡◌, Bool, ℕ, ◌+◌, ◌*◌, ◌^◌, ◌<◌, ◌≤◌, ◌%◌, List, [], ◌++◌, length, Option, Some, None, slice_get, IsTrue, ◌⊎◌}
+use Rattle.std.specs.Prelude.{◌≡◌, Bool, ℕ, ◌+◌, ◌*◌, ◌^◌, ◌<◌, ◌≤◌, ◌%◌, List, [], ◌++◌, length, Option, Some, None, slice_get, IsTrue}
+use Rattle.std.specs.Prelude.{◌⊎◌}
 use Rattle.std.specs.List.{list_all}
 use Rattle.tl_base.specs.declared.place.Place.{Place}
 use Rattle.rv_isa.specs.declared.instr.Instr.{Instr}
@@ -44,7 +45,8 @@ behind m code = low (m.pc + 4 * length code)
 
 -- The machine writes these bytes and comes, in at least one and at most so many steps, whatever it does then, to this address, where
 -- it holds this.
-pub record Comes (y : Layout) (program : List (Option Instr)) (Next : ℕ → Type 0) (w : World) (base weight target : ℕ) (out : List ℕ) (m : State) : Type 0 where
+pub record Comes (y : Layout) (program : List (Option Instr)) (Next : ℕ → Type 0) (w : World) (base weight target : ℕ) (out : List ℕ)
+    (m : State) : Type 0 where
   pub steps : ℕ
   pub after : State
   pub some : 1 ≤ steps
@@ -82,10 +84,12 @@ world_of s = record {
 -- The machine does from a state what three-address code does in a step from another, on the code of one instruction. Where the step
 -- goes on, it comes behind this code to a state that holds what three-address code sees then, in x5 too, and writes what it writes; where
 -- the step ends the run by a fault, it ends the run by the same. Of code that is stuck nothing is promised.
-abbrev pub Carried : Layout → List FlowBlock → List (Option Instr) → (base weight : ℕ) → (held : Option ℕ) → List Instr → tac.State → State → tac.Moved → Type 0
+abbrev pub Carried : Layout → List FlowBlock → List (Option Instr) → (base weight : ℕ) → (held : Option ℕ) → List Instr → tac.State →
+    State → tac.Moved → Type 0
 Carried y graph program base weight held code s m (Goes t) =
     (out : List ℕ) × (t.out ≡ s.out ++ out) ×
-    (c : Comes y program (InUse graph t.here.block t.here.at) (world_of t) base weight (behind m code) out m) × IsHeld held t.here.temps c.after
+    (c : Comes y program (InUse graph t.here.block t.here.at) (world_of t) base weight (behind m code) out m)
+    × IsHeld held t.here.temps c.after
 Carried y graph program base weight held code s m (Stops (Over (Fault kind at) out)) = (out ≡ s.out) × Ends program kind at weight m
 Carried y graph program base weight held code s m (Stops (Over (Returned v) out)) = ⊥
 Carried y graph program base weight held code s m (Stops (Over Stuck out)) = Unit {0}
@@ -94,7 +98,8 @@ Carried y graph program base weight held code s m (Stops (More out)) = ⊥
 -- Where a function's code stands at one of its instructions: its three-address code is right for machine code, its temporaries have
 -- right homes, those have one that the instruction's code asks for, and the machine stands before this code and holds what three-address
 -- code sees, in x5 too.
-pub record StandsBefore (p : Program) (code : Tac) (homes : List (Option Home)) (held : Option ℕ) (i : Instruction) (s : tac.State) (program : List (Option Instr)) (base : ℕ) (m : State) : Type 0 where
+pub record StandsBefore (p : Program) (code : Tac) (homes : List (Option Home)) (held : Option ℕ) (i : Instruction) (s : tac.State)
+    (program : List (Option Instr)) (base : ℕ) (m : State) : Type 0 where
   pub block : Block
   pub function : p.code s.here.function ≡ Some code
   pub in_function : slice_get code.blocks s.here.block ≡ Some block
@@ -111,9 +116,11 @@ pub record StandsBefore (p : Program) (code : Tac) (homes : List (Option Home)) 
 -- Each instruction that has code so far is carried out by it, within its weight.
 abbrev pub InstructionsAreCarried : Type 0
 InstructionsAreCarried =
-    (p : Program) (code : Tac) (homes : List (Option Home)) (held : Option ℕ) (i : Instruction) (s : tac.State) (program : List (Option Instr)) (base : ℕ)
+    (p : Program) (code : Tac) (homes : List (Option Home)) (held : Option ℕ) (i : Instruction) (s : tac.State)
+    (program : List (Option Instr)) (base : ℕ)
     (m : State) → IsTrue (has_shape i) → StandsBefore p code homes held i s program base m →
-    Carried (layout_of code homes) (graph_of code) program base (words_of i) (held_after i) (shape_of (layout_of code homes) held i) s m (step p s)
+    Carried (layout_of code homes) (graph_of code) program base (words_of i) (held_after i) (shape_of (layout_of code homes) held i) s m
+    (step p s)
 
 -- The code of an instruction has at most as many words as its weight.
 abbrev pub ShapesKeepWithin : Type 0
@@ -127,7 +134,8 @@ pub record Remains (y : Layout) (Next : ℕ → Type 0) (w : World) (base target
 -- The machine does from a state what an exit does that stays in its function: it comes to the address of the block at which
 -- three-address code stands then, or stands there already, where that takes no count. Where three-address code needs one more count,
 -- nothing is promised.
-abbrev pub Left : Layout → List FlowBlock → List (Option Instr) → (base weight : ℕ) → (starts : ℕ → ℕ) → tac.State → State → tac.Moved → Type 0
+abbrev pub Left : Layout → List FlowBlock → List (Option Instr) → (base weight : ℕ) → (starts : ℕ → ℕ) → tac.State → State → tac.Moved →
+    Type 0
 Left y graph program base weight starts s m (Goes t) =
     (t.out ≡ s.out) ×
     (Comes y program (InUse graph t.here.block t.here.at) (world_of t) base weight (starts t.here.block) [] m
@@ -143,7 +151,8 @@ IsReached code starts from =
     (b : ℕ) → b < length code.blocks → (from ≤ starts b + 4 * code_words code) × (starts b ≤ from + 4 * code_words code)
 
 -- Where a function's code stands at a block's exit. Code and blocks stand at addresses below 2 ^ 30, and behind this code the next block.
-pub record StandsAtExit (p : Program) (code : Tac) (homes : List (Option Home)) (held : Option ℕ) (exit : Exit) (starts : ℕ → ℕ) (s : tac.State) (program : List (Option Instr)) (base : ℕ) (m : State) : Type 0 where
+pub record StandsAtExit (p : Program) (code : Tac) (homes : List (Option Home)) (held : Option ℕ) (exit : Exit) (starts : ℕ → ℕ)
+    (s : tac.State) (program : List (Option Instr)) (base : ℕ) (m : State) : Type 0 where
   pub block : Block
   pub function : p.code s.here.function ≡ Some code
   pub in_function : slice_get code.blocks s.here.block ≡ Some block
@@ -167,7 +176,8 @@ pub record StandsAtExit (p : Program) (code : Tac) (homes : List (Option Home)) 
 -- Each exit that has code so far is carried out by it, within its weight.
 abbrev pub ExitsAreCarried : Type 0
 ExitsAreCarried =
-    (p : Program) (code : Tac) (homes : List (Option Home)) (held : Option ℕ) (exit : Exit) (starts : ℕ → ℕ) (s : tac.State) (program : List (Option Instr))
+    (p : Program) (code : Tac) (homes : List (Option Home)) (held : Option ℕ) (exit : Exit) (starts : ℕ → ℕ) (s : tac.State)
+    (program : List (Option Instr))
     (base : ℕ) (m : State) → IsTrue (has_exit_shape exit) → StandsAtExit p code homes held exit starts s program base m →
     Left (layout_of code homes) (graph_of code) program base (exit_words exit) starts s m (step p s)
 

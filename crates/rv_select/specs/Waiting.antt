@@ -1,5 +1,7 @@
 -- A program of several functions in the machine, and what the machine holds for the calls that wait.
-use Rattle.std.specs.Prelude.{◌≡◌, ◌≢◌, ℕ, zero, suc, ◌+◌, ◌*◌, ◌%◌, ◌^◌, ◌<◌, ◌≤◌, if◌then◌else◌, List, [], ◌∷◌, ◌++◌, length, take, drop, Option, Some, None, slice_get, IsTrue}
+use Rattle.std.specs.Prelude.{◌≡◌, ◌≢◌, ℕ, zero, suc, ◌+◌, ◌*◌, ◌%◌, ◌^◌, ◌<◌, ◌≤◌, if◌then◌else◌, List, [], ◌∷◌, ◌++◌, length, take, drop}
+use Rattle.std.specs.Prelude.{Option, Some, None, slice_get, IsTrue}
+use Rattle.tl_base.specs.declared.limits.TheConstants.{REGION_ADDRESS}
 use Rattle.tl_base.specs.declared.ids.FnId.{FnId}
 use Rattle.tl_base.specs.declared.place.Place.{Place}
 use Rattle.rv_isa.specs.declared.instr.Instr.{Instr}
@@ -22,7 +24,8 @@ use Rattle.tac_form.specs.Live.{InUse}
 use Rattle.tac_form.specs.Fits.{Counted, Fits}
 use Rattle.tac_form.specs.Weights.{most_moved}
 use Rattle.rv_operators.specs.Runs.{Stands}
-use Rattle.rv_select.specs.Places.{AreBytes, HasHome, Holds, IsHeld, Keeps, Layout, area_offset, frame_bytes, home_of, layout_of, link_in, private_word, uses, word_at}
+use Rattle.rv_select.specs.Places.{AreBytes, HasHome, Holds, IsHeld, Keeps, Layout, area_offset, frame_bytes, home_of, layout_of, link_in}
+use Rattle.rv_select.specs.Places.{private_word, uses, word_at}
 use Rattle.rv_select.specs.declared.pairs.Reads.{Reads}
 use Rattle.rv_select.specs.Pairs.{plain_of, reads_of}
 use Rattle.rv_select.specs.Shapes.{held_after, start_of}
@@ -124,7 +127,8 @@ pub record Waiting (p : Program) (image : Image) (most : ℕ) (c : Caller) (dept
   pub returns : link ≡ place_in p image code (image c.waits.function) c.waits.block before
       + 4 * length (call_begun (layout_of code (image c.waits.function).homes) (held_in code c.waits.block before) place arguments) + 8
   pub values : (t : ℕ) → InUse (graph_of code) c.waits.block c.waits.at t → destination_write c.to ≢ Some t →
-      HasHome (layout_of code (image c.waits.function).homes) t → word_at base m (home_of (layout_of code (image c.waits.function).homes) t) ≡ c.waits.temps t
+      HasHome (layout_of code (image c.waits.function).homes) t → word_at base m (home_of (layout_of code (image c.waits.function).homes) t)
+      ≡ c.waits.temps t
   pub words : (t : ℕ) → InUse (graph_of code) c.waits.block c.waits.at t → destination_write c.to ≢ Some t → c.waits.temps t < 2 ^ 64
   pub areas : (n : ℕ) → n < length code.areas →
       take (length (c.waits.areas n)) (drop (base + area_offset (layout_of code (image c.waits.function).homes) n) m.private) ≡
@@ -138,7 +142,7 @@ pub record Waiting (p : Program) (image : Image) (most : ℕ) (c : Caller) (dept
 -- return address, under the ends of private memory and of the region, which has so many bytes.
 abbrev pub Waits : Program → Image → (most size : ℕ) → List Caller → (link base placed : ℕ) → State → Type 0
 Waits p image most size [] link base placed m =
-    (link ≡ 0) × (base ≡ length m.private) × (placed ≡ 2 ^ 30 + size)
+    (link ≡ 0) × (base ≡ length m.private) × (placed ≡ REGION_ADDRESS + size)
 Waits p image most size (c ∷ cs) link base placed m =
     (w : Waiting p image most c (length cs) link base placed m) ×
     Waits p image most size cs (private_word m base) (base + frame_bytes (layout_of w.code (image c.waits.function).homes))
@@ -159,7 +163,8 @@ pub record StandsIn (p : Program) (image : Image) (program : List (Option Instr)
   pub frame : s.here.base + code.frame ≤ end_address s.region
   pub region : length s.region.bytes ≡ size
   pub room : HasRoom most (length s.callers) base
-  pub waits : Waits p image most size s.callers (link_in (layout_of code (image s.here.function).homes) base m) (base + frame_bytes (layout_of code (image s.here.function).homes))
+  pub waits : Waits p image most size s.callers (link_in (layout_of code (image s.here.function).homes) base m)
+      (base + frame_bytes (layout_of code (image s.here.function).homes))
       (s.here.base + code.frame) (restored (layout_of code (image s.here.function).homes) base m)
 
 -- The machine comes, in at most so many steps and in at least as many as three-address code takes counts, of which it had so many left, to

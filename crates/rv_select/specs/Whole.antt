@@ -1,5 +1,7 @@
 -- Runs of a whole program in the machine, and how many steps they take.
-use Rattle.std.specs.Prelude.{◌≡◌, ◌≢◌, ℕ, suc, ◌+◌, ◌*◌, ◌^◌, ◌<◌, ◌≤◌, List, [], ◌∷◌, ◌++◌, length, drop, map, sum_by, if◌then◌else◌, nat_eq, Option, Some, None, slice_get}
+use Rattle.std.specs.Prelude.{◌≡◌, ◌≢◌, ℕ, suc, ◌+◌, ◌*◌, ◌^◌, ◌<◌, ◌≤◌, List, [], ◌∷◌, ◌++◌, length, drop, map, sum_by, if◌then◌else◌}
+use Rattle.std.specs.Prelude.{nat_eq, Option, Some, None, slice_get}
+use Rattle.tl_base.specs.declared.limits.TheConstants.{MAX_CALLS, MAX_PRIVATE, PRIVATE_ADDRESS}
 use Rattle.tl_base.specs.declared.ids.FnId.{FnId}
 use Rattle.tl_base.specs.declared.place.Place.{Place}
 use Rattle.rv_isa.specs.declared.instr.Instr.{Instr}
@@ -112,7 +114,7 @@ RunsAreCarried =
 pub record Starts (at : ℕ) (region : Contents) (arguments : List ℕ) (m : State) : Type 0 where
   pub pc : m.pc ≡ at
   pub link : m.registers 1 ≡ 0
-  pub pointer : m.registers 2 ≡ 2 ^ 32 + length m.private
+  pub pointer : m.registers 2 ≡ PRIVATE_ADDRESS + length m.private
   pub heap : m.registers 3 ≡ region.heap
   pub limit : m.registers 4 ≡ end_address region
   pub waiting : m.registers 28 ≡ 0
@@ -120,7 +122,7 @@ pub record Starts (at : ℕ) (region : Contents) (arguments : List ℕ) (m : Sta
   pub region_is : m.region ≡ region.bytes
   pub bytes : AreBytes region.bytes
   pub lawful : IsLawful region
-  pub private : length m.private ≤ 603979776
+  pub private : length m.private ≤ MAX_PRIVATE
   pub are_bytes : AreBytes m.private
 
 -- three-address code before the first function begins, with a count
@@ -140,19 +142,19 @@ EntriesAreCarried =
     (p : Program) (image : Image) (program : List (Option Instr)) (most n : ℕ) (f : FnId) (code : Tac) (arguments : List ℕ)
     (region : Contents) (m : State) →
     IsLinked p image program most → p.code f ≡ Some code → Starts (image f).at region arguments m → length arguments ≤ 8 →
-    length arguments ≡ length code.parameters → 512 * most ≤ length m.private →
+    length arguments ≡ length code.parameters → MAX_CALLS * most ≤ length m.private →
     Stepped p image program most (length region.bytes) (length (begun code) + 36 + receiving code.parameters) (before_entry f region n) m
     (enter code.place f (Some code) (map word arguments) (end_address region) [] (before_entry f region n))
 
 -- A whole run of a program, from the machine's start at the count n: it ends as that of three-address code does, with the same output, in
--- at most n + 1 times the words that a function may have. Where three-address code needs more counts than n, the machine has written the same
--- output in at least n steps, and goes on.
+-- at most n + 1 times the words that a function may have. Where three-address code needs more counts than n, the machine has written
+-- the same output in at least n steps, and goes on.
 abbrev pub ProgramsAreCarried : Type 0
 ProgramsAreCarried =
     (p : Program) (image : Image) (program : List (Option Instr)) (most words memory n : ℕ) (statics : List ℕ) (f : FnId) (code : Tac)
     (arguments : List ℕ) (m : State)
     (r : Run) → IsLinked p image program most → AreShort p words → p.code f ≡ Some code →
     Starts (image f).at (fresh memory statics) arguments m →
-    length arguments ≤ 8 → length arguments ≡ length code.parameters → 512 * most ≤ length m.private →
+    length arguments ≤ 8 → length arguments ≡ length code.parameters → MAX_CALLS * most ≤ length m.private →
     TacRun p statics memory n f (map word arguments) r →
     Ended program ((n + 1) * words) (before_entry f (fresh memory statics) n) m r

@@ -2,7 +2,9 @@
 
 ghost use Rattle.std.specs.Prelude.{◌≡◌, ◌^◌, ◌<◌, ◌++◌, IfOk, OnOk, None, length, replicate, slice_get, slice_set};
 ghost use Rattle.std.specs.List.{flat_map};
-ghost use Rattle.rv_select.specs.Asked.{address_asks, all_ask, asked_homes, asked_of, asks, block_asks, both_ask, computed_asks, end_asks, exit_asks, first_asks, first_word, given_asks, held_behind, home_in, if_small, is_small, slot_instead, spot_asks, with_given, with_word, with_words, compared_asks, part_asks, passed_asks};
+ghost use Rattle.rv_select.specs.Asked.{address_asks, all_ask, asked_homes, asked_of, asks, block_asks, both_ask, computed_asks, end_asks};
+ghost use Rattle.rv_select.specs.Asked.{exit_asks, first_asks, first_word, given_asks, held_behind, home_in, if_small, is_small};
+ghost use Rattle.rv_select.specs.Asked.{slot_instead, spot_asks, with_given, with_word, with_words, compared_asks, part_asks, passed_asks};
 ghost use Rattle.rv_select.specs.Pairs.{reads_of};
 ghost use Rattle.tac_form.specs.Graph.{exit_reads, instruction_reads, operand_reads, part_reads, parts_reads};
 
@@ -63,7 +65,8 @@ fn give_homes(
     parameters: &[Destination],
 )
     requires { first < 2 ^ 58 }
-    ensures { given.new ≡ if_small (is_small first (length parameters.now)) first parameters.now (with_given homes.now given.old temps.now) }
+    ensures { given.new ≡ if_small (is_small first (length parameters.now)) first parameters.now
+        (with_given homes.now given.old temps.now) }
 {
     give_all(given, homes, temps);
     if is_small(first, parameters.len()) {

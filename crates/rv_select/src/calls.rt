@@ -5,7 +5,8 @@ ghost use Rattle.std.specs.List.{list_any};
 ghost use Rattle.rv_isa.specs.Table.{word_of};
 ghost use Rattle.tac_form.specs.declared.tac.Operand.TheVariants as operands;
 ghost use Rattle.rv_operators.specs.Codes.{x5};
-ghost use Rattle.rv_select.specs.Calls.{call_begun, call_ended, call_jump, called, depth_tested, one_more, part_given, part_taken, passed, word_given, part_passed};
+ghost use Rattle.rv_select.specs.Calls.{call_begun, call_ended, call_jump, called, depth_tested, one_more, part_given, part_taken, passed};
+ghost use Rattle.rv_select.specs.Calls.{word_given, part_passed};
 ghost use Rattle.rv_select.specs.Entering.{result_put};
 ghost use Rattle.rv_select.specs.Places.{has_call, is_call, makes_calls, with_homes};
 ghost use Rattle.rv_select.specs.Shapes.{jump, area_reached, x10};
@@ -198,7 +199,8 @@ fn push_all_passed(
     held: Option<u64>,
     arguments: &[Part],
 ) -> Result<(), NoMemory>
-    ensures { OnOk result (code.new.items ≡ code.old.items ++ map word_of (passed (with_homes homes.now) held 0 arguments.now ++ one_more)) }
+    ensures { OnOk result (code.new.items ≡ code.old.items
+        ++ map word_of (passed (with_homes homes.now) held 0 arguments.now ++ one_more)) }
 {
     push_passed(code, homes, held, 0, arguments)?;
     push_one_more(code)

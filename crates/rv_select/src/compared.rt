@@ -4,7 +4,8 @@ ghost use Rattle.std.specs.Prelude.{◌≡◌, ◌+◌, ◌^◌, ◌≤◌, [], 
 ghost use Rattle.rv_isa.specs.Table.{word_of};
 ghost use Rattle.rv_operators.specs.Codes.{x6};
 ghost use Rattle.rv_select.specs.Places.{with_homes};
-ghost use Rattle.rv_select.specs.Compared.{below_condition, both_taken, compared, compared_shape, condition_of, first_of, first_register, least_condition, left_of};
+ghost use Rattle.rv_select.specs.Compared.{below_condition, both_taken, compared, compared_shape, condition_of, first_of, first_register};
+ghost use Rattle.rv_select.specs.Compared.{least_condition, left_of};
 ghost use Rattle.rv_select.specs.Compared.{operands_taken, right_of, second_of, second_register, unless_zero};
 ghost use Rattle.rv_select.specs.Settings.{follower};
 ghost use Rattle.rv_select.specs.Shapes.{first_taken, start_of, taken};
@@ -20,8 +21,8 @@ use terra_words::BinaryOperator;
 use tl_base::NoMemory;
 
 /// The words of a block's last instruction, a comparison, and of its exit, a branch on the comparison's result, where x5 may hold the
-/// word of a temporary, by the setting in which they stand, their address and those at which the blocks begin. They serve where the result is read by that branch alone: where its
-/// temporary is live at the begin of neither block. No home gets the result then.
+/// word of a temporary, by the setting in which they stand, their address and those at which the blocks begin. They serve where the
+/// result is read by that branch alone: where its temporary is live at the begin of neither block. No home gets the result then.
 ///
 /// Where `select` finds such a block, it calls this in place of `push_instruction` for the last instruction and of `push_exit`; the
 /// law `compares_are_carried` is for both steps at once, and `compares_keep_within` bounds the words. Any other block is as before.
@@ -40,7 +41,8 @@ pub fn push_compared(
     second: Edge,
 ) -> Result<(), NoMemory>
     requires { at + 256 ≤ 2 ^ 30 }
-    ensures { OnOk result (code.new.items ≡ code.old.items ++ map word_of (compared_shape (with_homes homes.now) setting held at (start_of starts.now) operator form a b first second)) }
+    ensures { OnOk result (code.new.items ≡ code.old.items
+        ++ map word_of (compared_shape (with_homes homes.now) setting held at (start_of starts.now) operator form a b first second)) }
 {
     let words = push_counted(code, homes, held, a, b)?;
     let to = start_of(starts, first.block);
@@ -181,7 +183,8 @@ fn push_test(
     second: u64,
 ) -> Result<(), NoMemory>
     requires { at + 12 ≤ 2 ^ 32 }
-    ensures { OnOk result (code.new.items ≡ code.old.items ++ map word_of (compared setting.near setting.short follows signed operator a b at first second)) }
+    ensures { OnOk result (code.new.items ≡ code.old.items
+        ++ map word_of (compared setting.near setting.short follows signed operator a b at first second)) }
 {
     let condition = condition_of(signed, operator);
     push_chosen(

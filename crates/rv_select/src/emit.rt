@@ -21,6 +21,7 @@ use rv_isa::{
 };
 use tac_form::Operand;
 use tl_base::NoMemory;
+use tl_base::limits::MAX_VALUE_BYTES;
 
 pub(crate) const X0: Register = Register { number: 0 };
 /// The address of the frame.
@@ -271,7 +272,8 @@ pub(crate) fn push_frame_address(
     rd: Register,
     offset: u64,
 ) -> Result<(), NoMemory>
-    ensures { OnOk result (code.new.items ≡ code.old.items ++ map word_of (framed (λ r far. instrs.RegisterImmediate immediates.Addi rd r far) offset)) }
+    ensures { OnOk result (code.new.items ≡ code.old.items
+        ++ map word_of (framed (λ r far. instrs.RegisterImmediate immediates.Addi rd r far) offset)) }
 {
     if offset <= 2047 {
         return put(
@@ -348,7 +350,7 @@ pub(crate) fn area_offset(homes: &[Option<Home>], area: u64, offset: u64) -> Res
 {
     let temps = homes.len() as u64;
     if temps < 1 << 56 && area < 1 << 52 && offset < 1 << 60 {
-        Ok(88 + 8 * temps + 128 * area + offset)
+        Ok(88 + 8 * temps + MAX_VALUE_BYTES * area + offset)
     } else {
         Err(NoMemory)
     }

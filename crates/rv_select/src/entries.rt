@@ -7,7 +7,10 @@ ghost use Rattle.rv_isa.specs.declared.operation.ImmediateOp.TheVariants.{Addi};
 ghost use Rattle.rv_isa.specs.declared.operation.LoadOp.TheVariants.{Ld};
 ghost use Rattle.rv_isa.specs.declared.operation.StoreOp.TheVariants.{Sd};
 ghost use Rattle.rv_operators.specs.Codes.{zero_immediate};
-ghost use Rattle.rv_select.specs.Entering.{arguments_stored, begun, entered, frame_taken, frames_given, if_used, is_before, is_received, kept_offset, left, most_arguments, place_given, pointer_down, pointer_up, put_back, put_back_one, received, received_one, region_given, region_taken, result_put, saved, saved_one, size_in, stack_branch, stack_tested, stored_below, x1};
+ghost use Rattle.rv_select.specs.Entering.{arguments_stored, begun, entered, frame_taken, frames_given, if_used, is_before, is_received};
+ghost use Rattle.rv_select.specs.Entering.{kept_offset, left, most_arguments, place_given, pointer_down, pointer_up, put_back};
+ghost use Rattle.rv_select.specs.Entering.{put_back_one, received, received_one, region_given, region_taken, result_put, saved, saved_one};
+ghost use Rattle.rv_select.specs.Entering.{size_in, stack_branch, stack_tested, stored_below, x1};
 ghost use Rattle.rv_select.specs.Numbers.{constant, register_of, short_constant};
 ghost use Rattle.rv_select.specs.Places.{is_register, uses, with_extent, with_homes};
 ghost use Rattle.rv_select.specs.Shapes.{place_number, to_area, x2, x7, x11};
@@ -27,6 +30,7 @@ use rv_isa::{
 };
 use tac_form::{Destination, Tac};
 use terra_words::FaultKind;
+use tl_base::limits::MAX_VALUE_BYTES;
 use tl_base::{NoMemory, Place};
 
 /// The return address.
@@ -492,7 +496,8 @@ fn push_received_one(
     parameter: Destination,
     at: u64,
 ) -> Result<(), NoMemory>
-    ensures { OnOk result (code.new.items ≡ code.old.items ++ map word_of (received_one (with_homes homes.now) sizes.now last parameter at)) }
+    ensures { OnOk result (code.new.items ≡ code.old.items
+        ++ map word_of (received_one (with_homes homes.now) sizes.now last parameter at)) }
 {
     if !is_received(homes, last, parameter)? {
         return Ok(());
@@ -519,13 +524,17 @@ pub(crate) fn push_result_put(
 /// The bytes of an area. None has more than 128.
 fn size_of(sizes: &[u64], area: u64) -> Result<u64, NoMemory>
     ensures size { IfOk result (λ size. size ≡ size_in sizes.now area) }
-    ensures few { IfOk result (λ size. size ≤ 128) }
+    ensures few { IfOk result (λ size. size ≤ MAX_VALUE_BYTES) }
 {
     let size = match sizes.get(area as usize) {
         Some(size) => *size,
         None => 0,
     };
-    if size <= 128 { Ok(size) } else { Err(NoMemory) }
+    if size <= MAX_VALUE_BYTES {
+        Ok(size)
+    } else {
+        Err(NoMemory)
+    }
 }
 
 /// The parameters, from words of which the last lies at an offset of the frame.

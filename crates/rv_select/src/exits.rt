@@ -1,13 +1,15 @@
 // The words of exits of blocks.
 
-ghost use Rattle.std.specs.Prelude.{◌≡◌, ◌*◌, ◌+◌, ◌%◌, ◌^◌, ◌<◌, ◌≤◌, [], ◌∷◌, ◌++◌, map, length, false, if◌then◌else◌, IsTrue, IfOk, OnOk};
+ghost use Rattle.std.specs.Prelude.{◌≡◌, ◌*◌, ◌+◌, ◌%◌, ◌^◌, ◌<◌, ◌≤◌, [], ◌∷◌, ◌++◌, map, length, false, if◌then◌else◌, IsTrue, IfOk};
+ghost use Rattle.std.specs.Prelude.{OnOk};
 ghost use Rattle.rv_isa.specs.declared.instr.Instr.TheVariants.{Auipc, Branch, Jal, Jalr};
 ghost use Rattle.rv_isa.specs.Table.{word_of};
 ghost use Rattle.rv_operators.specs.Codes.{x0, x5};
 ghost use Rattle.rv_select.specs.Numbers.{lower_of, upper_of};
 ghost use Rattle.rv_select.specs.Places.{with_homes};
 ghost use Rattle.rv_select.specs.Settings.{falls, follower};
-ghost use Rattle.rv_select.specs.Shapes.{branch_bytes, branch_offset, branched, branched_bytes, chosen, distance, exit_shape, first_taken, has_exit_shape, jump, jump_offset, negated, start_of};
+ghost use Rattle.rv_select.specs.Shapes.{branch_bytes, branch_offset, branched, branched_bytes, chosen, distance, exit_shape, first_taken};
+ghost use Rattle.rv_select.specs.Shapes.{has_exit_shape, jump, jump_offset, negated, start_of};
 
 use crate::emit::{X0, X5, put};
 use crate::instructions::{push_failed, push_first};
@@ -31,7 +33,8 @@ pub fn push_exit(
 ) -> Result<(), NoMemory>
     requires shape { IsTrue (has_exit_shape exit.now) }
     requires near { at + 256 ≤ 2 ^ 30 }
-    ensures { OnOk result (code.new.items ≡ code.old.items ++ map word_of (exit_shape (with_homes homes.now) setting held at (start_of starts.now) exit.now)) }
+    ensures { OnOk result (code.new.items ≡ code.old.items
+        ++ map word_of (exit_shape (with_homes homes.now) setting held at (start_of starts.now) exit.now)) }
 {
     match exit {
         Exit::Jump(edge) => { push_edge(code, setting, *edge, at, start_of(starts, edge.block)) }
@@ -65,7 +68,8 @@ fn push_edge(
     to: u64,
 ) -> Result<(), NoMemory>
     requires { at ≤ 2 ^ 32 }
-    ensures { OnOk result (code.new.items ≡ code.old.items ++ map word_of (if falls setting.next edge then [] else jump setting.short at to)) }
+    ensures { OnOk result (code.new.items ≡ code.old.items
+        ++ map word_of (if falls setting.next edge then [] else jump setting.short at to)) }
 {
     if falls(setting.next, edge) {
         return Ok(());
@@ -273,7 +277,8 @@ pub(crate) fn push_chosen(
     second: u64,
 ) -> Result<(), NoMemory>
     requires { at + 12 ≤ 2 ^ 32 }
-    ensures { OnOk result (code.new.items ≡ code.old.items ++ map word_of (chosen setting.near setting.short follows condition rs1 rs2 at first second)) }
+    ensures { OnOk result (code.new.items ≡ code.old.items
+        ++ map word_of (chosen setting.near setting.short follows condition rs1 rs2 at first second)) }
 {
     let Setting { near, short, .. } = setting;
     match follows {

@@ -7,7 +7,8 @@ ghost use Rattle.rv_isa.specs.declared.operation.RegisterOp.TheVariants as ops;
 ghost use Rattle.rv_isa.specs.Table.{word_of};
 ghost use Rattle.tac_form.specs.Flow.{width_of};
 ghost use Rattle.rv_operators.specs.Codes.{cut, one_immediate, x0, x5};
-ghost use Rattle.rv_select.specs.Folded.{by_number, count_of, differing, folded, is_folded, is_near, is_power, opposite, shift_down, shift_for, shifted_up, sum_of, test_of, turned_round, word_count_of};
+ghost use Rattle.rv_select.specs.Folded.{by_number, count_of, differing, folded, is_folded, is_near, is_power, opposite, shift_down};
+ghost use Rattle.rv_select.specs.Folded.{shift_for, shifted_up, sum_of, test_of, turned_round, word_count_of};
 
 use crate::emit::{X0, X5, put};
 use crate::instructions::{bytes_of, width_of};
@@ -236,7 +237,8 @@ fn push_differing(code: &mut Vec<u32>, number: u64) -> Result<(), NoMemory>
 }
 
 fn push_equal(code: &mut Vec<u32>, number: u64) -> Result<(), NoMemory>
-    ensures { OnOk result (code.new.items ≡ code.old.items ++ map word_of (differing number ++ instrs.RegisterImmediate immediates.Sltiu x5 x5 one_immediate ∷ [])) }
+    ensures { OnOk result (code.new.items ≡ code.old.items
+        ++ map word_of (differing number ++ instrs.RegisterImmediate immediates.Sltiu x5 x5 one_immediate ∷ [])) }
 {
     push_differing(code, number)?;
     put(
@@ -251,7 +253,8 @@ fn push_equal(code: &mut Vec<u32>, number: u64) -> Result<(), NoMemory>
 }
 
 fn push_not_equal(code: &mut Vec<u32>, number: u64) -> Result<(), NoMemory>
-    ensures { OnOk result (code.new.items ≡ code.old.items ++ map word_of (differing number ++ instrs.RegisterRegister ops.Sltu x5 x0 x5 ∷ [])) }
+    ensures { OnOk result (code.new.items ≡ code.old.items
+        ++ map word_of (differing number ++ instrs.RegisterRegister ops.Sltu x5 x0 x5 ∷ [])) }
 {
     push_differing(code, number)?;
     put(

@@ -10,7 +10,10 @@ ghost use Rattle.rv_operators.specs.Codes.{code_of, x5, x6, zero_immediate};
 ghost use Rattle.rv_select.specs.Folded.{folded, is_folded};
 ghost use Rattle.rv_select.specs.Numbers.{constant};
 ghost use Rattle.rv_select.specs.Places.{with_homes};
-ghost use Rattle.rv_select.specs.Shapes.{applied_to, area_reached, bounds_tested, cleared, computed, copied, divisor_tested, failed, fault_call, first_taken, branched_over, has_shape, held_after, is_held, is_second, is_symmetric, is_turned, is_zero, load_of, loaded, located, operated, operated_second, place_number, put_at, reached, shape_of, small, store_of, stored, taken, zero_put, zeros};
+ghost use Rattle.rv_select.specs.Shapes.{applied_to, area_reached, bounds_tested, cleared, computed, copied, divisor_tested, failed};
+ghost use Rattle.rv_select.specs.Shapes.{fault_call, first_taken, branched_over, has_shape, held_after, is_held, is_second, is_symmetric};
+ghost use Rattle.rv_select.specs.Shapes.{is_turned, is_zero, load_of, loaded, located, operated, operated_second, place_number, put_at};
+ghost use Rattle.rv_select.specs.Shapes.{reached, shape_of, small, store_of, stored, taken, zero_put, zeros};
 
 use crate::emit::{
     X0, X5, X6, area_offset, constant_words, push_constant, push_frame_address, push_frame_load,
@@ -27,6 +30,7 @@ use rv_isa::{
 use rv_operators::push_operator;
 use tac_form::{Address, Destination, Instruction, Number, Operand, Size, Spot};
 use terra_words::{BinaryOperator, FaultKind, Width};
+use tl_base::limits::{MAX_VALUE_BYTES, REGION_ADDRESS};
 use tl_base::{NoMemory, Place};
 
 /// The end of the region.
@@ -42,9 +46,6 @@ pub(crate) const X17: Register = Register { number: 17 };
 
 /// The number of the machine's call that ends a run by a fault.
 const FAULT_CALL: u64 = 1024;
-
-/// Where the region begins.
-pub(crate) const REGION: u64 = 0x4000_0000;
 
 /// The words of an instruction, where x5 may hold the word of a temporary.
 pub fn push_instruction(
@@ -137,7 +138,8 @@ fn push_computed(
     a: Operand,
     b: Operand,
 ) -> Result<(), NoMemory>
-    ensures { OnOk result (code.new.items ≡ code.old.items ++ map word_of (computed (with_homes homes.now) held temp operator (width_of form) a b)) }
+    ensures { OnOk result (code.new.items ≡ code.old.items
+        ++ map word_of (computed (with_homes homes.now) held temp operator (width_of form) a b)) }
 {
     if is_turned(held, operator, b) {
         push_operated(code, homes, held, temp, operator, form, b, a)
@@ -158,7 +160,8 @@ fn push_operated_second(
     form: Number,
     a: Operand,
 ) -> Result<(), NoMemory>
-    ensures { OnOk result (code.new.items ≡ code.old.items ++ map word_of (operated_second (with_homes homes.now) held temp operator (width_of form) a)) }
+    ensures { OnOk result (code.new.items ≡ code.old.items
+        ++ map word_of (operated_second (with_homes homes.now) held temp operator (width_of form) a)) }
 {
     push_moved(code, X6, X5)?;
     push_first(code, homes, held, a)?;
@@ -177,7 +180,8 @@ fn push_operated(
     a: Operand,
     b: Operand,
 ) -> Result<(), NoMemory>
-    ensures { OnOk result (code.new.items ≡ code.old.items ++ map word_of (operated (with_homes homes.now) held temp operator (width_of form) a b)) }
+    ensures { OnOk result (code.new.items ≡ code.old.items
+        ++ map word_of (operated (with_homes homes.now) held temp operator (width_of form) a b)) }
 {
     push_first(code, homes, held, a)?;
     push_applied(code, homes, operator, form, b)?;
@@ -245,7 +249,9 @@ fn push_with_constant(
     form: Number,
     number: u64,
 ) -> Result<(), NoMemory>
-    ensures { OnOk result (code.new.items ≡ code.old.items ++ map word_of (if is_folded operator number then folded (width_of form) operator number else constant x6 number ++ code_of (width_of form) operator)) }
+    ensures { OnOk result (code.new.items ≡ code.old.items
+        ++ map word_of (if is_folded operator number then folded (width_of form) operator number else constant x6 number
+        ++ code_of (width_of form) operator)) }
 {
     if is_folded(operator, number) {
         push_folded(code, operator, form, number)
@@ -476,14 +482,14 @@ fn push_located(code: &mut Vec<u32>, offset: u64) -> Result<(), NoMemory>
 /// The run fails unless so many bytes from the address in x5 on lie in the region.
 fn push_bounds_test(code: &mut Vec<u32>, at: Place, size: u64) -> Result<(), NoMemory>
     requires some { 1 ≤ size }
-    requires few { size ≤ 128 }
+    requires few { size ≤ MAX_VALUE_BYTES }
     ensures { OnOk result (code.new.items ≡ code.old.items ++ map word_of (bounds_tested at size)) }
 {
     put(
         code,
         Instr::Lui {
             rd: X6,
-            imm: upper(REGION),
+            imm: upper(REGION_ADDRESS),
         },
     )?;
     put(
@@ -524,7 +530,7 @@ pub(crate) fn push_reached(
     size: u64,
 ) -> Result<(), NoMemory>
     requires some { 1 ≤ size }
-    requires few { size ≤ 128 }
+    requires few { size ≤ MAX_VALUE_BYTES }
     ensures { OnOk result (code.new.items ≡ code.old.items ++ map word_of (reached (with_homes homes.now) held at address size)) }
 {
     match address {
@@ -589,7 +595,8 @@ fn push_loaded(
 
 /// x5 gets the number at the address in x5.
 fn push_load(code: &mut Vec<u32>, form: Number) -> Result<(), NoMemory>
-    ensures { OnOk result (code.new.items ≡ code.old.items ++ word_of (instrs.Load (load_of form.signed form.size) x5 x5 zero_immediate) ∷ []) }
+    ensures { OnOk result (code.new.items ≡ code.old.items
+        ++ word_of (instrs.Load (load_of form.signed form.size) x5 x5 zero_immediate) ∷ []) }
 {
     put(
         code,
@@ -648,7 +655,7 @@ fn push_cleared(
     area: u64,
     size: u64,
 ) -> Result<(), NoMemory>
-    requires { size ≤ 128 }
+    requires { size ≤ MAX_VALUE_BYTES }
     ensures { OnOk result (code.new.items ≡ code.old.items ++ map word_of (cleared (with_homes homes.now) area size)) }
 {
     push_area_address(code, homes, X5, area, 0)?;
@@ -670,7 +677,7 @@ pub(crate) fn push_area_address(
 
 /// So many words of zeros at an offset from where x5 points.
 fn push_zeros(code: &mut Vec<u32>, words: u64, at: u64) -> Result<(), NoMemory>
-    requires { at + 8 * words ≤ 128 }
+    requires { at + 8 * words ≤ MAX_VALUE_BYTES }
     ensures { OnOk result (code.new.items ≡ code.old.items ++ map word_of (zeros words at)) }
 {
     if words == 0 {

@@ -1,7 +1,8 @@
 // What the code of instructions promises. Each function does nothing, and its clause is a law.
 
 ghost use Rattle.rv_select.specs.Compared.{ComparesAreCarried, ComparesKeepWithin};
-ghost use Rattle.rv_select.specs.Frames.{CallsAreBegun, CallsKeepWithin, FramesKeepWithin, FunctionsAreEntered, FunctionsAreLeft, ParametersAreReceived, ParametersKeepWithin};
+ghost use Rattle.rv_select.specs.Frames.{CallsAreBegun, CallsKeepWithin, FramesKeepWithin, FunctionsAreEntered, FunctionsAreLeft};
+ghost use Rattle.rv_select.specs.Frames.{ParametersAreReceived, ParametersKeepWithin};
 ghost use Rattle.rv_select.specs.Waiting.{CallersGoOnWaiting};
 ghost use Rattle.rv_select.specs.Whole.{EntriesAreCarried, ProgramsAreCarried, RunsAreCarried, StepsAreCarried};
 ghost use Rattle.rv_select.specs.Steps.{ExitsAreCarried, ExitsKeepWithin, InstructionsAreCarried, ShapesKeepWithin};
@@ -97,8 +98,8 @@ pub fn entries_are_carried()
     ensures { EntriesAreCarried }
 {}
 
-/// The run of a program in the machine, from its start, ends as that of three-address code does at a count, with the same output, in at most
-/// as many times a function's words as one more than the count.
+/// The run of a program in the machine, from its start, ends as that of three-address code does at a count, with the same output, in
+/// at most as many times a function's words as one more than the count.
 pub fn programs_are_carried()
     ensures { ProgramsAreCarried }
 {}

@@ -1,10 +1,12 @@
 // The words of moves of bytes.
 
 ghost use Rattle.std.specs.Prelude.{◌≡◌, ◌*◌, ◌+◌, ◌≤◌, ◌++◌, map, OnOk};
+ghost use Rattle.tl_base.specs.declared.limits.TheConstants.{MAX_VALUE_BYTES};
 ghost use Rattle.rv_isa.specs.Table.{word_of};
 ghost use Rattle.rv_operators.specs.Codes.{x5, x6};
 ghost use Rattle.rv_select.specs.Places.{with_homes};
-ghost use Rattle.rv_select.specs.Shapes.{all_carried, bytes_moved, carried, carried_eights, carried_if, carried_rest, from_area, some_moved, to_area};
+ghost use Rattle.rv_select.specs.Shapes.{all_carried, bytes_moved, carried, carried_eights, carried_if, carried_rest, from_area};
+ghost use Rattle.rv_select.specs.Shapes.{some_moved, to_area};
 
 use crate::emit::{X0, X5, X6, X7, push_moved, put};
 use crate::instructions::{push_area_address, push_reached};
@@ -23,7 +25,7 @@ pub(crate) fn push_bytes_moved(
     from: Spot,
     size: u64,
 ) -> Result<(), NoMemory>
-    requires { size ≤ 128 }
+    requires { size ≤ MAX_VALUE_BYTES }
     ensures { OnOk result (code.new.items ≡ code.old.items ++ map word_of (bytes_moved (with_homes homes.now) held to from size)) }
 {
     if size == 0 {
@@ -42,7 +44,7 @@ fn push_some_moved(
     size: u64,
 ) -> Result<(), NoMemory>
     requires some { 1 ≤ size }
-    requires few { size ≤ 128 }
+    requires few { size ≤ MAX_VALUE_BYTES }
     ensures { OnOk result (code.new.items ≡ code.old.items ++ map word_of (some_moved (with_homes homes.now) held to from size)) }
 {
     match (to, from) {
@@ -70,7 +72,7 @@ fn push_from_area(
     offset: u64,
     size: u64,
 ) -> Result<(), NoMemory>
-    requires { size ≤ 128 }
+    requires { size ≤ MAX_VALUE_BYTES }
     ensures { OnOk result (code.new.items ≡ code.old.items ++ map word_of (from_area (with_homes homes.now) area offset size)) }
 {
     push_area_address(code, homes, X6, area, offset)?;
@@ -85,7 +87,7 @@ pub(crate) fn push_to_area(
     offset: u64,
     size: u64,
 ) -> Result<(), NoMemory>
-    requires { size ≤ 128 }
+    requires { size ≤ MAX_VALUE_BYTES }
     ensures { OnOk result (code.new.items ≡ code.old.items ++ map word_of (to_area (with_homes homes.now) area offset size)) }
 {
     push_area_address(code, homes, X6, area, offset)?;
@@ -94,7 +96,7 @@ pub(crate) fn push_to_area(
 
 /// Bytes go from where x6 points to where x5 does.
 fn push_all_from(code: &mut Vec<u32>, size: u64) -> Result<(), NoMemory>
-    requires { size ≤ 128 }
+    requires { size ≤ MAX_VALUE_BYTES }
     ensures { OnOk result (code.new.items ≡ code.old.items ++ map word_of (all_carried x6 x5 size)) }
 {
     push_all_carried(code, X6, X5, size)
@@ -102,7 +104,7 @@ fn push_all_from(code: &mut Vec<u32>, size: u64) -> Result<(), NoMemory>
 
 /// Bytes go from where x5 points to where x6 does.
 fn push_all_to(code: &mut Vec<u32>, size: u64) -> Result<(), NoMemory>
-    requires { size ≤ 128 }
+    requires { size ≤ MAX_VALUE_BYTES }
     ensures { OnOk result (code.new.items ≡ code.old.items ++ map word_of (all_carried x5 x6 size)) }
 {
     push_all_carried(code, X5, X6, size)
@@ -115,7 +117,7 @@ fn push_all_carried(
     to: Register,
     size: u64,
 ) -> Result<(), NoMemory>
-    requires { size ≤ 128 }
+    requires { size ≤ MAX_VALUE_BYTES }
     ensures { OnOk result (code.new.items ≡ code.old.items ++ map word_of (all_carried from to size)) }
 {
     push_eights(code, from, to, size / 8, 0)?;
@@ -130,7 +132,7 @@ fn push_eights(
     words: u64,
     at: u64,
 ) -> Result<(), NoMemory>
-    requires { at + 8 * words ≤ 128 }
+    requires { at + 8 * words ≤ MAX_VALUE_BYTES }
     ensures { OnOk result (code.new.items ≡ code.old.items ++ map word_of (carried_eights from to words at)) }
 {
     if words == 0 {
@@ -148,7 +150,7 @@ fn push_rest(
     size: u64,
     at: u64,
 ) -> Result<(), NoMemory>
-    requires { at ≤ 128 }
+    requires { at ≤ MAX_VALUE_BYTES }
     ensures { OnOk result (code.new.items ≡ code.old.items ++ map word_of (carried_rest from to size at)) }
 {
     let fours = size / 4 % 2;

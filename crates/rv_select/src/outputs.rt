@@ -3,12 +3,12 @@
 ghost use Rattle.std.specs.Prelude.{◌≡◌, [], ◌∷◌, ◌++◌, map, OnOk};
 ghost use Rattle.rv_isa.specs.Table.{word_of};
 ghost use Rattle.rv_select.specs.Places.{with_homes};
-ghost use Rattle.rv_select.specs.Shapes.{allocated, byte_put, byte_stored, byte_taken, byte_written, bytes_given, heap_aligned, limit_found, range_call, range_tested, range_written, taken, write_call, x11, x12};
+ghost use Rattle.rv_select.specs.Shapes.{allocated, byte_put, byte_stored, byte_taken, byte_written, bytes_given, heap_aligned};
+ghost use Rattle.rv_select.specs.Shapes.{limit_found, range_call, range_tested, range_written, taken, write_call, x11, x12};
 
 use crate::emit::{X0, X2, X5, X6, X7, push_constant, push_moved, push_put, push_taken, put};
 use crate::instructions::{
-    REGION, X4, X10, X11, X17, failed_words, push_branch_over, push_first, push_first_temp,
-    push_small,
+    X4, X10, X11, X17, failed_words, push_branch_over, push_first, push_first_temp, push_small,
 };
 use crate::operands::{immediate, offset, upper};
 use reg_alloc::Home;
@@ -18,6 +18,7 @@ use rv_isa::{
 };
 use tac_form::Operand;
 use terra_words::FaultKind;
+use tl_base::limits::REGION_ADDRESS;
 use tl_base::{NoMemory, Place};
 
 /// The end of the heap.
@@ -163,7 +164,7 @@ fn push_range_test(code: &mut Vec<u32>, at: Place) -> Result<(), NoMemory>
         code,
         Instr::Lui {
             rd: X7,
-            imm: upper(REGION),
+            imm: upper(REGION_ADDRESS),
         },
     )?;
     put(
@@ -261,7 +262,7 @@ pub(crate) fn push_limit_found(code: &mut Vec<u32>) -> Result<(), NoMemory>
         code,
         Instr::Lui {
             rd: X7,
-            imm: upper(REGION),
+            imm: upper(REGION_ADDRESS),
         },
     )?;
     put(

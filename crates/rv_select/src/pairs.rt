@@ -3,7 +3,8 @@
 ghost use Rattle.std.specs.Prelude.{◌≡◌, ◌<◌, ◌&&◌, IfOk, Some, nat_eq, replicate, slice_set};
 ghost use Rattle.rv_operators.specs.Codes.{is_comparison};
 ghost use Rattle.rv_select.specs.declared.pairs.Reads.TheVariants.{Never};
-ghost use Rattle.rv_select.specs.Pairs.{but_pair, counted, counted_steps, counted_blocks, is_once, once_more, pair_at, pair_of, reads_at, reads_of};
+ghost use Rattle.rv_select.specs.Pairs.{but_pair, counted, counted_steps, counted_blocks, is_once, once_more, pair_at, pair_of, reads_at};
+ghost use Rattle.rv_select.specs.Pairs.{reads_of};
 ghost use Rattle.tac_form.specs.declared.tac.Instruction.TheVariants as instructions;
 
 use reg_alloc::flow_graph;

@@ -7,16 +7,14 @@ ghost use Rattle.rv_select.specs.Calls.{all_has_code, block_has_code, has_code, 
 
 use tac_form::{Block, Exit, Instruction, Tac};
 use terra_words::FaultKind;
-
-/// The most bytes of an area.
-const MOST_BYTES: u64 = 128;
+use tl_base::limits::MAX_VALUE_BYTES;
 
 /// Whether an instruction has machine code.
 fn has_code(instruction: &Instruction) -> bool
     ensures { result ≡ has_code instruction.now }
 {
     match instruction {
-        Instruction::Move(_, _, size) | Instruction::Clear(_, size) => *size <= MOST_BYTES,
+        Instruction::Move(_, _, size) | Instruction::Clear(_, size) => *size <= MAX_VALUE_BYTES,
         Instruction::CallValue(_, _, _, _, _) => false,
         _ => true,
     }

@@ -3,7 +3,10 @@
 ghost use Rattle.std.specs.Prelude.{◌≡◌, ◌*◌, ◌+◌, ◌^◌, ◌<◌, ◌≤◌, ◌&&◌, [], ◌∷◌, ◌++◌, map, length, IfOk, IsTrue, None, OnOk};
 ghost use Rattle.std.specs.List.{list_all};
 ghost use Rattle.rv_isa.specs.Table.{word_of};
-ghost use Rattle.rv_select.specs.Calls.{IsSelected, KeepsWithin, all_has_code, block_code, block_has_code, block_starts, blocks_calls, blocks_code, call_jump, called, end_code, exit_code, has_code, has_exit_code, head_code, held_behind, instruction_calls, instruction_code, instructions_calls, instructions_code, jump_unless_last, last_address, pair_code, returned, starts_from};
+ghost use Rattle.rv_select.specs.Calls.{IsSelected, KeepsWithin, all_has_code, block_code, block_has_code, block_starts, blocks_calls};
+ghost use Rattle.rv_select.specs.Calls.{blocks_code, call_jump, called, end_code, exit_code, has_code, has_exit_code, head_code};
+ghost use Rattle.rv_select.specs.Calls.{held_behind, instruction_calls, instruction_code, instructions_calls, instructions_code};
+ghost use Rattle.rv_select.specs.Calls.{jump_unless_last, last_address, pair_code, returned, starts_from};
 ghost use Rattle.rv_select.specs.Entering.{begun, entered, received, words_offset};
 ghost use Rattle.rv_select.specs.Pairs.{pair_of, plain_of, reads_of};
 ghost use Rattle.rv_select.specs.Places.{extent_of, frame_bytes, layout_with, with_homes, with_reads};
@@ -24,6 +27,7 @@ use crate::short::{is_near, is_short};
 use reg_alloc::{Assignment, Home};
 use std::alloc::Global;
 use tac_form::{Block, Destination, Exit, Instruction, Part, Tac};
+use tl_base::limits::MAX_VALUE_BYTES;
 use tl_base::{FnId, NoMemory, Place};
 
 /// The address at which the next word stands in code that begins at address 0. No memory has code of 2 ^ 27 words.
@@ -63,8 +67,10 @@ fn push_called(
     callee: FnId,
     arguments: &[Part],
 ) -> Result<(), NoMemory>
-    ensures code { OnOk result (code.new.items ≡ code.old.items ++ map word_of (called (with_homes homes.now) sizes.now (λ f. 0) (4 * length code.old.items) held to at callee arguments.now)) }
-    ensures calls { OnOk result (calls.new.items ≡ calls.old.items ++ instruction_calls (with_homes homes.now) (length code.old.items) held (instructions.Call to at callee arguments.now)) }
+    ensures code { OnOk result (code.new.items ≡ code.old.items
+        ++ map word_of (called (with_homes homes.now) sizes.now (λ f. 0) (4 * length code.old.items) held to at callee arguments.now)) }
+    ensures calls { OnOk result (calls.new.items ≡ calls.old.items
+        ++ instruction_calls (with_homes homes.now) (length code.old.items) held (instructions.Call to at callee arguments.now)) }
 {
     push_call_begun(code, homes, held, at, arguments)?;
     push_jump_to(code, calls, callee)?;
@@ -81,8 +87,10 @@ fn push_one(
     instruction: &Instruction,
 ) -> Result<(), NoMemory>
     requires { IsTrue (has_code instruction.now) }
-    ensures code { OnOk result (code.new.items ≡ code.old.items ++ map word_of (instruction_code (with_homes homes.now) sizes.now (λ f. 0) (4 * length code.old.items) held instruction.now)) }
-    ensures calls { OnOk result (calls.new.items ≡ calls.old.items ++ instruction_calls (with_homes homes.now) (length code.old.items) held instruction.now) }
+    ensures code { OnOk result (code.new.items ≡ code.old.items
+        ++ map word_of (instruction_code (with_homes homes.now) sizes.now (λ f. 0) (4 * length code.old.items) held instruction.now)) }
+    ensures calls { OnOk result (calls.new.items ≡ calls.old.items
+        ++ instruction_calls (with_homes homes.now) (length code.old.items) held instruction.now) }
 {
     match instruction {
         Instruction::Call(to, at, callee, arguments) => push_called(
@@ -109,8 +117,10 @@ fn push_all(
     instructions: &[Instruction],
 ) -> Result<Option<u64>, NoMemory>
     requires { IsTrue (list_all has_code instructions.now) }
-    ensures code { OnOk result (code.new.items ≡ code.old.items ++ map word_of (instructions_code (with_homes homes.now) sizes.now (λ f. 0) (4 * length code.old.items) None instructions.now)) }
-    ensures calls { OnOk result (calls.new.items ≡ calls.old.items ++ instructions_calls (with_homes homes.now) sizes.now (length code.old.items) None instructions.now) }
+    ensures code { OnOk result (code.new.items ≡ code.old.items
+        ++ map word_of (instructions_code (with_homes homes.now) sizes.now (λ f. 0) (4 * length code.old.items) None instructions.now)) }
+    ensures calls { OnOk result (calls.new.items ≡ calls.old.items
+        ++ instructions_calls (with_homes homes.now) sizes.now (length code.old.items) None instructions.now) }
     ensures held { IfOk result (λ held. held ≡ held_behind None instructions.now) }
 {
     let mut held = None;
@@ -131,7 +141,8 @@ fn push_jump_here(code: &mut Vec<u32>, short: bool, to: u64) -> Result<(), NoMem
 
 /// A jump to the code that leaves the function, unless that stands behind.
 fn push_jump_unless_last(code: &mut Vec<u32>, setting: Setting, last: u64) -> Result<(), NoMemory>
-    ensures { OnOk result (code.new.items ≡ code.old.items ++ map word_of (jump_unless_last setting.short setting.next (4 * length code.old.items) last)) }
+    ensures { OnOk result (code.new.items ≡ code.old.items
+        ++ map word_of (jump_unless_last setting.short setting.next (4 * length code.old.items) last)) }
 {
     match setting.next {
         Some(_) => push_jump_here(code, setting.short, last),
@@ -148,7 +159,8 @@ fn push_returned(
     part: Part,
     last: u64,
 ) -> Result<(), NoMemory>
-    ensures { OnOk result (code.new.items ≡ code.old.items ++ map word_of (returned (with_homes homes.now) setting held (4 * length code.old.items) last part)) }
+    ensures { OnOk result (code.new.items ≡ code.old.items
+        ++ map word_of (returned (with_homes homes.now) setting held (4 * length code.old.items) last part)) }
 {
     push_given(code, homes, held, part)?;
     push_jump_unless_last(code, setting, last)
@@ -165,7 +177,8 @@ fn push_end(
     exit: &Exit,
 ) -> Result<(), NoMemory>
     requires { IsTrue (has_exit_code exit.now) }
-    ensures { OnOk result (code.new.items ≡ code.old.items ++ map word_of (exit_code (with_homes homes.now) setting held (4 * length code.old.items) (start_of starts.now) last exit.now)) }
+    ensures { OnOk result (code.new.items ≡ code.old.items
+        ++ map word_of (exit_code (with_homes homes.now) setting held (4 * length code.old.items) (start_of starts.now) last exit.now)) }
 {
     match exit {
         Exit::Return(part) => push_returned(code, homes, setting, held, *part, last),
@@ -188,7 +201,9 @@ fn push_block_end(
     exit: &Exit,
 ) -> Result<(), NoMemory>
     requires { IsTrue (has_exit_code exit.now) }
-    ensures { OnOk result (code.new.items ≡ code.old.items ++ map word_of (end_code (with_homes homes.now) setting held (4 * length code.old.items) (start_of starts.now) last pair exit.now)) }
+    ensures { OnOk result (code.new.items ≡ code.old.items
+        ++ map word_of (end_code (with_homes homes.now) setting held (4 * length code.old.items) (start_of starts.now) last pair
+        exit.now)) }
 {
     match pair {
         Some(pair) => push_pair(code, homes, setting, held, starts, pair),
@@ -206,7 +221,8 @@ fn push_pair(
     starts: &[u64],
     pair: Pair,
 ) -> Result<(), NoMemory>
-    ensures { OnOk result (code.new.items ≡ code.old.items ++ map word_of (pair_code (with_homes homes.now) setting held (4 * length code.old.items) (start_of starts.now) pair)) }
+    ensures { OnOk result (code.new.items ≡ code.old.items
+        ++ map word_of (pair_code (with_homes homes.now) setting held (4 * length code.old.items) (start_of starts.now) pair)) }
 {
     let at = address(code)?;
     push_compared(
@@ -239,8 +255,12 @@ fn push_block(
     block: &Block,
 ) -> Result<(), NoMemory>
     requires { IsTrue (block_has_code block.now) }
-    ensures code { OnOk result (code.new.items ≡ code.old.items ++ map word_of (block_code (with_reads homes.now reads.now extent) sizes.now (λ f. 0) (start_of starts.now) last (4 * length code.old.items) rest block.now)) }
-    ensures calls { OnOk result (calls.new.items ≡ calls.old.items ++ instructions_calls (with_reads homes.now reads.now extent) sizes.now (length code.old.items) None (plain_of reads.now block.now)) }
+    ensures code { OnOk result (code.new.items ≡ code.old.items
+        ++ map word_of (block_code (with_reads homes.now reads.now extent) sizes.now (λ f. 0) (start_of starts.now) last
+        (4 * length code.old.items) rest block.now)) }
+    ensures calls { OnOk result (calls.new.items ≡ calls.old.items
+        ++ instructions_calls (with_reads homes.now reads.now extent) sizes.now (length code.old.items) None
+        (plain_of reads.now block.now)) }
 {
     let pair = pair_of(reads, block);
     let plain = plain_of(block.instructions.as_slice(), pair);
@@ -263,9 +283,13 @@ fn push_blocks(
     blocks: &[Block],
 ) -> Result<(), NoMemory>
     requires { IsTrue (list_all block_has_code blocks.now) }
-    ensures code { OnOk result (code.new.items ≡ code.old.items ++ map word_of (blocks_code (with_reads homes.now reads.now extent) sizes.now (λ f. 0) (start_of starts.now) last (4 * length code.old.items) blocks.now)) }
-    ensures calls { OnOk result (calls.new.items ≡ calls.old.items ++ blocks_calls (with_reads homes.now reads.now extent) sizes.now (length code.old.items) blocks.now) }
-    ensures begins { OnOk result (begins.new.items ≡ begins.old.items ++ starts_from (with_reads homes.now reads.now extent) sizes.now (4 * length code.old.items) blocks.now) }
+    ensures code { OnOk result (code.new.items ≡ code.old.items
+        ++ map word_of (blocks_code (with_reads homes.now reads.now extent) sizes.now (λ f. 0) (start_of starts.now) last
+        (4 * length code.old.items) blocks.now)) }
+    ensures calls { OnOk result (calls.new.items ≡ calls.old.items
+        ++ blocks_calls (with_reads homes.now reads.now extent) sizes.now (length code.old.items) blocks.now) }
+    ensures begins { OnOk result (begins.new.items ≡ begins.old.items
+        ++ starts_from (with_reads homes.now reads.now extent) sizes.now (4 * length code.old.items) blocks.now) }
 {
     let mut rest = blocks.len() as u64;
     for block in blocks {
@@ -290,7 +314,7 @@ fn frame_of(homes: &[Option<Home>], tac: &Tac) -> Result<(u64, u64), NoMemory>
     if temps >= 1 << 56 || areas >= 1 << 52 || parameters >= 1 << 56 {
         return Err(NoMemory);
     }
-    let words = 88 + 8 * temps + 128 * areas;
+    let words = 88 + 8 * temps + MAX_VALUE_BYTES * areas;
     Ok((words, words + 8 * parameters))
 }
 
@@ -317,7 +341,9 @@ fn push_call_head(
     requires extent { extent ≡ extent_of tac.now }
     requires words { words < 2 ^ 63 }
     requires bytes { 1 ≤ bytes }
-    ensures { OnOk result (code.new.items ≡ code.old.items ++ map word_of (entered (layout_with tac.now homes.now) bytes tac.now.frame ++ received (layout_with tac.now homes.now) tac.now.areas words tac.now.parameters)) }
+    ensures { OnOk result (code.new.items ≡ code.old.items
+        ++ map word_of (entered (layout_with tac.now homes.now) bytes tac.now.frame
+        ++ received (layout_with tac.now homes.now) tac.now.areas words tac.now.parameters)) }
 {
     push_entered(code, homes, extent, bytes, tac.frame)?;
     push_received(
@@ -369,9 +395,13 @@ fn push_body(
     requires has_code { IsTrue (all_has_code tac.now) }
     requires reads { reads.now ≡ reads_of tac.now }
     requires extent { extent ≡ extent_of tac.now }
-    ensures code { OnOk result (code.new.items ≡ code.old.items ++ map word_of (blocks_code (layout_with tac.now homes.now) tac.now.areas (λ f. 0) (start_of starts.now) last (4 * length code.old.items) tac.now.blocks)) }
-    ensures calls { OnOk result (calls.new.items ≡ calls.old.items ++ blocks_calls (layout_with tac.now homes.now) tac.now.areas (length code.old.items) tac.now.blocks) }
-    ensures begins { OnOk result (begins.new.items ≡ begins.old.items ++ starts_from (layout_with tac.now homes.now) tac.now.areas (4 * length code.old.items) tac.now.blocks) }
+    ensures code { OnOk result (code.new.items ≡ code.old.items
+        ++ map word_of (blocks_code (layout_with tac.now homes.now) tac.now.areas (λ f. 0) (start_of starts.now) last
+        (4 * length code.old.items) tac.now.blocks)) }
+    ensures calls { OnOk result (calls.new.items ≡ calls.old.items
+        ++ blocks_calls (layout_with tac.now homes.now) tac.now.areas (length code.old.items) tac.now.blocks) }
+    ensures begins { OnOk result (begins.new.items ≡ begins.old.items
+        ++ starts_from (layout_with tac.now homes.now) tac.now.areas (4 * length code.old.items) tac.now.blocks) }
 {
     push_blocks(
         code,

@@ -14,8 +14,8 @@ pub struct Extent {
     pub calls: bool,
 }
 
-/// Where a block's end stands: whether in a near or a short function, and before which block. Behind the last block stands the code that leaves
-/// the function.
+/// Where a block's end stands: whether in a near or a short function, and before which block. Behind the last block stands the code
+/// that leaves the function.
 #[derive(Clone, Copy, Debug, PartialEq, Eq)]
 pub struct Setting {
     pub near: bool,

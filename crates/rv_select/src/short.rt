@@ -2,7 +2,8 @@
 
 ghost use Rattle.std.specs.Prelude.{◌≡◌, ◌*◌, ◌+◌, ◌-◌, ◌^◌, ◌≤◌, length, sum_by};
 ghost use Rattle.rv_select.specs.Places.{is_near, is_short};
-ghost use Rattle.tac_form.specs.Weights.{block_words, constant_words, exit_words, operand_words, operator_words, reached, received, words_of};
+ghost use Rattle.tac_form.specs.Weights.{block_words, constant_words, exit_words, operand_words, operator_words, reached, received};
+ghost use Rattle.tac_form.specs.Weights.{words_of};
 
 use tac_form::{Address, Block, Destination, Exit, Instruction, Operand, Spot, Tac};
 use terra_words::BinaryOperator;

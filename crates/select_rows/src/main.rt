@@ -6,8 +6,8 @@
 //! A row that begins with `run` is the name of a program of `functions` and its arguments: its functions are selected with the
 //! homes that `assign` gives, and run. What comes of them is worked out by hand.
 //!
-//! A row that begins with `words` is the name of an instruction, and its words are written: addiw x5, x0, 5 and addi x18, x5, 0 of the copy;
-//! ld x5, 88(x2), ld x6, 96(x2), add x5, x5, x6 and sd x5, 88(x2) of the sum.
+//! A row that begins with `words` is the name of an instruction, and its words are written: addiw x5, x0, 5 and addi x18, x5, 0 of the
+//! copy; ld x5, 88(x2), ld x6, 96(x2), add x5, x5, x6 and sd x5, 88(x2) of the sum.
 #![tactic(auto)]
 
 mod functions;
@@ -19,11 +19,12 @@ use elf_image::{Bytes, Image, Symbol, Symbols, Words, is_lawful};
 use functions::program;
 use reg_alloc::{Home, assign};
 use rv_link::{Function, blocks_there, is_near, link};
-use rv_machine::{Stop, TEXT, run_image};
+use rv_machine::{Stop, run_image};
 use rv_select::{all_has_code, push_instruction, select};
 use std::alloc::Global;
 use tac_form::{Instruction, Number, Operand, Size, Tac};
 use terra_words::BinaryOperator;
+use tl_base::limits::TEXT_ADDRESS;
 use tl_base::{FnId, MemSink, NoMemory, Place};
 
 /// Makes room for a frame in private memory: addi x2, x2, -256.
@@ -210,7 +211,7 @@ fn run(alloc: Global, code: Vec<u32>, arguments: &[u64]) -> Result<Option<Stop>,
         return Ok(None);
     }
     let mut out = MemSink::new(alloc, 0, Vec::new(alloc))?;
-    let stop = run_image(alloc, &image, TEXT, arguments, STEPS, &mut out)?;
+    let stop = run_image(alloc, &image, TEXT_ADDRESS, arguments, STEPS, &mut out)?;
     Ok(Some(stop))
 }
 
@@ -219,7 +220,7 @@ fn image_of(alloc: Global, code: Vec<u32>) -> Result<Image, NoMemory> {
     let mut exports = Symbols::new(alloc);
     exports.push(Symbol {
         name: Bytes::from(b"f".to_vec(alloc)?),
-        address: TEXT,
+        address: TEXT_ADDRESS,
         params: Bytes::new(alloc),
         result: 3,
     })?;

@@ -9,7 +9,8 @@ use Rattle.terra_term.specs.declared.store.TextBytes.{TextBytes}
 use Rattle.terra_term.specs.declared.term.Expression.TheVariants as expressions
 use Rattle.terra_term.specs.declared.term.Term.TheVariants as terms
 use Rattle.terra_term.proofs.Staying.{stays-same}
-use Rattle.terra_term.specs.Held.{Held, state_of, with_term, with_static, with_text, with_name, text_address, room_for, placed_text, name_place, ended}
+use Rattle.terra_term.specs.Held.{Held, state_of, with_term, with_static, with_text, with_name, text_address, room_for, placed_text}
+use Rattle.terra_term.specs.Held.{name_place, ended}
 use Rattle.exotype.specs.World.{StageState, with_store}
 use Rattle.exotype.specs.Becoming.{Becoming, Leaf, Text, Spliced, Again, Not, store_after, after}
 use Rattle.spec_model.specs.Making as making

@@ -1,5 +1,6 @@
 -- What comes of values as items of a block.
-use Rattle.std.proofs.Common.{◌≡◌, ℕ, ◌+◌, ◌-◌, ◌<◌, ◌≤◌, List, [], ◌∷◌, ◌++◌, length, drop, get_or, refl, sym, ap, subst, ◌∙◌, Option, Some, None}
+use Rattle.std.proofs.Common.{◌≡◌, ℕ, ◌+◌, ◌-◌, ◌<◌, ◌≤◌, List, [], ◌∷◌, ◌++◌, length, drop, get_or, refl, sym, ap, subst, ◌∙◌, Option}
+use Rattle.std.proofs.Common.{Some, None}
 use Rattle.tl_base.specs.declared.ids.QuoteId.{QuoteId}
 use Rattle.tl_base.specs.declared.ids.TableId.{TableId}
 use Rattle.tl_base.specs.declared.ids.TermId.{TermId}
@@ -25,7 +26,8 @@ use Rattle.spec_machine.specs.Steps.{SpecStep, Comes}
 use Rattle.spec_machine.proofs.Doing.{moved, lacks}
 use Rattle.spec_machine.proofs.Entering.{node_gets}
 use Rattle.spec_machine.proofs.Reaching.{Passes, passes_same, comes_past}
-use Rattle.spec_machine.proofs.Splicing.{no_quote_item, no_table_spliced, statements_quoted, no_statements, items_next, items_end, spliced_next, spliced_end}
+use Rattle.spec_machine.proofs.Splicing.{no_quote_item, no_table_spliced, statements_quoted, no_statements, items_next, items_end}
+use Rattle.spec_machine.proofs.Splicing.{spliced_next, spliced_end}
 
 -- ---- one item
 

@@ -3,14 +3,10 @@ use Rattle.std.specs.Prelude.{List, [], ◌∷◌, Option, Some, None}
 use Rattle.tl_base.specs.declared.ids.TermId.{TermId}
 use Rattle.tl_base.specs.declared.ids.TypeId.{TypeId}
 use Rattle.lua_value.specs.declared.value.Value.{Value}
-use Rattle.lua_value.specs.declared.value.Value.TheVariants as values
 use Rattle.terra_types.specs.Opening.{unit}
 use Rattle.terra_term.specs.declared.store.Quote.{Quote}
 use Rattle.terra_term.specs.declared.store.Quote.TheVariants as quotes
-
-abbrev pub type_of_value : Value → Option TypeId
-type_of_value (values.TerraType t) = Some t
-type_of_value _ = None
+pub use Rattle.lua_value.specs.Values.{type_in as type_of_value}
 
 -- the type of a table's values: none is the unit type, and one type is that type
 abbrev pub type_among : List Value → Option TypeId

@@ -6,8 +6,6 @@ pub mod Steps
 pub mod Keeping
 -- That it is kept by one step and the next.
 pub mod Kept
--- Where the uses of locals find their cells.
-pub mod Slots
 -- Parameters and declarations.
 pub mod Agreeing
 -- Values as statements.

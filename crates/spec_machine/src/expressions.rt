@@ -13,7 +13,7 @@ ghost use Rattle.spec_model.specs.declared.end.End.TheVariants.{Made};
 ghost use Rattle.spec_model.specs.Expressions as plans;
 ghost use Rattle.spec_machine.specs.Frames.{with_initial, initials_from};
 ghost use Rattle.spec_machine.specs.Keeping.{KeepsStage};
-ghost use Rattle.spec_machine.specs.Slots.{ArePaths};
+ghost use Rattle.tl_rename.specs.Answers.{ArePaths};
 ghost use Rattle.spec_machine.specs.Agreeing.{initial_in};
 ghost use Rattle.exotype.specs.World.{StageState};
 ghost use Rattle.tl_base.specs.declared.ids.TypeId.{TypeId};

@@ -8,7 +8,7 @@ ghost use Rattle.spec_model.specs.Plans.{one, listed, as_term, as_terms, as_stat
 ghost use Rattle.spec_machine.specs.Frames as waiting;
 ghost use Rattle.spec_machine.specs.Frames.{spec_rules, is_go};
 ghost use Rattle.spec_machine.specs.Keeping.{KeepsStage};
-ghost use Rattle.spec_machine.specs.Slots.{ArePaths};
+ghost use Rattle.tl_rename.specs.Answers.{ArePaths};
 ghost use Rattle.spec_machine.specs.Steps.{Goes, Does};
 ghost use Rattle.lua_table.specs.Cells.{first_value};
 ghost use Rattle.spec_model.specs.Statements.{each_spliced, joined};

@@ -12,7 +12,7 @@ ghost use Rattle.spec_model.specs.Plans.{with_text_of, index};
 ghost use Rattle.spec_machine.specs.Frames as waiting;
 ghost use Rattle.spec_machine.specs.Keeping.{KeepsStage};
 ghost use Rattle.spec_machine.specs.Agreeing.{is_last};
-ghost use Rattle.spec_machine.specs.Slots.{ArePaths};
+ghost use Rattle.tl_rename.specs.Answers.{ArePaths};
 ghost use Rattle.spec_machine.specs.Steps.{Goes};
 
 use crate::code::{name, path_method, path_names, place};

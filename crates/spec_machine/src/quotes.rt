@@ -26,23 +26,18 @@ use exotype::{Fault, World};
 use lua_value::Value;
 use spec_model::{End, Job};
 use terra_term::{Expression, Quote, Size, Term};
+use tl_base::limits::{MAX_TERM_LEVELS, MAX_TERM_NODES};
 use tl_base::{Budget, EnvId, NoMemory, NodeId, Place, Step, TermId};
 use tl_tree::Tree;
-
-/// The most nodes of a quote or a function.
-const MOST_NODES: u32 = 8192;
-
-/// The most levels of a quote or a function.
-const MOST_LEVELS: u16 = 1000;
 
 /// The error that something of this size raises, if it is past the limits.
 pub fn past_limits(size: Size) -> Option<Fault>
     ensures { result ≡ fault_of size }
 {
-    if size.nodes > MOST_NODES {
+    if size.nodes > MAX_TERM_NODES {
         return Some(Fault::TermTooLarge);
     }
-    if size.levels > MOST_LEVELS {
+    if size.levels > MAX_TERM_LEVELS {
         return Some(Fault::TermTooDeep);
     }
     None

@@ -12,10 +12,7 @@ use exotype::{Fault, World};
 use lua_value::Value;
 use spec_model::End;
 use std::alloc::Global;
-use tl_base::{Budget, NoMemory, Place, Step, Text2, TextId};
-
-/// The most bytes of a text.
-const LONGEST_TEXT: usize = 65_535;
+use tl_base::{Budget, NoMemory, Place, Step, Text, Text2, TextId};
 
 /// The units that a text of so many bytes costs.
 fn text_units(length: usize) -> u64
@@ -43,7 +40,7 @@ pub fn text(world: &mut World, bytes: &[u8]) -> Result<TextId, NoMemory>
     ensures means { IfOk result (λ id. Gets (λ go. with_text_of bytes.now go) world.old id world.new) }
     ensures kept { OnOk result (KeepsStage world.old world.new) }
 {
-    if bytes.len() > LONGEST_TEXT {
+    if bytes.len() > Text::MAX_LEN {
         return Ok(TextId(0));
     }
     let id = world.heap.intern(bytes)?;

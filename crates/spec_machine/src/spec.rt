@@ -4,7 +4,7 @@ ghost use Rattle.std.specs.Prelude.{◌≡◌, List, false};
 ghost use Rattle.tl_tree.specs.Arena.{items_of};
 ghost use Rattle.spec_model.specs.Meaning.{spec, SpecGiven};
 ghost use Rattle.spec_machine.specs.Keeping.{KeepsStage};
-ghost use Rattle.spec_machine.specs.Slots.{ArePaths};
+ghost use Rattle.tl_rename.specs.Answers.{ArePaths};
 
 use crate::machine::Steps;
 use exotype::World;

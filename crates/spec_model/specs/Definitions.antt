@@ -28,7 +28,8 @@ use Rattle.exotype.specs.declared.fault.Fault.TheVariants as faults
 use Rattle.exotype.specs.World.{StageState, with_heap}
 use Rattle.exotype.specs.Types.{pointer_id, with_pointer, is_struct, tables_of}
 use Rattle.exotype.specs.Terms.{function_size}
-use Rattle.spec_model.specs.Making.{next_symbol, with_symbol, symbol_type, next_function, with_function, declared_type, is_undefined, may_be_defined}
+use Rattle.spec_model.specs.Making.{next_symbol, with_symbol, symbol_type, next_function, with_function, declared_type, is_undefined}
+use Rattle.spec_model.specs.Making.{may_be_defined}
 use Rattle.spec_model.specs.Making.{with_defined, form_at}
 use Rattle.spec_model.specs.declared.end.End.TheVariants.{Gave}
 use Rattle.spec_model.specs.declared.target.Target.{Target}

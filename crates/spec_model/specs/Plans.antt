@@ -6,6 +6,7 @@ use Rattle.tl_base.specs.declared.ids.TextId.{TextId}
 use Rattle.tl_base.specs.declared.ids.TermId.{TermId}
 use Rattle.tl_base.specs.declared.place.Place.{Place}
 use Rattle.tl_base.specs.Plan.{Plan, Give, Do, AskFor, Read, Write, Pay}
+use Rattle.tl_base.specs.declared.text.TheConstants.Text.{MAX_LEN}
 use Rattle.lua_value.specs.declared.value.Value.{Value}
 use Rattle.lua_value.specs.declared.value.Value.TheVariants as values
 use Rattle.lua_table.specs.Pairs.{Pairs, value_at, border_of}
@@ -41,7 +42,7 @@ SpecPlan = Plan Job StageState SpecQuestion SpecAnswer End
 -- the last case is met in no source's tree.
 abbrev pub with_text_of : List ℕ → (TextId → SpecPlan) → SpecPlan
 with_text_of bytes go =
-    if nat_le (length bytes) 65535 then Read (λ w. Write (with_heap w (with_text w.heap bytes)) (go (interned_id w.heap bytes)))
+    if nat_le (length bytes) MAX_LEN then Read (λ w. Write (with_heap w (with_text w.heap bytes)) (go (interned_id w.heap bytes)))
     else go (record { 0 = 0 })
 
 abbrev pub error_text : Place → Fault → List ℕ

@@ -5,6 +5,7 @@ use Rattle.tl_base.specs.declared.ids.NodeId.{NodeId}
 use Rattle.tl_base.specs.declared.ids.TermId.{TermId}
 use Rattle.tl_base.specs.declared.place.Place.{Place}
 use Rattle.tl_base.specs.Plan.{Give, Read, Write}
+use Rattle.tl_base.specs.declared.limits.TheConstants.{MAX_TERM_NODES, MAX_TERM_LEVELS}
 use Rattle.lua_value.specs.declared.value.Value.TheVariants as values
 use Rattle.tl_tree.specs.Code.{Items, statements_at}
 use Rattle.terra_term.specs.declared.store.Quote.{Quote}
@@ -20,10 +21,10 @@ use Rattle.spec_model.specs.Plans.{SpecPlan, raise, expression, term, block, ent
 
 -- the most nodes and levels of a quote or a function
 abbrev pub most_nodes : ℕ
-most_nodes = 8192
+most_nodes = MAX_TERM_NODES
 
 abbrev pub most_levels : ℕ
-most_levels = 1000
+most_levels = MAX_TERM_LEVELS
 
 -- goes on with what is within the limits
 abbrev pub limited : Size → Place → SpecPlan → SpecPlan

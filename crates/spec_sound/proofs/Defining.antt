@@ -22,7 +22,8 @@ use Rattle.terra_term.proofs.Staying.{declaring-stays, defining-stays, kept-fron
 use Rattle.exotype.specs.World.{StageState, with_store}
 use Rattle.check_model.specs.declared.known.KnownResult.TheVariants.{Is, NotYet}
 use Rattle.check_model.specs.Typing.{function_at}
-use Rattle.check_model.specs.Calls.{known_result, parameter_types, parameters_of, result_of, parameters_in_state, result_in_state, declared_params, declared_result, params_in, result_in, params_of, written_in, known_or}
+use Rattle.check_model.specs.Calls.{known_result, parameter_types, parameters_of, result_of, parameters_in_state, result_in_state}
+use Rattle.check_model.specs.Calls.{declared_params, declared_result, params_in, result_in, params_of, written_in, known_or}
 use Rattle.check_sound.specs.Sound.{foreseen, typed_body, IsThereIfAny, TermIsThere, IsSound, HasBodyOf}
 use Rattle.check_sound.specs.Growing.{Grows, StaysDeclared}
 use Rattle.check_sound.proofs.Tests.{none-some, same-some}

@@ -1,5 +1,6 @@
 -- Plans for declarations and definitions are fine.
-use Rattle.std.proofs.Common.{◌≡◌, ℕ, ◌<◌, Bool, true, false, List, [], ◌∷◌, ◌++◌, length, Option, Some, None, refl, sym, ap, ◌∙◌, subst, arith, slice_get}
+use Rattle.std.proofs.Common.{◌≡◌, ℕ, ◌<◌, Bool, true, false, List, [], ◌∷◌, ◌++◌, length, Option, Some, None, refl, sym, ap, ◌∙◌, subst}
+use Rattle.std.proofs.Common.{arith, slice_get}
 use Rattle.std.specs.Prelude.{◌&&◌, nat_lt, if◌then◌else◌}
 use Rattle.std.specs.Option.{option_map_or}
 use mathlib.Core.Logic.{inl, inr}
@@ -43,13 +44,17 @@ use Rattle.check_sound.proofs.Tests.{no, got, past-get}
 use Rattle.spec_model.specs.declared.target.Target.{Target}
 use Rattle.spec_model.specs.declared.target.Target.TheVariants as targets
 use Rattle.spec_model.specs.declared.wanted.Drawn.{Drawn}
-use Rattle.spec_model.specs.Making.{next_symbol, with_symbol, symbol_type, next_function, with_function, declaration, declared_type, undefined_state, is_undefined, may_be_defined, with_defined, next_term, with_term}
+use Rattle.spec_model.specs.Making.{next_symbol, with_symbol, symbol_type, next_function, with_function, declaration, declared_type}
+use Rattle.spec_model.specs.Making.{undefined_state, is_undefined, may_be_defined, with_defined, next_term, with_term}
 use Rattle.spec_model.specs.Making as making
 use Rattle.spec_model.specs.Nodes.{escaped_at, Typing, typing_at, TerraParts}
 use Rattle.spec_model.specs.Plans.{SpecPlan, raise, node, block, entering, declaring}
 use Rattle.spec_model.specs.Names.{symbols_of}
 use Rattle.spec_model.specs.Types.{type_if_any}
-use Rattle.spec_model.specs.Definitions.{with_held, storing, Go, key, method_key, steps, only_name, targeted, target, draw, spliced_one, spliced, named_parameter, parameter, parameters, self, parameter_list, drawn_types, declaring_all, agrees, as_declared, result_type, finish, define, new_function, made, standing, function_form, function_type}
+use Rattle.spec_model.specs.Definitions.{with_held, storing, Go, key, method_key, steps, only_name, targeted, target, draw, spliced_one}
+use Rattle.spec_model.specs.Definitions.{spliced, named_parameter, parameter, parameters, self, parameter_list, drawn_types, declaring_all}
+use Rattle.spec_model.specs.Definitions.{agrees, as_declared, result_type, finish, define, new_function, made, standing, function_form}
+use Rattle.spec_model.specs.Definitions.{function_type}
 use Rattle.spec_sound.proofs.Following.{Next, next-itself, next-twice, there-still, any-still}
 use Rattle.spec_sound.proofs.Running.{Fine}
 use Rattle.spec_sound.proofs.Writing.{heap-follows, symbol-follows, pointer-follows, term-follows}

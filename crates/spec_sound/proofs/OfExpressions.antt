@@ -1,5 +1,6 @@
 -- Plans for expressions are fine.
-use Rattle.std.proofs.Common.{◌≡◌, ℕ, ◌≤◌, Bool, true, false, List, [], ◌∷◌, ◌++◌, Option, Some, None, refl, ap, ◌∙◌, arith, slice_get, length}
+use Rattle.std.proofs.Common.{◌≡◌, ℕ, ◌≤◌, Bool, true, false, List, [], ◌∷◌, ◌++◌, Option, Some, None, refl, ap, ◌∙◌, arith, slice_get}
+use Rattle.std.proofs.Common.{length}
 use Rattle.std.specs.Prelude.{◌-◌, nat_le, drop, unwrap_or, if◌then◌else◌}
 use Rattle.std.proofs.lemmas.Bool.{leb-true, lt-ltb, or_left}
 use Rattle.tl_base.specs.declared.ids.EnvId.{EnvId}
@@ -42,11 +43,14 @@ use Rattle.spec_model.specs.declared.question.SpecQuestion.TheVariants as questi
 use Rattle.spec_model.specs.Nodes.{Initial, initial_at, are_named, operator_of, unary_of, is_l, is_u, suffixed, numeral_type}
 use Rattle.spec_model.specs.Plans.{SpecPlan, with_text_of, on_value, make, one, term, terms_of}
 use Rattle.spec_model.specs.Names.{member, naming}
-use Rattle.spec_model.specs.Expressions.{found, named_value, select_term, select_from, select, or_no_type, spliced_type, quoted_type, type_from, constructed, Initials, named_initial, named_initials, construct, expression_of, largest_of, numeral_value, expression_plan}
+use Rattle.spec_model.specs.Expressions.{found, named_value, select_term, select_from, select, or_no_type, spliced_type, quoted_type}
+use Rattle.spec_model.specs.Expressions.{type_from, constructed, Initials, named_initial, named_initials, construct, expression_of}
+use Rattle.spec_model.specs.Expressions.{largest_of, numeral_value, expression_plan}
 use Rattle.spec_sound.specs.Sound.{ArePlaced}
 use Rattle.spec_sound.proofs.Following.{Next, next-itself, next-twice}
 use Rattle.spec_sound.proofs.Running.{Fine}
-use Rattle.spec_sound.proofs.OfPlans.{fine-if, fine-text, fine-raise, fine-eval, fine-index, fine-asked, fine-make, fine-one, fine-literal, fine-as-term, fine-term, fine-terms}
+use Rattle.spec_sound.proofs.OfPlans.{fine-if, fine-text, fine-raise, fine-eval, fine-index, fine-asked, fine-make, fine-one, fine-literal}
+use Rattle.spec_sound.proofs.OfPlans.{fine-as-term, fine-term, fine-terms}
 use Rattle.spec_sound.proofs.OfNames.{WithType, placed-at, fine-as-type, fine-member, fine-naming}
 
 -- ---- numerals

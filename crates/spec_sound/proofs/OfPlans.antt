@@ -30,7 +30,9 @@ use Rattle.spec_model.specs.declared.question.SpecQuestion.TheVariants as questi
 use Rattle.spec_model.specs.declared.question.SpecAnswer.{SpecAnswer}
 use Rattle.spec_model.specs.declared.question.SpecAnswer.TheVariants as answers
 use Rattle.spec_model.specs.Making.{next_term, with_term}
-use Rattle.spec_model.specs.Plans.{SpecPlan, with_text_of, error_text, raise, on_value, on_values, eval, emitted, index, node, expression, make, join, on_became, one, literal, values_in, each_one, listed, as_term, as_terms, as_statements, term, terms_of, each_term, block, entering, declaring}
+use Rattle.spec_model.specs.Plans.{SpecPlan, with_text_of, error_text, raise, on_value, on_values, eval, emitted, index, node, expression}
+use Rattle.spec_model.specs.Plans.{make, join, on_became, one, literal, values_in, each_one, listed, as_term, as_terms, as_statements, term}
+use Rattle.spec_model.specs.Plans.{terms_of, each_term, block, entering, declaring}
 use Rattle.check_sound.proofs.Becoming.{becomes}
 use Rattle.spec_sound.proofs.Following.{Next, next-itself, next-twice, statements-still}
 use Rattle.spec_sound.proofs.Running.{Fine}

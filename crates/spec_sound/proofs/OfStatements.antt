@@ -32,12 +32,15 @@ use Rattle.spec_model.specs.Nodes.{escaped_at, or_first, typing_at, Typing}
 use Rattle.spec_model.specs.Plans.{SpecPlan, node, join, values_in, term, terms_of, each_term, block, entering, declaring}
 use Rattle.spec_model.specs.Names.{symbols_of, symbol_of}
 use Rattle.spec_model.specs.Types.{type_if_any}
-use Rattle.spec_model.specs.Statements.{joined, performed, quoted, item_of, each_item, spliced, each_spliced, given, wanted_one, wanted, or_own, drawn_one, drawn, values_if_any, var_plan, inner_block, repeat_plan, Others, arm, else_block, else_of, if_plan, for_body, for_plan, statement_of, statement_plan}
+use Rattle.spec_model.specs.Statements.{joined, performed, quoted, item_of, each_item, spliced, each_spliced, given, wanted_one, wanted}
+use Rattle.spec_model.specs.Statements.{or_own, drawn_one, drawn, values_if_any, var_plan, inner_block, repeat_plan, Others, arm}
+use Rattle.spec_model.specs.Statements.{else_block, else_of, if_plan, for_body, for_plan, statement_of, statement_plan}
 use Rattle.spec_sound.specs.Sound.{ArePlaced}
 use Rattle.spec_sound.proofs.Following.{Next, next-itself, next-twice, statements-still, any-still}
 use Rattle.spec_sound.proofs.Running.{Fine}
 use Rattle.spec_sound.proofs.Writing.{symbol-follows}
-use Rattle.spec_sound.proofs.OfPlans.{WithStatements, fine-eval, fine-emitted, fine-statement, fine-join, fine-one, fine-term, fine-terms, fine-each-term, fine-block, fine-entering, fine-declaring, statements-append}
+use Rattle.spec_sound.proofs.OfPlans.{WithStatements, fine-eval, fine-emitted, fine-statement, fine-join, fine-one, fine-term, fine-terms}
+use Rattle.spec_sound.proofs.OfPlans.{fine-each-term, fine-block, fine-entering, fine-declaring, statements-append}
 use Rattle.spec_sound.proofs.OfNames.{placed-at, fine-type-if-any, fine-symbols-of, fine-symbol-of}
 
 -- ---- values as statements

@@ -1,8 +1,10 @@
 -- Where each step of a plan goes to a sound world that follows, so does its run, whatever is answered.
-use Rattle.std.proofs.Common.{◌≡◌, ℕ, zero, suc, ◌-◌, ◌≤◌, Bool, true, false, List, [], ◌∷◌, ◌++◌, append_assoc, append-nil, refl, sym, ap, ◌∙◌, subst, arith}
+use Rattle.std.proofs.Common.{◌≡◌, ℕ, zero, suc, ◌-◌, ◌≤◌, Bool, true, false, List, [], ◌∷◌, ◌++◌, append_assoc, append-nil, refl, sym, ap}
+use Rattle.std.proofs.Common.{◌∙◌, subst, arith}
 use Rattle.std.specs.Prelude.{if◌then◌else◌, nat_le}
 use Rattle.tl_base.specs.Layer.{State, state}
-use Rattle.tl_base.specs.Plan.{Give, Do, AskFor, Read, Write, Pay, Run, Gives, Stops, Halt, Lacks, Waits, Course, then_do, paid, run, run_within, run_job, shown, units, units_of, IsUnchangedByMore}
+use Rattle.tl_base.specs.Plan.{Give, Do, AskFor, Read, Write, Pay, Run, Gives, Stops, Halt, Lacks, Waits, Course, then_do, paid, run}
+use Rattle.tl_base.specs.Plan.{run_within, run_job, shown, units, units_of, IsUnchangedByMore}
 use Rattle.tl_base.proofs.Plans.{run_within-is, plan_run-by_more}
 use Rattle.tl_tree.specs.Code.{Items}
 use Rattle.terra_term.specs.WellTyped.{is_placed}

@@ -25,7 +25,8 @@ use Rattle.spec_model.specs.declared.target.Target.TheVariants as targets
 use Rattle.spec_model.specs.Nodes.{terra_parts_at}
 use Rattle.spec_model.specs.Plans.{declaring}
 use Rattle.spec_model.specs.Structs.{entries_plan, new_struct, struct_plan, local_struct_plan, anonymous_struct_plan}
-use Rattle.spec_model.specs.Definitions.{over, held_in, storing, define, standing, new_function, function_type, terra_plan, local_terra_plan, anonymous_plan, declare_plan, local_declare_plan}
+use Rattle.spec_model.specs.Definitions.{over, held_in, storing, define, standing, new_function, function_type, terra_plan}
+use Rattle.spec_model.specs.Definitions.{local_terra_plan, anonymous_plan, declare_plan, local_declare_plan}
 use Rattle.spec_model.specs.Meaning.{value_plan, definition_plan, first_of, spec}
 use Rattle.spec_sound.specs.Sound.{word_of, ArePlaced, SpecialisingKeepsSound}
 use Rattle.spec_sound.proofs.Following.{any-still}
@@ -35,7 +36,8 @@ use Rattle.spec_sound.proofs.OfNames.{placed-at, word-placed}
 use Rattle.spec_sound.proofs.OfExpressions.{fine-expression-plan}
 use Rattle.spec_sound.proofs.OfStatements.{fine-statement-plan}
 use Rattle.spec_sound.proofs.OfQuotes.{fine-backtick, fine-quote, fine-entries, fine-new-struct}
-use Rattle.spec_sound.proofs.OfDefinitions.{fine-storing, fine-target, fine-define, fine-new-function, fine-standing, fine-function-type, function-still}
+use Rattle.spec_sound.proofs.OfDefinitions.{fine-storing, fine-target, fine-define, fine-new-function, fine-standing, fine-function-type}
+use Rattle.spec_sound.proofs.OfDefinitions.{function-still}
 
 module _ (items : Items) (all : ArePlaced items) where
   each-fine : EachFine items

@@ -17,7 +17,8 @@ use Rattle.terra_term.specs.WellTyped.{types_of_names}
 use Rattle.exotype.specs.World.{StageState}
 use Rattle.check_model.specs.declared.known.KnownResult.TheVariants.{Is, NotYet}
 use Rattle.check_model.specs.Typing.{function_at, form_in}
-use Rattle.check_model.specs.Calls.{known_or, known_result, parameter_types, params_of, parameters_in_state, parameters_of, result_in_state, result_of}
+use Rattle.check_model.specs.Calls.{known_or, known_result, parameter_types, params_of, parameters_in_state, parameters_of, result_in_state}
+use Rattle.check_model.specs.Calls.{result_of}
 use Rattle.check_sound.specs.Exports as exporting
 use Rattle.check_sound.specs.Exports.{all_words, is_word_form, is_result_form}
 use Rattle.check_sound.specs.Sound.{IsSound, body_in, typed_body}

@@ -1,5 +1,6 @@
 -- What a source comes to that is staged and whose exports are compiled.
-use Rattle.std.specs.Prelude.{ℕ, zero, suc, ◌≡◌, ◌/◌, ◌^◌, ◌≤◌, ◌<◌, Bool, true, false, if◌then◌else◌, List, length, Some, slice_get, slice_index}
+use Rattle.std.specs.Prelude.{ℕ, zero, suc, ◌≡◌, ◌/◌, ◌^◌, ◌≤◌, ◌<◌, Bool, true, false, if◌then◌else◌, List, length, Some, slice_get}
+use Rattle.std.specs.Prelude.{slice_index}
 use Rattle.tl_base.specs.declared.ids.FnId.{FnId}
 use Rattle.tl_base.specs.declared.limits.Limits.{Limits}
 use Rattle.tl_base.specs.declared.place.Place.{Place}

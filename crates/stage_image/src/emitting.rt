@@ -5,7 +5,8 @@ ghost use Rattle.tl_base.specs.Limits.{IsLimits};
 ghost use Rattle.tl_tree.specs.Arena.{items_of, end_of as finish_of};
 ghost use Rattle.terra_term.specs.Stores.{contents_of};
 ghost use Rattle.check_stage.specs.declared.staging.End.TheVariants as ends;
-ghost use Rattle.stage_image.specs.Emitted.{AreBytes, CanCompile, HaveBytes, IsEmitted, IsImageOf, IsMade, counted, defined_count, is_defined};
+ghost use Rattle.stage_image.specs.Emitted.{AreBytes, CanCompile, HaveBytes, IsEmitted, IsImageOf, IsMade, counted, defined_count};
+ghost use Rattle.stage_image.specs.Emitted.{is_defined};
 
 use back_end::compile;
 use check_stage::{End, Mode, stage};
@@ -59,7 +60,7 @@ fn emitted_of(alloc: Global, world: &World, end: End, limits: Limits) -> Result<
     ensures functions { IfOk result (λ it. it.functions ≡ defined_count world.now.store) }
     ensures end { IfOk result (λ it. IsMade world.now limits.memory end it.end) }
 {
-    let printed = printed_by(world)?;
+    let printed = world.printed()?;
     let functions = defined_count(&world.store);
     let made = made_of(alloc, world, end, limits);
     Ok(Emitted {
@@ -67,15 +68,6 @@ fn emitted_of(alloc: Global, world: &World, end: End, limits: Limits) -> Result<
         functions,
         end: made,
     })
-}
-
-/// What was printed.
-fn printed_by(world: &World) -> Result<Text2, NoMemory>
-    ensures { IfOk result (λ text. text ≡ world.now.heap.printed) }
-{
-    let mut text = Text2::new(world.heap.allocator());
-    text.push_bytes(world.heap.printed())?;
-    Ok(text)
 }
 
 /// How many functions of a store are defined.

@@ -19,7 +19,8 @@ use Rattle.stage_library.specs.Library.{turn_seen}
 
 -- A text is given, for which the function pays that asked. One that is longer than texts can be is raised as that.
 abbrev pub text_turned : State StageState → Place → Option (List ℕ) → Turned
-text_turned s place (Some text) = gives_one s (with_heap s.world (with_text s.world.heap text)) (values.Text (interned_id s.world.heap text))
+text_turned s place (Some text) =
+    gives_one s (with_heap s.world (with_text s.world.heap text)) (values.Text (interned_id s.world.heap text))
 text_turned s place None = on_heap s (λ h. base.raised h place (codes "text too long"))
 
 abbrev pub type_turned : State StageState → TypeId → Place → Turned

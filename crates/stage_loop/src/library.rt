@@ -6,7 +6,8 @@ ghost use Rattle.lua_table.specs.Keeping.{KeepsHeap};
 ghost use Rattle.lua_table.specs.LuaState.{LuaState};
 ghost use Rattle.lua_base.specs.Basic.{backed};
 ghost use Rattle.lua_base.specs.Calls.{turned};
-ghost use Rattle.stage_loop.specs.Library.{is_on_texts_or_tables, library_called, back_of, library_turned, turn_seen, library_seen, library_rest};
+ghost use Rattle.stage_loop.specs.Library.{is_on_texts_or_tables, library_called, back_of, library_turned, turn_seen, library_seen};
+ghost use Rattle.stage_loop.specs.Library.{library_rest};
 
 use crate::staged::Task;
 use lua_model::{LuaAnswer, LuaEnd, LuaJob};

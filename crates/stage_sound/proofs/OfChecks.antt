@@ -36,7 +36,8 @@ use Rattle.check_model.specs.Checks.{CheckGiven, check}
 use Rattle.check_model.specs.Layouts.{LayoutGiven, layout}
 use Rattle.check_sound.specs.Sound.{IsSound}
 use Rattle.check_sound.specs.Growing.{Leads}
-use Rattle.check_sound.specs.Layers.{IsBack, IsBodyAsked, IsBodyBack, IsBodyBackFor, IsTypedAs, MayBeTyped, BodyStaysSound, IsCheckAsked, IsCheckBack, IsCheckBackFor, IsCheckedAs, CheckStaysSound, IsLaidAs, LayoutStaysSound}
+use Rattle.check_sound.specs.Layers.{IsBack, IsBodyAsked, IsBodyBack, IsBodyBackFor, IsTypedAs, MayBeTyped, BodyStaysSound, IsCheckAsked}
+use Rattle.check_sound.specs.Layers.{IsCheckBack, IsCheckBackFor, IsCheckedAs, CheckStaysSound, IsLaidAs, LayoutStaysSound}
 use Rattle.check_sound.specs.Layers as laws
 use Rattle.check_sound.proofs.Foreseen.{body-result}
 use Rattle.check_sound.proofs.Leading.{leads-itself}
@@ -44,7 +45,8 @@ use Rattle.check_stage.specs.declared.jobs.Job.{Job}
 use Rattle.check_stage.specs.declared.jobs.Job.TheVariants as jobs
 use Rattle.check_stage.specs.declared.jobs.JobEnd.{JobEnd}
 use Rattle.check_stage.specs.declared.jobs.JobEnd.TheVariants as ends
-use Rattle.check_stage.specs.Layers.{check_stage, answer_of, with_stage, job_meaning, check_fitting, check_asks, check_end, body_fitting, body_asks, body_end, result_fitting, layout_fitting, layout_asks, layout_end}
+use Rattle.check_stage.specs.Layers.{check_stage, answer_of, with_stage, job_meaning, check_fitting, check_asks, check_end, body_fitting}
+use Rattle.check_stage.specs.Layers.{body_asks, body_end, result_fitting, layout_fitting, layout_asks, layout_end}
 use Rattle.check_stage.specs.Results.{result_meaning, result_by, result_seen}
 use Rattle.stage_sound.specs.Holding.{IsBackFor, Shows, Holds, Comes}
 use Rattle.stage_sound.specs.Jobs.{Begins, Says, Leaves}

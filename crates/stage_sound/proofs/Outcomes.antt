@@ -1,5 +1,6 @@
 -- A source's staging ends in a sound world, with exports that are fine.
-use Rattle.std.proofs.Common.{◌≡◌, ℕ, zero, suc, ◌+◌, ◌≤◌, Bool, true, false, if◌then◌else◌, List, [], ◌∷◌, ◌++◌, length, Option, Some, None, refl, sym, ap, ◌∙◌, subst, arith, slice_get}
+use Rattle.std.proofs.Common.{◌≡◌, ℕ, zero, suc, ◌+◌, ◌≤◌, Bool, true, false, if◌then◌else◌, List, [], ◌∷◌, ◌++◌, length, Option, Some}
+use Rattle.std.proofs.Common.{None, refl, sym, ap, ◌∙◌, subst, arith, slice_get}
 use Rattle.std.specs.Prelude.{nat_lt}
 use Rattle.tl_base.specs.declared.place.Place.{Place}
 use Rattle.tl_base.specs.declared.ids.FnId.{FnId}
@@ -27,7 +28,8 @@ use Rattle.check_stage.specs.declared.staging.CheckLine.{CheckLine}
 use Rattle.check_stage.specs.declared.staging.Mode.{Mode}
 use Rattle.check_stage.specs.declared.staging.Mode.TheVariants.{Exports, CheckAll}
 use Rattle.check_stage.specs.Layers.{check_stage}
-use Rattle.check_stage.specs.Staging.{Checked, checked_with, after_check, exported, line_of, checks, by_mode, Ending, ending_of, ending_if_any, begun, outcome}
+use Rattle.check_stage.specs.Staging.{Checked, checked_with, after_check, exported, line_of, checks, by_mode, Ending, ending_of}
+use Rattle.check_stage.specs.Staging.{ending_if_any, begun, outcome}
 use Rattle.stage_sound.specs.Jobs.{IsMeant}
 use Rattle.stage_sound.specs.Parts.{HasPart}
 use Rattle.stage_sound.specs.Promises.{IsWhole, EndsSound}

@@ -2,6 +2,7 @@
 use Rattle.std.specs.Prelude.{◌≡◌, ℕ, ◌≤◌, Some, slice_get}
 use Rattle.tl_base.specs.declared.place.Place.{Place}
 use Rattle.tl_base.specs.Layer.{State}
+use Rattle.tl_base.specs.declared.limits.TheConstants.Limits.{MAX_MEMORY}
 use Rattle.stage_form.specs.Stage.{Finished, staged}
 use Rattle.tl_tree.specs.Code.{Items}
 use Rattle.terra_term.specs.declared.store.Export.{Export}
@@ -46,4 +47,4 @@ pub record EndsSound (bytes : ℕ) (out : Ending) : Type 0 where
 abbrev pub StagingsEndSound : Type 0
 StagingsEndSound =
     (items : Items) → ArePlaced items → (place : Place) (mode : Mode) (n units memory : ℕ) (out : Ending) →
-    memory ≤ 67108864 → outcome items place mode n units memory ≡ Some out → IsWhole out.end → EndsSound memory out
+    memory ≤ MAX_MEMORY → outcome items place mode n units memory ≡ Some out → IsWhole out.end → EndsSound memory out

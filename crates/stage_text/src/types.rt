@@ -5,11 +5,12 @@
 
 ghost use Rattle.std.specs.Prelude.{◌≡◌, ◌++◌, [], ◌∷◌, codes, decimal, IfOk, OnOk};
 ghost use Rattle.tl_base.specs.Text.{text_of};
-ghost use Rattle.terra_term.specs.TermText.{type_text, type_texts, type_made, integer_text};
+ghost use Rattle.terra_term.specs.TermText.{type_text, type_texts, type_made};
 ghost use Rattle.stage_text.specs.Types.{part_text, text_in, type_parts, listed_types, comma_types};
 
 use std::alloc::Global;
 use std::collections::VecDeque;
+use terra_term::text_of_integer;
 use terra_types::{Integer, TypeForm, Types};
 use tl_base::{NoMemory, Text, Text2, TypeId};
 
@@ -116,21 +117,6 @@ fn step(
         Part::Comma => out.push_bytes(b", "),
         Part::Arrow => out.push_bytes(b"} -> "),
         Part::Struct(number) => push_struct(alloc, out, number),
-    }
-}
-
-fn text_of_integer(integer: Integer) -> &'static [u8]
-    ensures { result.now ≡ integer_text integer }
-{
-    match integer {
-        Integer::Int8 => b"int8",
-        Integer::Int16 => b"int16",
-        Integer::Int32 => b"int32",
-        Integer::Int64 => b"int64",
-        Integer::Uint8 => b"uint8",
-        Integer::Uint16 => b"uint16",
-        Integer::Uint32 => b"uint32",
-        Integer::Uint64 => b"uint64",
     }
 }
 

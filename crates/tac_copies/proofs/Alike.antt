@@ -1,6 +1,7 @@
 -- What code does depends on the words that it reads alone: of two states that agree in them, and in all but temporaries, the place in
 -- the block and those who wait, each step does the same. A predicate on what two steps do is shown by its cases.
-use Rattle.std.proofs.Common.{◌≡◌, ℕ, zero, suc, ◌+◌, ◌-◌, ◌%◌, Bool, true, false, ◌&&◌, List, [], ◌∷◌, ◌++◌, map, length, replicate, Option, Some, None, refl, sym, ap, ap₂, ◌∙◌, subst}
+use Rattle.std.proofs.Common.{◌≡◌, ℕ, zero, suc, ◌+◌, ◌-◌, ◌%◌, Bool, true, false, ◌&&◌, List, [], ◌∷◌, ◌++◌, map, length, replicate}
+use Rattle.std.proofs.Common.{Option, Some, None, refl, sym, ap, ap₂, ◌∙◌, subst}
 use Rattle.std.specs.Prelude.{IsTrue, nat_eq, nat_le, nat_lt, if◌then◌else◌, option_map}
 use Rattle.std.proofs.lemmas.Bool.{eq-eqb, eqb-true, false≢true, or_left, or_right}
 use Rattle.std.proofs.lemmas.List.Folds.{list_any-append}
@@ -22,15 +23,20 @@ use Rattle.tac_form.specs.declared.tac.Part.TheVariants as parts
 use Rattle.tac_form.specs.declared.tac.Destination.{Destination}
 use Rattle.tac_form.specs.declared.tac.Destination.TheVariants as destinations
 use Rattle.tac_form.specs.declared.tac.Instruction.{Instruction}
-use Rattle.tac_form.specs.declared.tac.Instruction.TheVariants.{Compute, TestDivisor, Copy, Locate, Load, Store, Move, Clear, Call, CallValue, PutByte, Write, Alloc}
+use Rattle.tac_form.specs.declared.tac.Instruction.TheVariants.{Compute, TestDivisor, Copy, Locate, Load, Store, Move, Clear, Call}
+use Rattle.tac_form.specs.declared.tac.Instruction.TheVariants.{CallValue, PutByte, Write, Alloc}
 use Rattle.tac_form.specs.declared.tac.Edge.{Edge}
 use Rattle.tac_form.specs.declared.tac.Exit.{Exit}
 use Rattle.tac_form.specs.declared.tac.Exit.TheVariants.{Jump, Branch, Return, Fail}
 use Rattle.tac_form.specs.declared.tac.Block.{Block}
 use Rattle.tac_form.specs.declared.tac.Signature.{Signature}
 use Rattle.tac_form.specs.declared.tac.Tac.{Tac}
-use Rattle.tac_form.specs.Flow.{bytes_of, width_of, Temps, Areas, put, Activation, Caller, State, Moved, Goes, Stops, stop, fault, operand, address, ahead, fetched, from_spot, written, to_spot, value_of, values_of, takes, takes_all, accepts, accepts_all, Program, enter, counted, call, has_signature, call_entry, entry, act, follow, given, give, leave}
-use Rattle.tac_form.specs.Graph.{operand_reads, address_reads, spot_reads, part_reads, parts_reads, instruction_reads, destination_write, instruction_write, exit_next, exit_reads}
+use Rattle.tac_form.specs.Flow.{bytes_of, width_of, Temps, Areas, put, Activation, Caller, State, Moved, Goes, Stops, stop, fault, operand}
+use Rattle.tac_form.specs.Flow.{address, ahead, fetched, from_spot, written, to_spot, value_of, values_of, takes, takes_all, accepts}
+use Rattle.tac_form.specs.Flow.{accepts_all, Program, enter, counted, call, has_signature, call_entry, entry, act, follow, given, give}
+use Rattle.tac_form.specs.Flow.{leave}
+use Rattle.tac_form.specs.Graph.{operand_reads, address_reads, spot_reads, part_reads, parts_reads, instruction_reads, destination_write}
+use Rattle.tac_form.specs.Graph.{instruction_write, exit_next, exit_reads}
 use Rattle.tac_form.specs.Live.{has}
 use Rattle.tac_copies.specs.Directed.{makes, directed}
 use Rattle.tac_copies.specs.Shortened.{named, named_address, named_spot, named_part, named_in, named_exit, own_names}

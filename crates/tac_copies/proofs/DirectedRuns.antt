@@ -1,6 +1,7 @@
 -- Code whose results go at once to where they are copied runs as before: each step is answered by one, and the two of a result and its
 -- copy by one.
-use Rattle.std.proofs.Common.{◌≡◌, ℕ, zero, suc, ◌≤◌, Bool, true, false, ◌&&◌, List, [], ◌∷◌, map, drop, Option, Some, None, refl, sym, ap, ◌∙◌, subst, arith}
+use Rattle.std.proofs.Common.{◌≡◌, ℕ, zero, suc, ◌≤◌, Bool, true, false, ◌&&◌, List, [], ◌∷◌, map, drop, Option, Some, None, refl, sym, ap}
+use Rattle.std.proofs.Common.{◌∙◌, subst, arith}
 use Rattle.std.specs.Prelude.{IsTrue, nat_eq, if◌then◌else◌, slice_get, option_map}
 use Rattle.std.proofs.lemmas.Bool.{eq-eqb, ne_eqb, false≢true, and_from}
 use Rattle.std.proofs.lemmas.Option.{slice_get-map}
@@ -14,14 +15,17 @@ use Rattle.tac_form.specs.declared.tac.Instruction.{Instruction}
 use Rattle.tac_form.specs.declared.tac.Instruction.TheVariants.{Copy}
 use Rattle.tac_form.specs.declared.tac.Block.{Block}
 use Rattle.tac_form.specs.declared.tac.Tac.{Tac}
-use Rattle.tac_form.specs.Flow.{Temps, Areas, put, Activation, Caller, State, Moved, Goes, Stops, ahead, takes, takes_all, Program, enter, act, give, leave, step_in, in_block, in_function, step, steps, place_of, begun, TacRun}
+use Rattle.tac_form.specs.Flow.{Temps, Areas, put, Activation, Caller, State, Moved, Goes, Stops, ahead, takes, takes_all, Program, enter}
+use Rattle.tac_form.specs.Flow.{act, give, leave, step_in, in_block, in_function, step, steps, place_of, begun, TacRun}
 use Rattle.tac_form.specs.Graph.{instruction_reads, instruction_write, exit_reads}
 use Rattle.tac_form.specs.Live.{has}
 use Rattle.tac_copies.specs.Once.{is_once}
 use Rattle.tac_copies.specs.Directed.{makes, directed, directed_all, directed_block, directed_code}
 use Rattle.tac_copies.specs.Laws.{IsMade}
 use Rattle.tac_copies.proofs.Once.{copy-reads, same-place, not-both}
-use Rattle.tac_copies.proofs.Alike.{twin, put_in, acted, entered, waiting, fresh_in, called, back, with_blocks, HasBlocks, same-values, Paired, paired-long, act-alike, direct-alike, call-alike, enter-alike, give-alike, leave-alike, own-in, own-exit}
+use Rattle.tac_copies.proofs.Alike.{twin, put_in, acted, entered, waiting, fresh_in, called, back, with_blocks, HasBlocks, same-values}
+use Rattle.tac_copies.proofs.Alike.{Paired, paired-long, act-alike, direct-alike, call-alike, enter-alike, give-alike, leave-alike, own-in}
+use Rattle.tac_copies.proofs.Alike.{own-exit}
 use Rattle.tac_copies.proofs.DirectedWays.{Way, together, alone, way}
 
 -- ---- what is left of a list

@@ -14,7 +14,8 @@ use Rattle.tac_form.specs.declared.tac.Part.TheVariants as parts
 use Rattle.tac_form.specs.declared.tac.Destination.{Destination}
 use Rattle.tac_form.specs.declared.tac.Destination.TheVariants as destinations
 use Rattle.tac_form.specs.declared.tac.Instruction.{Instruction}
-use Rattle.tac_form.specs.declared.tac.Instruction.TheVariants.{Compute, TestDivisor, Copy, Locate, Load, Store, Move, Clear, Call, CallValue, PutByte, Write, Alloc}
+use Rattle.tac_form.specs.declared.tac.Instruction.TheVariants.{Compute, TestDivisor, Copy, Locate, Load, Store, Move, Clear, Call}
+use Rattle.tac_form.specs.declared.tac.Instruction.TheVariants.{CallValue, PutByte, Write, Alloc}
 use Rattle.tac_form.specs.declared.tac.Exit.{Exit}
 use Rattle.tac_form.specs.declared.tac.Exit.TheVariants.{Jump, Branch, Return, Fail}
 use Rattle.tac_form.specs.declared.tac.Edge.{Edge}
@@ -22,7 +23,8 @@ use Rattle.tac_form.specs.declared.tac.Block.{Block}
 use Rattle.tac_form.specs.declared.tac.Tac.{Tac}
 use Rattle.tac_form.specs.Flow.{bytes_of}
 use Rattle.tac_form.specs.Weights.{most_moved}
-use Rattle.tac_form.specs.Fits.{are_apart, area_fits, block_fits, destination_fits, edge_fits, exit_fits, instruction_fits, is_within, operand_fits, part_fits, place_fits, spot_fits}
+use Rattle.tac_form.specs.Fits.{are_apart, area_fits, block_fits, destination_fits, edge_fits, exit_fits, instruction_fits, is_within}
+use Rattle.tac_form.specs.Fits.{operand_fits, part_fits, place_fits, spot_fits}
 
 -- the code with other blocks
 abbrev pub with-blocks : Tac → List Block → Tac

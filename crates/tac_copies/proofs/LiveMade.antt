@@ -1,5 +1,6 @@
 -- What is live where blocks begin stays as it was where code reads less often only what it reads once, behind a write in the same block.
-use Rattle.std.proofs.Common.{◌≡◌, ◌<◌, ◌≤◌, ℕ, zero, suc, ◌+◌, Bool, true, false, List, [], ◌∷◌, map, option_map, Option, Some, None, refl, sym, ap, ◌∙◌, subst, ⊎_elim, inl, inr, arith}
+use Rattle.std.proofs.Common.{◌≡◌, ◌<◌, ◌≤◌, ℕ, zero, suc, ◌+◌, Bool, true, false, List, [], ◌∷◌, map, option_map, Option, Some, None, refl}
+use Rattle.std.proofs.Common.{sym, ap, ◌∙◌, subst, ⊎_elim, inl, inr, arith}
 use Rattle.std.specs.Prelude.{if◌then◌else◌, nat_eq, slice_get, sum_by, ◌↔◌}
 use Rattle.std.proofs.lemmas.Bool.{cases_lt, eqb-true, or_from, false≢true}
 use Rattle.std.proofs.lemmas.List.Sums.{sum_by-cons}

@@ -1,5 +1,6 @@
 -- What is read once isn't read at two places.
-use Rattle.std.proofs.Common.{◌≡◌, ◌≢◌, ℕ, zero, suc, ◌+◌, ◌≤◌, Bool, false, List, [], ◌∷◌, drop, Some, refl, sym, ap, ◌∙◌, subst, ⊎_elim, arith, sum_by}
+use Rattle.std.proofs.Common.{◌≡◌, ◌≢◌, ℕ, zero, suc, ◌+◌, ◌≤◌, Bool, false, List, [], ◌∷◌, drop, Some, refl, sym, ap, ◌∙◌, subst, ⊎_elim}
+use Rattle.std.proofs.Common.{arith, sum_by}
 use Rattle.std.specs.Prelude.{IsTrue, nat_eq, if◌then◌else◌, slice_get}
 use Rattle.std.proofs.lemmas.Bool.{cases_eq, eqb-true, eq-eqb, false_from_ne_true, or_cases, or_left}
 use Rattle.std.proofs.lemmas.List.Sums.{sum_by-cons}

@@ -1,5 +1,6 @@
 -- Machine code can be made of code without the blocks that no way leads to as of the other.
-use Rattle.std.proofs.Common.{◌≡◌, ◌<◌, ◌≤◌, ℕ, zero, suc, ◌*◌, ◌^◌, Bool, true, false, ◌&&◌, ◌||◌, List, [], ◌∷◌, map, option_map, length, Option, Some, None, refl, sym, ap, ap₂, ◌∙◌, subst, arith}
+use Rattle.std.proofs.Common.{◌≡◌, ◌<◌, ◌≤◌, ℕ, zero, suc, ◌*◌, ◌^◌, Bool, true, false, ◌&&◌, ◌||◌, List, [], ◌∷◌, map, option_map, length}
+use Rattle.std.proofs.Common.{Option, Some, None, refl, sym, ap, ap₂, ◌∙◌, subst, arith}
 use Rattle.std.specs.Prelude.{IsTrue, nat_eq, nat_lt, slice_get, ◌↔◌}
 use Rattle.std.specs.List.{list_all, list_any}
 use Rattle.std.proofs.lemmas.Bool.{and_from, and_parts, eq-eqb, lt-ltb, ltb-true, or_left, or_right}
@@ -15,10 +16,12 @@ use Rattle.tac_form.specs.declared.graph.FlowBlock.{FlowBlock}
 use Rattle.tac_form.specs.Graph.{block_of, exit_next, graph_of}
 use Rattle.tac_form.specs.Live.{IsLive, at_place, at_step, has, read_within}
 use Rattle.tac_form.specs.Weights.{code_words}
-use Rattle.tac_form.specs.Fits.{area_fits, block_fits, destination_fits, edge_fits, exit_fits, instruction_fits, is_within, most_nodes, operand_fits, place_fits}
+use Rattle.tac_form.specs.Fits.{area_fits, block_fits, destination_fits, edge_fits, exit_fits, instruction_fits, is_within, most_nodes}
+use Rattle.tac_form.specs.Fits.{operand_fits, place_fits}
 use Rattle.tac_copies.specs.Reached.{is_reached, leads_to, passed, reached_blocks, reached_code, up_to_last}
 use Rattle.tac_copies.specs.Laws.{KeepsFits}
-use Rattle.tac_copies.proofs.FitsMade.{first-fits, from-six, parts-six, same-destination, same-instruction, same-operand, same-part, with-blocks}
+use Rattle.tac_copies.proofs.FitsMade.{first-fits, from-six, parts-six, same-destination, same-instruction, same-operand, same-part}
+use Rattle.tac_copies.proofs.FitsMade.{with-blocks}
 use Rattle.tac_copies.proofs.ReachedNext.{first-reached, next-reached}
 use Rattle.tac_copies.proofs.ReachedBlocks.{another-before, count-is, hold-of-all, reached-before, same-block}
 use Rattle.tac_copies.proofs.ReachedKeepsSized.{reached-fewer}

@@ -1,5 +1,6 @@
 -- The first block is reached, and so is each to which one leads that is reached.
-use Rattle.std.proofs.Common.{◌≡◌, ◌<◌, ◌≤◌, ℕ, zero, suc, ◌+◌, Bool, true, ◌&&◌, ◌||◌, List, [], ◌∷◌, Some, refl, sym, subst, ⊎_elim, arith}
+use Rattle.std.proofs.Common.{◌≡◌, ◌<◌, ◌≤◌, ℕ, zero, suc, ◌+◌, Bool, true, ◌&&◌, ◌||◌, List, [], ◌∷◌, Some, refl, sym, subst, ⊎_elim}
+use Rattle.std.proofs.Common.{arith}
 use Rattle.std.specs.Prelude.{nat_eq, nat_le, slice_get}
 use Rattle.std.proofs.lemmas.Bool.{and_from, and_parts, le-leb, or_cases, or_left, or_right}
 use Rattle.tac_form.specs.declared.tac.Block.{Block}

@@ -9,11 +9,13 @@ use Rattle.tac_form.specs.declared.tac.Destination.TheVariants as destinations
 use Rattle.tac_form.specs.declared.tac.Instruction.{Instruction}
 use Rattle.tac_form.specs.declared.tac.Block.{Block}
 use Rattle.tac_form.specs.declared.tac.Tac.{Tac}
-use Rattle.tac_form.specs.Flow.{Areas, Activation, Caller, State, Moved, Goes, Stops, takes, takes_all, Program, enter, act, give, leave, step_in, in_block, in_function, step, steps, place_of, begun, TacRun}
+use Rattle.tac_form.specs.Flow.{Areas, Activation, Caller, State, Moved, Goes, Stops, takes, takes_all, Program, enter, act, give, leave}
+use Rattle.tac_form.specs.Flow.{step_in, in_block, in_function, step, steps, place_of, begun, TacRun}
 use Rattle.tac_form.specs.Graph.{instruction_write}
 use Rattle.tac_copies.specs.Reached.{is_reached, reached_blocks, reached_code}
 use Rattle.tac_copies.specs.Laws.{IsMade}
-use Rattle.tac_copies.proofs.Alike.{twin, acted, entered, waiting, fresh_in, called, back, with_blocks, HasBlocks, same-values, Paired, paired-long, act-alike, call-alike, enter-alike, give-alike, leave-within, own-in, own-exit}
+use Rattle.tac_copies.proofs.Alike.{twin, acted, entered, waiting, fresh_in, called, back, with_blocks, HasBlocks, same-values, Paired}
+use Rattle.tac_copies.proofs.Alike.{paired-long, act-alike, call-alike, enter-alike, give-alike, leave-within, own-in, own-exit}
 use Rattle.tac_copies.proofs.ReachedNext.{first-reached, next-reached}
 use Rattle.tac_copies.proofs.ReachedBlocks.{same-block}
 

@@ -1,6 +1,7 @@
 -- The same temporaries are live where shortened code begins: a temporary whose copy goes is live where no block begins, and what it was
 -- copied from is live instead from its copy on.
-use Rattle.std.proofs.Common.{◌≡◌, ℕ, zero, suc, ◌≤◌, Bool, true, false, not, ◌&&◌, ◌||◌, List, [], ◌∷◌, map, Option, Some, None, option_map, refl, sym, ap, ◌∙◌, subst, ⊎_elim, inl, inr, arith}
+use Rattle.std.proofs.Common.{◌≡◌, ℕ, zero, suc, ◌≤◌, Bool, true, false, not, ◌&&◌, ◌||◌, List, [], ◌∷◌, map, Option, Some, None}
+use Rattle.std.proofs.Common.{option_map, refl, sym, ap, ◌∙◌, subst, ⊎_elim, inl, inr, arith}
 use Rattle.std.specs.Prelude.{nat_eq, slice_get, ◌⊎◌, ◌↔◌}
 use Rattle.std.proofs.lemmas.Bool.{and_parts, cases_eq, eqb-true, eqb-false, ne_eqb, or_cases, or_parts, not-true, false≢true}
 use Rattle.std.proofs.lemmas.Option.{slice_get-map, same_Some}
@@ -14,11 +15,14 @@ use Rattle.tac_form.specs.Flow.{put}
 use Rattle.tac_form.specs.Graph.{instruction_reads, instruction_write, exit_reads, exit_next, steps_of, block_of, graph_of}
 use Rattle.tac_form.specs.Live.{has, is_written, IsLive}
 use Rattle.tac_copies.specs.Once.{is_once, instruction_times}
-use Rattle.tac_copies.specs.Shortened.{named_in, named_exit, few, reads_first, goes, Code, own_names, shortened, shortened_block, shortened_code}
-use Rattle.tac_copies.proofs.Once.{times_behind, behind-cons, first-alone, few-rest, none-first, none-rest, none-exit, some-exit, has-own, times-has, once-block, same-block}
+use Rattle.tac_copies.specs.Shortened.{named_in, named_exit, few, reads_first, goes, Code, own_names, shortened, shortened_block}
+use Rattle.tac_copies.specs.Shortened.{shortened_code}
+use Rattle.tac_copies.proofs.Once.{times_behind, behind-cons, first-alone, few-rest, none-first, none-rest, none-exit, some-exit, has-own}
+use Rattle.tac_copies.proofs.Once.{times-has, once-block, same-block}
 use Rattle.tac_copies.proofs.Lives.{OneOf, Behind, one-more, behind-more, live-begins, live-least}
 use Rattle.tac_copies.proofs.ShortenedKeepsStep.{by-step}
-use Rattle.tac_copies.proofs.ShortenedKeepsNames.{put-same, put-other, writes-same, next-same, read-by-name, name-read, exit-by-name, name-exit}
+use Rattle.tac_copies.proofs.ShortenedKeepsNames.{put-same, put-other, writes-same, next-same, read-by-name, name-read, exit-by-name}
+use Rattle.tac_copies.proofs.ShortenedKeepsNames.{name-exit}
 
 -- live before instructions and the exit behind them
 abbrev pub In : (begins : ℕ → Type 0) → ℕ → List Instruction → Exit → Type 0

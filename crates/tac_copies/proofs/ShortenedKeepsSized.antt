@@ -9,7 +9,8 @@ use Rattle.tac_form.specs.declared.tac.Spot.{Spot}
 use Rattle.tac_form.specs.declared.tac.Spot.TheVariants as spots
 use Rattle.tac_form.specs.declared.tac.Part.{Part}
 use Rattle.tac_form.specs.declared.tac.Instruction.{Instruction}
-use Rattle.tac_form.specs.declared.tac.Instruction.TheVariants.{Compute, TestDivisor, Copy, Locate, Load, Store, Move, Clear, Call, CallValue, PutByte, Write, Alloc}
+use Rattle.tac_form.specs.declared.tac.Instruction.TheVariants.{Compute, TestDivisor, Copy, Locate, Load, Store, Move, Clear, Call}
+use Rattle.tac_form.specs.declared.tac.Instruction.TheVariants.{CallValue, PutByte, Write, Alloc}
 use Rattle.tac_form.specs.declared.tac.Exit.{Exit}
 use Rattle.tac_form.specs.declared.tac.Exit.TheVariants.{Jump, Branch, Return, Fail}
 use Rattle.tac_form.specs.declared.tac.Block.{Block}
@@ -17,7 +18,8 @@ use Rattle.tac_form.specs.declared.tac.Tac.{Tac}
 use Rattle.tac_form.specs.Flow.{put}
 use Rattle.tac_form.specs.Weights.{operand_words, reached, words_of, exit_words, block_words, code_words, private_bytes}
 use Rattle.tac_copies.specs.Once.{is_once}
-use Rattle.tac_copies.specs.Shortened.{named, named_spot, named_part, named_in, named_exit, own_names, shortened, shortened_block, shortened_code}
+use Rattle.tac_copies.specs.Shortened.{named, named_spot, named_part, named_in, named_exit, own_names, shortened, shortened_block}
+use Rattle.tac_copies.specs.Shortened.{shortened_code}
 use Rattle.tac_copies.specs.Laws.{KeepsSized}
 use Rattle.tac_copies.proofs.ShortenedKeepsStep.{by-step, exit-kept}
 

@@ -12,16 +12,19 @@ use Rattle.tac_form.specs.declared.tac.Spot.TheVariants as spots
 use Rattle.tac_form.specs.declared.tac.Part.{Part}
 use Rattle.tac_form.specs.declared.tac.Part.TheVariants as parts
 use Rattle.tac_form.specs.declared.tac.Instruction.{Instruction}
-use Rattle.tac_form.specs.declared.tac.Instruction.TheVariants.{Compute, TestDivisor, Copy, Locate, Load, Store, Move, Clear, Call, CallValue, PutByte, Write, Alloc}
+use Rattle.tac_form.specs.declared.tac.Instruction.TheVariants.{Compute, TestDivisor, Copy, Locate, Load, Store, Move, Clear, Call}
+use Rattle.tac_form.specs.declared.tac.Instruction.TheVariants.{CallValue, PutByte, Write, Alloc}
 use Rattle.tac_form.specs.declared.tac.Exit.{Exit}
 use Rattle.tac_form.specs.declared.tac.Exit.TheVariants.{Jump, Branch, Return, Fail}
 use Rattle.tac_form.specs.declared.tac.Block.{Block}
 use Rattle.tac_form.specs.declared.tac.Tac.{Tac}
 use Rattle.tac_form.specs.Flow.{put, bytes_of}
 use Rattle.tac_form.specs.Weights.{most_moved}
-use Rattle.tac_form.specs.Fits.{operand_fits, place_fits, part_fits, destination_fits, spot_fits, are_apart, instruction_fits, edge_fits, exit_fits, block_fits, is_within}
+use Rattle.tac_form.specs.Fits.{operand_fits, place_fits, part_fits, destination_fits, spot_fits, are_apart, instruction_fits, edge_fits}
+use Rattle.tac_form.specs.Fits.{exit_fits, block_fits, is_within}
 use Rattle.tac_copies.specs.Once.{is_once}
-use Rattle.tac_copies.specs.Shortened.{named, named_spot, named_part, named_in, named_exit, own_names, shortened, shortened_block, shortened_code}
+use Rattle.tac_copies.specs.Shortened.{named, named_spot, named_part, named_in, named_exit, own_names, shortened, shortened_block}
+use Rattle.tac_copies.specs.Shortened.{shortened_code}
 use Rattle.tac_copies.proofs.ShortenedKeepsStep.{by-step}
 use Rattle.tac_copies.proofs.ShortenedKeepsNames.{put-same, put-other}
 use Rattle.tac_copies.proofs.FitsMade.{first-fits, within-made}

@@ -1,5 +1,6 @@
 -- Shortened code has the same runs: each step of the other's is answered by one step, or, where a copy goes, by none.
-use Rattle.std.proofs.Common.{◌≡◌, ℕ, zero, suc, ◌+◌, ◌-◌, Bool, true, false, ◌&&◌, List, [], ◌∷◌, length, Option, Some, None, refl, sym, ap, ap₂, ◌∙◌, subst, subst₂, ⊎_elim, inl, inr, arith}
+use Rattle.std.proofs.Common.{◌≡◌, ℕ, zero, suc, ◌+◌, ◌-◌, Bool, true, false, ◌&&◌, List, [], ◌∷◌, length, Option, Some, None, refl, sym}
+use Rattle.std.proofs.Common.{ap, ap₂, ◌∙◌, subst, subst₂, ⊎_elim, inl, inr, arith}
 use Rattle.std.specs.Prelude.{if◌then◌else◌, nat_eq, nat_le, nat_lt, option_map, slice_get, ◌⊎◌}
 use Rattle.std.proofs.lemmas.Option.{slice_get-map}
 use Rattle.terra_memory.specs.Region.{end_address, fresh, heap_limit}
@@ -19,13 +20,16 @@ use Rattle.tac_form.specs.declared.tac.Exit.{Exit}
 use Rattle.tac_form.specs.declared.tac.Exit.TheVariants.{Branch, Fail, Jump, Return}
 use Rattle.tac_form.specs.declared.tac.Block.{Block}
 use Rattle.tac_form.specs.declared.tac.Tac.{Tac}
-use Rattle.tac_form.specs.Flow.{Activation, Caller, Goes, Moved, Program, State, Stops, Temps, accepts, accepts_all, act, begun, call, call_entry, counted, enter, entry, fault, follow, give, given, has_signature, in_block, in_function, leave, operand, place_of, put, step, step_in, steps, stop, takes, takes_all, value_of, values_of}
+use Rattle.tac_form.specs.Flow.{Activation, Caller, Goes, Moved, Program, State, Stops, Temps, accepts, accepts_all, act, begun, call}
+use Rattle.tac_form.specs.Flow.{call_entry, counted, enter, entry, fault, follow, give, given, has_signature, in_block, in_function, leave}
+use Rattle.tac_form.specs.Flow.{operand, place_of, put, step, step_in, steps, stop, takes, takes_all, value_of, values_of}
 use Rattle.tac_form.specs.Graph.{destination_write, exit_reads, instruction_reads, instruction_write, operand_reads, parts_reads}
 use Rattle.tac_copies.specs.Laws.{IsMade, KeepsRuns}
 use Rattle.tac_copies.specs.Once.{is_once}
 use Rattle.tac_copies.specs.Shortened.{named_exit, named_in, shortened, shortened_block, shortened_code}
 use Rattle.tac_copies.proofs.ShortenedRunsActs.{Answers, acts-alike, does, moved, operand-same, stops, value-same, values-same}
-use Rattle.tac_copies.proofs.ShortenedRunsBlocks.{AtBlock, Begins, Mid, behind, behind-get, block-begins, exit-agrees, exit-begins, gone-mid, kept-mid, mid-agrees}
+use Rattle.tac_copies.proofs.ShortenedRunsBlocks.{AtBlock, Begins, Mid, behind, behind-get, block-begins, exit-agrees, exit-begins}
+use Rattle.tac_copies.proofs.ShortenedRunsBlocks.{gone-mid, kept-mid, mid-agrees}
 use Rattle.tac_copies.proofs.ShortenedRunsCounts.{after, by_value, false-true}
 use Rattle.tac_copies.proofs.ShortenedRunsSafe.{Agrees, agrees-left, agrees-right, kept-shortened, put_if, removes}
 

@@ -1,5 +1,6 @@
 -- An instruction that calls nothing does the same by other names, where what it reads is the same.
-use Rattle.std.proofs.Common.{◌≡◌, ℕ, suc, ◌+◌, ◌%◌, Bool, true, false, ◌&&◌, List, [], ◌∷◌, ◌++◌, length, map, replicate, Option, Some, None, refl, sym, ap, ap₂, subst, subst₂, true≢false}
+use Rattle.std.proofs.Common.{◌≡◌, ℕ, suc, ◌+◌, ◌%◌, Bool, true, false, ◌&&◌, List, [], ◌∷◌, ◌++◌, length, map, replicate, Option, Some}
+use Rattle.std.proofs.Common.{None, refl, sym, ap, ap₂, subst, subst₂, true≢false}
 use Rattle.std.specs.Prelude.{if◌then◌else◌, nat_eq, nat_le}
 use Rattle.terra_memory.specs.Numbers.{low_bytes, number_of, overwritten, part}
 use Rattle.terra_memory.specs.Region.{Contents, alloc_of, range_of}
@@ -18,8 +19,10 @@ use Rattle.tac_form.specs.declared.tac.Spot.TheVariants as spots
 use Rattle.tac_form.specs.declared.tac.Part.{Part}
 use Rattle.tac_form.specs.declared.tac.Part.TheVariants as parts
 use Rattle.tac_form.specs.declared.tac.Instruction.{Instruction}
-use Rattle.tac_form.specs.declared.tac.Instruction.TheVariants.{Alloc, Call, CallValue, Clear, Compute, Copy, Load, Locate, Move, PutByte, Store, TestDivisor, Write}
-use Rattle.tac_form.specs.Flow.{Areas, Caller, Goes, Moved, Program, State, Stops, Temps, act, address, ahead, allocated, bytes_of, fetched, from_spot, operand, put, set_temp, stop, to_spot, value_of, values_of, width_of, written}
+use Rattle.tac_form.specs.declared.tac.Instruction.TheVariants.{Alloc, Call, CallValue, Clear, Compute, Copy, Load, Locate, Move, PutByte}
+use Rattle.tac_form.specs.declared.tac.Instruction.TheVariants.{Store, TestDivisor, Write}
+use Rattle.tac_form.specs.Flow.{Areas, Caller, Goes, Moved, Program, State, Stops, Temps, act, address, ahead, allocated, bytes_of, fetched}
+use Rattle.tac_form.specs.Flow.{from_spot, operand, put, set_temp, stop, to_spot, value_of, values_of, width_of, written}
 use Rattle.tac_form.specs.Graph.{address_reads, instruction_reads, instruction_write, operand_reads, part_reads, parts_reads, spot_reads}
 use Rattle.tac_copies.specs.Shortened.{named, named_address, named_in, named_part, named_spot}
 use Rattle.tac_copies.proofs.ShortenedRunsSafe.{Agrees, agrees-left, agrees-right, put_if}

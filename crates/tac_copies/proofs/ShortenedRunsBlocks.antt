@@ -1,5 +1,6 @@
 -- Where shortened code stands for a place of the other's, and that it gets there.
-use Rattle.std.proofs.Common.{◌≡◌, ℕ, zero, suc, ◌≤◌, true, false, List, [], ◌∷◌, Option, Some, None, refl, sym, ap, ◌∙◌, subst, ⊎_elim, inl, inr}
+use Rattle.std.proofs.Common.{◌≡◌, ℕ, zero, suc, ◌≤◌, true, false, List, [], ◌∷◌, Option, Some, None, refl, sym, ap, ◌∙◌, subst, ⊎_elim}
+use Rattle.std.proofs.Common.{inl, inr}
 use Rattle.std.specs.Prelude.{nat_eq, slice_get, ◌⊎◌}
 use Rattle.std.proofs.lemmas.Bool.{and_from, and_left, eq-eqb, eqb-true, or_left, or_right}
 use Rattle.tac_form.specs.declared.tac.Operand.TheVariants.{Temp}
@@ -11,8 +12,11 @@ use Rattle.tac_form.specs.Flow.{Temps, put}
 use Rattle.tac_form.specs.Graph.{exit_reads, instruction_reads, instruction_write}
 use Rattle.tac_copies.specs.Once.{is_once, times}
 use Rattle.tac_copies.specs.Shortened.{few, goes, own_names, reads_first, shortened, shortened_block}
-use Rattle.tac_copies.proofs.ShortenedRunsCounts.{Hidden, after, and-left, and-right, by_value, carries, clash, gone, gone-hidden, once-few, rest-few, times_from}
-use Rattle.tac_copies.proofs.ShortenedRunsSafe.{Agrees, Safe, agrees-all, exit-same, gone-after, gone-shortened, kept-after, kept-carries, kept-shortened, next-safe, put-other, put-same, put_if, put_if-other, put_if-same, read-same, removes}
+use Rattle.tac_copies.proofs.ShortenedRunsCounts.{Hidden, after, and-left, and-right, by_value, carries, clash, gone, gone-hidden, once-few}
+use Rattle.tac_copies.proofs.ShortenedRunsCounts.{rest-few, times_from}
+use Rattle.tac_copies.proofs.ShortenedRunsSafe.{Agrees, Safe, agrees-all, exit-same, gone-after, gone-shortened, kept-after, kept-carries}
+use Rattle.tac_copies.proofs.ShortenedRunsSafe.{kept-shortened, next-safe, put-other, put-same, put_if, put_if-other, put_if-same}
+use Rattle.tac_copies.proofs.ShortenedRunsSafe.{read-same, removes}
 
 -- ---- what is left of a list
 

@@ -1,5 +1,6 @@
 -- The temporary of a copy that goes is read behind that copy alone: no block reads it before it has a name there.
-use Rattle.std.proofs.Common.{◌≡◌, ℕ, zero, suc, ◌+◌, ◌≤◌, Bool, true, false, not, ◌&&◌, ◌||◌, List, [], ◌∷◌, Some, refl, sym, ◌∙◌, subst, le_trans, le_of_eq, true≢false, arith}
+use Rattle.std.proofs.Common.{◌≡◌, ℕ, zero, suc, ◌+◌, ◌≤◌, Bool, true, false, not, ◌&&◌, ◌||◌, List, [], ◌∷◌, Some, refl, sym, ◌∙◌, subst}
+use Rattle.std.proofs.Common.{le_trans, le_of_eq, true≢false, arith}
 use Rattle.std.specs.Prelude.{if◌then◌else◌, nat_eq, slice_get, sum_by}
 use Rattle.std.proofs.lemmas.Bool.{eqb-true}
 use Rattle.std.proofs.lemmas.List.Sums.{sum_by-cons}

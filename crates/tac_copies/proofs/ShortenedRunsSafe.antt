@@ -1,5 +1,6 @@
 -- How the temporaries of the two codes agree: each but for those whose copies go, and what a read finds is always the same.
-use Rattle.std.proofs.Common.{◌≡◌, ℕ, zero, suc, ◌+◌, ◌≤◌, Bool, true, false, not, ◌&&◌, ◌||◌, List, [], ◌∷◌, ◌++◌, Option, Some, None, refl, sym, ap, ◌∙◌, subst, ⊎_elim, inl, inr, true≢false, arith}
+use Rattle.std.proofs.Common.{◌≡◌, ℕ, zero, suc, ◌+◌, ◌≤◌, Bool, true, false, not, ◌&&◌, ◌||◌, List, [], ◌∷◌, ◌++◌, Option, Some, None}
+use Rattle.std.proofs.Common.{refl, sym, ap, ◌∙◌, subst, ⊎_elim, inl, inr, true≢false, arith}
 use Rattle.std.specs.Prelude.{if◌then◌else◌, nat_eq, ◌⊎◌}
 use Rattle.std.proofs.lemmas.Bool.{and_right, eqb-true, eq-eqb, or_left, or_right}
 use Rattle.tac_form.specs.declared.tac.Operand.TheVariants.{Temp}
@@ -12,7 +13,9 @@ use Rattle.tac_form.specs.Graph.{exit_reads, instruction_reads, instruction_writ
 use Rattle.tac_form.specs.Live.{has, is_written}
 use Rattle.tac_copies.specs.Once.{is_once, times}
 use Rattle.tac_copies.specs.Shortened.{goes, named_in, reads_first, shortened, with_first}
-use Rattle.tac_copies.proofs.ShortenedRunsCounts.{Hidden, after, and-left, and-right, by_value, carries, clash, exposed, exposed-times, false-true, has-times, not-is, or-false_left, or-false_right, or-rest, times_from, too-many}
+use Rattle.tac_copies.proofs.ShortenedRunsCounts.{Hidden, after, and-left, and-right, by_value, carries, clash, exposed, exposed-times}
+use Rattle.tac_copies.proofs.ShortenedRunsCounts.{false-true, has-times, not-is, or-false_left, or-false_right, or-rest, times_from}
+use Rattle.tac_copies.proofs.ShortenedRunsCounts.{too-many}
 
 -- ---- a kept instruction, and a copy that goes
 

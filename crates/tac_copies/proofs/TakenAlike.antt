@@ -1,5 +1,6 @@
 -- Code whose parameters go elsewhere takes the same arguments and gives the same results, and begins where the other does.
-use Rattle.std.proofs.Common.{◌≡◌, ℕ, zero, suc, ◌+◌, Bool, ◌&&◌, List, [], ◌∷◌, map, length, Option, Some, None, refl, sym, ap, ap₂, ◌∙◌, subst, inl, inr}
+use Rattle.std.proofs.Common.{◌≡◌, ℕ, zero, suc, ◌+◌, Bool, ◌&&◌, List, [], ◌∷◌, map, length, Option, Some, None, refl, sym, ap, ap₂, ◌∙◌}
+use Rattle.std.proofs.Common.{subst, inl, inr}
 use Rattle.std.specs.Prelude.{nat_le, nat_lt, if◌then◌else◌, option_map, slice_get, unwrap_or, nat_eq}
 use Rattle.tl_base.specs.declared.place.Place.{Place}
 use Rattle.tl_base.specs.declared.ids.FnId.{FnId}
@@ -11,7 +12,8 @@ use Rattle.tac_form.specs.declared.tac.Destination.{Destination}
 use Rattle.tac_form.specs.declared.tac.Destination.TheVariants as destinations
 use Rattle.tac_form.specs.declared.tac.Signature.{Signature}
 use Rattle.tac_form.specs.declared.tac.Tac.{Tac}
-use Rattle.tac_form.specs.Flow.{Temps, Caller, State, Moved, Goes, Stops, stop, fault, takes_all, accepts, accepts_all, Program, enter, counted, call, has_signature, same_signature, given, give}
+use Rattle.tac_form.specs.Flow.{Temps, Caller, State, Moved, Goes, Stops, stop, fault, takes_all, accepts, accepts_all, Program, enter}
+use Rattle.tac_form.specs.Flow.{counted, call, has_signature, same_signature, given, give}
 use Rattle.tac_copies.specs.Laws.{IsMade}
 use Rattle.tac_copies.specs.Taken.{goes_instead, taken_once}
 use Rattle.tac_copies.proofs.Alike.{twin, waiting, fresh_in, back, Paired, SameValues, either-way}

@@ -1,6 +1,7 @@
 -- Code whose parameters are taken at once runs as before: where a call begins, the copy of its parameter is passed, and then each step is
 -- answered by one.
-use Rattle.std.proofs.Common.{◌≡◌, ℕ, zero, suc, ◌≤◌, Bool, true, false, List, [], ◌∷◌, map, Option, Some, None, refl, sym, ap, ap₂, ◌∙◌, subst, arith, inl, inr}
+use Rattle.std.proofs.Common.{◌≡◌, ℕ, zero, suc, ◌≤◌, Bool, true, false, List, [], ◌∷◌, map, Option, Some, None, refl, sym, ap, ap₂, ◌∙◌}
+use Rattle.std.proofs.Common.{subst, arith, inl, inr}
 use Rattle.std.specs.Prelude.{IsTrue, nat_eq, if◌then◌else◌, slice_get, option_map}
 use Rattle.std.specs.List.{list_any}
 use Rattle.std.proofs.lemmas.Bool.{eq-eqb, eqb-true, false≢true, ne_eqb, or_left, or_parts, or_right}
@@ -15,14 +16,16 @@ use Rattle.tac_form.specs.declared.tac.Instruction.{Instruction}
 use Rattle.tac_form.specs.declared.tac.Instruction.TheVariants.{Copy}
 use Rattle.tac_form.specs.declared.tac.Block.{Block}
 use Rattle.tac_form.specs.declared.tac.Tac.{Tac}
-use Rattle.tac_form.specs.Flow.{Temps, Areas, put, Activation, Caller, State, Moved, Goes, Stops, ahead, set_temp, takes, takes_all, Program, enter, act, give, leave, step_in, in_block, in_function, step, steps, place_of, begun, TacRun}
+use Rattle.tac_form.specs.Flow.{Temps, Areas, put, Activation, Caller, State, Moved, Goes, Stops, ahead, set_temp, takes, takes_all}
+use Rattle.tac_form.specs.Flow.{Program, enter, act, give, leave, step_in, in_block, in_function, step, steps, place_of, begun, TacRun}
 use Rattle.tac_form.specs.Graph.{instruction_reads, instruction_write, exit_reads, exit_next}
 use Rattle.tac_form.specs.Live.{has}
 use Rattle.tac_form.specs.Fits.{goes_to}
 use Rattle.tac_copies.specs.Reached.{leads_to}
 use Rattle.tac_copies.specs.Taken.{block_reads, goes_instead, most_taken, taken_code, taken_once, taken_times}
 use Rattle.tac_copies.specs.Laws.{IsMade, KeepsRuns}
-use Rattle.tac_copies.proofs.Alike.{twin, put_in, acted, entered, waiting, fresh_in, back, Paired, paired-long, act-alike, leave-within, own-in, own-exit}
+use Rattle.tac_copies.proofs.Alike.{twin, put_in, acted, entered, waiting, fresh_in, back, Paired, paired-long, act-alike, leave-within}
+use Rattle.tac_copies.proofs.Alike.{own-in, own-exit}
 use Rattle.tac_copies.proofs.TakenShape.{Shape, Takes, block-with, is-free, is-unread, none-back, shape}
 use Rattle.tac_copies.proofs.TakenAlike.{call-taken, enter-taken, give-taken, same-values, takes-alike}
 

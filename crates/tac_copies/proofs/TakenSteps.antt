@@ -1,5 +1,6 @@
 -- One parameter after the other is taken from the front on.
-use Rattle.std.proofs.Common.{◌≡◌, ◌<◌, ◌≤◌, ℕ, zero, suc, ◌+◌, ◌-◌, Bool, true, false, not, ◌&&◌, ◌||◌, List, [], ◌∷◌, ◌++◌, map, drop, take, length, get_or, Option, Some, None, refl, sym, ap, ap₂, ◌∙◌, subst, ⊎_elim, arith}
+use Rattle.std.proofs.Common.{◌≡◌, ◌<◌, ◌≤◌, ℕ, zero, suc, ◌+◌, ◌-◌, Bool, true, false, not, ◌&&◌, ◌||◌, List, [], ◌∷◌, ◌++◌, map, drop}
+use Rattle.std.proofs.Common.{take, length, get_or, Option, Some, None, refl, sym, ap, ap₂, ◌∙◌, subst, ⊎_elim, arith}
 use Rattle.std.specs.Prelude.{if◌then◌else◌, nat_eq, nat_lt, unwrap_or}
 use Rattle.std.specs.List.{list_any}
 use Rattle.std.proofs.Math.Path.{fun_ext}
@@ -17,7 +18,8 @@ use Rattle.tac_form.specs.Live.{has}
 use Rattle.tac_form.specs.Fits.{goes_to}
 use Rattle.tac_copies.specs.Reached.{leads_to}
 use Rattle.tac_copies.specs.Kept.{is_among, needed_numbers, next_pair, standing, taken_pair, with_one_if}
-use Rattle.tac_copies.specs.Taken.{block_reads, goes_instead, is_needed, is_needed_from, may_go, most_taken, reads, taken_code, taken_once, taken_times}
+use Rattle.tac_copies.specs.Taken.{block_reads, goes_instead, is_needed, is_needed_from, may_go, most_taken, reads, taken_code, taken_once}
+use Rattle.tac_copies.specs.Taken.{taken_times}
 use Rattle.tac_copies.proofs.ReachedNumbers.{among-one, or-none}
 
 -- a pair of temporaries is one, or there is none

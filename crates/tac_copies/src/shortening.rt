@@ -3,7 +3,8 @@
 ghost use Rattle.std.specs.Prelude.{◌≡◌, IfOk, map};
 ghost use Rattle.tac_copies.specs.Kept.{gone, told_once};
 ghost use Rattle.tac_copies.specs.Shortened.{few, goes, reads_first, shortened_block, shortened_code};
-ghost use Rattle.tac_form.specs.Graph.{operand_reads, spot_reads, part_reads, parts_reads, instruction_reads, instruction_write, exit_reads};
+ghost use Rattle.tac_form.specs.Graph.{operand_reads, spot_reads, part_reads, parts_reads, instruction_reads, instruction_write};
+ghost use Rattle.tac_form.specs.Graph.{exit_reads};
 ghost use Rattle.tac_form.specs.Live.{has, is_written};
 
 use crate::copied::with_blocks;

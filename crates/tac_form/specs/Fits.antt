@@ -1,7 +1,8 @@
 -- Which code machine code may be made of.
-use Rattle.std.specs.Prelude.{ℕ, suc, ◌+◌, ◌*◌, ◌^◌, ◌≤◌, ◌↔◌, Bool, true, false, not, ◌&&◌, ◌||◌, nat_eq, nat_le, nat_lt, IsTrue, List, [], ◌∷◌, length}
+use Rattle.std.specs.Prelude.{ℕ, suc, ◌+◌, ◌*◌, ◌^◌, ◌≤◌, ◌↔◌, Bool, true, false, not, ◌&&◌, ◌||◌, nat_eq, nat_le, nat_lt, IsTrue, List, []}
+use Rattle.std.specs.Prelude.{◌∷◌, length}
 use Rattle.std.specs.List.{list_all, list_any}
-use Rattle.tl_base.specs.declared.place.Place.{Place}
+use Rattle.tl_base.specs.declared.limits.TheConstants.{MAX_COMPILED_NODES}
 use Rattle.tac_form.specs.declared.tac.Operand.{Operand}
 use Rattle.tac_form.specs.declared.tac.Operand.TheVariants.{Temp, Constant}
 use Rattle.tac_form.specs.declared.tac.Address.{Address}
@@ -13,7 +14,8 @@ use Rattle.tac_form.specs.declared.tac.Part.TheVariants as parts
 use Rattle.tac_form.specs.declared.tac.Destination.{Destination}
 use Rattle.tac_form.specs.declared.tac.Destination.TheVariants as destinations
 use Rattle.tac_form.specs.declared.tac.Instruction.{Instruction}
-use Rattle.tac_form.specs.declared.tac.Instruction.TheVariants.{Compute, TestDivisor, Copy, Locate, Load, Store, Move, Clear, Call, CallValue, PutByte, Write, Alloc}
+use Rattle.tac_form.specs.declared.tac.Instruction.TheVariants.{Compute, TestDivisor, Copy, Locate, Load, Store, Move, Clear, Call}
+use Rattle.tac_form.specs.declared.tac.Instruction.TheVariants.{CallValue, PutByte, Write, Alloc}
 use Rattle.tac_form.specs.declared.tac.Exit.{Exit}
 use Rattle.tac_form.specs.declared.tac.Exit.TheVariants.{Jump, Branch, Return, Fail}
 use Rattle.tac_form.specs.declared.tac.Edge.{Edge}
@@ -23,6 +25,7 @@ use Rattle.tac_form.specs.Flow.{area_size, bytes_of}
 use Rattle.tac_form.specs.Graph.{graph_of}
 use Rattle.tac_form.specs.Live.{IsLive}
 use Rattle.tac_form.specs.Weights.{code_words, private_bytes, most_moved}
+pub use Rattle.tl_base.specs.Places.{is_placed as place_fits}
 
 -- every way round the graph counts: an edge that doesn't count leads to a later block
 abbrev edge_counts : (from : ℕ) → Edge → Bool
@@ -44,9 +47,6 @@ Counted code = IsTrue (blocks_count 0 code.blocks)
 abbrev pub operand_fits : Tac → Operand → Bool
 operand_fits code (Temp t) = nat_lt t code.temps
 operand_fits code (Constant c) = nat_lt c (2 ^ 64)
-
-abbrev pub place_fits : Place → Bool
-place_fits at = nat_lt at.line (2 ^ 32) && nat_lt at.word (2 ^ 32)
 
 abbrev pub area_there : Tac → ℕ → Bool
 area_there code n = nat_lt n (length code.areas)
@@ -112,7 +112,7 @@ is_within code =
 
 -- the most typed nodes that are compiled at once
 abbrev pub most_nodes : ℕ
-most_nodes = 131072
+most_nodes = MAX_COMPILED_NODES
 
 -- a parameter goes to the temporary
 abbrev pub goes_to : ℕ → Destination → Bool

@@ -1,7 +1,9 @@
 -- How many words of machine code and private bytes three-address code may take.
 use Rattle.std.specs.Prelude.{ℕ, ◌+◌, ◌*◌, ◌^◌, ◌≤◌, nat_lt, if◌then◌else◌, List, length, sum_by}
+use Rattle.tl_base.specs.declared.limits.TheConstants.{MAX_VALUE_BYTES}
 use Rattle.terra_words.specs.declared.words.BinaryOperator.{BinaryOperator}
-use Rattle.terra_words.specs.declared.words.BinaryOperator.TheVariants.{ShiftLeft, ShiftRight, Equal, NotEqual, Less, LessEqual, Greater, GreaterEqual}
+use Rattle.terra_words.specs.declared.words.BinaryOperator.TheVariants.{ShiftLeft, ShiftRight, Equal, NotEqual, Less, LessEqual, Greater}
+use Rattle.terra_words.specs.declared.words.BinaryOperator.TheVariants.{GreaterEqual}
 use Rattle.tac_form.specs.declared.tac.Operand.{Operand}
 use Rattle.tac_form.specs.declared.tac.Operand.TheVariants.{Temp, Constant}
 use Rattle.tac_form.specs.declared.tac.Destination.{Destination}
@@ -10,7 +12,8 @@ use Rattle.tac_form.specs.declared.tac.Spot.{Spot}
 use Rattle.tac_form.specs.declared.tac.Spot.TheVariants as spots
 use Rattle.tac_form.specs.declared.tac.Address.TheVariants.{Word, Frame}
 use Rattle.tac_form.specs.declared.tac.Instruction.{Instruction}
-use Rattle.tac_form.specs.declared.tac.Instruction.TheVariants.{Compute, TestDivisor, Copy, Locate, Load, Store, Move, Clear, Call, CallValue, PutByte, Write, Alloc}
+use Rattle.tac_form.specs.declared.tac.Instruction.TheVariants.{Compute, TestDivisor, Copy, Locate, Load, Store, Move, Clear, Call}
+use Rattle.tac_form.specs.declared.tac.Instruction.TheVariants.{CallValue, PutByte, Write, Alloc}
 use Rattle.tac_form.specs.declared.tac.Exit.{Exit}
 use Rattle.tac_form.specs.declared.tac.Exit.TheVariants.{Jump, Branch, Return, Fail}
 use Rattle.tac_form.specs.declared.tac.Edge.{Edge}
@@ -119,7 +122,7 @@ code_words code = entered_words + sum_by received code.parameters + sum_by block
 
 -- the most bytes of an area, which are moved by straight code
 abbrev pub most_moved : ℕ
-most_moved = 128
+most_moved = MAX_VALUE_BYTES
 
 abbrev full_area : ℕ → ℕ
 full_area size = most_moved

@@ -18,7 +18,8 @@ use Rattle.tac_form.specs.Flow as flow
 use Rattle.tac_form.specs.Flow.{Goes, put}
 use Rattle.tac_lower.specs.Pieces.{Used, doing, Result, stored, address_of, word_of, Holder, in_temp, at_offset, Holders, holder_of}
 use Rattle.tac_lower.proofs.Places.{step_on}
-use Rattle.tac_lower.proofs.Standing.{Setting, Private, stands, one-step, operand-is, Elsewhere, Apart, Is, below, Holds, Means, Comes, Leaves}
+use Rattle.tac_lower.proofs.Standing.{Setting, Private, stands, one-step, operand-is, Elsewhere, Apart, Is, below, Holds, Means, Comes}
+use Rattle.tac_lower.proofs.Standing.{Leaves}
 use Rattle.tac_lower.proofs.Simulates.{Fact, nothing, KnowsAll, Sim, grown-none}
 use Rattle.tac_lower.proofs.Writes.{put-same, put-other, put-below, with_word, holds-later, below-le}
 use Rattle.tac_lower.proofs.Reaches.{by_test, InScope, told_in, address-word}

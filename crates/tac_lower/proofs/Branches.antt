@@ -16,7 +16,8 @@ use Rattle.tac_lower.specs.Items.{Item, ends, skips, leaves, gives, count_ends, 
 use Rattle.tac_lower.specs.Pieces.{Used, Piece, Result, a_word, an_area, an_offset, no_word, word_of, part_of, Holders}
 use Rattle.tac_lower.specs.Lowering.{passed_over}
 use Rattle.tac_lower.proofs.Places.{Point, start_of, after, after-append, after-block, EndsAt, HasAt, has-front, has-back}
-use Rattle.tac_lower.proofs.Standing.{Setting, Private, stands, Leads, leads-to, one-end, word_in, operand-is, Fine, Grown, Means, Comes, Leaves}
+use Rattle.tac_lower.proofs.Standing.{Setting, Private, stands, Leads, leads-to, one-end, word_in, operand-is, Fine, Grown, Means, Comes}
+use Rattle.tac_lower.proofs.Standing.{Leaves}
 use Rattle.tac_lower.proofs.Simulates.{Fact, one_of, Knows, whole, Sim, grown-none, grown-then, keeps-none}
 use Rattle.tac_lower.proofs.Loads.{word-is, is-value}
 use Rattle.tac_lower.proofs.Acts.{Under, under-self, holds-length, fine-outer, fine-later, WayOk, Acts, way-before, way-at, scoped-ways}

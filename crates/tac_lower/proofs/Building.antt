@@ -1,5 +1,6 @@
 -- Code behind a state, step by step: what it is, what it uses, which variables are in scope, and how many declarations were passed.
-use Rattle.std.proofs.Common.{◌≡◌, refl, sym, ap, ◌∙◌, subst, ℕ, suc, ◌+◌, ◌-◌, List, [], ◌∷◌, ◌++◌, length, take, drop, arith, append_assoc, append-nil, add_assoc, add-zero}
+use Rattle.std.proofs.Common.{◌≡◌, refl, sym, ap, ◌∙◌, subst, ℕ, suc, ◌+◌, ◌-◌, List, [], ◌∷◌, ◌++◌, length, take, drop, arith}
+use Rattle.std.proofs.Common.{append_assoc, append-nil, add_assoc, add-zero}
 use Rattle.tac_form.specs.declared.tac.Operand.{Operand}
 use Rattle.tac_lower.specs.Items.{Item, Ending, ends, skips, tests, count_ends, loop_of}
 use Rattle.tac_lower.specs.Lowering.{passed_over}

@@ -17,7 +17,8 @@ pub use Rattle.tac_lower.specs.Needs.{in_let}
 use Rattle.tac_lower.proofs.Places.{Point, start_of, after, after-append, after-block, HasAt, has-front, has-back}
 use Rattle.tac_lower.proofs.Standing.{Setting, Private, stands, Leads, leads-to, word_in, Apart, Fine, Grown, Own, Means, Comes, Leaves}
 use Rattle.tac_lower.proofs.Simulates.{Fact, one_of, whole, Sim, grown-none, grown-then, keeps-then}
-use Rattle.tac_lower.proofs.Acts.{outermost, Under, under-self, holds-length, fine-outer, fine-later, WayOk, Acts, way-at, scoped-ways, comes-later}
+use Rattle.tac_lower.proofs.Acts.{outermost, Under, under-self, holds-length, fine-outer, fine-later, WayOk, Acts, way-at, scoped-ways}
+use Rattle.tac_lower.proofs.Acts.{comes-later}
 use Rattle.tac_lower.proofs.Branches.{value_ways, jumps, branches, way-on, way-from, tested}
 
 -- more is used behind

@@ -1,5 +1,6 @@
 -- A value of a struct from those of its entries: an area that is cleared, and stores into it.
-use Rattle.std.proofs.Common.{◌≡◌, ◌≢◌, ℕ, ◌+◌, ◌<◌, ◌≤◌, Bool, true, false, List, [], ◌∷◌, ◌++◌, length, replicate, refl, sym, ap, ◌∙◌, subst, arith, append-nil, length-append, ⊎_elim}
+use Rattle.std.proofs.Common.{◌≡◌, ◌≢◌, ℕ, ◌+◌, ◌<◌, ◌≤◌, Bool, true, false, List, [], ◌∷◌, ◌++◌, length, replicate, refl, sym, ap, ◌∙◌}
+use Rattle.std.proofs.Common.{subst, arith, append-nil, length-append, ⊎_elim}
 use Rattle.std.specs.Prelude.{nat_eq, nat_le, take, drop, if◌then◌else◌}
 use Rattle.std.proofs.lemmas.Bool.{eqb-true, eqb-false, le-leb}
 use Rattle.std.proofs.lemmas.List.{take_all, take-append-drop, length-replicate}
@@ -19,7 +20,8 @@ use Rattle.tac_form.specs.declared.tac.Instruction.TheVariants.{Store, Move, Cle
 use Rattle.tac_form.specs.Flow as flow
 use Rattle.tac_form.specs.Flow.{Goes, area_size}
 use Rattle.tac_lower.specs.Items.{Item}
-use Rattle.tac_lower.specs.Pieces.{Used, with_area, Piece, known, Result, a_word, an_area, an_offset, Holders, number_of, stored, stored_part}
+use Rattle.tac_lower.specs.Pieces.{Used, with_area, Piece, known, Result, a_word, an_area, an_offset, Holders, number_of, stored}
+use Rattle.tac_lower.specs.Pieces.{stored_part}
 use Rattle.tac_lower.specs.Lowering.{constructed, construct}
 pub use Rattle.tac_lower.specs.Needs.{EntriesFit}
 use Rattle.tac_lower.proofs.Places.{Point, step_on, after, after-append, HasAt, has-front, has-back}

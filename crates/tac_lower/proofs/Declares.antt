@@ -19,7 +19,8 @@ use Rattle.tac_form.specs.declared.tac.Spot.TheVariants as spots
 use Rattle.tac_form.specs.declared.tac.Instruction.TheVariants.{Copy}
 use Rattle.tac_form.specs.Flow as flow
 use Rattle.tac_form.specs.Flow.{Goes, Stops, put}
-use Rattle.tac_lower.specs.Pieces.{Used, Piece, taken, Result, a_word, an_area, an_offset, word_of, rest, in_temp, at_offset, Holders, bound, copied, stored, placed, Around, declare_at, declare, declare_all, first_of}
+use Rattle.tac_lower.specs.Pieces.{Used, Piece, taken, Result, a_word, an_area, an_offset, word_of, rest, in_temp, at_offset, Holders}
+use Rattle.tac_lower.specs.Pieces.{bound, copied, stored, placed, Around, declare_at, declare, declare_all, first_of}
 pub use Rattle.tac_lower.specs.Needs.{GoodHome, declared_names, DeclaresWell}
 use Rattle.tac_lower.proofs.Places.{Point, after}
 use Rattle.tac_lower.proofs.Standing.{Setting, Private, stands, one-step, word_in, operand-is, Fine, Means, Comes, Leaves}

@@ -1,5 +1,6 @@
 -- The temporaries that parameters go to are live where a function's code is entered: its first block reads each of them.
-use Rattle.std.proofs.Common.{◌≡◌, ℕ, suc, ◌<◌, ◌≤◌, ◌⊎◌, inl, inr, Bool, true, false, List, [], ◌∷◌, ◌++◌, length, map, Some, refl, sym, ap, ◌∙◌, arith}
+use Rattle.std.proofs.Common.{◌≡◌, ℕ, suc, ◌<◌, ◌≤◌, ◌⊎◌, inl, inr, Bool, true, false, List, [], ◌∷◌, ◌++◌, length, map, Some, refl, sym}
+use Rattle.std.proofs.Common.{ap, ◌∙◌, arith}
 use Rattle.std.specs.Prelude.{not, ◌&&◌, ◌||◌, ◌↔◌, nat_eq, option_map, if◌then◌else◌, IsTrue}
 use Rattle.std.specs.List.{list_any}
 use Rattle.std.proofs.lemmas.Bool.{or_cases, eqb-true, ne_eqb}
@@ -23,7 +24,8 @@ use Rattle.tac_form.specs.Live as live
 use Rattle.tac_form.specs.Live.{IsLive, is_written, at_step, at_place, read_within}
 use Rattle.tac_form.specs.Fits.{goes_to, receives}
 use Rattle.tac_lower.specs.Items.{Item, does, ends, empty_draft}
-use Rattle.tac_lower.specs.Pieces.{Used, nothing_used, with_temp, with_area, known, then_piece, taken, a_word, an_area, given, copied, stored_part, Holders, Around, declare, declare_at, declare_all}
+use Rattle.tac_lower.specs.Pieces.{Used, nothing_used, with_temp, with_area, known, then_piece, taken, a_word, an_area, given, copied}
+use Rattle.tac_lower.specs.Pieces.{stored_part, Holders, Around, declare, declare_at, declare_all}
 use Rattle.tac_lower.specs.Lowering.{all, around, received, ending, code_of}
 use Rattle.tac_lower.proofs.Places.{Point, step_on, start_of, DoesAt, HasAt, has-front}
 use Rattle.tac_lower.proofs.Whole.{has-whole}

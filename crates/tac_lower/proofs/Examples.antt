@@ -34,7 +34,8 @@ use Rattle.terra_term.specs.declared.store.Function.{Function}
 use Rattle.terra_term.specs.declared.store.FunctionState.TheVariants as states
 use Rattle.terra_term.specs.TypedTerms as items
 use Rattle.terra_term.specs.Stores.{Contents, callable_of}
-use Rattle.terra_term.specs.TypedTerms.{Expression, typed, Form, Constant', Variable, Operate, Dereference, Select, Address, no_more, then_one, statement, Var, Assign, If, While, For, Break, Return, Perform, done, and_then, Body}
+use Rattle.terra_term.specs.TypedTerms.{Expression, typed, Form, Constant', Variable, Operate, Dereference, Select, Address, no_more}
+use Rattle.terra_term.specs.TypedTerms.{then_one, statement, Var, Assign, If, While, For, Break, Return, Perform, done, and_then, Body}
 use Rattle.terra_words.specs.Runs.{Value, word, put_bytes, Returned, Fault, Over, More}
 use Rattle.std.specs.Prelude.{option_map, ◌<◌, ◌^◌}
 use Rattle.std.proofs.Common.{arith}

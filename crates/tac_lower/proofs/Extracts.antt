@@ -20,13 +20,15 @@ use Rattle.tac_form.specs.declared.tac.Spot.TheVariants as spots
 use Rattle.tac_form.specs.declared.tac.Instruction.TheVariants.{Load, Move}
 use Rattle.tac_form.specs.Flow as flow
 use Rattle.tac_form.specs.Flow.{Goes, area_size}
-use Rattle.tac_lower.specs.Pieces.{Used, with_temp, with_area, Piece, known, doing, then_piece, Result, a_word, an_area, an_offset, no_word, Holders, number_in, whole_word, loaded_bit, loaded_number, loaded_word, loaded}
+use Rattle.tac_lower.specs.Pieces.{Used, with_temp, with_area, Piece, known, doing, then_piece, Result, a_word, an_area, an_offset, no_word}
+use Rattle.tac_lower.specs.Pieces.{Holders, number_in, whole_word, loaded_bit, loaded_number, loaded_word, loaded}
 use Rattle.tac_lower.proofs.Places.{Point}
 use Rattle.tac_lower.proofs.Standing.{Setting, SizedBy, Private, stands, Good, Means}
 use Rattle.tac_lower.proofs.Simulates.{Fact, one_of, KnowsAll, Sim, then_sim}
 use Rattle.tac_lower.proofs.Words.{width_by, wrapped-again, wrapped-small, wrapped-zero, HasNumber}
 use Rattle.tac_lower.proofs.Writes.{same-self, puts_sim, fills_sim, known_sim}
-use Rattle.tac_lower.proofs.Loads.{sim_as, compute_sim, load-number, word_piece, empty_sim, part-length, and-bit, bit-is, area-size, overwritten-whole}
+use Rattle.tac_lower.proofs.Loads.{sim_as, compute_sim, load-number, word_piece, empty_sim, part-length, and-bit, bit-is, area-size}
+use Rattle.tac_lower.proofs.Loads.{overwritten-whole}
 use Rattle.tac_lower.proofs.Shorts.{plain-bool}
 
 part-none : (bs : List ℕ) (at size : ℕ) → size ≡ 0 → part bs at size ≡ []

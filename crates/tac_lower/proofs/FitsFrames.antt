@@ -1,5 +1,6 @@
 -- The frame of a function of few typed nodes is small: each declaration has a node, and a value of a type has few bytes.
-use Rattle.std.proofs.Common.{◌≡◌, ℕ, suc, ◌+◌, ◌*◌, ◌<◌, ◌≤◌, Bool, true, false, List, [], ◌∷◌, ◌++◌, length, Option, Some, None, refl, ap, ◌∙◌, arith, length-append}
+use Rattle.std.proofs.Common.{◌≡◌, ℕ, suc, ◌+◌, ◌*◌, ◌<◌, ◌≤◌, Bool, true, false, List, [], ◌∷◌, ◌++◌, length, Option, Some, None, refl, ap}
+use Rattle.std.proofs.Common.{◌∙◌, arith, length-append}
 use Rattle.std.specs.Prelude.{◌^◌, ◌||◌, ◌-◌, unwrap_or, if◌then◌else◌}
 use Rattle.tl_base.specs.declared.ids.TypeId.{TypeId}
 use Rattle.terra_types.specs.declared.measure.Measure.{Measure}
@@ -9,9 +10,13 @@ use Rattle.terra_types.specs.Sizes.{Within, measure_of, for_some, align_of}
 use Rattle.terra_types.specs.Layouts.{rounded}
 use Rattle.terra_term.specs.declared.operators.Constant.TheVariants as constants
 use Rattle.terra_term.specs.declared.lists.TypedName.{TypedName}
-use Rattle.terra_term.specs.TypedTerms.{Expression, typed, Constant', Variable, Global, Operate, Both, Either, Dereference, Select, Follow, Element, Index, Address, Decay, Let, Expressions, no_more, then_one, Statement, statement, Var, Assign, If, IfElse, While, Repeat, For, Do, Break, Finish, Return, Perform, Statements, done, and_then, Body}
+use Rattle.terra_term.specs.TypedTerms.{Expression, typed, Constant', Variable, Global, Operate, Both, Either, Dereference, Select, Follow}
+use Rattle.terra_term.specs.TypedTerms.{Element, Index, Address, Decay, Let, Expressions, no_more, then_one, Statement, statement, Var}
+use Rattle.terra_term.specs.TypedTerms.{Assign, If, IfElse, While, Repeat, For, Do, Break, Finish, Return, Perform, Statements, done}
+use Rattle.terra_term.specs.TypedTerms.{and_then, Body}
 use Rattle.terra_term.specs.Sizes.{typed_size, typed_list_size, typed_statement_size, typed_block_size, body_size}
-use Rattle.terra_term.specs.Events.{Event, events_of, list_events, doing_events, block_events, operation_events, takes, declares, declares_all, scope, body_events, declared_in}
+use Rattle.terra_term.specs.Events.{Event, events_of, list_events, doing_events, block_events, operation_events, takes, declares}
+use Rattle.terra_term.specs.Events.{declares_all, scope, body_events, declared_in}
 use Rattle.terra_meaning.specs.Values.{bytes_at, is_aggregate}
 use Rattle.terra_meaning.specs.Frames.{by_value, in_frame, has, with_home, framed, frame_of, taken}
 use Rattle.tac_lower.proofs.Homes.{within, sized, declared-append, declared-scope, declared-takes, declared-operation}

@@ -1,5 +1,6 @@
 -- Each operation's code fits.
-use Rattle.std.proofs.Common.{◌≡◌, ℕ, ◌+◌, ◌<◌, ◌≤◌, Bool, true, false, List, [], ◌∷◌, length, Option, Some, None, refl, sym, ◌∙◌, subst, arith, length-append}
+use Rattle.std.proofs.Common.{◌≡◌, ℕ, ◌+◌, ◌<◌, ◌≤◌, Bool, true, false, List, [], ◌∷◌, length, Option, Some, None, refl, sym, ◌∙◌, subst}
+use Rattle.std.proofs.Common.{arith, length-append}
 use Rattle.std.specs.Prelude.{◌^◌, ◌-◌, ◌&&◌, nat_eq, nat_le, nat_lt, unwrap_or, if◌then◌else◌}
 use Rattle.std.proofs.lemmas.Bool.{and_parts, and_from, lt-ltb, le-leb, leb-true, ne_eqb, not_from_false}
 use Rattle.std.specs.List.{list_all}
@@ -33,8 +34,10 @@ use Rattle.tac_form.specs.Flow.{area_size}
 use Rattle.tac_form.specs.Fits.{operand_fits, place_fits, area_there, part_fits, are_apart}
 use Rattle.tac_form.specs.Flow as flow
 use Rattle.tac_lower.specs.Items.{does}
-use Rattle.tac_lower.specs.Pieces.{Used, with_temp, with_area, Piece, known, doing, then_piece, Result, a_word, an_area, an_offset, no_word, word_of, whole_word, long, number_of, compute, stored, parts_of, word_at, result_at, rest, Around}
-use Rattle.tac_lower.specs.Lowering.{cut, fitted, is_whole, binary, difference, form_of, turned_form, turned_over, extracted, constructed, operation, call, call_value, signature_in}
+use Rattle.tac_lower.specs.Pieces.{Used, with_temp, with_area, Piece, known, doing, then_piece, Result, a_word, an_area, an_offset, no_word}
+use Rattle.tac_lower.specs.Pieces.{word_of, whole_word, long, number_of, compute, stored, parts_of, word_at, result_at, rest, Around}
+use Rattle.tac_lower.specs.Lowering.{cut, fitted, is_whole, binary, difference, form_of, turned_form, turned_over, extracted, constructed}
+use Rattle.tac_lower.specs.Lowering.{operation, call, call_value, signature_in}
 use Rattle.terra_meaning.specs.Frames.{Home}
 use Rattle.tac_lower.specs.Needs.{HasNumber, IsWide, EntriesFit, NumberUnless, BinaryNeeds, is_comparison}
 use Rattle.tac_lower.proofs.Words.{number-small}

@@ -1,5 +1,6 @@
 -- Pieces of the code of terms: jumps, loops, targets, declarations and what is used as a value.
-use Rattle.std.proofs.Common.{◌≡◌, ℕ, suc, ◌+◌, ◌<◌, ◌≤◌, Bool, true, false, List, [], ◌∷◌, ◌++◌, length, Option, Some, None, refl, sym, ◌∙◌, subst, arith}
+use Rattle.std.proofs.Common.{◌≡◌, ℕ, suc, ◌+◌, ◌<◌, ◌≤◌, Bool, true, false, List, [], ◌∷◌, ◌++◌, length, Option, Some, None, refl, sym}
+use Rattle.std.proofs.Common.{◌∙◌, subst, arith}
 use Rattle.std.specs.Prelude.{◌^◌, ◌&&◌, ◌||◌, nat_lt, if◌then◌else◌}
 use Rattle.std.proofs.lemmas.Bool.{and_parts, and_from, lt-ltb, leb-true}
 use Rattle.tl_base.specs.declared.place.Place.{Place}
@@ -15,11 +16,13 @@ use Rattle.terra_types.specs.Opening.{AreTypes, boolean}
 use Rattle.terra_types.specs.Layouts.{entries_in}
 use Rattle.terra_term.specs.declared.lists.TypedName.{TypedName}
 use Rattle.terra_term.specs.declared.operators.Constant.{Constant as TermConstant}
-use Rattle.terra_term.specs.TypedTerms.{Expression, typed, Constant', Variable, Global, Operate, Both, Either, Dereference, Select, Follow, Element, Index, Address, Decay, Let, Expressions, no_more, then_one, type_of, place_of}
+use Rattle.terra_term.specs.TypedTerms.{Expression, typed, Constant', Variable, Global, Operate, Both, Either, Dereference, Select, Follow}
+use Rattle.terra_term.specs.TypedTerms.{Element, Index, Address, Decay, Let, Expressions, no_more, then_one, type_of, place_of}
 use Rattle.terra_term.specs.Stores.{Contents}
 use Rattle.terra_term.specs.Events.{declares_all, declared_in}
 use Rattle.terra_term.specs.WellTyped as typing
-use Rattle.terra_term.specs.WellTyped.{Within, same, is_typed, are_typed, one_typed, all_typed, are_same, types_in, types_of_names, with_names, after_one, after_all}
+use Rattle.terra_term.specs.WellTyped.{Within, same, is_typed, are_typed, one_typed, all_typed, are_same, types_in, types_of_names}
+use Rattle.terra_term.specs.WellTyped.{with_names, after_one, after_all}
 use Rattle.terra_meaning.specs.Values.{form_at, bytes_at, is_aggregate}
 use Rattle.terra_meaning.specs.Frames.{Home, home_at}
 use Rattle.terra_meaning.specs.Meaning.{Wanted, the_value, the_address, constant, types_of, in_list}
@@ -31,8 +34,11 @@ use Rattle.tac_form.specs.declared.tac.Spot.TheVariants as spots
 use Rattle.tac_form.specs.declared.tac.Tac.{Tac}
 use Rattle.tac_form.specs.Fits.{operand_fits, place_fits}
 use Rattle.tac_lower.specs.Items.{Item, does, ends, skips, tests, repeats, repeats_unless, count_ends, loop_of}
-use Rattle.tac_lower.specs.Pieces.{Used, with_temp, Piece, known, doing, following, then_piece, Result, a_word, an_area, an_offset, word_of, address_of, result_at, rest, whole_word, compute, stored, Holder, in_temp, at_offset, Holders, holder_of, Around, declare, declare_all}
-use Rattle.tac_lower.specs.Lowering.{passed_over, target_at, aimed, Target, to_temp, to_place, assigned_all, Counting, step_in, is_one, either_way, runs, while_loop, repeat_loop, choice, pieces, one}
+use Rattle.tac_lower.specs.Pieces.{Used, with_temp, Piece, known, doing, following, then_piece, Result, a_word, an_area, an_offset, word_of}
+use Rattle.tac_lower.specs.Pieces.{address_of, result_at, rest, whole_word, compute, stored, Holder, in_temp, at_offset, Holders, holder_of}
+use Rattle.tac_lower.specs.Pieces.{Around, declare, declare_all}
+use Rattle.tac_lower.specs.Lowering.{passed_over, target_at, aimed, Target, to_temp, to_place, assigned_all, Counting, step_in, is_one}
+use Rattle.tac_lower.specs.Lowering.{either_way, runs, while_loop, repeat_loop, choice, pieces, one}
 use Rattle.tac_lower.proofs.Standing.{SizedBy, Grown}
 use Rattle.tac_lower.proofs.Simulates.{grown-then}
 use Rattle.tac_lower.proofs.Writes.{grown-temp}

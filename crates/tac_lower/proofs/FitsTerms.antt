@@ -8,11 +8,16 @@ use Rattle.terra_words.specs.declared.words.BinaryOperator.TheVariants as operat
 use Rattle.terra_types.specs.declared.types.TypeForm.{TypeForm}
 use Rattle.terra_types.specs.Opening.{AreTypes, boolean}
 use Rattle.terra_term.specs.declared.lists.TypedName.{TypedName}
-use Rattle.terra_term.specs.TypedTerms.{Expression, typed, Constant', Variable, Global, Operate, Both, Either, Dereference, Select, Follow, Element, Index, Address, Decay, Let, Expressions, no_more, then_one, Statement, statement, Var, Assign, If, IfElse, While, Repeat, For, Do, Break, Finish, Return, Perform, Statements, done, and_then, type_of, is_place}
+use Rattle.terra_term.specs.TypedTerms.{Expression, typed, Constant', Variable, Global, Operate, Both, Either, Dereference, Select, Follow}
+use Rattle.terra_term.specs.TypedTerms.{Element, Index, Address, Decay, Let, Expressions, no_more, then_one, Statement, statement, Var}
+use Rattle.terra_term.specs.TypedTerms.{Assign, If, IfElse, While, Repeat, For, Do, Break, Finish, Return, Perform, Statements, done}
+use Rattle.terra_term.specs.TypedTerms.{and_then, type_of, is_place}
 use Rattle.terra_term.specs.Stores.{Contents}
-use Rattle.terra_term.specs.Events.{events_of, list_events, doing_events, block_events, operation_events, takes, declares, declares_all, scope as scoping, declared_in}
+use Rattle.terra_term.specs.Events.{events_of, list_events, doing_events, block_events, operation_events, takes, declares, declares_all}
+use Rattle.terra_term.specs.Events.{scope as scoping, declared_in}
 use Rattle.terra_term.specs.WellTyped as typing
-use Rattle.terra_term.specs.WellTyped.{Within, same, is_typed, are_typed, one_typed, all_typed, are_same, types_in, types_of_names, with_names, after_one, after_all}
+use Rattle.terra_term.specs.WellTyped.{Within, same, is_typed, are_typed, one_typed, all_typed, are_same, types_in, types_of_names}
+use Rattle.terra_term.specs.WellTyped.{with_names, after_one, after_all}
 use Rattle.terra_meaning.specs.Values.{form_at, bytes_at}
 use Rattle.terra_meaning.specs.Frames.{Home, home_at}
 use Rattle.terra_meaning.specs.Meaning.{Wanted, the_value, the_address, constant, types_of, in_expression, in_list, in_statement, in_block}
@@ -21,8 +26,10 @@ use Rattle.tac_form.specs.declared.tac.Instruction.TheVariants.{Compute, Copy}
 use Rattle.tac_form.specs.declared.tac.Tac.{Tac}
 use Rattle.tac_form.specs.Fits.{operand_fits}
 use Rattle.tac_lower.specs.Items.{does, ends, gives}
-use Rattle.tac_lower.specs.Pieces.{Used, with_temp, Piece, known, following, Result, a_word, word_of, part_of, word_at, whole_word, number_of, located, Holders, holder_of, Around, declare, declare_all}
-use Rattle.tac_lower.specs.Lowering.{reached, entry, element, operation, opposite, passed_over, aimed, Target, assigned_all, counting, runs, counted_on, while_loop, repeat_loop, choice, piece, pieces, targets, one, all}
+use Rattle.tac_lower.specs.Pieces.{Used, with_temp, Piece, known, following, Result, a_word, word_of, part_of, word_at, whole_word}
+use Rattle.tac_lower.specs.Pieces.{number_of, located, Holders, holder_of, Around, declare, declare_all}
+use Rattle.tac_lower.specs.Lowering.{reached, entry, element, operation, opposite, passed_over, aimed, Target, assigned_all, counting, runs}
+use Rattle.tac_lower.specs.Lowering.{counted_on, while_loop, repeat_loop, choice, piece, pieces, targets, one, all}
 use Rattle.tac_lower.proofs.Simulates.{grown-none, grown-then}
 use Rattle.tac_lower.proofs.Writes.{grown-temp}
 use Rattle.tac_lower.proofs.Homes.{Homes, halves, second-half, in-scope, behind-both, declared-takes, declared-operation}

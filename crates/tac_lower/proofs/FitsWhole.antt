@@ -1,5 +1,6 @@
 -- The blocks of a function's code, and what they name, are there.
-use Rattle.std.proofs.Common.{◌≡◌, ℕ, suc, ◌+◌, ◌<◌, ◌≤◌, Bool, true, false, List, [], ◌∷◌, ◌++◌, length, map, refl, ◌∙◌, subst, arith, length-append}
+use Rattle.std.proofs.Common.{◌≡◌, ℕ, suc, ◌+◌, ◌<◌, ◌≤◌, Bool, true, false, List, [], ◌∷◌, ◌++◌, length, map, refl, ◌∙◌, subst, arith}
+use Rattle.std.proofs.Common.{length-append}
 use Rattle.std.specs.Prelude.{◌^◌, ◌-◌, ◌&&◌, nat_eq, nat_le, nat_lt, if◌then◌else◌}
 use Rattle.std.proofs.lemmas.Bool.{and_parts, and_from, lt-ltb, leb-true}
 use Rattle.std.specs.List.{list_all}
@@ -20,9 +21,12 @@ use Rattle.tac_form.specs.declared.tac.Destination.{Destination}
 use Rattle.tac_form.specs.declared.tac.Destination.TheVariants as destinations
 use Rattle.tac_form.specs.declared.tac.Block.{Block}
 use Rattle.tac_form.specs.declared.tac.Tac.{Tac}
-use Rattle.tac_form.specs.Fits.{area_fits, operand_fits, place_fits, area_there, destination_fits, instruction_fits, edge_fits, exit_fits, block_fits, is_within, most_nodes}
-use Rattle.tac_lower.specs.Items.{Item, does, ends, Ending, skips, tests, repeats, repeats_unless, leaves, gives, fails, count_ends, exit_of, onward, Draft, empty_draft, with_item, with_items}
-use Rattle.tac_lower.specs.Pieces.{Used, nothing_used, with_temp, with_area, Piece, known, then_piece, taken, an_area, no_word, part_of, given, Holders, Around, declare_all}
+use Rattle.tac_form.specs.Fits.{area_fits, operand_fits, place_fits, area_there, destination_fits, instruction_fits, edge_fits, exit_fits}
+use Rattle.tac_form.specs.Fits.{block_fits, is_within, most_nodes}
+use Rattle.tac_lower.specs.Items.{Item, does, ends, Ending, skips, tests, repeats, repeats_unless, leaves, gives, fails, count_ends}
+use Rattle.tac_lower.specs.Items.{exit_of, onward, Draft, empty_draft, with_item, with_items}
+use Rattle.tac_lower.specs.Pieces.{Used, nothing_used, with_temp, with_area, Piece, known, then_piece, taken, an_area, no_word, part_of}
+use Rattle.tac_lower.specs.Pieces.{given, Holders, Around, declare_all}
 use Rattle.tac_lower.specs.Lowering.{all, received, ending, around, code_of, type_of_name, are_narrow, parameter_types}
 use Rattle.tac_lower.proofs.Standing.{Grown}
 use Rattle.tac_lower.proofs.Simulates.{grown-none, grown-then}

@@ -1,5 +1,6 @@
 -- Lowered code of typed functions names what is there, and reaches what lies within its frame and areas.
-use Rattle.std.proofs.Common.{◌≡◌, ℕ, zero, suc, ◌+◌, ◌<◌, ◌≤◌, Bool, true, false, List, [], ◌∷◌, ◌++◌, length, Option, Some, None, refl, sym, ap, ◌∙◌, subst, arith, length-append, append_assoc}
+use Rattle.std.proofs.Common.{◌≡◌, ℕ, zero, suc, ◌+◌, ◌<◌, ◌≤◌, Bool, true, false, List, [], ◌∷◌, ◌++◌, length, Option, Some, None, refl}
+use Rattle.std.proofs.Common.{sym, ap, ◌∙◌, subst, arith, length-append, append_assoc}
 use Rattle.std.specs.Prelude.{◌^◌, ◌&&◌, nat_eq, nat_le, nat_lt, slice_get, unwrap_or, if◌then◌else◌}
 use Rattle.std.proofs.lemmas.Bool.{and_from, eqb-false, ltb-true, lt-ltb, le-leb, ne_eqb, not_from_false}
 use Rattle.std.specs.List.{list_all}
@@ -30,8 +31,12 @@ use Rattle.tac_form.specs.declared.tac.Tac.{Tac}
 use Rattle.tac_form.specs.Flow as flow
 use Rattle.tac_form.specs.Flow.{area_size}
 use Rattle.tac_form.specs.Fits.{area_fits, operand_fits, place_fits, area_there, part_fits, spot_fits, are_apart, instruction_fits}
-use Rattle.tac_lower.specs.Items.{Item, does, ends, Ending, skips, tests, repeats, repeats_unless, leaves, gives, fails, count_ends, loop_of}
-use Rattle.tac_lower.specs.Pieces.{Used, with_temp, with_area, Piece, known, doing, following, taken, Result, a_word, an_area, an_offset, no_word, word_of, part_of, address_of, whole_word, number_in, number_of, is_bool, compute, copied, located, loaded_bit, loaded_number, loaded_area, loaded_word, loaded, stored_part, stored, placed, declare_at, parts_of, word_at, Holder, in_temp, at_offset, Holders, holder_of}
+use Rattle.tac_lower.specs.Items.{Item, does, ends, Ending, skips, tests, repeats, repeats_unless, leaves, gives, fails, count_ends}
+use Rattle.tac_lower.specs.Items.{loop_of}
+use Rattle.tac_lower.specs.Pieces.{Used, with_temp, with_area, Piece, known, doing, following, taken, Result, a_word, an_area, an_offset}
+use Rattle.tac_lower.specs.Pieces.{no_word, word_of, part_of, address_of, whole_word, number_in, number_of, is_bool, compute, copied}
+use Rattle.tac_lower.specs.Pieces.{located, loaded_bit, loaded_number, loaded_area, loaded_word, loaded, stored_part, stored, placed}
+use Rattle.tac_lower.specs.Pieces.{declare_at, parts_of, word_at, Holder, in_temp, at_offset, Holders, holder_of}
 use Rattle.tac_lower.specs.Lowering.{reached, variable, entry, element}
 use Rattle.terra_meaning.specs.Frames.{Home, by_value, in_frame}
 use Rattle.tac_lower.specs.Needs.{GoodHome}

@@ -23,9 +23,12 @@ use Rattle.tac_lower.specs.Items.{Item, does, ends, tests, repeats, count_ends, 
 use Rattle.tac_lower.specs.Pieces.{Used, with_temp, Piece, Result, a_word, word_of, word_at, rest, Holders, number_of}
 use Rattle.tac_lower.specs.Lowering.{Counting, counting, step_in, runs, counted_on, while_loop}
 pub use Rattle.tac_lower.specs.Needs.{Begins}
-use Rattle.tac_lower.proofs.Places.{Point, step_on, start_of, after, after-append, after-block, DoesAt, EndsAt, HasAt, has-front, has-back, has-loop}
-use Rattle.tac_lower.proofs.Standing.{Setting, Private, stands, Leads, leads-to, one-step, word_in, operand-is, Fine, Keeps, Grown, Comes, Leaves}
-use Rattle.tac_lower.proofs.Simulates.{Fact, nothing, one_of, all_of, AllMean, KnowsAll, whole, Sim, grown-none, grown-then, keeps-none, facts-later}
+use Rattle.tac_lower.proofs.Places.{Point, step_on, start_of, after, after-append, after-block, DoesAt, EndsAt, HasAt, has-front, has-back}
+use Rattle.tac_lower.proofs.Places.{has-loop}
+use Rattle.tac_lower.proofs.Standing.{Setting, Private, stands, Leads, leads-to, one-step, word_in, operand-is, Fine, Keeps, Grown, Comes}
+use Rattle.tac_lower.proofs.Standing.{Leaves}
+use Rattle.tac_lower.proofs.Simulates.{Fact, nothing, one_of, all_of, AllMean, KnowsAll, whole, Sim, grown-none, grown-then, keeps-none}
+use Rattle.tac_lower.proofs.Simulates.{facts-later}
 use Rattle.tac_lower.proofs.Words.{value-small, wrapped-again, HasNumber}
 use Rattle.tac_lower.proofs.Writes.{put-same, put-below, with_word, fresh-apart, grown-temp}
 use Rattle.tac_lower.proofs.Loads.{word-is, is-value, load-number}
@@ -35,7 +38,8 @@ use Rattle.tac_lower.proofs.Declares.{all-behind, types_behind, word-of-value}
 use Rattle.tac_lower.proofs.Branches.{value_ways, jumps, branches, tested}
 use Rattle.tac_lower.proofs.Shorts.{fine-set}
 use Rattle.tac_lower.proofs.Counts.{bit, AreCounts, runs_sim, true-flag}
-use Rattle.tac_lower.proofs.Rounds.{in_loop, RoundOk, TurnOk, round-before, scoped-round, back-none, back-one, numbered, numbered_ways, next-turned}
+use Rattle.tac_lower.proofs.Rounds.{in_loop, RoundOk, TurnOk, round-before, scoped-round, back-none, back-one, numbered, numbered_ways}
+use Rattle.tac_lower.proofs.Rounds.{next-turned}
 use Rattle.tac_lower.proofs.Loops.{after-loop, while_code, while-count, while-after}
 
 -- the first value, and the step

@@ -1,5 +1,6 @@
 -- Whole functions: what they receive, their bodies, and what they give; by induction on how deep calls may go.
-use Rattle.std.proofs.Common.{◌≡◌, ℕ, suc, ◌<◌, ◌≤◌, Bool, true, false, List, [], ◌∷◌, ◌++◌, length, map, refl, sym, ap, ◌∙◌, subst, arith, length-append}
+use Rattle.std.proofs.Common.{◌≡◌, ℕ, suc, ◌<◌, ◌≤◌, Bool, true, false, List, [], ◌∷◌, ◌++◌, length, map, refl, sym, ap, ◌∙◌, subst, arith}
+use Rattle.std.proofs.Common.{length-append}
 use Rattle.std.specs.Prelude.{◌&&◌, nat_eq, option_map, if◌then◌else◌}
 use Rattle.std.proofs.lemmas.Bool.{eqb-true, eq-eqb}
 use Rattle.tl_base.specs.declared.ids.TypeId.{TypeId}
@@ -22,7 +23,8 @@ use Rattle.tac_form.specs.declared.tac.Exit.TheVariants.{Return, Fail}
 use Rattle.tac_form.specs.Flow as flow
 use Rattle.tac_form.specs.Flow.{Program, Activation, Caller, Moved, Goes, Stops, steps, area_size}
 use Rattle.tac_lower.specs.Items.{Item, gives, fails, exit_of, with_item, with_items, Draft}
-use Rattle.tac_lower.specs.Pieces.{Used, nothing_used, with_temp, with_area, Piece, known, then_piece, taken, given, Holders, Around, declare_all, part_of, no_word}
+use Rattle.tac_lower.specs.Pieces.{Used, nothing_used, with_temp, with_area, Piece, known, then_piece, taken, given, Holders, Around}
+use Rattle.tac_lower.specs.Pieces.{declare_all, part_of, no_word}
 use Rattle.tac_lower.specs.Lowering.{lowered, received, ending, all, type_of_name}
 use Rattle.tac_lower.proofs.Places.{Point, start_of, after, after-append, EndsAt, HasAt, has-front, has-back}
 use Rattle.tac_lower.proofs.Standing.{Setting, Private, stands, Leads, leads-to, one-end, Fine, Keeps, Grown, Comes, Leaves}

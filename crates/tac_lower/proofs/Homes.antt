@@ -1,5 +1,6 @@
 -- Homes of declarations: each lies within its function's frame, or is a value alone, as its type asks.
-use Rattle.std.proofs.Common.{◌≡◌, ℕ, zero, suc, ◌+◌, ◌*◌, ◌<◌, ◌≤◌, Bool, true, false, List, [], ◌∷◌, ◌++◌, length, Option, Some, None, refl, sym, ap, ◌∙◌, subst, arith, append-nil, length-append}
+use Rattle.std.proofs.Common.{◌≡◌, ℕ, zero, suc, ◌+◌, ◌*◌, ◌<◌, ◌≤◌, Bool, true, false, List, [], ◌∷◌, ◌++◌, length, Option, Some, None}
+use Rattle.std.proofs.Common.{refl, sym, ap, ◌∙◌, subst, arith, append-nil, length-append}
 use Rattle.std.specs.Prelude.{◌||◌, nat_le, slice_get, unwrap_or, if◌then◌else◌}
 use Rattle.std.proofs.lemmas.Bool.{leb-true, or_parts}
 use Rattle.std.proofs.lemmas.Option.{none-some, same_Some}
@@ -14,10 +15,12 @@ use Rattle.terra_types.specs.Opening.{AreTypes}
 use Rattle.terra_types.specs.Sizes.{Within, measure_of, for_some, repeated, largest_size, align_of, bytes_of}
 use Rattle.terra_types.specs.Layouts.{rounded}
 use Rattle.terra_types.proofs.Growing.{array-measure, plain-measure, past-measure}
-use Rattle.terra_term.specs.TypedTerms.{Expression, typed, Constant', Variable, Global, Operate, Both, Either, Dereference, Select, Follow, Element, Index, Address, Decay, Let, Body}
+use Rattle.terra_term.specs.TypedTerms.{Expression, typed, Constant', Variable, Global, Operate, Both, Either, Dereference, Select, Follow}
+use Rattle.terra_term.specs.TypedTerms.{Element, Index, Address, Decay, Let, Body}
 use Rattle.terra_term.specs.declared.operators.Operation.{Operation}
 use Rattle.terra_term.specs.declared.operators.Operation.TheVariants as operations
-use Rattle.terra_term.specs.Events.{Event, Opens, Closes, Declares, Takes, Uses, Mentions, operation_events, takes, scope, body_events, declared_in}
+use Rattle.terra_term.specs.Events.{Event, Opens, Closes, Declares, Takes, Uses, Mentions, operation_events, takes, scope, body_events}
+use Rattle.terra_term.specs.Events.{declared_in}
 use Rattle.terra_meaning.specs.Values.{bytes_at, is_aggregate}
 use Rattle.terra_meaning.specs.Frames.{Home, by_value, in_frame, home_at, has, Frame, with_home, framed, frame_of, taken}
 use Rattle.tac_lower.specs.Needs.{GoodHome}

@@ -1,5 +1,6 @@
 -- Where a temporary isn't live in lowered code: a piece reads what it is given, and what it writes itself before.
-use Rattle.std.proofs.Common.{◌≡◌, ℕ, zero, suc, ◌+◌, ◌<◌, Bool, true, false, List, [], ◌∷◌, ◌++◌, length, map, Option, Some, None, refl, ap, ◌∙◌, subst, arith}
+use Rattle.std.proofs.Common.{◌≡◌, ℕ, zero, suc, ◌+◌, ◌<◌, Bool, true, false, List, [], ◌∷◌, ◌++◌, length, map, Option, Some, None, refl}
+use Rattle.std.proofs.Common.{ap, ◌∙◌, subst, arith}
 use Rattle.std.specs.Prelude.{◌^◌, ◌-◌, not, ◌&&◌, ◌||◌, nat_eq, slice_get, option_map, if◌then◌else◌}
 use Rattle.std.specs.List.{list_any}
 use Rattle.std.proofs.lemmas.List.Folds.{list_any-append}
@@ -17,7 +18,8 @@ use Rattle.terra_types.specs.Opening.{boolean}
 use Rattle.terra_term.specs.declared.operators.Operation.{Operation}
 use Rattle.terra_term.specs.declared.operators.Operation.TheVariants as operations
 use Rattle.terra_term.specs.declared.lists.TypedName.{TypedName}
-use Rattle.terra_term.specs.TypedTerms.{Expression, typed, Constant', Variable, Global, Operate, Both, Either, Dereference, Select, Follow, Element, Index, Address, Decay, Let, Expressions, no_more, then_one, type_of, place_of}
+use Rattle.terra_term.specs.TypedTerms.{Expression, typed, Constant', Variable, Global, Operate, Both, Either, Dereference, Select, Follow}
+use Rattle.terra_term.specs.TypedTerms.{Element, Index, Address, Decay, Let, Expressions, no_more, then_one, type_of, place_of}
 use Rattle.terra_meaning.specs.Values.{form_at, bytes_at, is_aggregate, target_of}
 use Rattle.terra_meaning.specs.Frames.{Home, by_value, in_frame, home_at}
 use Rattle.terra_meaning.specs.Meaning.{Wanted, the_value, the_address, type_at}
@@ -30,16 +32,24 @@ use Rattle.tac_form.specs.declared.tac.Spot.TheVariants as spots
 use Rattle.tac_form.specs.declared.tac.Destination.{Destination}
 use Rattle.tac_form.specs.declared.tac.Destination.TheVariants as destinations
 use Rattle.tac_form.specs.declared.tac.Instruction.{Instruction}
-use Rattle.tac_form.specs.declared.tac.Instruction.TheVariants.{Compute, TestDivisor, Copy, Locate, Load, Store, Move, Clear, Call, CallValue, PutByte, Write, Alloc}
+use Rattle.tac_form.specs.declared.tac.Instruction.TheVariants.{Compute, TestDivisor, Copy, Locate, Load, Store, Move, Clear, Call}
+use Rattle.tac_form.specs.declared.tac.Instruction.TheVariants.{CallValue, PutByte, Write, Alloc}
 use Rattle.tac_form.specs.declared.tac.Exit.{Exit}
 use Rattle.tac_form.specs.declared.tac.Block.{Block}
 use Rattle.tac_form.specs.declared.graph.FlowBlock.{FlowBlock}
-use Rattle.tac_form.specs.Graph.{operand_reads, spot_reads, part_reads, parts_reads, instruction_reads, instruction_write, exit_reads, exit_next, step_of, steps_of, block_of}
+use Rattle.tac_form.specs.Graph.{operand_reads, spot_reads, part_reads, parts_reads, instruction_reads, instruction_write, exit_reads}
+use Rattle.tac_form.specs.Graph.{exit_next, step_of, steps_of, block_of}
 use Rattle.tac_form.specs.Live as live
 use Rattle.tac_form.specs.Live.{is_written, before_step, before_exit, at_step, at_place, read_within}
 use Rattle.tac_form.specs.Flow as flow
-use Rattle.tac_lower.specs.Pieces.{Used, with_temp, with_area, Piece, known, doing, following, then_piece, taken, Result, a_word, an_area, an_offset, no_word, word_of, part_of, parts_of, address_of, result_at, word_at, rest, long, whole_word, number_of, is_bool, compute, copied, located, loaded_bit, loaded_number, loaded_word, loaded, stored_part, stored, placed, Holder, in_temp, at_offset, Holders, holder_of, bound, Around, declare_at, declare, declare_all, first_of}
-use Rattle.tac_lower.specs.Lowering.{cut, fitted, is_whole, reached, variable, entry, element, binary, difference, form_of, turned_form, turned_over, extracted, constructed, signature_in, call, call_value, operation, Target, to_temp, to_place, target_at, aimed, assigned_all, Counting, is_one, either_way, runs}
+use Rattle.tac_lower.specs.Pieces.{Used, with_temp, with_area, Piece, known, doing, following, then_piece, taken, Result, a_word, an_area}
+use Rattle.tac_lower.specs.Pieces.{an_offset, no_word, word_of, part_of, parts_of, address_of, result_at, word_at, rest, long, whole_word}
+use Rattle.tac_lower.specs.Pieces.{number_of, is_bool, compute, copied, located, loaded_bit, loaded_number, loaded_word, loaded}
+use Rattle.tac_lower.specs.Pieces.{stored_part, stored, placed, Holder, in_temp, at_offset, Holders, holder_of, bound, Around, declare_at}
+use Rattle.tac_lower.specs.Pieces.{declare, declare_all, first_of}
+use Rattle.tac_lower.specs.Lowering.{cut, fitted, is_whole, reached, variable, entry, element, binary, difference, form_of, turned_form}
+use Rattle.tac_lower.specs.Lowering.{turned_over, extracted, constructed, signature_in, call, call_value, operation, Target, to_temp}
+use Rattle.tac_lower.specs.Lowering.{to_place, target_at, aimed, assigned_all, Counting, is_one, either_way, runs}
 use Rattle.tac_lower.proofs.Places.{Point, step_on, start_of, after, after-append, DoesAt, EndsAt, HasAt, has-front, has-back}
 
 abbrev pub before : ℕ → ℕ

@@ -1,5 +1,6 @@
 -- Where a temporary isn't live in the code of terms, and in that of a function.
-use Rattle.std.proofs.Common.{◌≡◌, ℕ, zero, suc, ◌+◌, Bool, true, false, List, [], ◌∷◌, ◌++◌, length, map, Some, refl, ap, ◌∙◌, subst, arith}
+use Rattle.std.proofs.Common.{◌≡◌, ℕ, zero, suc, ◌+◌, Bool, true, false, List, [], ◌∷◌, ◌++◌, length, map, Some, refl, ap, ◌∙◌, subst}
+use Rattle.std.proofs.Common.{arith}
 use Rattle.std.specs.Prelude.{◌-◌, nat_eq, if◌then◌else◌}
 use Rattle.std.specs.List.{list_any}
 use Rattle.std.proofs.lemmas.Bool.{or_parts}
@@ -7,7 +8,10 @@ use Rattle.tl_base.specs.declared.ids.FnId.{FnId}
 use Rattle.terra_words.specs.declared.words.BinaryOperator.TheVariants as operators
 use Rattle.terra_words.specs.declared.words.FaultKind.TheVariants.{NoReturn}
 use Rattle.terra_types.specs.Opening.{unit}
-use Rattle.terra_term.specs.TypedTerms.{Expression, typed, Constant', Variable, Global, Operate, Both, Either, Dereference, Select, Follow, Element, Index, Address, Decay, Let, Expressions, no_more, then_one, Statement, statement, Var, Assign, If, IfElse, While, Repeat, For, Do, Break, Finish, Return, Perform, Statements, done, and_then}
+use Rattle.terra_term.specs.TypedTerms.{Expression, typed, Constant', Variable, Global, Operate, Both, Either, Dereference, Select, Follow}
+use Rattle.terra_term.specs.TypedTerms.{Element, Index, Address, Decay, Let, Expressions, no_more, then_one, Statement, statement, Var}
+use Rattle.terra_term.specs.TypedTerms.{Assign, If, IfElse, While, Repeat, For, Do, Break, Finish, Return, Perform, Statements, done}
+use Rattle.terra_term.specs.TypedTerms.{and_then}
 use Rattle.terra_term.specs.Stores.{Contents, Callable}
 use Rattle.terra_meaning.specs.Values.{bytes_at}
 use Rattle.terra_meaning.specs.Meaning.{Wanted, the_value, the_address, constant, types_of, in_expression, in_list, in_statement, in_block}
@@ -19,9 +23,14 @@ use Rattle.tac_form.specs.declared.tac.Instruction.TheVariants.{Compute, Copy}
 use Rattle.tac_form.specs.declared.tac.Exit.TheVariants as exits
 use Rattle.tac_form.specs.declared.tac.Block.{Block}
 use Rattle.tac_form.specs.Fits.{goes_to}
-use Rattle.tac_lower.specs.Items.{Item, does, ends, skips, tests, repeats, repeats_unless, gives, fails, count_ends, onward, backward, empty_draft}
-use Rattle.tac_lower.specs.Pieces.{Used, with_temp, Piece, known, doing, following, taken, Result, a_word, no_word, word_of, part_of, word_at, rest, whole_word, number_of, given, compute, located, Holders, Around, declare, declare_all, nothing_used}
-use Rattle.tac_lower.specs.Lowering.{reached, entry, element, operation, opposite, passed_over, aimed, Target, assigned_all, counting, step_in, runs, while_loop, repeat_loop, choice, piece, pieces, targets, one, all, around, received, ending, code_of}
+use Rattle.tac_lower.specs.Items.{Item, does, ends, skips, tests, repeats, repeats_unless, gives, fails, count_ends, onward, backward}
+use Rattle.tac_lower.specs.Items.{empty_draft}
+use Rattle.tac_lower.specs.Pieces.{Used, with_temp, Piece, known, doing, following, taken, Result, a_word, no_word, word_of, part_of}
+use Rattle.tac_lower.specs.Pieces.{word_at, rest, whole_word, number_of, given, compute, located, Holders, Around, declare, declare_all}
+use Rattle.tac_lower.specs.Pieces.{nothing_used}
+use Rattle.tac_lower.specs.Lowering.{reached, entry, element, operation, opposite, passed_over, aimed, Target, assigned_all, counting}
+use Rattle.tac_lower.specs.Lowering.{step_in, runs, while_loop, repeat_loop, choice, piece, pieces, targets, one, all, around, received}
+use Rattle.tac_lower.specs.Lowering.{ending, code_of}
 use Rattle.tac_lower.proofs.Places.{Point, start_of, after, after-append, after-block, HasAt, has-front, has-back, has-loop, ends-append}
 use Rattle.tac_lower.proofs.Loops.{after-loop, while_code, while-count, while-after}
 use Rattle.tac_lower.proofs.Whole.{has-whole}

@@ -3,7 +3,8 @@
 use Rattle.std.proofs.Common.{◌≡◌, ℕ, ◌+◌, ◌<◌, ◌≤◌, Bool, true, false, refl, sym, ap, ◌∙◌, subst, arith}
 use Rattle.std.specs.Prelude.{◌^◌, ◌-◌, ◌*◌, ◌/◌, ◌%◌, ◌⊎◌, nat_lt, nat_le, if◌then◌else◌, bit_and, bit_or, bit_xor}
 use mathlib.Core.Logic.{inl, inr}
-use Rattle.std.specs.Int.Bits.{and_self, and_zero_l, and_zero_r, or_self, or_zero_l, or_zero_r, xor_self, xor_zero_l, xor_zero_r, xor_add_and}
+use Rattle.std.specs.Int.Bits.{and_self, and_zero_l, and_zero_r, or_self, or_zero_l, or_zero_r, xor_self, xor_zero_l, xor_zero_r}
+use Rattle.std.specs.Int.Bits.{xor_add_and}
 use Rattle.std.proofs.lemmas.Bool.{leb-true, leb-false, ltb-true}
 use Rattle.std.proofs.lemmas.Nat.{and_le_l, and_mask, and_shr, or_lt, or_shr, xor_lt, xor_shr}
 use Rattle.std.proofs.Math.Nat.{div-le_self, mod-le}

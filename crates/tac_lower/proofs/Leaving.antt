@@ -1,9 +1,11 @@
 -- Declarations come before what was in scope, which is there again when they are left.
-use Rattle.std.proofs.Common.{◌≡◌, refl, sym, ap, ◌∙◌, ℕ, suc, ◌+◌, ◌-◌, List, [], ◌∷◌, ◌++◌, Option, Some, None, length, drop, arith, append_assoc}
+use Rattle.std.proofs.Common.{◌≡◌, refl, sym, ap, ◌∙◌, ℕ, suc, ◌+◌, ◌-◌, List, [], ◌∷◌, ◌++◌, Option, Some, None, length, drop, arith}
+use Rattle.std.proofs.Common.{append_assoc}
 use Rattle.tl_base.specs.declared.place.Place.{Place}
 use Rattle.terra_types.specs.declared.types.TypeForm.{TypeForm}
 use Rattle.terra_term.specs.declared.lists.TypedName.{TypedName}
-use Rattle.terra_term.specs.TypedTerms.{Statement, statement, Var, Assign, If, IfElse, While, Repeat, For, Do, Break, Finish, Return, Perform, Statements, done, and_then}
+use Rattle.terra_term.specs.TypedTerms.{Statement, statement, Var, Assign, If, IfElse, While, Repeat, For, Do, Break, Finish, Return}
+use Rattle.terra_term.specs.TypedTerms.{Perform, Statements, done, and_then}
 use Rattle.terra_meaning.specs.Frames.{Home, by_value, in_frame, home_at}
 use Rattle.terra_meaning.specs.Meaning.{in_list, in_statement}
 use Rattle.tac_lower.specs.Pieces.{Around, Bound, Holders, Result, Used, declare, declare_all, declare_at, first_of, rest}

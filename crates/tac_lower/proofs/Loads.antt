@@ -1,5 +1,6 @@
 -- Loads: the value of a type at an address, in code and in the meaning.
-use Rattle.std.proofs.Common.{◌≡◌, ◌≢◌, ℕ, zero, suc, ◌+◌, ◌<◌, ◌≤◌, Bool, true, false, List, [], ◌∷◌, ◌++◌, length, drop, Option, Some, None, refl, sym, ap, ◌∙◌, subst, arith, append-nil, append_assoc, length-append}
+use Rattle.std.proofs.Common.{◌≡◌, ◌≢◌, ℕ, zero, suc, ◌+◌, ◌<◌, ◌≤◌, Bool, true, false, List, [], ◌∷◌, ◌++◌, length, drop, Option, Some}
+use Rattle.std.proofs.Common.{None, refl, sym, ap, ◌∙◌, subst, arith, append-nil, append_assoc, length-append}
 use Rattle.std.specs.Prelude.{◌^◌, ◌%◌, ◌-◌, ◌&&◌, slice_get, unwrap_or, nat_eq, if◌then◌else◌, bit_and}
 use Rattle.std.proofs.lemmas.Option.{slice_get-get_or}
 use Rattle.std.proofs.Math.Seq.{get_or-append_seam}
@@ -33,7 +34,9 @@ use Rattle.tac_form.specs.declared.tac.Spot.TheVariants as spots
 use Rattle.tac_form.specs.declared.tac.Instruction.TheVariants.{Compute, Copy, Load, Move}
 use Rattle.tac_form.specs.Flow as flow
 use Rattle.tac_form.specs.Flow.{Moved, Goes, Stops, act, area_size, fetched}
-use Rattle.tac_lower.specs.Pieces.{Used, with_temp, with_area, Piece, known, doing, then_piece, Result, a_word, an_area, an_offset, word_of, address_of, no_word, Holders, number_in, bool_form, whole_word, compute, copied, loaded_bit, loaded_number, loaded_word, loaded}
+use Rattle.tac_lower.specs.Pieces.{Used, with_temp, with_area, Piece, known, doing, then_piece, Result, a_word, an_area, an_offset, word_of}
+use Rattle.tac_lower.specs.Pieces.{address_of, no_word, Holders, number_in, bool_form, whole_word, compute, copied, loaded_bit}
+use Rattle.tac_lower.specs.Pieces.{loaded_number, loaded_word, loaded}
 use Rattle.tac_lower.specs.Lowering.{reached}
 use Rattle.tac_lower.proofs.Places.{Point, after}
 use Rattle.tac_lower.proofs.Standing.{Setting, SizedBy, Private, stands, word_in, operand-is, Fine, Grown, Good, Means, Comes, Leaves}

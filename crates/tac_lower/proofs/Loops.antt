@@ -12,7 +12,8 @@ use Rattle.tac_form.specs.declared.tac.Exit.TheVariants.{Jump}
 use Rattle.tac_lower.specs.Items.{Item, does, ends, tests, repeats, count_ends, loop_of, backward}
 use Rattle.tac_lower.specs.Pieces.{Used, Piece, Result, word_of, Holders}
 use Rattle.tac_lower.specs.Lowering.{while_loop}
-use Rattle.tac_lower.proofs.Places.{Point, step_on, start_of, after, after-append, after-block, EndsAt, HasAt, has-front, has-back, has-loop, ends-append}
+use Rattle.tac_lower.proofs.Places.{Point, step_on, start_of, after, after-append, after-block, EndsAt, HasAt, has-front, has-back}
+use Rattle.tac_lower.proofs.Places.{has-loop, ends-append}
 use Rattle.tac_lower.proofs.Standing.{Setting, Private, Leads, word_in, Fine, Grown, Comes, Leaves}
 use Rattle.tac_lower.proofs.Simulates.{Fact, one_of, Knows, whole, Sim, grown-none, grown-then, keeps-none}
 use Rattle.tac_lower.proofs.Acts.{under-self, fine-later, Acts, way-before, way-at}

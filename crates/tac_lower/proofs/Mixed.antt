@@ -18,7 +18,8 @@ use Rattle.terra_term.specs.declared.operators.Constant.TheVariants as constants
 use Rattle.terra_term.specs.declared.operators.Operation.TheVariants as operations
 use Rattle.terra_term.specs.declared.store.FunctionState.TheVariants as states
 use Rattle.terra_term.specs.TypedTerms as items
-use Rattle.terra_term.specs.TypedTerms.{Expression, typed, Constant', Variable, Operate, Either, no_more, then_one, Statement, statement, Var, Assign, If, IfElse, Repeat, For, Break, Return, Statements, done, and_then, Body}
+use Rattle.terra_term.specs.TypedTerms.{Expression, typed, Constant', Variable, Operate, Either, no_more, then_one, Statement, statement}
+use Rattle.terra_term.specs.TypedTerms.{Var, Assign, If, IfElse, Repeat, For, Break, Return, Statements, done, and_then, Body}
 use Rattle.terra_term.specs.Stores.{Contents, callable_of}
 use Rattle.terra_meaning.specs.Meaning.{meaning}
 use Rattle.tac_form.specs.Flow.{Program, Moved, Stops, steps, begun}

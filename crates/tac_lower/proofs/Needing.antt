@@ -1,5 +1,6 @@
 -- What typing leaves has what lowering needs: constants, operations, and by recursion terms.
-use Rattle.std.proofs.Common.{◌≡◌, ℕ, suc, ◌+◌, ◌<◌, ◌≤◌, Bool, true, false, List, [], ◌∷◌, ◌++◌, length, map, Option, Some, None, refl, sym, ◌∙◌, subst, arith}
+use Rattle.std.proofs.Common.{◌≡◌, ℕ, suc, ◌+◌, ◌<◌, ◌≤◌, Bool, true, false, List, [], ◌∷◌, ◌++◌, length, map, Option, Some, None, refl}
+use Rattle.std.proofs.Common.{sym, ◌∙◌, subst, arith}
 use Rattle.std.specs.Prelude.{◌^◌, not, ◌&&◌, ◌||◌, ◌⊎◌, nat_eq, nat_le, nat_lt, unwrap_or, if◌then◌else◌}
 use mathlib.Core.Logic.{inl, inr}
 use Rattle.std.proofs.lemmas.Bool.{leb-true, ltb-true, and_parts, and_from, or_cases}
@@ -22,19 +23,31 @@ use Rattle.terra_term.specs.declared.operators.Constant.TheVariants as constants
 use Rattle.terra_term.specs.declared.operators.Operation.{Operation}
 use Rattle.terra_term.specs.declared.operators.Operation.TheVariants as operations
 use Rattle.terra_term.specs.declared.lists.TypedName.{TypedName}
-use Rattle.terra_term.specs.TypedTerms.{Expression, typed, Constant', Variable, Global, Operate, Both, Either, Dereference, Select, Follow, Element, Index, Address, Decay, Let, Expressions, no_more, then_one, Statement, statement, Var, Assign, If, IfElse, While, Repeat, For, Do, Break, Finish, Return, Perform, Statements, done, and_then, type_of, is_place}
+use Rattle.terra_term.specs.TypedTerms.{Expression, typed, Constant', Variable, Global, Operate, Both, Either, Dereference, Select, Follow}
+use Rattle.terra_term.specs.TypedTerms.{Element, Index, Address, Decay, Let, Expressions, no_more, then_one, Statement, statement, Var}
+use Rattle.terra_term.specs.TypedTerms.{Assign, If, IfElse, While, Repeat, For, Do, Break, Finish, Return, Perform, Statements, done}
+use Rattle.terra_term.specs.TypedTerms.{and_then, type_of, is_place}
 use Rattle.terra_term.specs.Stores.{Contents, Callable, callable_of}
-use Rattle.terra_term.specs.Events.{events_of, list_events, doing_events, block_events, operation_events, takes, declares, declares_all, scope, declared_in}
+use Rattle.terra_term.specs.Events.{events_of, list_events, doing_events, block_events, operation_events, takes, declares, declares_all}
+use Rattle.terra_term.specs.Events.{scope, declared_in}
 use Rattle.terra_term.specs.WellTyped as typing
-use Rattle.terra_term.specs.WellTyped.{Within, same, is_typed, are_typed, one_typed, all_typed, body_typed, are_same, types_in, types_of_names, with_names, after_one, after_all}
+use Rattle.terra_term.specs.WellTyped.{Within, same, is_typed, are_typed, one_typed, all_typed, body_typed, are_same, types_in}
+use Rattle.terra_term.specs.WellTyped.{types_of_names, with_names, after_one, after_all}
 use Rattle.terra_meaning.specs.Values.{form_at, bytes_at, is_aggregate, target_of, IsValue}
 use Rattle.terra_meaning.specs.Frames.{Home, frame_of}
-use Rattle.terra_meaning.specs.Meaning.{Wanted, the_value, the_address, constant, position_of, types_of, type_at, in_expression, in_list, in_statement, in_block}
+use Rattle.terra_meaning.specs.Meaning.{Wanted, the_value, the_address, constant, position_of, types_of, type_at, in_expression, in_list}
+use Rattle.terra_meaning.specs.Meaning.{in_statement, in_block}
 use Rattle.tac_lower.specs.Lowering.{type_of_name, are_narrow}
-use Rattle.tac_lower.specs.Needs.{HasNumber, IsWanted, IsWide, Begins, DeclaresWell, is_comparison, joins_bits, BinaryNeeds, PrimitiveNeeds, NumberUnless, EntriesFit, CallNeeds, OperationNeeds, in_loop, Needs, NeedsAll, NeedsTargets, NeedsOne, NeedsBlock, BodyNeeds}
+use Rattle.tac_lower.specs.Needs.{HasNumber, IsWanted, IsWide, Begins, DeclaresWell, is_comparison, joins_bits, BinaryNeeds, PrimitiveNeeds}
+use Rattle.tac_lower.specs.Needs.{NumberUnless, EntriesFit, CallNeeds, OperationNeeds, in_loop, Needs, NeedsAll, NeedsTargets, NeedsOne}
+use Rattle.tac_lower.specs.Needs.{NeedsBlock, BodyNeeds}
 use Rattle.tac_lower.proofs.Words.{wrapped-zero}
 use Rattle.tac_lower.proofs.Homes.{Homes, homes-of, declared-takes, declared-operation, halves, second-half, in-scope, behind-both}
-use Rattle.tac_lower.proofs.Typing.{no, three, four, five, same-id, same-ids, names-are, types-are, with-names, after-one, after-all, in-names, integer-number, pointer-number, value-by, address-fits, int64-fits, word-value, pointer-wide, points-pointer, bool-again, nil-value, function-value, position-few, entries-aggregate, struct-aggregate, callee-form, compares-are, conversion, declared-count, outside-let, Asked, value-asked}
+use Rattle.tac_lower.proofs.Typing.{no, three, four, five, same-id, same-ids, names-are, types-are, with-names, after-one, after-all}
+use Rattle.tac_lower.proofs.Typing.{in-names, integer-number, pointer-number, value-by, address-fits, int64-fits, word-value, pointer-wide}
+use Rattle.tac_lower.proofs.Typing.{points-pointer, bool-again, nil-value, function-value, position-few, entries-aggregate}
+use Rattle.tac_lower.proofs.Typing.{struct-aggregate, callee-form, compares-are, conversion, declared-count, outside-let, Asked}
+use Rattle.tac_lower.proofs.Typing.{value-asked}
 
 module _ (store : Contents) (are : AreTypes store.types) (entries : List FnId) (few : length entries < 2 ^ 32) where
   abbrev types : List TypeForm

@@ -20,7 +20,8 @@ use Rattle.terra_meaning.specs.Frames.{Home}
 use Rattle.terra_meaning.specs.Running.{State, Got, Gives}
 use Rattle.terra_meaning.specs.Meaning.{Call, the_value, type_at, operated}
 use Rattle.tac_form.specs.declared.tac.Operand.TheVariants.{Constant}
-use Rattle.tac_lower.specs.Pieces.{Used, Piece, Result, a_word, an_area, an_offset, no_word, word_at, result_at, Holders, Around, whole_word, number_of, compute}
+use Rattle.tac_lower.specs.Pieces.{Used, Piece, Result, a_word, an_area, an_offset, no_word, word_at, result_at, Holders, Around}
+use Rattle.tac_lower.specs.Pieces.{whole_word, number_of, compute}
 use Rattle.tac_lower.specs.Lowering.{fitted, operation, turned_over, extracted, are_narrow}
 pub use Rattle.tac_lower.specs.Needs.{NumberUnless, OperationNeeds}
 use Rattle.tac_lower.proofs.Standing.{Setting, Private, Means}
@@ -31,7 +32,8 @@ use Rattle.tac_lower.proofs.Operators.{value-again, negate_sim, fitted_sim}
 use Rattle.tac_lower.proofs.Shorts.{bit-of-bool}
 use Rattle.tac_lower.proofs.Fors.{Begins, first-value}
 use Rattle.tac_lower.proofs.Targets.{first-mean}
-use Rattle.tac_lower.proofs.Operations.{is-boolean, not_bool_sim, not_number_sim, to_bool_sim, forward_sim, back_sim, difference_sim, operator_sim, primitive_sim}
+use Rattle.tac_lower.proofs.Operations.{is-boolean, not_bool_sim, not_number_sim, to_bool_sim, forward_sim, back_sim, difference_sim}
+use Rattle.tac_lower.proofs.Operations.{operator_sim, primitive_sim}
 use Rattle.tac_lower.proofs.Extracts.{entry_sim, bytes-in-area, no-word-area}
 use Rattle.tac_lower.proofs.Constructs.{construct_sim}
 

@@ -1,5 +1,6 @@
 -- The rest of the operations on words: `not`, conversions to bools, steps of pointers, differences, operators, and primitives.
-use Rattle.std.proofs.Common.{◌≡◌, ◌≢◌, ℕ, zero, suc, ◌+◌, ◌*◌, ◌<◌, ◌≤◌, Bool, true, false, ℤ, pos, negsuc, List, [], ◌∷◌, ◌++◌, length, Option, Some, None, refl, sym, ap, ◌∙◌, subst, arith}
+use Rattle.std.proofs.Common.{◌≡◌, ◌≢◌, ℕ, zero, suc, ◌+◌, ◌*◌, ◌<◌, ◌≤◌, Bool, true, false, ℤ, pos, negsuc, List, [], ◌∷◌, ◌++◌, length}
+use Rattle.std.proofs.Common.{Option, Some, None, refl, sym, ap, ◌∙◌, subst, arith}
 use Rattle.std.specs.Prelude.{◌^◌, ◌-◌, ◌%◌, not, nat_eq, nat_le, nat_lt, if◌then◌else◌}
 use Rattle.std.proofs.lemmas.Bool.{eqb-true, lt-ltb, leb-true}
 use Rattle.tl_base.specs.declared.place.Place.{Place}
@@ -30,7 +31,8 @@ use Rattle.tac_form.specs.declared.tac.Instruction.{Instruction}
 use Rattle.tac_form.specs.declared.tac.Instruction.TheVariants.{TestDivisor, PutByte, Write, Alloc}
 use Rattle.tac_form.specs.Flow as flow
 use Rattle.tac_form.specs.Flow.{Goes, fetched}
-use Rattle.tac_lower.specs.Pieces.{Used, with_temp, Piece, known, doing, Result, a_word, word_of, word_at, no_word, Holders, number_in, number_of, whole_word, long, compute}
+use Rattle.tac_lower.specs.Pieces.{Used, with_temp, Piece, known, doing, Result, a_word, word_of, word_at, no_word, Holders, number_in}
+use Rattle.tac_lower.specs.Pieces.{number_of, whole_word, long, compute}
 use Rattle.tac_lower.specs.Lowering.{binary, step, difference, primitive, form_of, stays_within, turned_form, turned_over}
 pub use Rattle.tac_lower.specs.Needs.{IsWide, is_comparison, joins_bits, BinaryNeeds, PrimitiveNeeds}
 use Rattle.tac_lower.proofs.Places.{Point, after}
@@ -40,7 +42,8 @@ use Rattle.tac_lower.proofs.Words.{width_by, wrapped-small, HasNumber}
 use Rattle.tac_lower.proofs.Writes.{grown-temp, nat_eq-ne, puts_sim, PassesOr, passes_sim}
 use Rattle.tac_lower.proofs.Loads.{sim_as, compute_sim}
 use Rattle.tac_lower.proofs.Images.{IsWord, is-word, same-as-long, complement-is}
-use Rattle.tac_lower.proofs.Operators.{first-word, second-word, both-words, first-again, second-again, first-small, good-number, number-width_at, binary_sim}
+use Rattle.tac_lower.proofs.Operators.{first-word, second-word, both-words, first-again, second-again, first-small, good-number}
+use Rattle.tac_lower.proofs.Operators.{number-width_at, binary_sim}
 use Rattle.tac_lower.proofs.Reaches.{added, multiplied}
 use Rattle.tac_lower.proofs.Counts.{good-flag}
 

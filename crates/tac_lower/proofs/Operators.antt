@@ -24,7 +24,8 @@ use Rattle.tac_form.specs.declared.tac.Operand.TheVariants.{Temp, Constant}
 use Rattle.tac_form.specs.declared.tac.Instruction.TheVariants.{TestDivisor}
 use Rattle.tac_form.specs.Flow as flow
 use Rattle.tac_form.specs.Flow.{Goes, Stops, act}
-use Rattle.tac_lower.specs.Pieces.{Used, Piece, known, doing, then_piece, Result, a_word, an_area, an_offset, word_of, word_at, Holders, number_of, compute}
+use Rattle.tac_lower.specs.Pieces.{Used, Piece, known, doing, then_piece, Result, a_word, an_area, an_offset, word_of, word_at, Holders}
+use Rattle.tac_lower.specs.Pieces.{number_of, compute}
 use Rattle.tac_lower.specs.Lowering.{cut, fitted, is_whole, binary, form_of}
 use Rattle.tac_lower.proofs.Standing.{Setting, Private, stands, one-step, word_in, operand-is, Good, Own}
 use Rattle.tac_lower.proofs.Simulates.{Fact, nothing, one_of, all_of, AllMean, Sim, then_sim}

@@ -4,8 +4,10 @@ use Rattle.tl_base.specs.declared.place.Place.{Place}
 use Rattle.terra_term.specs.declared.operators.Operation.{Operation}
 use Rattle.terra_term.specs.declared.operators.Operation.TheVariants as operations
 use Rattle.terra_term.specs.declared.lists.TypedName.{TypedName}
-use Rattle.terra_term.specs.TypedTerms.{Expression, typed, Constant', Variable, Global, Operate, Both, Either, Dereference, Select, Follow, Element, Index, Address, Decay, Let}
-use Rattle.terra_term.specs.Events.{Event, Opens, Closes, Declares, Takes, Uses, Mentions, declared_in, declares_all, operation_events, scope, takes}
+use Rattle.terra_term.specs.TypedTerms.{Expression, typed, Constant', Variable, Global, Operate, Both, Either, Dereference, Select, Follow}
+use Rattle.terra_term.specs.TypedTerms.{Element, Index, Address, Decay, Let}
+use Rattle.terra_term.specs.Events.{Event, Opens, Closes, Declares, Takes, Uses, Mentions, declared_in, declares_all, operation_events}
+use Rattle.terra_term.specs.Events.{scope, takes}
 
 pub declared_append : (xs ys : List Event) → length (declared_in (xs ++ ys)) ≡ length (declared_in xs) + length (declared_in ys)
 declared_append [] ys = sym (zero-add (length (declared_in ys)))

@@ -5,7 +5,8 @@ use Rattle.tac_form.specs.declared.tac.Instruction.{Instruction}
 use Rattle.tac_form.specs.declared.tac.Exit.{Exit}
 use Rattle.tac_form.specs.declared.tac.Exit.TheVariants.{Jump}
 use Rattle.tac_form.specs.declared.tac.Block.{Block}
-use Rattle.tac_lower.specs.Items.{Item, does, ends, skips, tests, repeats, repeats_unless, leaves, gives, fails, count_ends, loop_of, onward, exit_of}
+use Rattle.tac_lower.specs.Items.{Item, does, ends, skips, tests, repeats, repeats_unless, leaves, gives, fails, count_ends, loop_of}
+use Rattle.tac_lower.specs.Items.{onward, exit_of}
 
 -- A place: a block, and how many of its instructions are behind.
 pub record Point : Type 0 where

@@ -1,5 +1,6 @@
 -- Variables, and places within places.
-use Rattle.std.proofs.Common.{◌≡◌, ℕ, ◌+◌, ◌*◌, ◌<◌, ◌≤◌, Bool, true, false, List, [], ◌∷◌, Option, Some, None, refl, sym, ap, ◌∙◌, subst, arith}
+use Rattle.std.proofs.Common.{◌≡◌, ℕ, ◌+◌, ◌*◌, ◌<◌, ◌≤◌, Bool, true, false, List, [], ◌∷◌, Option, Some, None, refl, sym, ap, ◌∙◌, subst}
+use Rattle.std.proofs.Common.{arith}
 use Rattle.std.specs.Prelude.{◌^◌, ◌%◌, nat_eq, if◌then◌else◌}
 use Rattle.std.proofs.lemmas.Bool.{eqb-true}
 use Rattle.tl_base.specs.declared.place.Place.{Place}
@@ -18,7 +19,8 @@ use Rattle.tac_form.specs.declared.tac.Operand.TheVariants.{Temp, Constant}
 use Rattle.tac_form.specs.declared.tac.Instruction.TheVariants.{Locate}
 use Rattle.tac_form.specs.Flow as flow
 use Rattle.tac_form.specs.Flow.{Goes}
-use Rattle.tac_lower.specs.Pieces.{Used, with_temp, known, Result, a_word, an_area, an_offset, word_of, no_word, Holder, in_temp, at_offset, Holders, holder_of, whole_word, compute, located}
+use Rattle.tac_lower.specs.Pieces.{Used, with_temp, known, Result, a_word, an_area, an_offset, word_of, no_word, Holder, in_temp, at_offset}
+use Rattle.tac_lower.specs.Pieces.{Holders, holder_of, whole_word, compute, located}
 use Rattle.tac_lower.specs.Lowering.{variable, entry, element}
 pub use Rattle.tac_lower.specs.Needs.{by_test, InScope}
 use Rattle.tac_lower.proofs.Standing.{Setting, Private, word_in, value_in, Is, below, Holds, Fine, Own, Good, Means}

@@ -1,5 +1,6 @@
 -- `repeat`: its statements and the test in one scope, and the way back.
-use Rattle.std.proofs.Common.{◌≡◌, ℕ, zero, suc, ◌+◌, ◌<◌, ◌≤◌, Bool, true, false, List, [], ◌∷◌, ◌++◌, length, refl, sym, ap, ◌∙◌, subst, arith}
+use Rattle.std.proofs.Common.{◌≡◌, ℕ, zero, suc, ◌+◌, ◌<◌, ◌≤◌, Bool, true, false, List, [], ◌∷◌, ◌++◌, length, refl, sym, ap, ◌∙◌, subst}
+use Rattle.std.proofs.Common.{arith}
 use Rattle.std.specs.Prelude.{◌-◌, not, nat_eq, if◌then◌else◌}
 use Rattle.tl_base.specs.declared.ids.TypeId.{TypeId}
 use Rattle.terra_words.specs.Runs.{Value, is_true, More}
@@ -14,8 +15,10 @@ use Rattle.tac_form.specs.Flow.{Goes, Stops}
 use Rattle.tac_lower.specs.Items.{Item, ends, repeats_unless, count_ends, onward, backward}
 use Rattle.tac_lower.specs.Pieces.{Used, Piece, Result, word_of, Holders}
 use Rattle.tac_lower.specs.Lowering.{repeat_loop}
-use Rattle.tac_lower.proofs.Places.{Point, start_of, after, after-append, after-block, EndsAt, HasAt, has-front, has-back, has-loop, ends-append}
-use Rattle.tac_lower.proofs.Standing.{Setting, Private, stands, Leads, Halts, leads-to, one-end, word_in, operand-is, Fine, Grown, Means, Comes, Leaves}
+use Rattle.tac_lower.proofs.Places.{Point, start_of, after, after-append, after-block, EndsAt, HasAt, has-front, has-back, has-loop}
+use Rattle.tac_lower.proofs.Places.{ends-append}
+use Rattle.tac_lower.proofs.Standing.{Setting, Private, stands, Leads, Halts, leads-to, one-end, word_in, operand-is, Fine, Grown, Means}
+use Rattle.tac_lower.proofs.Standing.{Comes, Leaves}
 use Rattle.tac_lower.proofs.Simulates.{one_of, whole, Sim, grown-none, grown-then, keeps-none, keeps-then}
 use Rattle.tac_lower.proofs.Acts.{outermost, under-self, holds-length, fine-outer, WayOk, Acts, way-before, way-at, comes-later}
 use Rattle.tac_lower.proofs.Branches.{jumps, tested}

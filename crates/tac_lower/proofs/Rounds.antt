@@ -13,7 +13,8 @@ use Rattle.tac_lower.specs.Items.{backward}
 use Rattle.tac_lower.specs.Pieces.{Used, Holder, in_temp, at_offset, Holders}
 pub use Rattle.tac_lower.specs.Needs.{in_loop}
 use Rattle.tac_lower.proofs.Places.{Point, start_of, EndsAt}
-use Rattle.tac_lower.proofs.Standing.{Setting, Private, stands, Leads, Halts, leads-to, one-end, Is, below, Holds, Fine, Keeps, Grown, Comes, Leaves}
+use Rattle.tac_lower.proofs.Standing.{Setting, Private, stands, Leads, Halts, leads-to, one-end, Is, below, Holds, Fine, Keeps, Grown}
+use Rattle.tac_lower.proofs.Standing.{Comes, Leaves}
 use Rattle.tac_lower.proofs.Simulates.{grown-none, comes-before}
 use Rattle.tac_lower.proofs.Acts.{Under, under-self, holds-length, fine-outer, Returns, WayOk, way-before}
 

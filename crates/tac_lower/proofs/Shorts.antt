@@ -20,7 +20,8 @@ use Rattle.tac_lower.specs.Items.{Item, does, ends, skips}
 use Rattle.tac_lower.specs.Pieces.{Used, with_temp, Piece, Result, a_word, word_of, Holders, whole_word}
 use Rattle.tac_lower.specs.Lowering.{into, short_circuit, passed_over, opposite}
 use Rattle.tac_lower.proofs.Places.{Point, step_on, start_of, after, after-append, HasAt, DoesAt, has-front, has-back}
-use Rattle.tac_lower.proofs.Standing.{Setting, Private, stands, Leads, leads-to, one-step, word_in, operand-is, Apart, Fine, Keeps, Grown, Means, Comes, Leaves}
+use Rattle.tac_lower.proofs.Standing.{Setting, Private, stands, Leads, leads-to, one-step, word_in, operand-is, Apart, Fine, Keeps, Grown}
+use Rattle.tac_lower.proofs.Standing.{Means, Comes, Leaves}
 use Rattle.tac_lower.proofs.Simulates.{Fact, one_of, whole, Sim, grown-then, keeps-none, keeps-then, facts-later}
 use Rattle.tac_lower.proofs.Words.{width_by}
 use Rattle.tac_lower.proofs.Writes.{put-same, put-below, with_word, holds-later, fresh-apart, grown-temp, same-self, fine-word}

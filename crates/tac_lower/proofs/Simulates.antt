@@ -1,5 +1,6 @@
 -- A piece of code does what a part of the meaning does; and one such after the other.
-use Rattle.std.proofs.Common.{◌≡◌, ℕ, ◌<◌, ◌≤◌, List, [], ◌∷◌, ◌++◌, length, refl, sym, ap, ◌∙◌, subst, arith, append_assoc, append-nil, length-append}
+use Rattle.std.proofs.Common.{◌≡◌, ℕ, ◌<◌, ◌≤◌, List, [], ◌∷◌, ◌++◌, length, refl, sym, ap, ◌∙◌, subst, arith, append_assoc, append-nil}
+use Rattle.std.proofs.Common.{length-append}
 use Rattle.tl_base.specs.declared.ids.TypeId.{TypeId}
 use Rattle.terra_words.specs.Runs.{Value, word, bytes}
 use Rattle.terra_term.specs.declared.lists.TypedName.{TypedName}
@@ -10,7 +11,8 @@ use Rattle.tac_form.specs.Flow.{Goes, Stops}
 use Rattle.tac_lower.specs.Pieces.{Used, Piece, then_piece, Result, a_word, an_area, an_offset, Holders}
 use Rattle.tac_lower.specs.Lowering.{Target, to_temp, to_place}
 use Rattle.tac_lower.proofs.Places.{Point, after, after-append, HasAt, has-front, has-back}
-use Rattle.tac_lower.proofs.Standing.{Setting, Private, stands, Leads, leads-to, value_in, Apart, Fine, Keeps, Grown, Own, Means, Comes, Leaves}
+use Rattle.tac_lower.proofs.Standing.{Setting, Private, stands, Leads, leads-to, value_in, Apart, Fine, Keeps, Grown, Own, Means, Comes}
+use Rattle.tac_lower.proofs.Standing.{Leaves}
 
 -- what is known of results, and kept by later code
 pub data Fact : Type 0 where

@@ -18,7 +18,8 @@ use Rattle.tac_form.specs.declared.tac.Instruction.{Instruction}
 use Rattle.tac_form.specs.declared.tac.Exit.{Exit}
 use Rattle.tac_form.specs.declared.tac.Tac.{Tac}
 use Rattle.tac_form.specs.Flow as flow
-use Rattle.tac_form.specs.Flow.{Program, Temps, Areas, Caller, Moved, Goes, Stops, put, steps, step, act, leave, in_function, in_block, step_in, area_size}
+use Rattle.tac_form.specs.Flow.{Program, Temps, Areas, Caller, Moved, Goes, Stops, put, steps, step, act, leave, in_function, in_block}
+use Rattle.tac_form.specs.Flow.{step_in, area_size}
 use Rattle.tac_lower.specs.Pieces.{Used, Result, a_word, an_area, an_offset, Holder, in_temp, at_offset, Holders}
 use Rattle.tac_lower.proofs.Places.{Point, DoesAt, EndsAt}
 

@@ -1,5 +1,6 @@
 -- Stores: a value of a type goes to an address, in code and in the meaning.
-use Rattle.std.proofs.Common.{◌≡◌, ◌≢◌, ℕ, ◌+◌, ◌≤◌, Bool, true, false, List, [], ◌∷◌, length, Option, Some, None, refl, sym, ap, ◌∙◌, subst, arith}
+use Rattle.std.proofs.Common.{◌≡◌, ◌≢◌, ℕ, ◌+◌, ◌≤◌, Bool, true, false, List, [], ◌∷◌, length, Option, Some, None, refl, sym, ap, ◌∙◌}
+use Rattle.std.proofs.Common.{subst, arith}
 use Rattle.std.specs.Prelude.{◌-◌, nat_eq, if◌then◌else◌}
 use Rattle.std.proofs.lemmas.Bool.{eqb-true, eqb-false, le-leb}
 use Rattle.std.proofs.lemmas.List.{take_all, nil_from_length}
@@ -25,7 +26,8 @@ use Rattle.tac_form.specs.declared.tac.Instruction.{Instruction}
 use Rattle.tac_form.specs.declared.tac.Instruction.TheVariants.{Store, Move}
 use Rattle.tac_form.specs.Flow as flow
 use Rattle.tac_form.specs.Flow.{Moved, Goes, Stops, act, written}
-use Rattle.tac_lower.specs.Pieces.{Used, known, doing, Result, a_word, an_area, an_offset, Holders, number_of, number_in, stored, stored_part}
+use Rattle.tac_lower.specs.Pieces.{Used, known, doing, Result, a_word, an_area, an_offset, Holders, number_of, number_in, stored}
+use Rattle.tac_lower.specs.Pieces.{stored_part}
 use Rattle.tac_lower.proofs.Places.{Point}
 use Rattle.tac_lower.proofs.Standing.{Setting, SizedBy, Private, stands, word_in, operand-is, Means}
 use Rattle.tac_lower.proofs.Simulates.{Fact, nothing, KnowsAll, Sim, grown-none}

@@ -5,15 +5,18 @@ use Rattle.tl_base.specs.declared.ids.SymId.{SymId}
 use Rattle.tl_base.specs.declared.ids.TypeId.{TypeId}
 use Rattle.terra_words.specs.Runs.{Value, word, number, value_at}
 use Rattle.terra_term.specs.declared.lists.TypedName.{TypedName}
-use Rattle.terra_term.specs.TypedTerms.{Expression, typed, Constant', Variable, Global, Operate, Both, Either, Dereference, Select, Follow, Element, Index, Address, Decay, Let, Expressions, no_more, then_one, type_of}
+use Rattle.terra_term.specs.TypedTerms.{Expression, typed, Constant', Variable, Global, Operate, Both, Either, Dereference, Select, Follow}
+use Rattle.terra_term.specs.TypedTerms.{Element, Index, Address, Decay, Let, Expressions, no_more, then_one, type_of}
 use Rattle.terra_meaning.specs.Running.{State, Got, Gives, next, found}
 use Rattle.terra_meaning.specs.Meaning as meaning
 use Rattle.terra_meaning.specs.Meaning.{the_value, the_address, types_of, behind}
 use Rattle.tac_form.specs.declared.tac.Spot.TheVariants as spots
-use Rattle.tac_lower.specs.Pieces.{Used, Piece, taken, Result, address_of, result_at, rest, Holder, in_temp, at_offset, Holders, holder_of, stored}
+use Rattle.tac_lower.specs.Pieces.{Used, Piece, taken, Result, address_of, result_at, rest, Holder, in_temp, at_offset, Holders, holder_of}
+use Rattle.tac_lower.specs.Pieces.{stored}
 use Rattle.tac_lower.specs.Lowering.{Target, to_temp, to_place, target_at, aimed, assigned, assigned_all}
 use Rattle.tac_lower.proofs.Standing.{Setting, Private, Means, Comes, Leaves}
-use Rattle.tac_lower.proofs.Simulates.{Fact, nothing, one_of, all_of, aims, Aims, AllAim, AllMean, KnowsAll, Sim, then_sim, grown-none, keeps-none}
+use Rattle.tac_lower.proofs.Simulates.{Fact, nothing, one_of, all_of, aims, Aims, AllAim, AllMean, KnowsAll, Sim, then_sim, grown-none}
+use Rattle.tac_lower.proofs.Simulates.{keeps-none}
 use Rattle.tac_lower.proofs.Writes.{known_sim, taken_sim}
 use Rattle.tac_lower.proofs.Loads.{sim_as, sim_from, next-same, address-is}
 use Rattle.tac_lower.proofs.Reaches.{InScope, told_in, no_holder, address-word}

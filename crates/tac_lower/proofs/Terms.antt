@@ -8,18 +8,25 @@ use Rattle.terra_words.specs.Words.{moved}
 use Rattle.terra_words.specs.Runs.{Value, word, number, is_true}
 use Rattle.terra_term.specs.declared.operators.Operation.{Operation}
 use Rattle.terra_term.specs.declared.lists.TypedName.{TypedName}
-use Rattle.terra_term.specs.TypedTerms.{Expression, typed, Constant', Variable, Global, Operate, Both, Either, Dereference, Select, Follow, Element, Index, Address, Decay, Let, Expressions, no_more, then_one, Statement, statement, Var, Assign, If, IfElse, While, Repeat, For, Do, Break, Finish, Return, Perform, Statements, done, and_then, type_of}
+use Rattle.terra_term.specs.TypedTerms.{Expression, typed, Constant', Variable, Global, Operate, Both, Either, Dereference, Select, Follow}
+use Rattle.terra_term.specs.TypedTerms.{Element, Index, Address, Decay, Let, Expressions, no_more, then_one, Statement, statement, Var}
+use Rattle.terra_term.specs.TypedTerms.{Assign, If, IfElse, While, Repeat, For, Do, Break, Finish, Return, Perform, Statements, done}
+use Rattle.terra_term.specs.TypedTerms.{and_then, type_of}
 use Rattle.terra_term.specs.Stores.{Contents}
 use Rattle.terra_term.specs.WellTyped.{Within}
 use Rattle.terra_meaning.specs.Values.{bytes_at}
 use Rattle.terra_meaning.specs.Frames.{Home, home_at}
 use Rattle.terra_meaning.specs.Running.{State, Got, Gives, Ends, next}
 use Rattle.terra_meaning.specs.Meaning as meaning
-use Rattle.terra_meaning.specs.Meaning.{Call, Wanted, the_value, the_address, Way, goes_on, breaks, gives_back, along, rounds, constant, types_of, in_expression, in_list, in_statement, in_block, meant, meant_all, done_one, done_all, operated}
+use Rattle.terra_meaning.specs.Meaning.{Call, Wanted, the_value, the_address, Way, goes_on, breaks, gives_back, along, rounds, constant}
+use Rattle.terra_meaning.specs.Meaning.{types_of, in_expression, in_list, in_statement, in_block, meant, meant_all, done_one, done_all}
+use Rattle.terra_meaning.specs.Meaning.{operated}
 use Rattle.tac_form.specs.declared.tac.Operand.{Operand}
 use Rattle.tac_form.specs.declared.tac.Operand.TheVariants.{Temp, Constant}
-use Rattle.tac_lower.specs.Pieces.{Used, known, with_temp, Piece, then_piece, taken, Result, a_word, word_of, located, Holders, Around, declare, declare_all, number_of}
-use Rattle.tac_lower.specs.Lowering.{piece, pieces, targets, aimed, assigned_all, one, all, operation, reached, entry, element, opposite, counting, runs}
+use Rattle.tac_lower.specs.Pieces.{Used, known, with_temp, Piece, then_piece, taken, Result, a_word, word_of, located, Holders, Around}
+use Rattle.tac_lower.specs.Pieces.{declare, declare_all, number_of}
+use Rattle.tac_lower.specs.Lowering.{piece, pieces, targets, aimed, assigned_all, one, all, operation, reached, entry, element, opposite}
+use Rattle.tac_lower.specs.Lowering.{counting, runs}
 use Rattle.tac_lower.proofs.Places.{after}
 use Rattle.tac_lower.proofs.Standing.{Setting, Good, Leaves}
 use Rattle.tac_lower.proofs.Simulates.{Fact, nothing, one_of, all_of, aims, Sim, then_sim, grown-none}

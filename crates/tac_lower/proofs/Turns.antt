@@ -1,5 +1,6 @@
 -- The turns of the loops that declare variables, assign, and construct.
-use Rattle.std.proofs.Common.{◌≡◌, refl, sym, ap, ◌∙◌, ℕ, zero, suc, ◌+◌, ◌<◌, ◌≤◌, List, [], ◌∷◌, Option, map, length, drop, get_or, slice_get, min, arith, inl, inr}
+use Rattle.std.proofs.Common.{◌≡◌, refl, sym, ap, ◌∙◌, ℕ, zero, suc, ◌+◌, ◌<◌, ◌≤◌, List, [], ◌∷◌, Option, map, length, drop, get_or}
+use Rattle.std.proofs.Common.{slice_get, min, arith, inl, inr}
 use Rattle.std.proofs.lemmas.Bool.{cases_lt}
 use Rattle.tl_base.specs.declared.place.Place.{Place}
 use Rattle.tl_base.specs.declared.ids.TermId.{TermId}

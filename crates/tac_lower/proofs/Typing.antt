@@ -1,5 +1,6 @@
 -- What the tests of typing say: of ids, names in scope, forms, values, entries, operators and conversions.
-use Rattle.std.proofs.Common.{◌≡◌, ℕ, suc, ◌+◌, ◌<◌, ◌≤◌, Bool, true, false, List, [], ◌∷◌, length, map, Option, Some, None, refl, sym, ap, ◌∙◌, subst, arith}
+use Rattle.std.proofs.Common.{◌≡◌, ℕ, suc, ◌+◌, ◌<◌, ◌≤◌, Bool, true, false, List, [], ◌∷◌, length, map, Option, Some, None, refl, sym, ap}
+use Rattle.std.proofs.Common.{◌∙◌, subst, arith}
 use Rattle.std.specs.Prelude.{◌^◌, ◌%◌, ◌-◌, not, ◌&&◌, ◌||◌, ◌⊎◌, nat_eq, nat_le, nat_lt, if◌then◌else◌}
 use mathlib.Core.Logic.{inl, inr}
 use Rattle.std.proofs.lemmas.Bool.{eqb-true, leb-true, leb-false, ltb-true, and_parts, or_cases}
@@ -16,15 +17,18 @@ use Rattle.terra_types.specs.declared.types.TypeForm.{TypeForm}
 use Rattle.terra_types.specs.declared.types.TypeForm.TheVariants as forms
 use Rattle.terra_types.specs.Layouts.{entries_in}
 use Rattle.terra_term.specs.declared.lists.TypedName.{TypedName}
-use Rattle.terra_term.specs.TypedTerms.{Expressions, no_more, then_one, Statement, statement, Var, Assign, If, IfElse, While, Repeat, For, Do, Break, Finish, Return, Perform, Statements, done, and_then, type_of}
+use Rattle.terra_term.specs.TypedTerms.{Expressions, no_more, then_one, Statement, statement, Var, Assign, If, IfElse, While, Repeat, For}
+use Rattle.terra_term.specs.TypedTerms.{Do, Break, Finish, Return, Perform, Statements, done, and_then, type_of}
 use Rattle.terra_term.specs.Stores.{Callable}
 use Rattle.terra_term.specs.Events.{declares_all, declared_in}
 use Rattle.terra_term.specs.WellTyped as typing
-use Rattle.terra_term.specs.WellTyped.{Within, same, is_typed, are_typed, one_typed, all_typed, body_typed, are_same, types_in, types_of_names, with_names, after_one, after_all}
+use Rattle.terra_term.specs.WellTyped.{Within, same, is_typed, are_typed, one_typed, all_typed, body_typed, are_same, types_in}
+use Rattle.terra_term.specs.WellTyped.{types_of_names, with_names, after_one, after_all}
 use Rattle.terra_meaning.specs.Values.{form_at, is_aggregate, IsValue}
 use Rattle.terra_meaning.specs.Meaning.{Wanted, the_value, the_address, position_of, types_of}
 use Rattle.tac_lower.specs.Lowering.{type_of_name}
-use Rattle.tac_lower.specs.Needs.{HasNumber, IsValueWanted, IsWide, by_test, InScope, declared_names, names_after, names_after_one, is_comparison}
+use Rattle.tac_lower.specs.Needs.{HasNumber, IsValueWanted, IsWide, by_test, InScope, declared_names, names_after, names_after_one}
+use Rattle.tac_lower.specs.Needs.{is_comparison}
 use Rattle.tac_lower.proofs.Words.{width_by, wrapped-zero}
 
 -- tests

@@ -1,5 +1,6 @@
 -- Each way round the flow graph of lowered code counts: code leaves no loop that isn't there, skips go on, and ways back count.
-use Rattle.std.proofs.Common.{◌≡◌, ℕ, suc, ◌+◌, ◌<◌, Bool, true, false, List, [], ◌∷◌, ◌++◌, length, map, Option, Some, None, refl, sym, ap, ◌∙◌, subst, arith}
+use Rattle.std.proofs.Common.{◌≡◌, ℕ, suc, ◌+◌, ◌<◌, Bool, true, false, List, [], ◌∷◌, ◌++◌, length, map, Option, Some, None, refl, sym, ap}
+use Rattle.std.proofs.Common.{◌∙◌, subst, arith}
 use Rattle.std.specs.Prelude.{◌&&◌, ◌||◌, nat_eq, nat_lt, if◌then◌else◌}
 use Rattle.std.proofs.lemmas.Bool.{lt-ltb}
 use Rattle.tl_base.specs.declared.place.Place.{Place}
@@ -14,7 +15,10 @@ use Rattle.terra_types.specs.Opening.{boolean, unit}
 use Rattle.terra_term.specs.declared.operators.Operation.{Operation}
 use Rattle.terra_term.specs.declared.operators.Operation.TheVariants as operations
 use Rattle.terra_term.specs.declared.lists.TypedName.{TypedName}
-use Rattle.terra_term.specs.TypedTerms.{Expression, typed, Constant', Variable, Global, Operate, Both, Either, Dereference, Select, Follow, Element, Index, Address, Decay, Let, Expressions, no_more, then_one, Statement, statement, Var, Assign, If, IfElse, While, Repeat, For, Do, Break, Finish, Return, Perform, Statements, done, and_then, type_of, place_of}
+use Rattle.terra_term.specs.TypedTerms.{Expression, typed, Constant', Variable, Global, Operate, Both, Either, Dereference, Select, Follow}
+use Rattle.terra_term.specs.TypedTerms.{Element, Index, Address, Decay, Let, Expressions, no_more, then_one, Statement, statement, Var}
+use Rattle.terra_term.specs.TypedTerms.{Assign, If, IfElse, While, Repeat, For, Do, Break, Finish, Return, Perform, Statements, done}
+use Rattle.terra_term.specs.TypedTerms.{and_then, type_of, place_of}
 use Rattle.terra_term.specs.Stores.{Contents, Callable}
 use Rattle.terra_term.specs.WellTyped.{Within}
 use Rattle.terra_meaning.specs.Values.{form_at, bytes_at, is_aggregate}
@@ -30,10 +34,18 @@ use Rattle.tac_form.specs.declared.tac.Spot.{Spot}
 use Rattle.tac_form.specs.declared.tac.Spot.TheVariants as spots
 use Rattle.tac_form.specs.declared.tac.Block.{Block}
 use Rattle.tac_form.specs.Fits.{Counted, blocks_count}
-use Rattle.tac_lower.specs.Items.{Item, does, ends, Ending, skips, tests, repeats, repeats_unless, leaves, gives, fails, count_ends, loop_of, exit_of, Draft, empty_draft, with_item, with_items}
-use Rattle.tac_lower.specs.Pieces.{Used, with_temp, with_area, Piece, known, doing, then_piece, taken, Result, a_word, an_area, an_offset, no_word, word_of, part_of, address_of, word_at, result_at, rest, whole_word, number_of, is_bool, given, compute, copied, located, loaded_bit, loaded_area, loaded_word, loaded, stored_part, stored, placed, Holder, in_temp, at_offset, Holders, holder_of, Around, declare_at, declare, declare_all, first_of}
-use Rattle.tac_lower.specs.Lowering.{cut, is_whole, reached, variable, entry, element, form_of, turned_over, extracted, constructed, call, call_value, signature_in, operation, target_at, aimed, Target, to_temp, to_place, assigned, assigned_all, passed_over, choice, counting, runs, counted_on, while_loop, piece, pieces, targets, one, all, around, ending, received, code_of, unreached, are_narrow, parameter_types, lowered}
-use Rattle.tac_lower.specs.Needs.{Needs, NeedsAll, NeedsTargets, NeedsOne, NeedsBlock, BodyNeeds, in_let, declared_names, names_after, names_after_one, OperationNeeds, CallNeeds}
+use Rattle.tac_lower.specs.Items.{Item, does, ends, Ending, skips, tests, repeats, repeats_unless, leaves, gives, fails, count_ends}
+use Rattle.tac_lower.specs.Items.{loop_of, exit_of, Draft, empty_draft, with_item, with_items}
+use Rattle.tac_lower.specs.Pieces.{Used, with_temp, with_area, Piece, known, doing, then_piece, taken, Result, a_word, an_area, an_offset}
+use Rattle.tac_lower.specs.Pieces.{no_word, word_of, part_of, address_of, word_at, result_at, rest, whole_word, number_of, is_bool, given}
+use Rattle.tac_lower.specs.Pieces.{compute, copied, located, loaded_bit, loaded_area, loaded_word, loaded, stored_part, stored, placed}
+use Rattle.tac_lower.specs.Pieces.{Holder, in_temp, at_offset, Holders, holder_of, Around, declare_at, declare, declare_all, first_of}
+use Rattle.tac_lower.specs.Lowering.{cut, is_whole, reached, variable, entry, element, form_of, turned_over, extracted, constructed, call}
+use Rattle.tac_lower.specs.Lowering.{call_value, signature_in, operation, target_at, aimed, Target, to_temp, to_place, assigned}
+use Rattle.tac_lower.specs.Lowering.{assigned_all, passed_over, choice, counting, runs, counted_on, while_loop, piece, pieces, targets, one}
+use Rattle.tac_lower.specs.Lowering.{all, around, ending, received, code_of, unreached, are_narrow, parameter_types, lowered}
+use Rattle.tac_lower.specs.Needs.{Needs, NeedsAll, NeedsTargets, NeedsOne, NeedsBlock, BodyNeeds, in_let, declared_names, names_after}
+use Rattle.tac_lower.specs.Needs.{names_after_one, OperationNeeds, CallNeeds}
 
 -- code that doesn't leave a loop around it
 abbrev StaysIn : Ending → Type 0

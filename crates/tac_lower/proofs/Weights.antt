@@ -1,5 +1,6 @@
 -- Lowered code has at most 250 words for each typed node, with the fixed part of its function, by the heaviest weights and so by its own.
-use Rattle.std.proofs.Common.{◌≡◌, ℕ, suc, ◌+◌, ◌*◌, ◌≤◌, Bool, true, false, List, [], ◌∷◌, ◌++◌, length, map, Option, Some, None, refl, ap, arith}
+use Rattle.std.proofs.Common.{◌≡◌, ℕ, suc, ◌+◌, ◌*◌, ◌≤◌, Bool, true, false, List, [], ◌∷◌, ◌++◌, length, map, Option, Some, None, refl, ap}
+use Rattle.std.proofs.Common.{arith}
 use Rattle.std.specs.Prelude.{nat_eq, fold, sum_by, if◌then◌else◌}
 use Rattle.tl_base.specs.declared.place.Place.{Place}
 use Rattle.tl_base.specs.declared.ids.TypeId.{TypeId}
@@ -13,7 +14,10 @@ use Rattle.terra_types.specs.Opening.{boolean, unit}
 use Rattle.terra_term.specs.declared.operators.Operation.{Operation}
 use Rattle.terra_term.specs.declared.operators.Operation.TheVariants as operations
 use Rattle.terra_term.specs.declared.lists.TypedName.{TypedName}
-use Rattle.terra_term.specs.TypedTerms.{Expression, typed, Constant', Variable, Global, Operate, Both, Either, Dereference, Select, Follow, Element, Index, Address, Decay, Let, Expressions, no_more, then_one, Statement, statement, Var, Assign, If, IfElse, While, Repeat, For, Do, Break, Finish, Return, Perform, Statements, done, and_then, type_of, place_of}
+use Rattle.terra_term.specs.TypedTerms.{Expression, typed, Constant', Variable, Global, Operate, Both, Either, Dereference, Select, Follow}
+use Rattle.terra_term.specs.TypedTerms.{Element, Index, Address, Decay, Let, Expressions, no_more, then_one, Statement, statement, Var}
+use Rattle.terra_term.specs.TypedTerms.{Assign, If, IfElse, While, Repeat, For, Do, Break, Finish, Return, Perform, Statements, done}
+use Rattle.terra_term.specs.TypedTerms.{and_then, type_of, place_of}
 use Rattle.terra_term.specs.Sizes.{typed_size, typed_list_size, typed_statement_size, typed_block_size}
 use Rattle.terra_term.specs.Stores.{Contents, Callable}
 use Rattle.terra_meaning.specs.Values.{form_at, bytes_at, is_aggregate}
@@ -32,9 +36,18 @@ use Rattle.tac_form.specs.declared.tac.Spot.TheVariants as spots
 use Rattle.tac_form.specs.declared.tac.Block.{Block}
 use Rattle.tac_form.specs.declared.tac.Tac.{Tac}
 use Rattle.tac_form.specs.Weights as weights
-use Rattle.tac_lower.specs.Items.{Item, does, ends, Ending, skips, tests, repeats, repeats_unless, leaves, gives, fails, count_ends, loop_of, exit_of, Draft, empty_draft, with_item, with_items, blocks_of}
-use Rattle.tac_lower.specs.Pieces.{Used, nothing_used, with_temp, with_area, Piece, known, doing, then_piece, taken, Result, a_word, an_area, an_offset, no_word, word_of, part_of, parts_of, address_of, word_at, result_at, rest, whole_word, number_of, is_bool, given, compute, copied, located, loaded_bit, loaded_area, loaded_word, loaded, stored_part, stored, placed, Holder, in_temp, at_offset, Holders, holder_of, Around, declare_at, declare, declare_all, first_of}
-use Rattle.tac_lower.specs.Lowering.{cut, is_whole, reached, variable, entry, element, form_of, turned_over, extracted, constructed, call, call_value, signature_in, operation, target_at, aimed, Target, to_temp, to_place, assigned, assigned_all, passed_over, choice, Counting, counting, is_one, either_way, runs, counted_on, while_loop, piece, pieces, targets, one, all, around, ending, received, code_of, unreached, are_narrow, parameter_types, lowered}
+use Rattle.tac_lower.specs.Items.{Item, does, ends, Ending, skips, tests, repeats, repeats_unless, leaves, gives, fails, count_ends}
+use Rattle.tac_lower.specs.Items.{loop_of, exit_of, Draft, empty_draft, with_item, with_items, blocks_of}
+use Rattle.tac_lower.specs.Pieces.{Used, nothing_used, with_temp, with_area, Piece, known, doing, then_piece, taken, Result, a_word}
+use Rattle.tac_lower.specs.Pieces.{an_area, an_offset, no_word, word_of, part_of, parts_of, address_of, word_at, result_at, rest}
+use Rattle.tac_lower.specs.Pieces.{whole_word, number_of, is_bool, given, compute, copied, located, loaded_bit, loaded_area, loaded_word}
+use Rattle.tac_lower.specs.Pieces.{loaded, stored_part, stored, placed, Holder, in_temp, at_offset, Holders, holder_of, Around, declare_at}
+use Rattle.tac_lower.specs.Pieces.{declare, declare_all, first_of}
+use Rattle.tac_lower.specs.Lowering.{cut, is_whole, reached, variable, entry, element, form_of, turned_over, extracted, constructed, call}
+use Rattle.tac_lower.specs.Lowering.{call_value, signature_in, operation, target_at, aimed, Target, to_temp, to_place, assigned}
+use Rattle.tac_lower.specs.Lowering.{assigned_all, passed_over, choice, Counting, counting, is_one, either_way, runs, counted_on}
+use Rattle.tac_lower.specs.Lowering.{while_loop, piece, pieces, targets, one, all, around, ending, received, code_of, unreached, are_narrow}
+use Rattle.tac_lower.specs.Lowering.{parameter_types, lowered}
 use Rattle.tac_lower.proofs.Heaviest.{words_of, exit_words, block_words, code_words, code-most}
 
 -- sums

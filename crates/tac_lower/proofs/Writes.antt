@@ -1,5 +1,6 @@
 -- What a write to a fresh temporary or area keeps, and pieces of one instruction.
-use Rattle.std.proofs.Common.{◌≡◌, ◌≢◌, ℕ, suc, ◌<◌, ◌≤◌, false, List, [], ◌∷◌, ◌++◌, length, refl, sym, ap, ◌∙◌, subst, arith, append-nil, length-append, ⊎_elim}
+use Rattle.std.proofs.Common.{◌≡◌, ◌≢◌, ℕ, suc, ◌<◌, ◌≤◌, false, List, [], ◌∷◌, ◌++◌, length, refl, sym, ap, ◌∙◌, subst, arith, append-nil}
+use Rattle.std.proofs.Common.{length-append, ⊎_elim}
 use Rattle.std.proofs.lemmas.Bool.{eq-eqb}
 use Rattle.std.proofs.lemmas.Bool.Decides.{eqb_tells}
 use Rattle.std.specs.Prelude.{nat_eq, if◌then◌else◌}
@@ -11,9 +12,11 @@ use Rattle.terra_meaning.specs.Meaning.{Wanted}
 use Rattle.tac_form.specs.declared.tac.Operand.TheVariants.{Temp}
 use Rattle.tac_form.specs.declared.tac.Instruction.{Instruction}
 use Rattle.tac_form.specs.Flow.{Goes, Stops, put, act, area_size}
-use Rattle.tac_lower.specs.Pieces.{Used, with_temp, with_area, Piece, known, doing, taken, a_word, an_area, Holder, in_temp, at_offset, Holders}
+use Rattle.tac_lower.specs.Pieces.{Used, with_temp, with_area, Piece, known, doing, taken, a_word, an_area, Holder, in_temp, at_offset}
+use Rattle.tac_lower.specs.Pieces.{Holders}
 use Rattle.tac_lower.proofs.Places.{Point, step_on, after, DoesAt}
-use Rattle.tac_lower.proofs.Standing.{Setting, Private, stands, one-step, Elsewhere, Apart, Is, below, Holds, Fine, Grown, Good, Means, Comes, Leaves}
+use Rattle.tac_lower.proofs.Standing.{Setting, Private, stands, one-step, Elsewhere, Apart, Is, below, Holds, Fine, Grown, Good, Means}
+use Rattle.tac_lower.proofs.Standing.{Comes, Leaves}
 use Rattle.tac_lower.proofs.Simulates.{Fact, one_of, Knows, KnowsAll, whole, Over, Sim, grown-none, keeps-none, facts-later}
 
 pub nat_eq-ne : (a b : ℕ) → a ≢ b → nat_eq a b ≡ false

@@ -1,5 +1,6 @@
 -- The code of a typed term, by recursion on the term, as the meaning of terms goes.
-use Rattle.std.specs.Prelude.{ℕ, suc, ◌+◌, ◌-◌, ◌^◌, Bool, true, false, not, ◌&&◌, nat_eq, nat_le, nat_lt, if◌then◌else◌, List, [], ◌∷◌, ◌++◌, length, Option, Some, None, map}
+use Rattle.std.specs.Prelude.{ℕ, suc, ◌+◌, ◌-◌, ◌^◌, Bool, true, false, not, ◌&&◌, nat_eq, nat_le, nat_lt, if◌then◌else◌, List, [], ◌∷◌}
+use Rattle.std.specs.Prelude.{◌++◌, length, Option, Some, None, map}
 use Rattle.tl_base.specs.declared.place.Place.{Place}
 use Rattle.tl_base.specs.declared.ids.TypeId.{TypeId}
 use Rattle.tl_base.specs.declared.ids.FnId.{FnId}
@@ -15,13 +16,17 @@ use Rattle.terra_term.specs.declared.operators.Operation.TheVariants as operatio
 use Rattle.lua_value.specs.declared.primitive.Primitive.{Primitive}
 use Rattle.lua_value.specs.declared.primitive.Primitive.TheVariants as primitives
 use Rattle.terra_term.specs.declared.lists.TypedName.{TypedName}
-use Rattle.terra_term.specs.TypedTerms.{Expression, typed, Constant', Variable, Global, Operate, Both, Either, Dereference, Select, Follow, Element, Index, Address, Decay, Let, Expressions, no_more, then_one, Statement, statement, Var, Assign, If, IfElse, While, Repeat, For, Do, Break, Finish, Return, Perform, Statements, done, and_then, type_of, place_of}
+use Rattle.terra_term.specs.TypedTerms.{Expression, typed, Constant', Variable, Global, Operate, Both, Either, Dereference, Select, Follow}
+use Rattle.terra_term.specs.TypedTerms.{Element, Index, Address, Decay, Let, Expressions, no_more, then_one, Statement, statement, Var}
+use Rattle.terra_term.specs.TypedTerms.{Assign, If, IfElse, While, Repeat, For, Do, Break, Finish, Return, Perform, Statements, done}
+use Rattle.terra_term.specs.TypedTerms.{and_then, type_of, place_of}
 use Rattle.terra_term.specs.Stores.{Contents, Callable}
 use Rattle.terra_term.specs.Sizes.{body_size}
 use Rattle.terra_term.specs.WellTyped.{widest}
 use Rattle.terra_meaning.specs.Values.{form_at, bytes_at, target_of}
 use Rattle.terra_meaning.specs.Frames.{frame_of}
-use Rattle.terra_meaning.specs.Meaning.{constant, types_of, type_at, in_expression, in_list, in_statement, in_block, Wanted, the_value, the_address}
+use Rattle.terra_meaning.specs.Meaning.{constant, types_of, type_at, in_expression, in_list, in_statement, in_block, Wanted, the_value}
+use Rattle.terra_meaning.specs.Meaning.{the_address}
 use Rattle.tac_form.specs.declared.tac.Size.{Size}
 use Rattle.tac_form.specs.declared.tac.Size.TheVariants.{Eight}
 use Rattle.tac_form.specs.declared.tac.Number.{Number}
@@ -34,8 +39,12 @@ use Rattle.tac_form.specs.declared.tac.Exit.TheVariants.{Fail}
 use Rattle.tac_form.specs.declared.tac.Signature.{Signature}
 use Rattle.tac_form.specs.declared.tac.Tac.{Tac}
 use Rattle.tac_form.specs.Flow.{width_of}
-use Rattle.tac_lower.specs.Items.{Item, does, ends, skips, tests, repeats, repeats_unless, leaves, gives, fails, count_ends, loop_of, blocks_of}
-use Rattle.tac_lower.specs.Pieces.{Used, nothing_used, with_temp, with_area, Piece, known, doing, then_piece, taken, Result, a_word, an_area, an_offset, no_word, word_of, part_of, parts_of, address_of, result_at, word_at, rest, long, whole_word, number_of, given, destination, compute, copied, located, loaded, stored, Holder, in_temp, at_offset, Holders, holder_of, Around, declare, declare_all}
+use Rattle.tac_lower.specs.Items.{Item, does, ends, skips, tests, repeats, repeats_unless, leaves, gives, fails, count_ends, loop_of}
+use Rattle.tac_lower.specs.Items.{blocks_of}
+use Rattle.tac_lower.specs.Pieces.{Used, nothing_used, with_temp, with_area, Piece, known, doing, then_piece, taken, Result, a_word}
+use Rattle.tac_lower.specs.Pieces.{an_area, an_offset, no_word, word_of, part_of, parts_of, address_of, result_at, word_at, rest, long}
+use Rattle.tac_lower.specs.Pieces.{whole_word, number_of, given, destination, compute, copied, located, loaded, stored, Holder, in_temp}
+use Rattle.tac_lower.specs.Pieces.{at_offset, Holders, holder_of, Around, declare, declare_all}
 
 -- places
 

@@ -15,12 +15,16 @@ use Rattle.terra_types.specs.Opening.{boolean}
 use Rattle.terra_term.specs.declared.operators.Operation.{Operation}
 use Rattle.terra_term.specs.declared.operators.Operation.TheVariants as operations
 use Rattle.terra_term.specs.declared.lists.TypedName.{TypedName}
-use Rattle.terra_term.specs.TypedTerms.{Expression, typed, Constant', Variable, Global, Operate, Both, Either, Dereference, Select, Follow, Element, Index, Address, Decay, Let, Expressions, no_more, then_one, Statement, statement, Var, Assign, If, IfElse, While, Repeat, For, Do, Break, Finish, Return, Perform, Statements, done, and_then, type_of}
+use Rattle.terra_term.specs.TypedTerms.{Expression, typed, Constant', Variable, Global, Operate, Both, Either, Dereference, Select, Follow}
+use Rattle.terra_term.specs.TypedTerms.{Element, Index, Address, Decay, Let, Expressions, no_more, then_one, Statement, statement, Var}
+use Rattle.terra_term.specs.TypedTerms.{Assign, If, IfElse, While, Repeat, For, Do, Break, Finish, Return, Perform, Statements, done}
+use Rattle.terra_term.specs.TypedTerms.{and_then, type_of}
 use Rattle.terra_term.specs.Stores.{Contents, Callable, callable_of}
 use Rattle.terra_term.specs.WellTyped.{Within}
 use Rattle.terra_meaning.specs.Values.{form_at, bytes_at, is_aggregate, target_of, IsValue}
 use Rattle.terra_meaning.specs.Frames.{Home, by_value, in_frame, home_at, frame_of}
-use Rattle.terra_meaning.specs.Meaning.{Wanted, the_value, the_address, constant, types_of, type_at, in_expression, in_list, in_statement, in_block}
+use Rattle.terra_meaning.specs.Meaning.{Wanted, the_value, the_address, constant, types_of, type_at, in_expression, in_list, in_statement}
+use Rattle.terra_meaning.specs.Meaning.{in_block}
 use Rattle.tac_lower.specs.Lowering.{type_of_name, are_narrow}
 
 -- types and words

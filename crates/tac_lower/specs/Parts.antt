@@ -13,7 +13,8 @@ use Rattle.tac_form.specs.declared.tac.Operand.{Operand}
 use Rattle.tac_form.specs.declared.tac.Operand.TheVariants.{Constant}
 use Rattle.tac_form.specs.declared.tac.Signature.{Signature}
 use Rattle.tac_form.specs.declared.tac.Spot.{Spot}
-use Rattle.tac_lower.specs.Pieces.{Used, Piece, Result, Holders, known, taken, then_piece, compute, copied, destination, number_of, stored, whole_word, word_of}
+use Rattle.tac_lower.specs.Pieces.{Used, Piece, Result, Holders, known, taken, then_piece, compute, copied, destination, number_of, stored}
+use Rattle.tac_lower.specs.Pieces.{whole_word, word_of}
 use Rattle.tac_lower.specs.Lowering.{to_temp, to_place, aimed, call, call_value, fitted, signature_in, turned_over}
 
 abbrev pub placed_word : List TypeForm → TypeId → Spot → Result → Used → Piece (Unit {0})

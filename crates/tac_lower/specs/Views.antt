@@ -15,8 +15,10 @@ use Rattle.tac_form.specs.declared.tac.Destination.{Destination}
 use Rattle.tac_form.specs.declared.tac.Operand.TheVariants.{Temp}
 use Rattle.tac_form.specs.declared.tac.Instruction.TheVariants.{Copy}
 use Rattle.tac_lower.specs.Items.{does}
-use Rattle.tac_lower.specs.Pieces.{Piece, Result, Holders, a_word, declare, nothing_used, number_of, then_piece, with_temp, word_at, word_of}
-use Rattle.tac_lower.specs.Lowering.{Target, aimed, all, body_piece, counted_on, counting, one, piece, pieces, received, runs, targets, while_loop}
+use Rattle.tac_lower.specs.Pieces.{Piece, Result, Holders, a_word, declare, nothing_used, number_of, then_piece, with_temp, word_at}
+use Rattle.tac_lower.specs.Pieces.{word_of}
+use Rattle.tac_lower.specs.Lowering.{Target, aimed, all, body_piece, counted_on, counting, one, piece, pieces, received, runs, targets}
+use Rattle.tac_lower.specs.Lowering.{while_loop}
 use Rattle.tac_lower.specs.Works.{Made}
 use Rattle.tac_lower.specs.declared.around.Around.{Around}
 

@@ -68,7 +68,8 @@ fn assigned(
     v: Value,
     work: &mut Work,
 ) -> Result<(), NoMemory>
-    ensures { Put result work.old work.new (assigned store.now.types (expression_before store.now below node) (target_of target) (result_of v) work.old.used) }
+    ensures { Put result work.old work.new (assigned store.now.types (expression_before store.now below node) (target_of target)
+        (result_of v) work.old.used) }
 {
     match target {
         Target::Temp(t) => work.put(Instruction::Copy(t, v.word())),
@@ -88,7 +89,8 @@ pub(crate) fn assigned_all(
     values: &[Value],
     work: &mut Work,
 ) -> Result<(), NoMemory>
-    ensures { Put result work.old work.new (assigned_all store.now.types (list_before store.now below nodes.now) (map target_of targets.now) (map result_of values.now) work.old.used) }
+    ensures { Put result work.old work.new (assigned_all store.now.types (list_before store.now below nodes.now) (map target_of targets.now)
+        (map result_of values.now) work.old.used) }
 {
     let count = nodes.len().min(targets.len());
     for i in 0..count {

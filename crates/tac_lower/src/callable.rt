@@ -34,18 +34,17 @@ use terra_eval::types::bytes_at;
 use terra_term::{FunctionState, Store, TypedName};
 use terra_types::Types;
 use terra_words::FaultKind;
+use tl_base::limits::MAX_VALUE_BYTES;
 use tl_base::{FnId, NoMemory, TermId, TypeId};
 
 const UNIT: TypeId = TypeId(9);
-
-/// The most bytes of a value.
-const WIDEST: u64 = 128;
 
 /// The three-address code of a function, where the functions that stand as values are `entries`, in order; `None` exactly where the
 /// function isn't typed. Machine code can be made of it where the function has a place in a text and at most 131,072 typed nodes. Code
 /// that no 64 bits count finds no memory, nor does a function of 4,294,967,295 nodes or more.
 pub fn lower(store: &Store, entries: &[FnId], f: FnId) -> Result<Option<Tac>, NoMemory>
-    ensures code { IfOk result (λ code. code ≡ option_map (lowered (contents_of store.now) entries.now) (callable_of (contents_of store.now) f)) }
+    ensures code { IfOk result (λ code. code ≡ option_map (lowered (contents_of store.now) entries.now)
+        (callable_of (contents_of store.now) f)) }
     ensures good { IfOk result (λ code. IfSome code (λ tac. GoodWhereTyped (contents_of store.now) entries.now f tac)) }
 {
     match callable_of(store, f) {
@@ -74,7 +73,8 @@ fn nodes_of(store: &Store, f: FnId) -> Result<u64, NoMemory>
 
 /// How many nodes a typed node has with its parts. More than are counted find no memory.
 fn nodes_in(store: &Store, node: TermId) -> Result<u64, NoMemory>
-    ensures { IfOk result (λ n. option_map (λ item. (typed_item_size item).nodes) (slice_get (typed_trees store.now.typed) node.0) ≡ Some n) }
+    ensures { IfOk result (λ n. option_map (λ item. (typed_item_size item).nodes) (slice_get (typed_trees store.now.typed) node.0)
+        ≡ Some n) }
 {
     let size = store.size_of_typed(node).ok_or(NoMemory)?;
     if size.nodes == u32::MAX {
@@ -104,7 +104,7 @@ fn are_narrow(types: &Types, names: &[TypedName]) -> bool
     ensures { result ≡ are_narrow types.now (map type_of_name names.now) }
 {
     for name in names {
-        if bytes_at(types, name.of) > WIDEST {
+        if bytes_at(types, name.of) > MAX_VALUE_BYTES {
             return false;
         }
     }
@@ -149,7 +149,8 @@ fn lower_parts(
 ) -> Result<Vec<Destination>, NoMemory>
     requires { work.now ≡ begun }
     ensures parameters { IfOk result (λ tos. tos.items ≡ (destinations_of around.now k.now).result) }
-    ensures code { OnOk result (work.new.code ≡ (parts_of_body around.now k.now).code ++ ending (callable_tree around.now.store.now k.now) ∷ []) }
+    ensures code { OnOk result (work.new.code ≡ (parts_of_body around.now k.now).code
+        ++ ending (callable_tree around.now.store.now k.now) ∷ []) }
     ensures used { OnOk result (work.new.used ≡ (parts_of_body around.now k.now).used) }
 {
     let parameters = received(around.types(), k.parameters, work)?;

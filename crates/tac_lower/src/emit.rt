@@ -1,7 +1,8 @@
 // Code without terms in it: words, addresses and memory.
 
 ghost use Rattle.std.specs.Prelude.{◌≡◌};
-ghost use Rattle.tac_lower.specs.Pieces.{compute, copied, destination, known, loaded, loaded_area, loaded_bit, loaded_word, located, placed, stored, stored_part};
+ghost use Rattle.tac_lower.specs.Pieces.{compute, copied, destination, known, loaded, loaded_area, loaded_bit, loaded_word, located};
+ghost use Rattle.tac_lower.specs.Pieces.{placed, stored, stored_part};
 ghost use Rattle.tac_lower.specs.Parts.{placed_word};
 ghost use Rattle.tac_lower.specs.Data.{result_of};
 ghost use Rattle.tac_lower.specs.Works.{Gave, Put, itself};

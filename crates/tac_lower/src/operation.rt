@@ -4,7 +4,8 @@ ghost use Rattle.std.specs.Prelude.{◌≡◌, map, IfOk};
 ghost use Rattle.terra_words.specs.Words.{divides};
 ghost use Rattle.terra_meaning.specs.Values.{form_at};
 ghost use Rattle.terra_meaning.specs.Meaning.{type_at};
-ghost use Rattle.tac_lower.specs.Lowering.{binary, construct, constructed, cut, difference, extracted, fitted, form_of, operation, primitive, signature_in, stays_within, step, turned_over};
+ghost use Rattle.tac_lower.specs.Lowering.{binary, construct, constructed, cut, difference, extracted, fitted, form_of, operation};
+ghost use Rattle.tac_lower.specs.Lowering.{primitive, signature_in, stays_within, step, turned_over};
 ghost use Rattle.tac_lower.specs.Data.{result_of};
 ghost use Rattle.tac_lower.specs.Works.{Gave, Put};
 ghost use Rattle.tac_lower.specs.Parts.{called, called_value, converted, negated, no_signature};
@@ -39,7 +40,8 @@ pub(crate) fn operation(
     values: &[Value],
     work: &mut Work,
 ) -> Result<Value, NoMemory>
-    ensures { Gave result_of result work.old work.new (operation (around_of around.now) at of done.now operands.now (map result_of values.now) work.old.used) }
+    ensures { Gave result_of result work.old work.new
+        (operation (around_of around.now) at of done.now operands.now (map result_of values.now) work.old.used) }
 {
     let types = around.types();
     let first = type_at(operands, 0);
@@ -255,7 +257,8 @@ fn construct(
     values: &[Value],
     work: &mut Work,
 ) -> Result<Value, NoMemory>
-    ensures { Gave result_of result work.old work.new (construct types.now size offsets.now operands.now (map result_of values.now) work.old.used) }
+    ensures { Gave result_of result work.old work.new
+        (construct types.now size offsets.now operands.now (map result_of values.now) work.old.used) }
 {
     let n = work.area(size)?;
     work.put(Instruction::Clear(n, size))?;

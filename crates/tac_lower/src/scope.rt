@@ -26,7 +26,8 @@ pub(crate) fn declare(
     v: Option<Value>,
     work: &mut Work,
 ) -> Result<(), NoMemory>
-    ensures { Declared result work.old work.new (declare (around_of around.now) at name (option_map result_of v) work.old.next work.old.scope work.old.used) 1 }
+    ensures { Declared result work.old work.new
+        (declare (around_of around.now) at name (option_map result_of v) work.old.next work.old.scope work.old.used) 1 }
 {
     let home = around.home(work.next());
     declare_at(around.types(), at, name, v, home, work)?;
@@ -42,7 +43,8 @@ fn declare_at(
     home: Home,
     work: &mut Work,
 ) -> Result<(), NoMemory>
-    ensures { PutScope result work.old work.new (declare_at types.now at name (option_map result_of v) (home_of home) work.old.scope work.old.used) }
+    ensures { PutScope result work.old work.new
+        (declare_at types.now at name (option_map result_of v) (home_of home) work.old.scope work.old.used) }
 {
     match home {
         Home::ByValue => {
@@ -85,7 +87,9 @@ pub(crate) fn declare_all(
     values: &[Value],
     work: &mut Work,
 ) -> Result<(), NoMemory>
-    ensures { Declared result work.old work.new (declare_all (around_of around.now) at names.now (map result_of values.now) work.old.next work.old.scope work.old.used) (length names.now) }
+    ensures { Declared result work.old work.new
+        (declare_all (around_of around.now) at names.now (map result_of values.now) work.old.next work.old.scope work.old.used)
+        (length names.now) }
 {
     for (i, name) in names.iter().enumerate() {
         declare(around, at, *name, given_at(values, i), work)?;

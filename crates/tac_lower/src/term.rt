@@ -7,7 +7,8 @@ ghost use Rattle.tac_lower.specs.Data.{result_of, target_of, want_of};
 ghost use Rattle.tac_lower.specs.Pieces.{taken};
 ghost use Rattle.tac_lower.specs.Lowering.{opposite};
 ghost use Rattle.tac_lower.specs.Works.{Declared, Gave, Passed, itself};
-ghost use Rattle.tac_lower.specs.Views.{all_of, both_tree, choice_tree, either_tree, for_of, if_tree, one_at, one_of, piece_at, piece_of, pieces_of, repeat_tree, target_at, targets_of, while_tree};
+ghost use Rattle.tac_lower.specs.Views.{all_of, both_tree, choice_tree, either_tree, for_of, if_tree, one_at, one_of, piece_at, piece_of};
+ghost use Rattle.tac_lower.specs.Views.{pieces_of, repeat_tree, target_at, targets_of, while_tree};
 
 use crate::around::Around;
 use crate::assigning::{assigned_all, held_target};
@@ -37,7 +38,8 @@ fn lower_expression(
     node: TermId,
     work: &mut Work,
 ) -> Result<Value, NoMemory>
-    ensures { Passed result_of result work.old work.new (piece_of around.now (want_of want) below node work.old) (in_expression (expression_before around.now.store.now below node)) }
+    ensures { Passed result_of result work.old work.new (piece_of around.now (want_of want) below node work.old)
+        (in_expression (expression_before around.now.store.now below node)) }
 {
     let types = around.types();
     match expression(around.store, below, node) {
@@ -118,7 +120,8 @@ fn lower_both(
     b: TermId,
     work: &mut Work,
 ) -> Result<Value, NoMemory>
-    ensures { Passed result_of result work.old work.new (piece_at around.now (both_tree around.now below a b) work.old) (in_expression (both_tree around.now below a b)) }
+    ensures { Passed result_of result work.old work.new (piece_at around.now (both_tree around.now below a b) work.old)
+        (in_expression (both_tree around.now below a b)) }
 {
     let t = work.temp()?;
     let first = lower_expression(around, Wanted::Value, below, a, work)?;
@@ -141,7 +144,8 @@ fn lower_either(
     b: TermId,
     work: &mut Work,
 ) -> Result<Value, NoMemory>
-    ensures { Passed result_of result work.old work.new (piece_at around.now (either_tree around.now below a b) work.old) (in_expression (either_tree around.now below a b)) }
+    ensures { Passed result_of result work.old work.new (piece_at around.now (either_tree around.now below a b) work.old)
+        (in_expression (either_tree around.now below a b)) }
 {
     let t = work.temp()?;
     let first = lower_expression(around, Wanted::Value, below, a, work)?;
@@ -178,7 +182,8 @@ fn lower_list(
     nodes: &[TermId],
     work: &mut Work,
 ) -> Result<Vec<Value>, NoMemory>
-    ensures { Passed (λ vs. map result_of vs.items) result work.old work.new (pieces_of around.now below nodes.now work.old) (in_list (list_before around.now.store.now below nodes.now)) }
+    ensures { Passed (λ vs. map result_of vs.items) result work.old work.new (pieces_of around.now below nodes.now work.old)
+        (in_list (list_before around.now.store.now below nodes.now)) }
 {
     let mut values = Vec::new(work.allocator());
     for node in nodes {
@@ -196,7 +201,8 @@ fn lower_target(
     node: TermId,
     work: &mut Work,
 ) -> Result<Target, NoMemory>
-    ensures { Passed target_of result work.old work.new (target_at around.now below node work.old) (in_expression (expression_before around.now.store.now below node)) }
+    ensures { Passed target_of result work.old work.new (target_at around.now below node work.old)
+        (in_expression (expression_before around.now.store.now below node)) }
 {
     if let Some(t) = held_target(around.store, below, node, work) {
         return Ok(Target::Temp(t));
@@ -213,7 +219,8 @@ fn lower_targets(
     nodes: &[TermId],
     work: &mut Work,
 ) -> Result<Vec<Target>, NoMemory>
-    ensures { Passed (λ ps. map target_of ps.items) result work.old work.new (targets_of around.now below nodes.now work.old) (in_list (list_before around.now.store.now below nodes.now)) }
+    ensures { Passed (λ ps. map target_of ps.items) result work.old work.new (targets_of around.now below nodes.now work.old)
+        (in_list (list_before around.now.store.now below nodes.now)) }
 {
     let mut targets = Vec::new(work.allocator());
     for node in nodes {
@@ -231,7 +238,8 @@ fn lower_statement(
     node: TermId,
     work: &mut Work,
 ) -> Result<(), NoMemory>
-    ensures { Declared result work.old work.new (one_of around.now below node work.old) (in_statement (statement_before around.now.store.now below node)) }
+    ensures { Declared result work.old work.new (one_of around.now below node work.old)
+        (in_statement (statement_before around.now.store.now below node)) }
 {
     match statement(around.store, below, node) {
         None => work.end(Ending::Leaves),
@@ -290,7 +298,8 @@ fn lower_block(
     nodes: &[TermId],
     work: &mut Work,
 ) -> Result<(), NoMemory>
-    ensures { Declared result work.old work.new (all_of around.now below nodes.now work.old) (in_block (block_before around.now.store.now below nodes.now)) }
+    ensures { Declared result work.old work.new (all_of around.now below nodes.now work.old)
+        (in_block (block_before around.now.store.now below nodes.now)) }
 {
     for node in nodes {
         lower_statement(around, below, *node, work)?;
@@ -306,7 +315,8 @@ fn lower_scope(
     nodes: &[TermId],
     work: &mut Work,
 ) -> Result<(), NoMemory>
-    ensures { Declared result work.old work.new (taken (λ inner. work.old.scope) (all_of around.now below nodes.now work.old)) (in_block (block_before around.now.store.now below nodes.now)) }
+    ensures { Declared result work.old work.new (taken (λ inner. work.old.scope) (all_of around.now below nodes.now work.old))
+        (in_block (block_before around.now.store.now below nodes.now)) }
 {
     let depth = work.depth();
     lower_block(around, below, nodes, work)?;
@@ -323,7 +333,8 @@ fn lower_if(
     block: &[TermId],
     work: &mut Work,
 ) -> Result<(), NoMemory>
-    ensures { Declared result work.old work.new (one_at around.now (if_tree around.now below test block.now) work.old) (in_statement (if_tree around.now below test block.now)) }
+    ensures { Declared result work.old work.new (one_at around.now (if_tree around.now below test block.now) work.old)
+        (in_statement (if_tree around.now below test block.now)) }
 {
     let v = lower_expression(around, Wanted::Value, below, test, work)?;
     let mark = work.mark();
@@ -344,7 +355,8 @@ fn lower_choice(
     other: &[TermId],
     work: &mut Work,
 ) -> Result<(), NoMemory>
-    ensures { Declared result work.old work.new (one_at around.now (choice_tree around.now below test block.now other.now) work.old) (in_statement (choice_tree around.now below test block.now other.now)) }
+    ensures { Declared result work.old work.new (one_at around.now (choice_tree around.now below test block.now other.now) work.old)
+        (in_statement (choice_tree around.now below test block.now other.now)) }
 {
     let v = lower_expression(around, Wanted::Value, below, test, work)?;
     let tested = work.mark();
@@ -368,7 +380,8 @@ fn lower_while(
     body: &[TermId],
     work: &mut Work,
 ) -> Result<(), NoMemory>
-    ensures { Declared result work.old work.new (one_at around.now (while_tree around.now below test body.now) work.old) (in_statement (while_tree around.now below test body.now)) }
+    ensures { Declared result work.old work.new (one_at around.now (while_tree around.now below test body.now) work.old)
+        (in_statement (while_tree around.now below test body.now)) }
 {
     work.end(Ending::Skips(0))?;
     let start = work.mark();
@@ -391,7 +404,8 @@ fn lower_repeat(
     test: TermId,
     work: &mut Work,
 ) -> Result<(), NoMemory>
-    ensures { Declared result work.old work.new (one_at around.now (repeat_tree around.now below body.now test) work.old) (in_statement (repeat_tree around.now below body.now test)) }
+    ensures { Declared result work.old work.new (one_at around.now (repeat_tree around.now below body.now test) work.old)
+        (in_statement (repeat_tree around.now below body.now test)) }
 {
     work.end(Ending::Skips(0))?;
     let start = work.mark();
@@ -415,7 +429,8 @@ fn lower_for(
     body: &[TermId],
     work: &mut Work,
 ) -> Result<(), NoMemory>
-    ensures { Declared result work.old work.new (for_of around.now below at name (map result_of bounds.now) body.now work.old) (suc (in_block (block_before around.now.store.now below body.now))) }
+    ensures { Declared result work.old work.new (for_of around.now below at name (map result_of bounds.now) body.now work.old)
+        (suc (in_block (block_before around.now.store.now below body.now))) }
 {
     let value = work.temp()?;
     work.put(Instruction::Copy(value, word_at(bounds, 0)))?;
@@ -444,7 +459,8 @@ pub(crate) fn lower_body(
     nodes: &[TermId],
     work: &mut Work,
 ) -> Result<(), NoMemory>
-    ensures { Declared result work.old work.new (all_of around.now below nodes.now work.old) (in_block (block_before around.now.store.now below nodes.now)) }
+    ensures { Declared result work.old work.new (all_of around.now below nodes.now work.old)
+        (in_block (block_before around.now.store.now below nodes.now)) }
 {
     lower_block(around, below, nodes, work)
 }

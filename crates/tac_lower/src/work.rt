@@ -1,6 +1,7 @@
 // Code in progress.
 
-ghost use Rattle.std.specs.Prelude.{◌≡◌, ◌<◌, ◌++◌, ◌∷◌, ◌+◌, ◌-◌, [], List, drop, length, map, option_map, slice_get, take, IfOk, IfSome, OnOk};
+ghost use Rattle.std.specs.Prelude.{◌≡◌, ◌<◌, ◌++◌, ◌∷◌, ◌+◌, ◌-◌, [], List, drop, length, map, option_map, slice_get, take, IfOk, IfSome};
+ghost use Rattle.std.specs.Prelude.{OnOk};
 ghost use Rattle.tac_lower.specs.Items as items;
 ghost use Rattle.tac_lower.specs.Items.{count_ends, does, ends, loop_of, repeats, repeats_unless};
 ghost use Rattle.tac_lower.specs.Pieces.{bound, holder_of, with_area, with_temp};
@@ -125,7 +126,8 @@ impl Work {
 
     /// The block in progress ends by the way back to the block that begins at a mark.
     pub(crate) fn go_back(&mut self, start: Mark) -> Result<(), NoMemory>
-        ensures { OnOk result (self.new ≡ record self.old { code = self.old.code ++ ends (repeats (count_ends self.old.code - start.ended)) ∷ [] }) }
+        ensures { OnOk result (self.new ≡ record self.old
+            { code = self.old.code ++ ends (repeats (count_ends self.old.code - start.ended)) ∷ [] }) }
     {
         let blocks = self.ended.saturating_sub(start.ended);
         self.end(Ending::Repeats(blocks))
@@ -133,7 +135,8 @@ impl Work {
 
     /// The block in progress goes on in the next one where a word isn't zero, and else goes back to the block that begins at a mark.
     pub(crate) fn go_back_unless(&mut self, test: Operand, start: Mark) -> Result<(), NoMemory>
-        ensures { OnOk result (self.new ≡ record self.old { code = self.old.code ++ ends (repeats_unless test (count_ends self.old.code - start.ended)) ∷ [] }) }
+        ensures { OnOk result (self.new ≡ record self.old
+            { code = self.old.code ++ ends (repeats_unless test (count_ends self.old.code - start.ended)) ∷ [] }) }
     {
         let blocks = self.ended.saturating_sub(start.ended);
         self.end(Ending::RepeatsUnless(test, blocks))

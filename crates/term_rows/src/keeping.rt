@@ -10,7 +10,9 @@ use terra_term::{
     TypedExpression, term_text,
 };
 use terra_types::Types;
-use tl_base::{ConstantId, FnId, GlobalId, NoMemory, SymId, TermId, Text, Text2, TextId, TypeId};
+use tl_base::{
+    ConstantId, FnId, GlobalId, Limits, NoMemory, SymId, TermId, Text, Text2, TextId, TypeId,
+};
 
 /// A row that adds no node.
 pub fn row(work: &mut Work, word: &str, words: &[&str]) -> Result<Option<String>, NoMemory> {
@@ -153,13 +155,13 @@ fn constant(work: &mut Work, words: &[&str]) -> Result<String, NoMemory> {
 
 /// The memory that a row names, in bytes.
 fn memory_at(words: &[&str], place: usize) -> u64
-    ensures { result ≤ 67108864 }
+    ensures { result ≤ Limits.MAX_MEMORY }
 {
     let memory = number_at(words, place);
-    if memory <= 67_108_864 {
+    if memory <= Limits::MAX_MEMORY {
         memory
     } else {
-        67_108_864
+        Limits::MAX_MEMORY
     }
 }
 

@@ -9,7 +9,8 @@ use Rattle.terra_term.specs.declared.typed.TypedStatement.TheVariants as kinds
 use Rattle.terra_term.specs.Held.{Held}
 use Rattle.terra_meaning.specs.Values.{width_of}
 use Rattle.terra_meaning.specs.Running.{State, Got, Gives, next, scoped}
-use Rattle.terra_meaning.specs.Meaning.{Call, Way, behind, counted_for, declared, done_all, done_one, for_rounds, in_list, meant_all, step_of, the_value}
+use Rattle.terra_meaning.specs.Meaning.{Call, Way, behind, counted_for, declared, done_all, done_one, for_rounds, in_list, meant_all}
+use Rattle.terra_meaning.specs.Meaning.{step_of, the_value}
 use Rattle.terra_eval.specs.declared.looping.Counting.{Counting}
 use Rattle.terra_eval.specs.Trees.{block_before, list_before, statement_tree}
 use Rattle.terra_eval.specs.Rounds.{counted_round}

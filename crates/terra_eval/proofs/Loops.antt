@@ -1,5 +1,6 @@
 -- The turns of the evaluator's loops.
-use Rattle.std.proofs.Common.{◌≡◌, refl, sym, ap, ◌∙◌, subst, ℕ, zero, suc, ◌+◌, ◌<◌, ◌≤◌, Bool, true, false, List, [], ◌∷◌, ◌++◌, Option, length, drop, get_or, slice_get, arith, append_assoc, append-nil}
+use Rattle.std.proofs.Common.{◌≡◌, refl, sym, ap, ◌∙◌, subst, ℕ, zero, suc, ◌+◌, ◌<◌, ◌≤◌, Bool, true, false, List, [], ◌∷◌, ◌++◌, Option}
+use Rattle.std.proofs.Common.{length, drop, get_or, slice_get, arith, append_assoc, append-nil}
 use Rattle.std.specs.Prelude.{if◌then◌else◌}
 use Rattle.tl_base.specs.declared.place.Place.{Place}
 use Rattle.tl_base.specs.declared.ids.TermId.{TermId}
@@ -11,7 +12,9 @@ use Rattle.terra_term.specs.declared.lists.TypedName.{TypedName}
 use Rattle.terra_term.specs.Held.{Held}
 use Rattle.terra_term.specs.TypedTerms.{Expression, typed, Variable}
 use Rattle.terra_meaning.specs.Running.{State, Got, Gives, Ends, next, counted, counted_from}
-use Rattle.terra_meaning.specs.Meaning.{Call, Wanted, Way, along, turned, goes_on, rounds, for_rounds, runs, meant, meant_all, done_one, done_all, declared, declared_all, assigned, assigned_all, first_of, behind, in_expression, in_statement}
+use Rattle.terra_meaning.specs.Meaning.{Call, Wanted, Way, along, turned, goes_on, rounds, for_rounds, runs, meant, meant_all, done_one}
+use Rattle.terra_meaning.specs.Meaning.{done_all, declared, declared_all, assigned, assigned_all, first_of, behind, in_expression}
+use Rattle.terra_meaning.specs.Meaning.{in_statement}
 use Rattle.terra_eval.specs.Trees.{expression_before, list_before, statement_before, block_before}
 use Rattle.terra_eval.specs.declared.stop.Stop.{Stop}
 use Rattle.terra_eval.specs.Views.{Ended}

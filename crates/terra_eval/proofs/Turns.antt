@@ -1,5 +1,6 @@
 -- One turn of a loop over a list: what is left of the list is the item, and what is left behind it.
-use Rattle.std.proofs.Common.{◌≡◌, refl, sym, ap, ◌∙◌, ℕ, suc, ◌+◌, ◌-◌, ◌<◌, ◌≤◌, Bool, true, false, List, [], ◌∷◌, ◌++◌, Some, map, length, take, drop, get_or, set, arith, drop-cons, append_assoc, append-nil, take_all}
+use Rattle.std.proofs.Common.{◌≡◌, refl, sym, ap, ◌∙◌, ℕ, suc, ◌+◌, ◌-◌, ◌<◌, ◌≤◌, Bool, true, false, List, [], ◌∷◌, ◌++◌, Some, map}
+use Rattle.std.proofs.Common.{length, take, drop, get_or, set, arith, drop-cons, append_assoc, append-nil, take_all}
 use Rattle.std.specs.Prelude.{nat_eq, if◌then◌else◌, ◌&&◌}
 use Rattle.std.proofs.lemmas.Bool.{eq-eqb, ne_eqb}
 use Rattle.std.proofs.lemmas.List.{set_split, map-append, drop-map, length-map}

@@ -26,7 +26,8 @@ fn assign(
     v: &Value,
     state: &mut State,
 ) -> Result<(), Stop>
-    ensures { GaveUnit result state.new (meanings.assigned call.now.store.now.types (expression_before call.now.store.now below target) (word address) v.now state.old) }
+    ensures { GaveUnit result state.new
+        (meanings.assigned call.now.store.now.types (expression_before call.now.store.now below target) (word address) v.now state.old) }
 {
     match expression(call.store, below, target) {
         None => place_value(call, NOWHERE, RAWSTRING, address, v, state),
@@ -104,7 +105,8 @@ pub(crate) fn assign_all(
     values: &[Value],
     state: &mut State,
 ) -> Result<(), Stop>
-    ensures { GaveUnit result state.new (assigned_all call.now.store.now.types (list_before call.now.store.now below targets.now) places.now values.now state.old) }
+    ensures { GaveUnit result state.new
+        (assigned_all call.now.store.now.types (list_before call.now.store.now below targets.now) places.now values.now state.old) }
 {
     let zero = Value::word(0);
     for (i, target) in targets.iter().enumerate() {

@@ -19,10 +19,8 @@ use crate::stop::{Halt, Stop};
 use crate::value::Value;
 use terra_term::Store;
 use terra_words::FaultKind;
+use tl_base::limits::MAX_CALLS;
 use tl_base::{FnId, NoMemory, Place, TypeId};
-
-/// How many callers a function may have.
-const MOST_CALLS: u64 = 512;
 
 /// Where a function begins: the store, the functions that stand as values, a number that is at least the count, how many callers
 /// there are, and where their frames end.
@@ -45,7 +43,9 @@ pub(crate) struct Begun<'a> {
 
 /// A call counts, and its function has one caller more.
 pub(crate) fn caller_of<'a>(call: &Call<'a>, state: &mut State) -> Result<Caller<'a>, Stop>
-    ensures called { (f : FnId) (vs : List Value) (at : Place) → Called result state.new ((call_of call.now).call f vs at state.old) (λ c. kept state.new.variables (called_from c f vs at state.new)) }
+    ensures called { (f : FnId) (vs : List Value) (at : Place) →
+        Called result state.new ((call_of call.now).call f vs at state.old)
+        (λ c. kept state.new.variables (called_from c f vs at state.new)) }
     ensures store { IfOk result (λ c. c.store.now ≡ call.now.store.now) }
     ensures fewer { IfOk result (λ c. c.turns < call.now.turns) }
 {
@@ -80,13 +80,14 @@ pub(crate) fn begin<'a>(
     at: Place,
     state: &State,
 ) -> Result<Begun<'a>, Stop>
-    ensures body { (vs : List Value) → Called result state.now (called_from caller.entry f vs at state.now) (λ b. body_run (call_in caller.entry b) (callable_tree caller.entry.store.now b.k) vs state.now) }
+    ensures body { (vs : List Value) → Called result state.now (called_from caller.entry f vs at state.now)
+        (λ b. body_run (call_in caller.entry b) (callable_tree caller.entry.store.now b.k) vs state.now) }
     ensures before { IfOk result (λ b. b.k.node < length caller.entry.store.now.typed) }
 {
     let Some(k) = callable_of(caller.store, f) else {
         return Err(Stop::Halted(Halt::Stuck));
     };
-    if caller.depth >= MOST_CALLS {
+    if caller.depth >= MAX_CALLS {
         return Err(Stop::fault(FaultKind::CallDepth, at));
     }
     let Frame { homes, size } = frame_of(caller.store.allocator(), caller.store, &k)?;
@@ -110,7 +111,8 @@ pub(crate) fn given_back(k: Callable<'_>, way: Way) -> Result<Value, Stop>
 
 /// A body that ends gives nothing, which is a fault where a result is due.
 fn no_value(k: Callable<'_>) -> Result<Value, Stop>
-    ensures { (store : stores.Held) (s : State) → GaveValue result s (meanings.given_back (callable_tree store k.entry) meanings.goes_on s) }
+    ensures { (store : stores.Held) (s : State) →
+        GaveValue result s (meanings.given_back (callable_tree store k.entry) meanings.goes_on s) }
 {
     if k.result.0 == UNIT.0 {
         Ok(Value::word(0))

@@ -70,7 +70,8 @@ fn declare_placed(
     offset: u64,
     state: &mut State,
 ) -> Result<(), Stop>
-    ensures { GaveUnit result state.new (meanings.declared_at (call_of call.now) at name (option_copied v.entry) (frames.in_frame offset) state.old) }
+    ensures { GaveUnit result state.new
+        (meanings.declared_at (call_of call.now) at name (option_copied v.entry) (frames.in_frame offset) state.old) }
 {
     let address = call.base.checked_add(offset).ok_or(NoMemory)?;
     match v {

@@ -35,7 +35,8 @@ fn evaluate_expression(
     from: u64,
     state: &mut State,
 ) -> Result<Value, Stop>
-    ensures { GaveValue result state.new (meant (call_of call.now) (want_of want) (expression_before call.now.store.now below node) from state.old) }
+    ensures { GaveValue result state.new
+        (meant (call_of call.now) (want_of want) (expression_before call.now.store.now below node) from state.old) }
 {
     match expression(call.store, below, node) {
         None => Ok(Value::word(0)),
@@ -175,7 +176,8 @@ fn evaluate_list(
     from: u64,
     state: &mut State,
 ) -> Result<Vec<Value>, Stop>
-    ensures { GaveList (λ vs. vs.items) result state.new (meant_all (call_of call.now) (want_of want) (list_before call.now.store.now below nodes.now) from state.old) }
+    ensures { GaveList (λ vs. vs.items) result state.new
+        (meant_all (call_of call.now) (want_of want) (list_before call.now.store.now below nodes.now) from state.old) }
 {
     let mut values = Vec::new(call.store.allocator());
     let mut next = from;
@@ -273,7 +275,8 @@ fn do_scope(
     from: u64,
     state: &mut State,
 ) -> Result<Way, Stop>
-    ensures { GaveWay result state.new (scoped state.old (done_all (call_of call.now) (block_before call.now.store.now below nodes.now) from state.old)) }
+    ensures { GaveWay result state.new
+        (scoped state.old (done_all (call_of call.now) (block_before call.now.store.now below nodes.now) from state.old)) }
 {
     let depth = state.depth();
     let way = do_block(call, below, nodes, from, state)?;
@@ -360,7 +363,8 @@ fn do_rounds(
     from: u64,
     state: &mut State,
 ) -> Result<Way, Stop>
-    ensures { GaveWay result state.new (rounds (suc call.now.turns) (round_of (call_of call.now) call.now.store.now below round.entry from) state.old) }
+    ensures { GaveWay result state.new
+        (rounds (suc call.now.turns) (round_of (call_of call.now) call.now.store.now below round.entry from) state.old) }
 {
     let mut turns = call.turns;
     loop {
@@ -386,7 +390,9 @@ fn do_counting(
     state: &mut State,
 ) -> Result<Way, Stop>
     requires { counting.width.bits ≤ 64 }
-    ensures { GaveWay result state.new (for_rounds (suc call.now.turns) counting.entry.width counting.entry.limit counting.entry.step (counted_round (call_of call.now) call.now.store.now below counting.entry from) counting.entry.start state.old) }
+    ensures { GaveWay result state.new
+        (for_rounds (suc call.now.turns) counting.entry.width counting.entry.limit counting.entry.step
+        (counted_round (call_of call.now) call.now.store.now below counting.entry from) counting.entry.start state.old) }
 {
     let mut i = counting.start;
     let mut turns = call.turns;

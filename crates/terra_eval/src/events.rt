@@ -1,9 +1,11 @@
 // What typed nodes do with names, in the order of evaluation.
 
 ghost use Rattle.std.specs.Prelude.{◌≡◌, ◌≤◌, ◌++◌, ◌∷◌, [], map, length, IfOk, OnOk};
-ghost use Rattle.terra_term.specs.Events.{block_events, body_events, declares_all, declared_in, doing_events, events_of, list_events, operation_events, scope, takes};
+ghost use Rattle.terra_term.specs.Events.{block_events, body_events, declares_all, declared_in, doing_events, events_of, list_events};
+ghost use Rattle.terra_term.specs.Events.{operation_events, scope, takes};
 ghost use Rattle.terra_meaning.specs.Meaning.{in_block, in_expression, in_list, in_statement};
-ghost use Rattle.terra_eval.specs.Trees.{block_before, callable_tree, expression_before, expression_tree, list_before, statement_before, statement_tree};
+ghost use Rattle.terra_eval.specs.Trees.{block_before, callable_tree, expression_before, expression_tree, list_before, statement_before};
+ghost use Rattle.terra_eval.specs.Trees.{statement_tree};
 ghost use Rattle.terra_eval.specs.Views.{event_of, events_in, mentions_of};
 
 use crate::nodes::{Callable, expression, statement};
@@ -57,7 +59,8 @@ fn form_events(
     form: &TypedExpression,
     events: &mut Vec<Event>,
 ) -> Result<(), NoMemory>
-    ensures { OnOk result (events_in events.new.items ≡ events_in events.old.items ++ events_of (expression_tree store.now below at of form.now)) }
+    ensures { OnOk result
+        (events_in events.new.items ≡ events_in events.old.items ++ events_of (expression_tree store.now below at of form.now)) }
 {
     match form {
         TypedExpression::Constant(constant) => constant_events(at, *constant, events),
@@ -193,7 +196,8 @@ pub(crate) fn statement_events(
     node: TermId,
     events: &mut Vec<Event>,
 ) -> Result<(), NoMemory>
-    ensures { OnOk result (events_in events.new.items ≡ events_in events.old.items ++ doing_events (statement_before store.now below node)) }
+    ensures { OnOk result
+        (events_in events.new.items ≡ events_in events.old.items ++ doing_events (statement_before store.now below node)) }
 {
     match statement(store, below, node) {
         None => Ok(()),
@@ -210,7 +214,8 @@ fn doing_events(
     doing: &TypedStatement,
     events: &mut Vec<Event>,
 ) -> Result<(), NoMemory>
-    ensures { OnOk result (events_in events.new.items ≡ events_in events.old.items ++ doing_events (statement_tree store.now below at doing.now)) }
+    ensures { OnOk result
+        (events_in events.new.items ≡ events_in events.old.items ++ doing_events (statement_tree store.now below at doing.now)) }
 {
     match doing {
         TypedStatement::Var(names, values) => {
@@ -262,7 +267,8 @@ fn scope_events(
     nodes: &[TermId],
     events: &mut Vec<Event>,
 ) -> Result<(), NoMemory>
-    ensures { OnOk result (events_in events.new.items ≡ events_in events.old.items ++ scope (block_events (block_before store.now below nodes.now))) }
+    ensures { OnOk result
+        (events_in events.new.items ≡ events_in events.old.items ++ scope (block_events (block_before store.now below nodes.now))) }
 {
     put(events, Event::Opens)?;
     block_events(store, below, nodes, events)?;
@@ -277,7 +283,8 @@ pub(crate) fn block_events(
     nodes: &[TermId],
     events: &mut Vec<Event>,
 ) -> Result<(), NoMemory>
-    ensures { OnOk result (events_in events.new.items ≡ events_in events.old.items ++ block_events (block_before store.now below nodes.now)) }
+    ensures { OnOk result
+        (events_in events.new.items ≡ events_in events.old.items ++ block_events (block_before store.now below nodes.now)) }
 {
     for node in nodes {
         statement_events(store, below, *node, events)?;

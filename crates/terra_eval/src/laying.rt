@@ -70,7 +70,8 @@ impl Scopes {
 
     /// A variable is declared. No function has more than 64 bits count.
     fn declare(&mut self, symbol: SymId) -> Result<(), NoMemory>
-        ensures { (later : List events.Event) (of : TypeId) → OnOk result (taken_with self.new later ≡ taken_with self.old (events.Declares symbol of ∷ later)) }
+        ensures { (later : List events.Event) (of : TypeId) →
+            OnOk result (taken_with self.new later ≡ taken_with self.old (events.Declares symbol of ∷ later)) }
     {
         let number = self.next;
         let next = number.checked_add(1).ok_or(NoMemory)?;

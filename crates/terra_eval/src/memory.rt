@@ -15,9 +15,9 @@ use crate::types::{bytes_at, is_aggregate, width_of};
 use crate::value::Value;
 use std::alloc::{AllocError, Global};
 use terra_memory::Region;
-use terra_memory::region::FIRST_ADDRESS;
 use terra_types::Types;
 use terra_words::FaultKind;
+use tl_base::limits::REGION_ADDRESS;
 use tl_base::{Place, TypeId};
 use word_ops::wrap;
 
@@ -26,8 +26,8 @@ fn is_inside(region: &Region, address: u64, count: u64) -> bool
     ensures inside { result ≡ is_inside region.now address count }
     ensures fits { OnTrue result (address + count < 2 ^ 32) }
 {
-    let end = FIRST_ADDRESS + region.memory_size();
-    if address < FIRST_ADDRESS {
+    let end = REGION_ADDRESS + region.memory_size();
+    if address < REGION_ADDRESS {
         return false;
     }
     match address.checked_add(count) {

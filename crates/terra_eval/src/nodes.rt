@@ -7,7 +7,8 @@ ghost use Rattle.terra_term.specs.TypedTerms.{type_of};
 ghost use Rattle.terra_term.specs.Planted.{absent_typed};
 ghost use Rattle.terra_term.specs.Stores.{callable_of, contents_of};
 ghost use Rattle.terra_meaning.specs.Meaning.{types_of};
-ghost use Rattle.terra_eval.specs.Trees.{absent_statement, callable_tree, expression_before, expression_tree, list_before, statement_before, statement_tree};
+ghost use Rattle.terra_eval.specs.Trees.{absent_statement, callable_tree, expression_before, expression_tree, list_before};
+ghost use Rattle.terra_eval.specs.Trees.{statement_before, statement_tree};
 
 use std::alloc::AllocError;
 use terra_term::{FunctionState, Store, Typed, TypedExpression, TypedName, TypedStatement};

@@ -251,7 +251,8 @@ fn perform(
     y: u64,
     state: &mut State,
 ) -> Result<Value, Stop>
-    ensures { (vs : List Value) → x ≡ number (value_at vs 0) → y ≡ number (value_at vs 1) → GaveValue result state.new (meanings.primitive at primitive vs state.old) }
+    ensures { (vs : List Value) → x ≡ number (value_at vs 0) → y ≡ number (value_at vs 1) →
+        GaveValue result state.new (meanings.primitive at primitive vs state.old) }
 {
     match primitive {
         Primitive::PutByte => {
@@ -270,7 +271,9 @@ fn perform(
 
 /// The function that a call of a function value of a type calls.
 pub(crate) fn callee(call: &Call<'_>, at: Place, of: TypeId, value: u64) -> Result<FnId, Stop>
-    ensures { (vs : List Value) (s : State) → Called result s (meanings.called_value (call_of call.now) at (form_at call.now.store.now.types of) (meanings.entry call.now.entries.now value) vs s) (λ f. (call_of call.now).call f vs at s) }
+    ensures { (vs : List Value) (s : State) → Called result s
+        (meanings.called_value (call_of call.now) at (form_at call.now.store.now.types of) (meanings.entry call.now.entries.now value) vs s)
+        (λ f. (call_of call.now).call f vs at s) }
 {
     let fault = Stop::fault(FaultKind::BadCall, at);
     if value == 0 || value > call.entries.len() as u64 {

@@ -15,8 +15,8 @@ use crate::state;
 use crate::stop::{End, Halt, Run, Stop};
 use crate::value::Value;
 use terra_memory::Region;
-use terra_memory::region::FIRST_ADDRESS;
 use terra_term::Store;
+use tl_base::limits::REGION_ADDRESS;
 use tl_base::{FnId, NoMemory, Place};
 
 /// Zeros behind bytes, so many that there are at least `size` bytes.
@@ -36,7 +36,10 @@ pub fn static_bytes(store: &Store) -> Result<Vec<u8>, NoMemory>
     let mut bytes = Vec::new(store.allocator());
     let held = store.statics();
     for s in held {
-        fill(&mut bytes, s.address.saturating_sub(FIRST_ADDRESS) as usize)?;
+        fill(
+            &mut bytes,
+            s.address.saturating_sub(REGION_ADDRESS) as usize,
+        )?;
         bytes.extend_from_slice(s.bytes.bytes())?;
     }
     Ok(bytes)
@@ -54,7 +57,8 @@ fn place_of(store: &Store, f: FnId) -> Place
 
 /// The run of an entry that gave this, with the output.
 fn ended(given: Result<Value, Stop>, out: Vec<u8>) -> Result<Run, NoMemory>
-    ensures { (variables : List Variable) (got : Got runs.Value) (s : State) → s.out ≡ out.items → GaveValue given s (kept variables got) → IfOk result (λ run. run_view run ≡ run_of got) }
+    ensures { (variables : List Variable) (got : Got runs.Value) (s : State) → s.out ≡ out.items →
+        GaveValue given s (kept variables got) → IfOk result (λ run. run_view run ≡ run_of got) }
 {
     match given {
         Ok(v) => Ok(Run::Over(End::Returned(v), out)),

@@ -1,6 +1,7 @@
 // A running program.
 
-ghost use Rattle.std.specs.Prelude.{◌≡◌, ◌++◌, ◌-◌, [], suc, true, false, map, drop, length, option_map, Some, None, IfOk, IfErr, OnOk, MatchOption};
+ghost use Rattle.std.specs.Prelude.{◌≡◌, ◌++◌, ◌-◌, [], suc, true, false, map, drop, length, option_map, Some, None, IfOk, IfErr, OnOk};
+ghost use Rattle.std.specs.Prelude.{MatchOption};
 ghost use Rattle.std.specs.Bool.{OnTrue, OnFalse};
 ghost use Rattle.terra_memory.specs.Region.{alloc_of, end_address, heap_limit, range_of};
 ghost use Rattle.terra_words.specs.Runs.{put_bytes};
@@ -14,8 +15,8 @@ use std::alloc::{AllocError, Global};
 use std::marker::Model;
 use std::mem;
 use terra_memory::Region;
-use terra_memory::region::FIRST_ADDRESS;
 use tl_base::SymId;
+use tl_base::limits::REGION_ADDRESS;
 
 /// What a variable is: a word, or an address at which it lies.
 #[derive(Clone, Copy, Debug)]
@@ -141,7 +142,7 @@ impl State {
     pub(crate) fn end_address(&self) -> u64
         ensures { result ≡ end_address self.now.region }
     {
-        FIRST_ADDRESS + self.region.memory_size()
+        REGION_ADDRESS + self.region.memory_size()
     }
 
     /// The address at which the data stack's quarter begins.
@@ -149,7 +150,7 @@ impl State {
         ensures { result ≡ heap_limit self.now.region }
     {
         let memory = self.region.memory_size();
-        FIRST_ADDRESS + memory - memory / 4
+        REGION_ADDRESS + memory - memory / 4
     }
 
     /// A variable is declared.

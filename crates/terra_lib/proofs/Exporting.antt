@@ -1,5 +1,6 @@
 -- What the exports of a table's entries keep, and how a walk over the entries goes on.
-use Rattle.std.proofs.Common.{ℕ, zero, suc, ◌+◌, ◌≤◌, ◌≡◌, length, Bool, true, false, List, [], ◌∷◌, drop, Option, Some, None, slice_get, if◌then◌else◌}
+use Rattle.std.proofs.Common.{ℕ, zero, suc, ◌+◌, ◌≤◌, ◌≡◌, length, Bool, true, false, List, [], ◌∷◌, drop, Option, Some, None, slice_get}
+use Rattle.std.proofs.Common.{if◌then◌else◌}
 use Rattle.std.proofs.Common.{refl, sym, ◌∙◌, ap, subst, arith}
 use Rattle.std.specs.Prelude.{Result, OnOk}
 use Rattle.std.proofs.lemmas.List.{drop_all}

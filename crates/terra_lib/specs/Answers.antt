@@ -1,11 +1,9 @@
 -- What a call of Terra's library answers, and what it pays: the words in which the functions are defined.
 use Rattle.std.specs.Prelude.{ℕ, ◌-◌, nat_le, if◌then◌else◌, List, [], ◌∷◌, codes, Option, Some, None}
 use Rattle.tl_base.specs.declared.place.Place.{Place}
-use Rattle.tl_base.specs.declared.ids.TypeId.{TypeId}
 use Rattle.tl_base.specs.Layer.{State, state}
 use Rattle.lua_value.specs.declared.library.LibFn.{LibFn}
 use Rattle.lua_value.specs.declared.value.Value.{Value}
-use Rattle.lua_value.specs.declared.value.Value.TheVariants as values
 use Rattle.lua_table.specs.LuaState.{LuaState}
 use Rattle.lua_table.specs.declared.call.LibTurn.{LibTurn}
 use Rattle.lua_table.specs.declared.call.LibTurn.TheVariants as turns
@@ -13,6 +11,8 @@ use Rattle.lua_base.specs.Calls as base
 use Rattle.exotype.specs.declared.fault.Fault.{Fault}
 use Rattle.exotype.specs.Faults.{fault_text}
 use Rattle.exotype.specs.World.{StageState, with_heap}
+-- the type that an argument is
+pub use Rattle.lua_value.specs.Values.{type_in}
 
 -- what a function answers, with the world and the units that it leaves
 pub record Turned : Type 0 where
@@ -56,8 +56,3 @@ paying s units go = if nat_le units s.left then go (state s.world (s.left - unit
 abbrev pub given : {X : Type 0} → Option X → Turned → (X → Turned) → Turned
 given None other go = other
 given (Some x) other go = go x
-
--- the type that an argument is
-abbrev pub type_in : Value → Option TypeId
-type_in (values.TerraType t) = Some t
-type_in v = None

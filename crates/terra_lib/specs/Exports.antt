@@ -1,5 +1,6 @@
 -- Exports, without checks: which entries of a table are exported, and what is exported at the end of the chunk.
-use Rattle.std.specs.Prelude.{ℕ, Bool, true, false, not, ◌==◌, ◌&&◌, ◌||◌, List, [], ◌∷◌, length, nat_le, nat_lt, bytes_eq, Option, Some, None}
+use Rattle.std.specs.Prelude.{ℕ, Bool, true, false, not, ◌==◌, ◌&&◌, ◌||◌, List, [], ◌∷◌, length, nat_le, nat_lt, bytes_eq, Option, Some}
+use Rattle.std.specs.Prelude.{None}
 use Rattle.std.specs.Prelude.{if◌then◌else◌, slice_get}
 use Rattle.std.specs.List.{list_all, list_any}
 use Rattle.tl_base.specs.declared.ids.FnId.{FnId}
@@ -8,6 +9,8 @@ use Rattle.tl_base.specs.declared.ids.TextId.{TextId}
 use Rattle.tl_base.specs.declared.ids.TypeId.{TypeId}
 use Rattle.tl_base.specs.declared.place.Place.{Place}
 use Rattle.tl_base.specs.Layer.{State, state}
+use Rattle.tl_base.specs.declared.limits.TheConstants.{MAX_NAME_BYTES, MAX_PARAMETERS}
+use Rattle.tl_base.specs.declared.limits.TheConstants.Limits.{MAX_BUDGET}
 use Rattle.lua_value.specs.declared.library.LibFn.TheVariants as library
 use Rattle.lua_value.specs.declared.value.Value.{Value}
 use Rattle.lua_value.specs.declared.value.Value.TheVariants as values
@@ -30,6 +33,8 @@ use Rattle.terra_lib.specs.Answers.{Turned, turned, bad_argument, raised, given}
 use Rattle.terra_lib.specs.Symbols.{is_scalar}
 use Rattle.terra_lib.specs.declared.exports.Fate.{Fate}
 use Rattle.terra_lib.specs.declared.exports.Fate.TheVariants.{Exported, Refused, LeftOut}
+-- the result type of a function's term, where it is written
+pub use Rattle.terra_term.specs.Held.{written_in as result_in}
 
 -- ---- signatures
 
@@ -45,18 +50,13 @@ abbrev pub parameters_in : Option Term → List Parameter
 parameters_in (Some (terms.Function params result body)) = params
 parameters_in _ = []
 
--- the result type of a function's term, where it is written
-abbrev pub result_in : Option Term → Option TypeId
-result_in (Some (terms.Function params result body)) = result
-result_in _ = None
-
 abbrev pub all_scalar : List TypeForm → List Parameter → Bool
 all_scalar types [] = true
 all_scalar types (p ∷ ps) = is_scalar (slice_get types p.of.0) && all_scalar types ps
 
 -- at most eight parameters, all scalar
 abbrev pub are_scalars : List TypeForm → List Parameter → Bool
-are_scalars types ps = nat_le (length ps) 8 && all_scalar types ps
+are_scalars types ps = nat_le (length ps) MAX_PARAMETERS && all_scalar types ps
 
 abbrev pub takes_scalars : StageState → List Parameter → Bool
 takes_scalars w ps = are_scalars w.store.types ps
@@ -74,14 +74,14 @@ gives_scalar w None = true
 
 -- 1 to 255 bytes without a zero byte
 abbrev pub is_name : List ℕ → Bool
-is_name name = nat_le 1 (length name) && nat_le (length name) 255 && list_all (λ b. not (b == 0)) name
+is_name name = nat_le 1 (length name) && nat_le (length name) MAX_NAME_BYTES && list_all (λ b. not (b == 0)) name
 
 abbrev pub is_used : List Export → List ℕ → Bool
 is_used exports name = list_any (λ (e : Export). bytes_eq e.name name) exports
 
 -- the most exports that there may be; a budget of units buys no more, since each export pays for a check
 abbrev pub most_exports : ℕ
-most_exports = 4000000
+most_exports = MAX_BUDGET
 
 -- a name that may be that of a new export; that there are fewer than the most exports is so in each staging
 abbrev pub is_free : StageState → List ℕ → Bool

@@ -7,7 +7,7 @@ use Rattle.lua_value.specs.declared.library.LibFn.TheVariants as library
 use Rattle.lua_value.specs.declared.value.Value.{Value}
 use Rattle.lua_value.specs.declared.value.Value.TheVariants as values
 use Rattle.lua_table.specs.LuaState.{LuaState}
-use Rattle.lua_table.specs.Pairs.{value_at, border_of}
+use Rattle.lua_table.specs.Pairs.{value_at}
 use Rattle.lua_table.specs.Heap.{next_table, with_table, table_at, with_stored, with_metatable}
 use Rattle.lua_table.specs.Cells.{first_value}
 use Rattle.lua_table.specs.declared.call.Back.{Back}
@@ -19,6 +19,7 @@ use Rattle.lua_base.specs.Arguments.{argument, has_argument, table_in}
 use Rattle.exotype.specs.World.{StageState, with_heap}
 use Rattle.spec_model.specs.Plans.{values_in}
 use Rattle.terra_lib.specs.Answers.{Turned, turned, bad_argument, gives, gives_one, paying, given}
+pub use Rattle.lua_table.specs.Heap.{end_of}
 
 -- the opening metatable of lists, which is made as the sixth table
 abbrev pub list_methods : TableId
@@ -30,10 +31,6 @@ as_list heap t = with_metatable heap t (Some list_methods)
 -- a heap with a new list
 abbrev pub with_list : LuaState → LuaState
 with_list heap = as_list (with_table heap) (next_table heap)
-
--- the number of the end of a table's list
-abbrev pub end_of : LuaState → TableId → ℕ
-end_of heap t = border_of (table_at heap t)
 
 -- ---- `newlist`
 

@@ -7,7 +7,8 @@ ghost use Rattle.tl_base.specs.Layer.{state};
 ghost use Rattle.lua_table.specs.Heap.{table_at, text_at};
 ghost use Rattle.terra_lib.specs.Answers.{turned};
 ghost use Rattle.terra_lib.specs.Exports.{saveobj_turned, ended, saved, saved_turned, saved_at, saved_entry, entry_fate, fate_of};
-ghost use Rattle.terra_lib.specs.Exports.{fate_of_function, is_free, is_name, is_used, are_scalars, all_scalar, may_be_exported, takes_scalars, gives_scalar};
+ghost use Rattle.terra_lib.specs.Exports.{fate_of_function, is_free, is_name, is_used, are_scalars, all_scalar, may_be_exported};
+ghost use Rattle.terra_lib.specs.Exports.{takes_scalars, gives_scalar};
 ghost use Rattle.terra_lib.specs.Exports.{is_unit, is_text, parameters_in, result_in, term_of_function, with_exported};
 ghost use Rattle.terra_lib.specs.Keeping.{KeepsWorld};
 
@@ -20,7 +21,8 @@ use lua_table::LibTurn;
 use lua_value::{LibFn, Value};
 use terra_term::{Export, Parameter, Term};
 use terra_types::{TypeForm, Types};
-use tl_base::{Budget, FnId, NoMemory, Place, TableId, Text, TextId, TypeId};
+use tl_base::limits::{MAX_NAME_BYTES, MAX_PARAMETERS};
+use tl_base::{Budget, FnId, Limits, NoMemory, Place, TableId, Text, TextId, TypeId};
 
 /// How an entry of a table fares.
 #[derive(Clone, Copy, Debug, PartialEq, Eq)]
@@ -36,14 +38,8 @@ pub enum Fate {
 /// The table of globals, which is made first.
 const GLOBALS: TableId = TableId(0);
 
-/// The most parameters of an export.
-const MOST_PARAMETERS: usize = 8;
-
-/// The most bytes of an export's name.
-const MOST_NAME_BYTES: usize = 255;
-
 /// How many exports there may be: as many as the largest budget buys.
-const MOST_EXPORTS: usize = 4_000_000;
+const MOST_EXPORTS: usize = Limits::MAX_BUDGET as usize;
 
 /// Exports the entries of a table, in its order, up to the first that can't be exported. Functions of the source can that are defined,
 /// under texts of 1 to 255 bytes without a zero byte that no export has yet, with at most eight parameters, all scalar, and a scalar or
@@ -244,7 +240,7 @@ pub fn is_free(world: &World, name: &[u8]) -> bool
 fn is_name(name: &[u8]) -> bool
     ensures { result ≡ is_name name.now }
 {
-    1 <= name.len() && name.len() <= MOST_NAME_BYTES && has_no_zero(name)
+    1 <= name.len() && name.len() <= MAX_NAME_BYTES && has_no_zero(name)
 }
 
 fn has_no_zero(name: &[u8]) -> bool
@@ -275,7 +271,7 @@ pub fn takes_scalars(world: &World, f: FnId) -> bool
 fn are_scalars(types: &Types, params: &[Parameter]) -> bool
     ensures { result ≡ are_scalars types.now params.now }
 {
-    params.len() <= MOST_PARAMETERS && all_scalar(types, params)
+    params.len() <= MAX_PARAMETERS && all_scalar(types, params)
 }
 
 /// Whether the types of all these parameters, which are at most eight, are scalar.

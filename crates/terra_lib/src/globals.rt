@@ -1,12 +1,13 @@
 // The globals of Terra with which a source begins, behind those of Lua.
 
 ghost use Rattle.std.specs.Prelude.{◌≡◌, ◌≤◌, length, IfOk, OnOk};
-ghost use Rattle.lua_base.specs.Opening.{with_functions, with_named};
+ghost use Rattle.tl_base.specs.declared.text.TheConstants.Text.{MAX_LEN};
 ghost use Rattle.terra_lib.specs.Opening.{opening, with_terra, with_types, with_type, with_library, with_list_methods, terralib};
 ghost use Rattle.terra_lib.specs.Opening.{type_makers};
 ghost use Rattle.lua_base.specs.Opening.{globals};
 
 use crate::lists::LIST_METHODS;
+use lua_base::globals::{name, name_functions};
 use lua_table::Heap;
 use lua_value::{LibFn, Primitive, Value};
 use std::alloc::Global;
@@ -82,7 +83,7 @@ fn name_types(heap: &mut Heap) -> Result<(), NoMemory>
 }
 
 fn name_type(heap: &mut Heap, text: &[u8], number: u64) -> Result<(), NoMemory>
-    requires { length text.now ≤ 65535 }
+    requires { length text.now ≤ MAX_LEN }
     ensures { OnOk result (heap.new ≡ with_type heap.old text.now number) }
 {
     name(heap, GLOBALS, text, Value::TerraType(TypeId(number)))
@@ -121,29 +122,4 @@ fn name_list_methods(heap: &mut Heap) -> Result<(), NoMemory>
         &[LibFn::Insert, LibFn::InsertAll, LibFn::Map],
     )?;
     name(heap, LIST_METHODS, b"__index", Value::Table(LIST_METHODS))
-}
-
-#[tactic(auto, unfolding(lua_base::specs::Opening::with_functions))]
-/// Puts functions under their names of a table.
-fn name_functions(heap: &mut Heap, table: TableId, functions: &[LibFn]) -> Result<(), NoMemory>
-    ensures { OnOk result (heap.new ≡ with_functions heap.old table functions.now) }
-{
-    for function in functions {
-        name(
-            heap,
-            table,
-            function.name().as_bytes(),
-            Value::Library(*function),
-        )?;
-    }
-    Ok(())
-}
-
-/// Puts a value under a name of a table.
-fn name(heap: &mut Heap, table: TableId, text: &[u8], value: Value) -> Result<(), NoMemory>
-    requires { length text.now ≤ 65535 }
-    ensures { OnOk result (heap.new ≡ with_named heap.old table text.now value) }
-{
-    let key = heap.intern(text)?;
-    heap.store(table, Value::Text(key), value)
 }

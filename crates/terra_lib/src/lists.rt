@@ -7,7 +7,8 @@ ghost use Rattle.lua_table.specs.Keeping.{KeepsHeap};
 ghost use Rattle.spec_model.specs.Plans.{values_in};
 ghost use Rattle.terra_lib.specs.Answers.{turned};
 ghost use Rattle.terra_lib.specs.Keeping.{KeepsWorld};
-ghost use Rattle.terra_lib.specs.Lists.{newlist_turned, insert_turned, insertall_turned, map_turned, mapping, map_turn, map_heap, as_list, with_list};
+ghost use Rattle.terra_lib.specs.Lists.{newlist_turned, insert_turned, insertall_turned, map_turned, mapping, map_turn, map_heap, as_list};
+ghost use Rattle.terra_lib.specs.Lists.{with_list};
 ghost use Rattle.terra_lib.specs.Lists.{appended, all_appended, end_of};
 
 use crate::answers::{bad_argument, give_nothing, give_one};

@@ -14,14 +14,21 @@ use Rattle.terra_term.specs.declared.operators.Operation.TheVariants as operatio
 use Rattle.terra_term.specs.declared.store.Function.{Function}
 use Rattle.terra_term.specs.declared.store.Static.{Static}
 use Rattle.terra_term.specs.TypedTerms as items
-use Rattle.terra_term.specs.TypedTerms.{Expression, typed, Constant', Variable, Global, Operate, Both, Either, Dereference, Select, Follow, Element, Index, Address, Decay, Let, Expressions, no_more, then_one, Statement, statement, Var, Assign, If, IfElse, While, Repeat, For, Do, Break, Finish, Return, Perform, Statements, done, and_then}
+use Rattle.terra_term.specs.TypedTerms.{Expression, typed, Constant', Variable, Global, Operate, Both, Either, Dereference, Select, Follow}
+use Rattle.terra_term.specs.TypedTerms.{Element, Index, Address, Decay, Let, Expressions, no_more, then_one, Statement, statement, Var}
+use Rattle.terra_term.specs.TypedTerms.{Assign, If, IfElse, While, Repeat, For, Do, Break, Finish, Return, Perform, Statements, done}
+use Rattle.terra_term.specs.TypedTerms.{and_then}
 use Rattle.terra_term.specs.Stores.{Contents, Callable, callable_of, static_bytes}
-use Rattle.terra_term.specs.Events.{Event, Opens, Closes, Declares, Takes, Uses, Mentions, operation_events, takes, declares, declares_all, scope, events_of, list_events, doing_events, block_events, body_events, mentions_in}
+use Rattle.terra_term.specs.Events.{Event, Opens, Closes, Declares, Takes, Uses, Mentions, operation_events, takes, declares, declares_all}
+use Rattle.terra_term.specs.Events.{scope, events_of, list_events, doing_events, block_events, body_events, mentions_in}
 use Rattle.terra_meaning.specs.Laws.{Reaches, itself, value, mentioned, AreAlike}
 use Rattle.terra_meaning.specs.Frames.{frame_of}
 use Rattle.terra_meaning.specs.Values.{bytes_at, width_of, form_at}
 use Rattle.terra_meaning.specs.Running.{State, Got, Gives, next, fault, stuck, counted, scoped}
-use Rattle.terra_meaning.specs.Meaning.{Call, Calls, body_run, given_back, kept, entered, apply, run_of, place_in, meaning, in_expression, in_list, in_statement, in_block, Wanted, the_value, the_address, reached, has_type, called_value, entry, behind, type_at, operated, types_of, declared, declared_all, assigned_all, goes_on, breaks, gives_back, going, along, rounds, counted_for, meant, meant_all, done_one, done_all}
+use Rattle.terra_meaning.specs.Meaning.{Call, Calls, body_run, given_back, kept, entered, apply, run_of, place_in, meaning, in_expression}
+use Rattle.terra_meaning.specs.Meaning.{in_list, in_statement, in_block, Wanted, the_value, the_address, reached, has_type, called_value}
+use Rattle.terra_meaning.specs.Meaning.{entry, behind, type_at, operated, types_of, declared, declared_all, assigned_all, goes_on, breaks}
+use Rattle.terra_meaning.specs.Meaning.{gives_back, going, along, rounds, counted_for, meant, meant_all, done_one, done_all}
 
 -- something holds of each function that is mentioned
 abbrev pub AllMentions : (FnId → Type 0) → List Event → Type 0

@@ -35,7 +35,8 @@ use Rattle.terra_term.specs.declared.store.FunctionState.TheVariants as states
 use Rattle.terra_term.specs.TypedTerms as items
 use Rattle.terra_term.specs.Stores.{Contents}
 use Rattle.terra_term.specs.WellTyped.{body_typed}
-use Rattle.terra_term.specs.TypedTerms.{Expression, typed, Form, Constant', Variable, Operate, Dereference, Select, Address, no_more, then_one, statement, Var, Assign, If, While, For, Break, Return, Perform, done, and_then, Body}
+use Rattle.terra_term.specs.TypedTerms.{Expression, typed, Form, Constant', Variable, Operate, Dereference, Select, Address, no_more}
+use Rattle.terra_term.specs.TypedTerms.{then_one, statement, Var, Assign, If, While, For, Break, Return, Perform, done, and_then, Body}
 use Rattle.terra_words.specs.Runs.{Value, word, put_bytes, Returned, Fault, Run, Over, More}
 use Rattle.terra_meaning.specs.Meaning.{meaning}
 

@@ -1,6 +1,7 @@
 -- How a larger count changes what a part of a program gives: nothing, but where more was needed. This file has the
 -- ways in which parts are put together, and `Meant` goes through the terms.
-use Rattle.std.proofs.Common.{append-nil, append_assoc, ◌≡◌, ℕ, zero, suc, ◌+◌, ◌≤◌, Bool, true, false, List, [], ◌++◌, length, refl, sym, arith}
+use Rattle.std.proofs.Common.{append-nil, append_assoc, ◌≡◌, ℕ, zero, suc, ◌+◌, ◌≤◌, Bool, true, false, List, [], ◌++◌, length, refl, sym}
+use Rattle.std.proofs.Common.{arith}
 use Rattle.std.specs.Prelude.{if◌then◌else◌}
 use Rattle.terra_words.specs.Words.{wrapped}
 use Rattle.terra_words.specs.declared.words.Width.{Width}

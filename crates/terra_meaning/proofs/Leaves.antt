@@ -20,12 +20,15 @@ use Rattle.terra_term.specs.declared.operators.Operation.TheVariants as operatio
 use Rattle.lua_value.specs.declared.primitive.Primitive.{Primitive}
 use Rattle.lua_value.specs.declared.primitive.Primitive.TheVariants.{PutByte, Write, Alloc}
 use Rattle.terra_term.specs.declared.lists.TypedName.{TypedName}
-use Rattle.terra_term.specs.TypedTerms.{Expression, typed, Constant', Variable, Global, Operate, Both, Either, Dereference, Select, Follow, Element, Index, Address, Decay, Let, Expressions, no_more, then_one}
+use Rattle.terra_term.specs.TypedTerms.{Expression, typed, Constant', Variable, Global, Operate, Both, Either, Dereference, Select, Follow}
+use Rattle.terra_term.specs.TypedTerms.{Element, Index, Address, Decay, Let, Expressions, no_more, then_one}
 use Rattle.terra_term.specs.Stores.{callable_of}
 use Rattle.terra_meaning.specs.Values.{bytes_at, encoded, form_at, target_of}
 use Rattle.terra_meaning.specs.Frames.{Home, by_value, in_frame, home_at}
 use Rattle.terra_meaning.specs.Running.{Held, held, lies, State, Got, Gives, fault, stuck, with_variable, found, with_value}
-use Rattle.terra_meaning.specs.Meaning.{Call, read, loaded, written, stored, Wanted, the_value, the_address, reached, variable, binary, printed, print_range, primitive, called_value, has_type, entry, behind, type_at, in_elements, operated, declared_at, declared, declared_all, first_of, held_symbol, assigned, assigned_all}
+use Rattle.terra_meaning.specs.Meaning.{Call, read, loaded, written, stored, Wanted, the_value, the_address, reached, variable, binary}
+use Rattle.terra_meaning.specs.Meaning.{printed, print_range, primitive, called_value, has_type, entry, behind, type_at, in_elements}
+use Rattle.terra_meaning.specs.Meaning.{operated, declared_at, declared, declared_all, first_of, held_symbol, assigned, assigned_all}
 use Rattle.terra_meaning.proofs.Larger.{front-self, front-more, shown, more, Carries, Longer, longer-next, longer-gives, longer-if}
 
 -- a call with another meaning of calls, and with more turns

@@ -22,7 +22,8 @@ use Rattle.terra_term.specs.declared.lists.TypedName.{TypedName}
 use Rattle.terra_term.specs.declared.store.Function.{Function}
 use Rattle.terra_term.specs.declared.store.FunctionState.TheVariants as states
 use Rattle.terra_term.specs.TypedTerms as items
-use Rattle.terra_term.specs.TypedTerms.{Expression, typed, Form, Constant', Variable, Operate, Address, Expressions, no_more, then_one, Statement, statement, Doing, Var, If, Return, Perform, Statements, done, and_then, Body}
+use Rattle.terra_term.specs.TypedTerms.{Expression, typed, Form, Constant', Variable, Operate, Address, Expressions, no_more, then_one}
+use Rattle.terra_term.specs.TypedTerms.{Statement, statement, Doing, Var, If, Return, Perform, Statements, done, and_then, Body}
 use Rattle.terra_term.specs.Stores.{Contents}
 use Rattle.terra_words.specs.Runs.{Value, word, put_bytes, Returned, Fault, Run, Over, More}
 use Rattle.terra_meaning.specs.Meaning.{meaning}

@@ -9,14 +9,22 @@ use Rattle.terra_words.specs.declared.words.FaultKind.TheVariants.{StackFull, Ca
 use Rattle.terra_words.specs.Words.{moved, most_calls}
 use Rattle.terra_words.specs.Runs.{Value, word, number, is_true, value_at, Over, More, Extends}
 use Rattle.terra_types.specs.Opening.{unit}
-use Rattle.terra_term.specs.TypedTerms.{Expression, typed, Constant', Variable, Global, Operate, Both, Either, Dereference, Select, Follow, Element, Index, Address, Decay, Let, Expressions, no_more, then_one, Statement, statement, Var, Assign, If, IfElse, While, Repeat, For, Do, Break, Finish, Return, Perform, Statements, done, and_then}
+use Rattle.terra_term.specs.TypedTerms.{Expression, typed, Constant', Variable, Global, Operate, Both, Either, Dereference, Select, Follow}
+use Rattle.terra_term.specs.TypedTerms.{Element, Index, Address, Decay, Let, Expressions, no_more, then_one, Statement, statement, Var}
+use Rattle.terra_term.specs.TypedTerms.{Assign, If, IfElse, While, Repeat, For, Do, Break, Finish, Return, Perform, Statements, done}
+use Rattle.terra_term.specs.TypedTerms.{and_then}
 use Rattle.terra_term.specs.Stores.{Contents, Callable, callable_of, static_bytes}
 use Rattle.terra_meaning.specs.Values.{bytes_at, width_of}
 use Rattle.terra_meaning.specs.Frames.{frame_of}
 use Rattle.terra_meaning.specs.Running.{State, Got, Gives, Ends, next, fault, need_more, counted, scoped}
-use Rattle.terra_meaning.specs.Meaning.{Call, in_expression, in_list, in_statement, in_block, Wanted, the_value, the_address, reached, operated, constant, types_of, declared, declared_all, assigned_all, Way, goes_on, breaks, gives_back, going, along, counted_for, step_of, behind, meant, meant_all, done_one, done_all, given_back, body_run, kept, Calls, entered, apply, run_of, place_in, meaning}
-use Rattle.terra_meaning.proofs.Larger.{front-self, more, Carries, Longer, longer-next, longer-gives, longer-if, longer-scoped, longer-more, longer-call, longer-along, longer-rounds, longer-for}
-use Rattle.terra_meaning.proofs.Leaves.{beyond, longer-fault, longer-stuck, longer-by, longer-reached, longer-variable, longer-operated, longer-declared, longer-declared-all, longer-assigned-all}
+use Rattle.terra_meaning.specs.Meaning.{Call, in_expression, in_list, in_statement, in_block, Wanted, the_value, the_address, reached}
+use Rattle.terra_meaning.specs.Meaning.{operated, constant, types_of, declared, declared_all, assigned_all, Way, goes_on, breaks}
+use Rattle.terra_meaning.specs.Meaning.{gives_back, going, along, counted_for, step_of, behind, meant, meant_all, done_one, done_all}
+use Rattle.terra_meaning.specs.Meaning.{given_back, body_run, kept, Calls, entered, apply, run_of, place_in, meaning}
+use Rattle.terra_meaning.proofs.Larger.{front-self, more, Carries, Longer, longer-next, longer-gives, longer-if, longer-scoped, longer-more}
+use Rattle.terra_meaning.proofs.Larger.{longer-call, longer-along, longer-rounds, longer-for}
+use Rattle.terra_meaning.proofs.Leaves.{beyond, longer-fault, longer-stuck, longer-by, longer-reached, longer-variable, longer-operated}
+use Rattle.terra_meaning.proofs.Leaves.{longer-declared, longer-declared-all, longer-assigned-all}
 
 -- two calls in progress, of which one has the larger count
 pub record Ahead (d : ℕ) (c : Call) : Type 0 where

@@ -64,7 +64,9 @@ use Rattle.terra_term.specs.declared.store.Function.{Function}
 use Rattle.terra_term.specs.declared.store.FunctionState.TheVariants as states
 use Rattle.terra_term.specs.TypedTerms as items
 use Rattle.terra_term.specs.Stores.{Contents}
-use Rattle.terra_term.specs.TypedTerms.{Expression, typed, Form, Constant', Variable, Global, Operate, Both, Either, Dereference, Select, Follow, Element, Index, Address, Let, no_more, then_one, statement, Var, Assign, If, Repeat, For, Do, Break, Return, Perform, done, and_then, Body}
+use Rattle.terra_term.specs.TypedTerms.{Expression, typed, Form, Constant', Variable, Global, Operate, Both, Either, Dereference, Select}
+use Rattle.terra_term.specs.TypedTerms.{Follow, Element, Index, Address, Let, no_more, then_one, statement, Var, Assign, If, Repeat, For}
+use Rattle.terra_term.specs.TypedTerms.{Do, Break, Return, Perform, done, and_then, Body}
 
 abbrev t : ℕ → TypeId
 t n = record { 0 = n }

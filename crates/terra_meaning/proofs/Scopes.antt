@@ -4,12 +4,19 @@ use Rattle.std.proofs.Common.{ℕ, suc, ◌+◌, ◌*◌, [], ◌∷◌, Some, r
 use Rattle.std.specs.Prelude.{if◌then◌else◌}
 use Rattle.terra_words.specs.Words.{moved}
 use Rattle.terra_words.specs.Runs.{word, number, is_true, value_at}
-use Rattle.terra_term.specs.TypedTerms.{Expression, typed, Constant', Variable, Global, Operate, Both, Either, Dereference, Select, Follow, Element, Index, Address, Decay, Let, Expressions, no_more, then_one, Statement, statement, Var, Assign, If, IfElse, While, Repeat, For, Do, Break, Finish, Return, Perform, Statements, done, and_then}
+use Rattle.terra_term.specs.TypedTerms.{Expression, typed, Constant', Variable, Global, Operate, Both, Either, Dereference, Select, Follow}
+use Rattle.terra_term.specs.TypedTerms.{Element, Index, Address, Decay, Let, Expressions, no_more, then_one, Statement, statement, Var}
+use Rattle.terra_term.specs.TypedTerms.{Assign, If, IfElse, While, Repeat, For, Do, Break, Finish, Return, Perform, Statements, done}
+use Rattle.terra_term.specs.TypedTerms.{and_then}
 use Rattle.terra_meaning.specs.Values.{bytes_at, width_of}
 use Rattle.terra_meaning.specs.Running.{Gives, next, found, scoped}
 use Rattle.terra_meaning.specs.Laws.{shape, Keeps, Adds, CallsKeep}
-use Rattle.terra_meaning.specs.Meaning.{Call, in_expression, in_list, in_statement, in_block, Wanted, the_value, the_address, reached, operated, types_of, declared, declared_all, assigned_all, goes_on, breaks, gives_back, going, along, rounds, for_rounds, step_of, behind, meant, meant_all, done_one, done_all}
-use Rattle.terra_meaning.proofs.Scoping.{adds, keeps-next, adds-next, keeps-leaving, keeps-if, adds-if, adds-along, keeps-rounds, keeps-for, keeps-reached, keeps-variable, keeps-operated, adds-declared, adds-declared-all, keeps-assigned-all}
+use Rattle.terra_meaning.specs.Meaning.{Call, in_expression, in_list, in_statement, in_block, Wanted, the_value, the_address, reached}
+use Rattle.terra_meaning.specs.Meaning.{operated, types_of, declared, declared_all, assigned_all, goes_on, breaks, gives_back, going, along}
+use Rattle.terra_meaning.specs.Meaning.{rounds, for_rounds, step_of, behind, meant, meant_all, done_one, done_all}
+use Rattle.terra_meaning.proofs.Scoping.{adds, keeps-next, adds-next, keeps-leaving, keeps-if, adds-if, adds-along, keeps-rounds, keeps-for}
+use Rattle.terra_meaning.proofs.Scoping.{keeps-reached, keeps-variable, keeps-operated, adds-declared, adds-declared-all}
+use Rattle.terra_meaning.proofs.Scoping.{keeps-assigned-all}
 
 mutual
   pub keeps-meant : (c : Call) → CallsKeep c → (want : Wanted) (e : Expression) (from : ℕ) → Keeps (meant c want e from)

@@ -1,6 +1,7 @@
 -- How parts of a program leave the variables in scope: with the symbols and places that they had. This file has the
 -- ways in which parts are put together, and the parts that have none; `Scopes` goes through the terms.
-use Rattle.std.proofs.Common.{◌≡◌, ℕ, zero, suc, ◌+◌, Bool, true, false, List, [], ◌∷◌, ◌++◌, length, drop, Option, Some, None, refl, ap, sym, ◌∙◌, arith, subst, append_assoc}
+use Rattle.std.proofs.Common.{◌≡◌, ℕ, zero, suc, ◌+◌, Bool, true, false, List, [], ◌∷◌, ◌++◌, length, drop, Option, Some, None, refl, ap}
+use Rattle.std.proofs.Common.{sym, ◌∙◌, arith, subst, append_assoc}
 use Rattle.std.specs.Prelude.{◌-◌, ◌&&◌, nat_eq, if◌then◌else◌}
 use Rattle.tl_base.specs.declared.place.Place.{Place}
 use Rattle.tl_base.specs.declared.ids.TypeId.{TypeId}
@@ -17,14 +18,19 @@ use Rattle.terra_term.specs.declared.operators.Operation.TheVariants as operatio
 use Rattle.lua_value.specs.declared.primitive.Primitive.{Primitive}
 use Rattle.lua_value.specs.declared.primitive.Primitive.TheVariants.{PutByte, Write, Alloc}
 use Rattle.terra_term.specs.declared.lists.TypedName.{TypedName}
-use Rattle.terra_term.specs.TypedTerms.{Expression, typed, Constant', Variable, Global, Operate, Both, Either, Dereference, Select, Follow, Element, Index, Address, Decay, Let, Expressions, no_more, then_one}
+use Rattle.terra_term.specs.TypedTerms.{Expression, typed, Constant', Variable, Global, Operate, Both, Either, Dereference, Select, Follow}
+use Rattle.terra_term.specs.TypedTerms.{Element, Index, Address, Decay, Let, Expressions, no_more, then_one}
 use Rattle.terra_term.specs.Stores.{callable_of}
 use Rattle.terra_meaning.specs.Values.{bytes_at, encoded, form_at, target_of}
 use Rattle.terra_meaning.specs.Frames.{Home, by_value, in_frame, home_at}
 use Rattle.terra_meaning.specs.Laws.{Shape, address_in, shape_of, shape, Has, Over, HasUnder, Keeps, Adds, CallsKeep}
 use Rattle.terra_meaning.specs.Running as running
-use Rattle.terra_meaning.specs.Running.{Held, held, lies, State, Got, Gives, Ends, next, fault, counted_from, counted, leaving, scoped, with_variable, find, found, set, with_value}
-use Rattle.terra_meaning.specs.Meaning.{Call, read, written, stored, Wanted, the_value, the_address, reached, variable, print_range, primitive, called_value, has_type, entry, behind, type_at, in_elements, operated, declared_at, declared, declared_all, first_of, held_symbol, assigned, assigned_all, Way, goes_on, breaks, gives_back, along, turned, rounds, runs, for_rounds}
+use Rattle.terra_meaning.specs.Running.{Held, held, lies, State, Got, Gives, Ends, next, fault, counted_from, counted, leaving, scoped}
+use Rattle.terra_meaning.specs.Running.{with_variable, find, found, set, with_value}
+use Rattle.terra_meaning.specs.Meaning.{Call, read, written, stored, Wanted, the_value, the_address, reached, variable, print_range}
+use Rattle.terra_meaning.specs.Meaning.{primitive, called_value, has_type, entry, behind, type_at, in_elements, operated, declared_at}
+use Rattle.terra_meaning.specs.Meaning.{declared, declared_all, first_of, held_symbol, assigned, assigned_all, Way, goes_on, breaks}
+use Rattle.terra_meaning.specs.Meaning.{gives_back, along, turned, rounds, runs, for_rounds}
 
 over-then : (a b c : List Shape) → Over a b → Over b c → Over a c
 over-then a b c x y = (y.0 ++ x.0, rw (y.1, x.1) (sym (append_assoc y.0 x.0 a)))

@@ -1,6 +1,7 @@
 -- What typed terms mean. The count bounds the calls, the entry's aside, together with the turns after which a loop
 -- goes on.
-use Rattle.std.specs.Prelude.{ℕ, zero, suc, ◌+◌, ◌-◌, ◌*◌, ◌%◌, ◌^◌, Bool, true, false, ◌&&◌, nat_eq, nat_le, nat_lt, if◌then◌else◌, List, [], ◌∷◌, ◌++◌, length, replicate, Option, Some, None, slice_get, unwrap_or}
+use Rattle.std.specs.Prelude.{ℕ, zero, suc, ◌+◌, ◌-◌, ◌*◌, ◌%◌, ◌^◌, Bool, true, false, ◌&&◌, nat_eq, nat_le, nat_lt, if◌then◌else◌, List}
+use Rattle.std.specs.Prelude.{[], ◌∷◌, ◌++◌, length, replicate, Option, Some, None, slice_get, unwrap_or}
 use Rattle.tl_base.specs.declared.place.Place.{Place}
 use Rattle.tl_base.specs.declared.ids.TypeId.{TypeId}
 use Rattle.tl_base.specs.declared.ids.FnId.{FnId}
@@ -10,7 +11,8 @@ use Rattle.terra_memory.specs.Region.{range_of, alloc_of, fresh, end_address, he
 use Rattle.terra_words.specs.declared.words.BinaryOperator.{BinaryOperator}
 use Rattle.terra_words.specs.declared.words.FaultKind.TheVariants.{BadAddress, DivZero, StackFull, CallDepth, NoReturn, BadCall}
 use Rattle.terra_words.specs.declared.words.Width.{Width}
-use Rattle.terra_words.specs.Words.{wrapped, applied, divides, negated, complemented, moved, signed, is_negative, is_less, flag, long_width, most_calls}
+use Rattle.terra_words.specs.Words.{wrapped, applied, divides, negated, complemented, moved, signed, is_negative, is_less, flag, long_width}
+use Rattle.terra_words.specs.Words.{most_calls}
 use Rattle.terra_words.specs.declared.words.BinaryOperator.TheVariants as operators
 use Rattle.terra_words.specs.Runs.{Value, word, bytes, number, bytes_in, is_true, value_at, put_bytes, Returned, Run, Over}
 use Rattle.terra_types.specs.declared.types.TypeForm.{TypeForm}
@@ -23,13 +25,18 @@ use Rattle.terra_term.specs.declared.operators.Operation.TheVariants as operatio
 use Rattle.lua_value.specs.declared.primitive.Primitive.{Primitive}
 use Rattle.lua_value.specs.declared.primitive.Primitive.TheVariants.{PutByte, Write, Alloc}
 use Rattle.terra_term.specs.declared.lists.TypedName.{TypedName}
-use Rattle.terra_term.specs.TypedTerms.{Expression, typed, Constant', Variable, Global, Operate, Both, Either, Dereference, Select, Follow, Element, Index, Address, Decay, Let, Expressions, no_more, then_one, Statement, statement, Var, Assign, If, IfElse, While, Repeat, For, Do, Break, Finish, Return, Perform, Statements, done, and_then, type_of}
+use Rattle.terra_term.specs.TypedTerms.{Expression, typed, Constant', Variable, Global, Operate, Both, Either, Dereference, Select, Follow}
+use Rattle.terra_term.specs.TypedTerms.{Element, Index, Address, Decay, Let, Expressions, no_more, then_one, Statement, statement, Var}
+use Rattle.terra_term.specs.TypedTerms.{Assign, If, IfElse, While, Repeat, For, Do, Break, Finish, Return, Perform, Statements, done}
+use Rattle.terra_term.specs.TypedTerms.{and_then}
 use Rattle.terra_term.specs.Stores.{Contents, Callable, callable_of, static_bytes}
 use Rattle.terra_term.specs.Events.{events_of, list_events, doing_events, block_events, declared_in}
 use Rattle.terra_meaning.specs.Values.{form_at, bytes_at, width_of, target_of, decoded, encoded}
 use Rattle.terra_meaning.specs.Frames.{Home, by_value, in_frame, frame_of, home_at}
 use Rattle.terra_meaning.specs.Running as running
-use Rattle.terra_meaning.specs.Running.{Held, held, lies, State, Got, Gives, Ends, next, fault, stuck, need_more, counted, scoped, with_variable, found, with_value}
+use Rattle.terra_meaning.specs.Running.{Held, held, lies, State, Got, Gives, Ends, next, fault, stuck, need_more, counted, scoped}
+use Rattle.terra_meaning.specs.Running.{with_variable, found, with_value}
+pub use Rattle.terra_term.specs.WellTyped.{types_in as types_of}
 
 -- A call in progress: the store, the functions that stand as values, what a call of a function gives, the address of
 -- the frame, the homes of the function's declarations, and a number above the count.
@@ -191,10 +198,6 @@ operated c at of operations.CallValue ts vs s =
     called_value c at (form_at c.store.types (type_at ts 0)) (entry c.entries (number (value_at vs 0))) (behind vs) s
 operated c at of (operations.Construct offsets) ts vs s =
     Gives (bytes (constructed c.store.types (replicate (bytes_at c.store.types of) 0) offsets ts vs)) s
-
-abbrev pub types_of : Expressions → List TypeId
-types_of no_more = []
-types_of (then_one e es) = type_of e ∷ types_of es
 
 -- declarations
 

@@ -1,5 +1,5 @@
 -- Values of Terra's types, and how they stand in memory.
-use Rattle.std.specs.Prelude.{◌≡◌, ℕ, ◌*◌, Bool, true, false, if◌then◌else◌, List, [], ◌∷◌, length, slice_get, unwrap_or}
+use Rattle.std.specs.Prelude.{◌≡◌, ℕ, ◌*◌, Bool, true, false, if◌then◌else◌, List, [], ◌∷◌, length, unwrap_or}
 use Rattle.tl_base.specs.declared.ids.TypeId.{TypeId}
 use Rattle.terra_memory.specs.Numbers.{number_of, low_bytes}
 use Rattle.terra_words.specs.declared.words.Width.{Width}
@@ -9,10 +9,7 @@ use Rattle.terra_term.specs.declared.lists.TypedName.{TypedName}
 use Rattle.terra_types.specs.declared.types.TypeForm.{TypeForm}
 use Rattle.terra_types.specs.declared.types.TypeForm.TheVariants as forms
 use Rattle.terra_types.specs.Sizes.{bytes_of, is_signed, size_of}
-
--- what a type is; unit where there is none
-abbrev pub form_at : List TypeForm → TypeId → TypeForm
-form_at types t = unwrap_or (slice_get types t.0) forms.Unit
+pub use Rattle.terra_types.specs.Sizes.{form_at}
 
 abbrev pub bytes_at : List TypeForm → TypeId → ℕ
 bytes_at types t = unwrap_or (size_of types t) 0

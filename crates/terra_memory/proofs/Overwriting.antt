@@ -1,6 +1,8 @@
 -- Parts of a list of which another part was overwritten.
-use Rattle.std.proofs.Common.{◌≡◌, ℕ, suc, ◌+◌, ◌-◌, ◌<◌, ◌≤◌, List, [], ◌∷◌, ◌++◌, length, take, drop, set, refl, sym, ap, ◌∙◌, arith, append_assoc, length-append, length-drop}
-use Rattle.std.proofs.lemmas.List.{length-take-le, set_split, drop-drop, drop-take, drop_at, take_at, drop-append-le, take-append-le, take-take}
+use Rattle.std.proofs.Common.{◌≡◌, ℕ, suc, ◌+◌, ◌-◌, ◌<◌, ◌≤◌, List, [], ◌∷◌, ◌++◌, length, take, drop, set, refl, sym, ap, ◌∙◌, arith}
+use Rattle.std.proofs.Common.{append_assoc, length-append, length-drop}
+use Rattle.std.proofs.lemmas.List.{length-take-le, set_split, drop-drop, drop-take, drop_at, take_at, drop-append-le, take-append-le}
+use Rattle.std.proofs.lemmas.List.{take-take}
 use borrow.Rule.Slice.PartMut.{put_mid}
 use Rattle.terra_memory.specs.Numbers.{low_bytes, part, overwritten}
 use Rattle.terra_memory.proofs.Bytes.{length-low_bytes}

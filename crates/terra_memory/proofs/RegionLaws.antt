@@ -1,5 +1,6 @@
 -- Loads, stores and the size of a region, over plain variables.
-use Rattle.std.proofs.Common.{◌≡◌, ℕ, ◌+◌, ◌-◌, ◌*◌, ◌%◌, ◌^◌, ◌≤◌, ◌⊎◌, inl, inr, true, false, nat_le, ◌&&◌, List, length, Option, Some, None, IfSome, refl, sym, ap, ◌∙◌, arith}
+use Rattle.std.proofs.Common.{◌≡◌, ℕ, ◌+◌, ◌-◌, ◌*◌, ◌%◌, ◌^◌, ◌≤◌, ◌⊎◌, inl, inr, true, false, nat_le, ◌&&◌, List, length, Option, Some}
+use Rattle.std.proofs.Common.{None, IfSome, refl, sym, ap, ◌∙◌, arith}
 use Rattle.std.proofs.lemmas.Bool.{cond_both, and_parts, and_from, leb-true, le-leb, cases_Bool}
 use Rattle.terra_memory.specs.Numbers.{number_of, low_bytes, part, overwritten}
 use Rattle.terra_memory.specs.Region.{first_address, Contents, end_address, is_inside, load_of, store_of}

@@ -1,11 +1,14 @@
 -- The memory of a running Terra program: one region of bytes from a fixed address, with a heap that goes up and never enters the
 -- last quarter, which is the data stack's. All sizes are in bytes.
-use Rattle.std.specs.Prelude.{ℕ, zero, suc, ◌+◌, ◌-◌, ◌*◌, ◌/◌, ◌%◌, ◌≡◌, ◌≤◌, Bool, ◌&&◌, nat_le, if◌then◌else◌, List, [], ◌++◌, length, replicate, Option, Some, None, ℤ, pos, negsuc}
+use Rattle.std.specs.Prelude.{ℕ, zero, suc, ◌+◌, ◌-◌, ◌*◌, ◌/◌, ◌%◌, ◌≡◌, ◌≤◌, Bool, ◌&&◌, nat_le, if◌then◌else◌, List, [], ◌++◌, length}
+use Rattle.std.specs.Prelude.{replicate, Option, Some, None, ℤ, pos, negsuc}
+use Rattle.tl_base.specs.declared.limits.TheConstants.Limits.{MIN_MEMORY, MAX_MEMORY, MEMORY_UNIT}
+use Rattle.tl_base.specs.declared.limits.TheConstants.{REGION_ADDRESS}
 use Rattle.terra_memory.specs.Numbers.{number_of, low_bytes, part, overwritten}
 
 -- the address of the region's first byte
 abbrev pub first_address : ℕ
-first_address = 0x4000_0000
+first_address = REGION_ADDRESS
 
 -- A region: its bytes, that of the first address first, and the address of the heap's end.
 pub record Contents : Type 0 where
@@ -14,7 +17,7 @@ pub record Contents : Type 0 where
 
 -- how large a region may be: a multiple of 1,024 from 65,536 to 67,108,864
 abbrev pub IsMemorySize : ℕ → Type 0
-IsMemorySize size = (size % 1024 ≡ 0) × (65536 ≤ size) × (size ≤ 67108864)
+IsMemorySize size = (size % MEMORY_UNIT ≡ 0) × (MIN_MEMORY ≤ size) × (size ≤ MAX_MEMORY)
 
 -- the first address past the region
 abbrev pub end_address : Contents → ℕ

@@ -1,24 +1,24 @@
 // Terra's memory: one region of bytes from a fixed address, with a heap that goes up.
 
-ghost use Rattle.std.specs.Prelude.{◌≡◌, ℕ, ◌+◌, ◌-◌, ◌*◌, ◌/◌, ◌^◌, ◌<◌, ◌≤◌, ◌<ℤ◌, ◌⊎◌, ◌↔◌, true, false, length, pos, nat_abs, Some, None, IsTrue, IsFalse, IsNone, IfOk, IfSome, MatchOption};
+ghost use Rattle.std.specs.Prelude.{◌≡◌, ℕ, ◌+◌, ◌-◌, ◌*◌, ◌/◌, ◌^◌, ◌<◌, ◌≤◌, ◌<ℤ◌, ◌⊎◌, ◌↔◌, true, false, length, pos, nat_abs, Some};
+ghost use Rattle.std.specs.Prelude.{None, IsTrue, IsFalse, IsNone, IfOk, IfSome, MatchOption};
 ghost use Rattle.std.specs.Bool.{OnTrue, OnFalse};
 ghost use Rattle.terra_memory.specs.Numbers.{is_access_size};
-ghost use Rattle.terra_memory.specs.Region.{IsMemorySize, IsLawful, first_address, heap_limit, aligned, fresh, is_inside, load_of, store_of, range_of, alloc_of};
+ghost use Rattle.terra_memory.specs.Region.{IsMemorySize, IsLawful, first_address, heap_limit, aligned, fresh, is_inside, load_of};
+ghost use Rattle.terra_memory.specs.Region.{store_of, range_of, alloc_of};
 
 use crate::number::{number_at, put_number};
 use std::alloc::Global;
 use std::marker::Model;
 use tl_base::NoMemory;
-
-/// The address of a region's first byte.
-pub const FIRST_ADDRESS: u64 = 0x4000_0000;
+use tl_base::limits::REGION_ADDRESS;
 
 // Where the heap gives memory out: at multiples of this.
 const ALIGNMENT: u64 = 16;
 
 /// The memory of a running Terra program.
 ///
-/// It is one region of bytes from `FIRST_ADDRESS` on: the statics, then the heap, which goes up, and in the last quarter the data
+/// It is one region of bytes from `REGION_ADDRESS` on: the statics, then the heap, which goes up, and in the last quarter the data
 /// stack, which a program keeps by itself. An access may begin at any address, and is refused where one of its bytes isn't in the
 /// region.
 #[derive(Drop)]
@@ -49,7 +49,7 @@ impl Region {
         let mut bytes = Vec::with_capacity(alloc, memory as usize)?;
         bytes.extend_from_slice(statics)?;
         bytes.resize(memory as usize, 0)?;
-        let heap = (FIRST_ADDRESS + statics.len() as u64).next_multiple_of(ALIGNMENT);
+        let heap = (REGION_ADDRESS + statics.len() as u64).next_multiple_of(ALIGNMENT);
         Ok(Region { bytes, heap })
     }
 
@@ -125,7 +125,7 @@ impl Region {
         }
         let count = n as u64;
         let memory = self.bytes.len() as u64;
-        let limit = FIRST_ADDRESS + memory - memory / 4;
+        let limit = REGION_ADDRESS + memory - memory / 4;
         let start = self.heap.next_multiple_of(ALIGNMENT);
         if count > limit - start {
             return 0;
@@ -142,7 +142,7 @@ impl Region {
         ensures { MatchOption result (is_inside self.now address size ≡ false)
             (λ at. (is_inside self.now address size ≡ true) × (at ≡ address - first_address)) }
     {
-        let offset = address.wrapping_sub(FIRST_ADDRESS);
+        let offset = address.wrapping_sub(REGION_ADDRESS);
         if offset <= self.bytes.len() as u64 - size {
             Some(offset as usize)
         } else {

@@ -16,7 +16,8 @@ use Rattle.terra_term.specs.declared.operators.Operation.TheVariants as operatio
 use Rattle.lua_value.specs.declared.primitive.Primitive.{Primitive}
 use Rattle.lua_value.specs.declared.primitive.Primitive.TheVariants.{PutByte, Write, Alloc}
 use Rattle.terra_term.specs.declared.lists.TypedName.{TypedName}
-use Rattle.terra_term.specs.TypedTerms.{Expression, typed, Constant', Variable, Global, Operate, Both, Either, Dereference, Select, Follow, Element, Index, Address, Decay, Let, Expressions, no_more, then_one}
+use Rattle.terra_term.specs.TypedTerms.{Expression, typed, Constant', Variable, Global, Operate, Both, Either, Dereference, Select, Follow}
+use Rattle.terra_term.specs.TypedTerms.{Element, Index, Address, Decay, Let, Expressions, no_more, then_one}
 use Rattle.terra_term.specs.Stores.{Callable, callable_of}
 use Rattle.terra_term.specs.WellTyped as typing
 use Rattle.terra_term.specs.WellTyped.{same, with_names}
@@ -25,7 +26,9 @@ use Rattle.terra_meaning.specs.Values.{bytes_at, encoded, form_at, target_of}
 use Rattle.terra_meaning.specs.Frames.{Home, by_value, in_frame, home_at}
 use Rattle.terra_meaning.specs.Laws.{shape, CallsKeep}
 use Rattle.terra_meaning.specs.Running.{Held, held, lies, State, Got, Gives, Ends, next, with_value, with_variable, found}
-use Rattle.terra_meaning.specs.Meaning.{Call, read, written, stored, Wanted, the_value, the_address, reached, variable, print_range, primitive, has_type, called_value, entry, behind, type_at, first_of, in_elements, operated, declared_at, declared, declared_all, held_symbol, assigned, assigned_all}
+use Rattle.terra_meaning.specs.Meaning.{Call, read, written, stored, Wanted, the_value, the_address, reached, variable, print_range}
+use Rattle.terra_meaning.specs.Meaning.{primitive, has_type, called_value, entry, behind, type_at, first_of, in_elements, operated}
+use Rattle.terra_meaning.specs.Meaning.{declared_at, declared, declared_all, held_symbol, assigned, assigned_all}
 use Rattle.terra_meaning.proofs.Scoping.{keeps-stored, keeps-assigned-all}
 use Rattle.tac_lower.proofs.Typing.{no, five}
 use Rattle.terra_sound.proofs.Covering.{Covers, Sound, Leaves, covers-new, sound-if, leaves-kept, leaves-next}

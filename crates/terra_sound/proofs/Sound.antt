@@ -8,18 +8,27 @@ use Rattle.terra_words.specs.Words.{moved}
 use Rattle.terra_words.specs.Runs.{word, number, is_true, value_at}
 use Rattle.terra_types.specs.Opening.{boolean, unit}
 use Rattle.terra_term.specs.declared.lists.TypedName.{TypedName}
-use Rattle.terra_term.specs.TypedTerms.{Expression, typed, Constant', Variable, Global, Operate, Both, Either, Dereference, Select, Follow, Element, Index, Address, Decay, Let, Expressions, no_more, then_one, Statement, statement, Var, Assign, If, IfElse, While, Repeat, For, Do, Break, Finish, Return, Perform, Statements, done, and_then, type_of, is_place}
+use Rattle.terra_term.specs.TypedTerms.{Expression, typed, Constant', Variable, Global, Operate, Both, Either, Dereference, Select, Follow}
+use Rattle.terra_term.specs.TypedTerms.{Element, Index, Address, Decay, Let, Expressions, no_more, then_one, Statement, statement, Var}
+use Rattle.terra_term.specs.TypedTerms.{Assign, If, IfElse, While, Repeat, For, Do, Break, Finish, Return, Perform, Statements, done}
+use Rattle.terra_term.specs.TypedTerms.{and_then, type_of, is_place}
 use Rattle.terra_term.specs.WellTyped as typing
-use Rattle.terra_term.specs.WellTyped.{Within, same, is_typed, are_typed, one_typed, all_typed, types_in, with_names, after_one, after_all, in_a_let, in_a_loop}
+use Rattle.terra_term.specs.WellTyped.{Within, same, is_typed, are_typed, one_typed, all_typed, types_in, with_names, after_one, after_all}
+use Rattle.terra_term.specs.WellTyped.{in_a_let, in_a_loop}
 use Rattle.terra_meaning.specs.Values.{bytes_at, width_of}
 use Rattle.terra_meaning.specs.Laws.{shape, Keeps}
 use Rattle.terra_meaning.specs.Running.{State, Gives, next, found, scoped}
-use Rattle.terra_meaning.specs.Meaning.{Call, goes_on, breaks, gives_back, in_expression, in_list, in_statement, in_block, Wanted, the_value, the_address, reached, variable, operated, types_of, declared, declared_all, assigned_all, behind, step_of, along, going, counted_for, meant, meant_all, done_one, done_all}
-use Rattle.terra_meaning.proofs.Scoping.{adds, adds-next, adds-along, adds-declared, keeps-next, keeps-if, keeps-leaving, keeps-reached, keeps-variable, keeps-operated}
+use Rattle.terra_meaning.specs.Meaning.{Call, goes_on, breaks, gives_back, in_expression, in_list, in_statement, in_block, Wanted}
+use Rattle.terra_meaning.specs.Meaning.{the_value, the_address, reached, variable, operated, types_of, declared, declared_all, assigned_all}
+use Rattle.terra_meaning.specs.Meaning.{behind, step_of, along, going, counted_for, meant, meant_all, done_one, done_all}
+use Rattle.terra_meaning.proofs.Scoping.{adds, adds-next, adds-along, adds-declared, keeps-next, keeps-if, keeps-leaving, keeps-reached}
+use Rattle.terra_meaning.proofs.Scoping.{keeps-variable, keeps-operated}
 use Rattle.terra_meaning.proofs.Scopes.{keeps-meant, adds-block}
 use Rattle.tac_lower.proofs.Typing.{no, three, four, five, types-are}
-use Rattle.terra_sound.proofs.Covering.{Covers, Sound, Leaves, Acts, found-some, in-covers, leaves-kept, leaves-next, leaves-if, leaves-scoped, acts-next, acts-if, acts-along, acts-scoped, acts-rounds, acts-for, let-next}
-use Rattle.terra_sound.proofs.Leaves.{CallsSound, sound-reached, sound-variable, sound-operated, leaves-declared, leaves-declared-all, leaves-assigned}
+use Rattle.terra_sound.proofs.Covering.{Covers, Sound, Leaves, Acts, found-some, in-covers, leaves-kept, leaves-next, leaves-if}
+use Rattle.terra_sound.proofs.Covering.{leaves-scoped, acts-next, acts-if, acts-along, acts-scoped, acts-rounds, acts-for, let-next}
+use Rattle.terra_sound.proofs.Leaves.{CallsSound, sound-reached, sound-variable, sound-operated, leaves-declared, leaves-declared-all}
+use Rattle.terra_sound.proofs.Leaves.{leaves-assigned}
 
 module _ (c : Call) (h : CallsSound c) where
   abbrev Typed : Within → List TypedName → Expression → Type 0

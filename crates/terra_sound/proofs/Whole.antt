@@ -16,7 +16,8 @@ use Rattle.terra_meaning.specs.Frames.{frame_of}
 use Rattle.terra_meaning.specs.Laws.{shape, Has}
 use Rattle.terra_meaning.specs.Running as running
 use Rattle.terra_meaning.specs.Running.{State, Got, Gives, Ends, next, counted_from, counted}
-use Rattle.terra_meaning.specs.Meaning.{Call, Calls, Way, goes_on, breaks, gives_back, declared_all, done_all, given_back, body_run, kept, entered, apply, run_of, place_in, meaning}
+use Rattle.terra_meaning.specs.Meaning.{Call, Calls, Way, goes_on, breaks, gives_back, declared_all, done_all, given_back, body_run, kept}
+use Rattle.terra_meaning.specs.Meaning.{entered, apply, run_of, place_in, meaning}
 use Rattle.tac_lower.specs.Laws.{AreTyped}
 use Rattle.tac_lower.proofs.Typing.{no}
 use Rattle.terra_sound.specs.Laws.{TypedRunsAreNotStuck}

@@ -32,6 +32,8 @@ use Rattle.stage_library.specs.declared.tasks.Task.{Task}
 use Rattle.stage_library.specs.declared.tasks.Task.TheVariants.{Evaluate, Specialise, Library, TypeText}
 use Rattle.terra_stage.specs.declared.staged.Staged.{Staged}
 use Rattle.terra_stage.specs.declared.staged.Staged.TheVariants as layers
+-- an end as an answer to the layer that asked
+pub use Rattle.stage_loop.specs.Layers.{answer_of}
 
 -- ---- Lua code
 
@@ -82,11 +84,6 @@ task_meaning items (Evaluate job) = within lua_fitting (lua items job)
 task_meaning items (Specialise n env) = within spec_fitting (spec items (record { node = n; env = env }))
 task_meaning items (Library call) = library call
 task_meaning items (TypeText t place) = type_asked t place
-
--- an end as an answer to the layer that asked
-abbrev pub answer_of : LuaEnd → LuaAnswer
-answer_of (Done vs) = answers.Values vs
-answer_of (Raised v place) = answers.Raise v place
 
 abbrev pub terra_stage : Items → Stage StageState Task LuaAnswer LuaEnd
 terra_stage items = record { meaning = task_meaning items; go = answers.Go; answer_of = answer_of }

@@ -3,6 +3,7 @@
 ghost use Rattle.std.specs.Prelude.{ℕ, ◌≡◌, ◌≤◌, IfOk, OnOk, Some};
 ghost use Rattle.tl_base.specs.Layer.{State, state};
 ghost use Rattle.tl_base.specs.declared.place.Place.{Place as PlaceOf};
+ghost use Rattle.tl_base.specs.declared.limits.TheConstants.Limits.{MAX_MEMORY};
 ghost use Rattle.stage_form.specs.Stage.{final_of};
 ghost use Rattle.tl_tree.specs.Arena.{items_of, end_of as finish_of};
 ghost use Rattle.tl_tree.specs.Code.{Items};
@@ -54,7 +55,7 @@ pub fn larger_changes_nothing()
 /// globals, and where it ends without an error and the program exported nothing, the global functions that may be exported
 /// are.
 pub fn stage(alloc: Global, tree: &Tree<'_>, units: u64, memory: u64) -> Result<Outcome, NoMemory>
-    requires { memory ≤ 67108864 }
+    requires { memory ≤ MAX_MEMORY }
     ensures means { IfOk result (λ it. (n : ℕ) × (outcome (items_of tree.now) (finish_of tree.now) n units memory
         ≡ Some (ending it.end (state it.world it.left)))) }
     ensures paid { IfOk result (λ it. it.left ≤ units) }
@@ -81,7 +82,7 @@ pub fn stage(alloc: Global, tree: &Tree<'_>, units: u64, memory: u64) -> Result<
 
 /// The world with which a source begins.
 fn open(alloc: Global, memory: u64) -> Result<World, NoMemory>
-    requires { memory ≤ 67108864 }
+    requires { memory ≤ MAX_MEMORY }
     ensures { IfOk result (λ world. world ≡ opened memory) }
 {
     let mut world = World::new(alloc, Types::new(alloc)?, memory);

@@ -1,6 +1,7 @@
 // What is written of a staging: texts alone, for a caller that has no use for the world.
 
 ghost use Rattle.std.specs.Prelude.{◌≡◌, ◌≤◌, IfOk};
+ghost use Rattle.tl_base.specs.declared.limits.TheConstants.Limits.{MAX_MEMORY};
 ghost use Rattle.tl_tree.specs.Arena.{items_of, end_of as finish_of};
 ghost use Rattle.stage_text.specs.Terms.{terms_text};
 ghost use Rattle.terra_stage.specs.Terms.{AreTerms};
@@ -29,7 +30,7 @@ pub fn stage_terms(
     units: u64,
     memory: u64,
 ) -> Result<Terms, NoMemory>
-    requires { memory ≤ 67108864 }
+    requires { memory ≤ MAX_MEMORY }
     ensures { IfOk result (λ it. AreTerms (items_of tree.now) (finish_of tree.now) units memory it) }
 {
     let outcome = stage(alloc, tree, units, memory)?;
@@ -43,22 +44,13 @@ fn terms_of(outcome: Outcome) -> Result<Terms, NoMemory>
     ensures end { IfOk result (λ it. it.end ≡ outcome.end) }
     ensures lines { IfOk result (λ it. it.lines ≡ terms_text outcome.world.store outcome.world.exports.list) }
 {
-    let printed = printed_by(&outcome.world)?;
+    let printed = outcome.world.printed()?;
     let lines = lines_of(&outcome.world)?;
     Ok(Terms {
         printed,
         end: outcome.end,
         lines,
     })
-}
-
-/// What was printed.
-fn printed_by(world: &World) -> Result<Text2, NoMemory>
-    ensures { IfOk result (λ text. text ≡ world.now.heap.printed) }
-{
-    let mut text = Text2::new(world.heap.allocator());
-    text.push_bytes(world.heap.printed())?;
-    Ok(text)
 }
 
 /// The lines of the exports, and of their terms.

@@ -16,7 +16,8 @@ use Rattle.terra_term.specs.declared.operators.Constant.TheVariants as constants
 use Rattle.terra_term.specs.declared.operators.Operation.TheVariants as operations
 use Rattle.terra_term.specs.declared.lists.TypedName.{TypedName}
 use Rattle.terra_term.specs.declared.store.FunctionState.TheVariants as states
-use Rattle.terra_term.specs.TypedTerms.{Expression, typed, Constant', Variable, Operate, Let, Expressions, no_more, then_one, Statement, statement, Var, If, Return, done, and_then, Body, body}
+use Rattle.terra_term.specs.TypedTerms.{Expression, typed, Constant', Variable, Operate, Let, Expressions, no_more, then_one, Statement}
+use Rattle.terra_term.specs.TypedTerms.{statement, Var, If, Return, done, and_then, Body, body}
 use Rattle.terra_term.specs.Events.{Declares, Uses, Mentions, Opens, Closes, body_events, mentions_in, declared_in}
 use Rattle.terra_term.specs.Stores.{Contents}
 use Rattle.terra_term.specs.WellTyped.{body_typed}

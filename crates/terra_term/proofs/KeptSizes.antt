@@ -1,5 +1,6 @@
 -- What is kept of a node's size is the size of its tree.
-use Rattle.std.specs.Prelude.{◌≡◌, refl, get_or, ℕ, zero, suc, ◌+◌, ◌<◌, ◌≤◌, min, max, List, [], ◌∷◌, ◌++◌, length, map, Option, Some, None, slice_get}
+use Rattle.std.specs.Prelude.{◌≡◌, refl, get_or, ℕ, zero, suc, ◌+◌, ◌<◌, ◌≤◌, min, max, List, [], ◌∷◌, ◌++◌, length, map, Option, Some}
+use Rattle.std.specs.Prelude.{None, slice_get}
 use Rattle.std.proofs.Common.{sym, ◌∙◌, ap, subst, arith}
 use Rattle.std.proofs.lemmas.List.{length-append}
 use Rattle.std.proofs.lemmas.Option.{slice_get-map, slice_get-get_or, slice_get_past, same_Some}
@@ -31,7 +32,9 @@ use Rattle.terra_term.specs.Terms as terms
 use Rattle.terra_term.specs.TypedTerms as typed
 use Rattle.terra_term.specs.Sizes as sizes
 use Rattle.terra_term.specs.Sizes.{joined, above, names_size, capped, most, most_levels, callee_size}
-use Rattle.terra_term.specs.Sizing.{of_expression, of_statement, of_function, node_size, beside, around, expression_in, expression_at, statement_in, list_at, block_at, typed_form, typed_doing, typed_sized, form, doing, term_sized, typed_kept, terms_kept, AllHold, AreSized}
+use Rattle.terra_term.specs.Sizing.{of_expression, of_statement, of_function, node_size, beside, around, expression_in, expression_at}
+use Rattle.terra_term.specs.Sizing.{statement_in, list_at, block_at, typed_form, typed_doing, typed_sized, form, doing, term_sized}
+use Rattle.terra_term.specs.Sizing.{typed_kept, terms_kept, AllHold, AreSized}
 use Rattle.terra_term.specs.Held.{Held, NamesTyped, QuotesTyped}
 use Rattle.terra_term.specs.declared.store.Quote.{Quote}
 use Rattle.terra_term.specs.declared.store.Quote.TheVariants as quotes

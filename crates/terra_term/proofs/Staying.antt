@@ -17,7 +17,8 @@ use Rattle.terra_term.specs.declared.store.FunctionState.TheVariants as states
 use Rattle.terra_term.specs.declared.term.Term as nodes
 use Rattle.terra_term.specs.declared.typed.Typed as typed_nodes
 use Rattle.terra_term.specs.Planted.{planted, trees, typed_planted, typed_trees}
-use Rattle.terra_term.specs.Held.{Held, state_of, begun, finished, refused, kept_refusal, with_state, state_changed, with_defined, defined, with_function}
+use Rattle.terra_term.specs.Held.{Held, state_of, begun, finished, refused, kept_refusal, with_state, state_changed, with_defined, defined}
+use Rattle.terra_term.specs.Held.{with_function}
 use Rattle.terra_term.specs.Keeping.{Stays, AllStay, AreKept}
 
 pub stays-same : (s : FunctionState) → Stays s s

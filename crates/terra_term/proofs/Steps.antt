@@ -1,5 +1,6 @@
 -- Steps of the loops that write lists of pieces.
-use Rattle.std.proofs.Common.{◌≤◌, arith, ◌≡◌, refl, ℕ, ◌+◌, ◌<◌, List, [], ◌∷◌, ◌++◌, drop, length, get_or, append_assoc, add-one, drop-cons}
+use Rattle.std.proofs.Common.{◌≤◌, arith, ◌≡◌, refl, ℕ, ◌+◌, ◌<◌, List, [], ◌∷◌, ◌++◌, drop, length, get_or, append_assoc, add-one}
+use Rattle.std.proofs.Common.{drop-cons}
 use Rattle.std.proofs.Common.{Result, Ok, Err}
 use Rattle.std.specs.Prelude.{IfOk, OnOk}
 use Rattle.std.proofs.lemmas.List.{drop_all}
@@ -9,7 +10,8 @@ use Rattle.terra_term.specs.declared.piece.PartKind.{PartKind}
 use Rattle.tl_base.specs.declared.ids.TextId.{TextId}
 use Rattle.terra_term.specs.declared.lists.VarName.{VarName}
 use Rattle.terra_term.specs.declared.lists.Parameter.{Parameter}
-use Rattle.terra_term.specs.Pieces.{space, part_of, spaced_parts, spaced_terms, name_pieces, spaced_names, parameter_pieces, spaced_parameters, named_value, named_values, comma_types}
+use Rattle.terra_term.specs.Pieces.{space, part_of, spaced_parts, spaced_terms, name_pieces, spaced_names, parameter_pieces}
+use Rattle.terra_term.specs.Pieces.{spaced_parameters, named_value, named_values, comma_types}
 use Rattle.tl_base.specs.declared.ids.TypeId.{TypeId}
 use Rattle.terra_term.specs.declared.piece.Word.TheVariants as words
 use Rattle.terra_term.specs.declared.piece.Piece.TheVariants as pieces

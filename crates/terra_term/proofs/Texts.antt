@@ -1,5 +1,6 @@
 -- The pieces of a node, written one after the other, are the text of its tree.
-use Rattle.std.proofs.Common.{◌≡◌, refl, ℕ, suc, true, false, List, [], ◌∷◌, ◌++◌, ◌∙◌, ap, sym, take, append_assoc, append-nil, Option, Some, None}
+use Rattle.std.proofs.Common.{◌≡◌, refl, ℕ, suc, true, false, List, [], ◌∷◌, ◌++◌, ◌∙◌, ap, sym, take, append_assoc, append-nil, Option}
+use Rattle.std.proofs.Common.{Some, None}
 use Rattle.std.specs.Prelude.{codes, decimal}
 use Rattle.tl_base.specs.declared.place.Place.{Place}
 use Rattle.tl_base.specs.declared.ids.FnId.{FnId}
@@ -23,8 +24,15 @@ use Rattle.terra_term.specs.Terms as terms
 use Rattle.terra_term.specs.Planted.{trees, term_at, list_at, block_at, form_of, doing_of}
 use Rattle.terra_term.specs.Held.{Held, name_of}
 use Rattle.lua_value.specs.Library.{primitive_text}
-use Rattle.terra_term.specs.TermText.{symbol_text, function_name, number_digits, made, all_made, type_made, type_texts, behind_commas, between_commas, type_text, integer_text, global_address, typed_name_text, Bytes, spaced, between_spaces, bracketed, in_do, in_brackets, bounds_text, initialisers, name_text, names_text, parameters_text, result_text, text_of, texts_of, statement_text, block_texts, definition_text}
-use Rattle.terra_term.specs.Pieces.{piece_text, text_in, closing, space, part, spaced_terms, spaced_statements, listed_terms, form, in_brackets_pieces, do_pieces, new_pieces, assignment_pieces, for_pieces, typed_name_pieces, name_pieces, spaced_names, listed_names, parameter_pieces, spaced_parameters, listed_parameters, named_value, named_values, bounds_pieces, expression_pieces, var_pieces, choice_pieces, statement_pieces, result_pieces, definition_pieces, comma_types, listed_types, type_pieces}
+use Rattle.terra_term.specs.TermText.{symbol_text, function_name, number_digits, made, all_made, type_made, type_texts, behind_commas}
+use Rattle.terra_term.specs.TermText.{between_commas, type_text, integer_text, global_address, typed_name_text, Bytes, spaced}
+use Rattle.terra_term.specs.TermText.{between_spaces, bracketed, in_do, in_brackets, bounds_text, initialisers, name_text, names_text}
+use Rattle.terra_term.specs.TermText.{parameters_text, result_text, text_of, texts_of, statement_text, block_texts, definition_text}
+use Rattle.terra_term.specs.Pieces.{piece_text, text_in, closing, space, part, spaced_terms, spaced_statements, listed_terms, form}
+use Rattle.terra_term.specs.Pieces.{in_brackets_pieces, do_pieces, new_pieces, assignment_pieces, for_pieces, typed_name_pieces}
+use Rattle.terra_term.specs.Pieces.{name_pieces, spaced_names, listed_names, parameter_pieces, spaced_parameters, listed_parameters}
+use Rattle.terra_term.specs.Pieces.{named_value, named_values, bounds_pieces, expression_pieces, var_pieces, choice_pieces}
+use Rattle.terra_term.specs.Pieces.{statement_pieces, result_pieces, definition_pieces, comma_types, listed_types, type_pieces}
 
 pub text-append : (h : Held) (ps qs : List Piece) → text_in h (ps ++ qs) ≡ text_in h ps ++ text_in h qs
 text-append h [] qs = refl

@@ -1,5 +1,6 @@
 -- A node's tree is made of those of the nodes before it.
-use Rattle.std.proofs.Common.{◌≡◌, refl, ℕ, zero, suc, ◌<◌, ◌≤◌, List, [], ◌∷◌, ◌++◌, ◌∙◌, ap, sym, arith, take, append_assoc, append-nil, Some, None, slice_get}
+use Rattle.std.proofs.Common.{◌≡◌, refl, ℕ, zero, suc, ◌<◌, ◌≤◌, List, [], ◌∷◌, ◌++◌, ◌∙◌, ap, sym, arith, take, append_assoc, append-nil}
+use Rattle.std.proofs.Common.{Some, None, slice_get}
 use Rattle.std.specs.Prelude.{option_map}
 use Rattle.terra_term.specs.declared.term.Term as nodes
 use Rattle.terra_types.specs.Grown.{grown}

@@ -1,6 +1,7 @@
 -- What a store holds, what each call reads of it, and what each call makes of it. Ids are places in these lists, and an id past
 -- the end names nothing.
-use Rattle.std.specs.Prelude.{ℕ, ◌<◌, ◌+◌, ◌*◌, ◌/◌, Bool, true, false, ◌&&◌, nat_eq, nat_le, if◌then◌else◌, List, [], ◌∷◌, ◌++◌, length, find, position, bytes_eq, Option, Some, None, slice_get, slice_set, option_map}
+use Rattle.std.specs.Prelude.{ℕ, ◌<◌, ◌+◌, ◌*◌, ◌/◌, Bool, true, false, ◌&&◌, nat_eq, nat_le, if◌then◌else◌, List, [], ◌∷◌, ◌++◌, length}
+use Rattle.std.specs.Prelude.{find, position, bytes_eq, Option, Some, None, slice_get, slice_set, option_map}
 use Rattle.std.specs.Option.{option_map_or}
 use Rattle.tl_base.specs.declared.place.Place.{Place}
 use Rattle.tl_base.specs.declared.ids.ConstantId.{ConstantId}
@@ -11,6 +12,7 @@ use Rattle.tl_base.specs.declared.ids.SymId.{SymId}
 use Rattle.tl_base.specs.declared.ids.TermId.{TermId}
 use Rattle.tl_base.specs.declared.ids.TextId.{TextId}
 use Rattle.tl_base.specs.declared.ids.TypeId.{TypeId}
+use Rattle.tl_base.specs.declared.limits.TheConstants.{REGION_ADDRESS}
 use Rattle.terra_types.specs.declared.types.TypeForm.{TypeForm}
 use Rattle.terra_term.specs.declared.refusal.Refusal.{Refusal}
 use Rattle.terra_term.specs.declared.refusal.RefusalKind.{RefusalKind}
@@ -94,6 +96,11 @@ with_constant s c = record s { constants = s.constants ++ c ∷ [] }
 
 abbrev pub next_term : Held → TermId
 next_term s = record { 0 = length s.terms }
+
+-- the result type of a function's term, where it is written
+abbrev pub written_in : Option Term → Option TypeId
+written_in (Some (term_kinds.Function parameters result body)) = result
+written_in _ = None
 
 abbrev pub with_term : Held → Term → Held
 with_term s t = record s { terms = s.terms ++ t ∷ [] }
@@ -183,7 +190,7 @@ refused state why = state
 
 -- the address of the first static
 abbrev pub first_static : ℕ
-first_static = 0x4000_0000
+first_static = REGION_ADDRESS
 
 -- the first address behind all statics
 abbrev pub end_from : ℕ → List Static → ℕ
@@ -210,7 +217,8 @@ abbrev pub text_address : List Static → (ended : List ℕ) → Option ℕ
 text_address statics bytes = option_map (λ (s : Static). s.address) (find (λ (s : Static). s.is_text && bytes_eq s.bytes bytes) statics)
 
 abbrev pub with_static : Held → Bool → List ℕ → Held
-with_static s is_text bytes = record s { statics = s.statics ++ record { address = next_static s.statics; is_text = is_text; bytes = bytes } ∷ [] }
+with_static s is_text bytes =
+    record s { statics = s.statics ++ record { address = next_static s.statics; is_text = is_text; bytes = bytes } ∷ [] }
 
 -- where a new static of so many bytes comes to lie; none where there is no room for it
 abbrev pub room_for : (memory : ℕ) → List Static → (size : ℕ) → Option ℕ

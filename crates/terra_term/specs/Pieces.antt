@@ -24,7 +24,8 @@ use Rattle.terra_term.specs.declared.term.Initialiser.TheVariants.{Positional, N
 use Rattle.terra_term.specs.Planted.{trees, term_at, statement_at}
 use Rattle.terra_term.specs.Held.{Held, name_of}
 use Rattle.lua_value.specs.Library.{primitive_text}
-use Rattle.terra_term.specs.TermText.{text_of, statement_text, symbol_text, function_name, number_digits, made, type_texts, type_text, integer_text, unary_text, binary_text, global_address}
+use Rattle.terra_term.specs.TermText.{text_of, statement_text, symbol_text, function_name, number_digits, made, type_texts, type_text}
+use Rattle.terra_term.specs.TermText.{integer_text, unary_text, binary_text, global_address}
 
 abbrev pub word_text : Word → List ℕ
 word_text words.Open = codes "("
@@ -243,7 +244,9 @@ result_pieces (Some t) = pieces.Type t
 -- the pieces of a function whose body is before a number
 abbrev pub definition_pieces : FnId → ℕ → List Parameter → Option TypeId → List TermId → List Piece
 definition_pieces f below parameters result body =
-    word_form words.Fn (space ∷ pieces.Function f ∷ space ∷ in_brackets_pieces (listed_parameters parameters) ++ space ∷ result_pieces result ∷ spaced_statements below body)
+    word_form words.Fn
+    (space ∷ pieces.Function f ∷ space ∷ in_brackets_pieces (listed_parameters parameters)
+    ++ space ∷ result_pieces result ∷ spaced_statements below body)
 
 -- types
 
@@ -265,6 +268,7 @@ type_pieces below (forms.Integer i) = pieces.Integer i ∷ []
 type_pieces below forms.Bool = pieces.Word words.Bool ∷ []
 type_pieces below forms.Unit = pieces.Word words.Unit ∷ []
 type_pieces below (forms.Pointer t) = pieces.Word words.Pointer ∷ pieces.TypeBefore t below ∷ []
-type_pieces below (forms.Array t n) = pieces.TypeBefore t below ∷ pieces.Word words.OpenIndex ∷ pieces.Decimal n ∷ pieces.Word words.CloseIndex ∷ []
+type_pieces below (forms.Array t n) =
+    pieces.TypeBefore t below ∷ pieces.Word words.OpenIndex ∷ pieces.Decimal n ∷ pieces.Word words.CloseIndex ∷ []
 type_pieces below (forms.Function parameters of) = function_type_pieces below parameters of
 type_pieces below (forms.Struct number place layout) = pieces.Word words.Struct ∷ pieces.Decimal number ∷ []

@@ -77,7 +77,8 @@ typed_return before (Some t) = typed.Return (typed_at before t)
 abbrev typed_doing : List typed.Item → typed_statements.TypedStatement → typed.Doing
 typed_doing before (ts.Var names values) = typed.Var names (typed_list_at before values)
 typed_doing before (ts.Assign targets values) = typed.Assign (typed_list_at before targets) (typed_list_at before values)
-typed_doing before (ts.If test then_block else_block) = typed_choice before (typed_at before test) (typed_block_at before then_block) else_block
+typed_doing before (ts.If test then_block else_block) =
+    typed_choice before (typed_at before test) (typed_block_at before then_block) else_block
 typed_doing before (ts.While test body) = typed.While (typed_at before test) (typed_block_at before body)
 typed_doing before (ts.Repeat body test) = typed.Repeat (typed_block_at before body) (typed_at before test)
 typed_doing before (ts.For name bounds body) = typed.For name (typed_list_at before bounds) (typed_block_at before body)

@@ -2,7 +2,7 @@
 -- declares; a function is a node, and so is each of its parameters. Callees, places and the parts of a `let` are expressions; in a
 -- typed term each conversion is one too. A part is one level deeper than what it is a part of. The lists of an `if` or a `repeat`
 -- are no nodes, and a typed quote counts as its typed term.
-use Rattle.std.specs.Prelude.{ℕ, zero, suc, ◌+◌, max, min, List, length, Option, slice_get}
+use Rattle.std.specs.Prelude.{ℕ, zero, suc, ◌+◌, max, min, List, length, Option, Some, None, slice_get}
 use Rattle.std.specs.Option.{option_map}
 use Rattle.tl_base.specs.declared.ids.TermId.{TermId}
 use Rattle.terra_term.specs.declared.operators.Operation.{Operation}
@@ -10,7 +10,11 @@ use Rattle.terra_term.specs.declared.operators.Operation.TheVariants as operatio
 use Rattle.terra_term.specs.declared.size.Size.{Size}
 use Rattle.terra_term.specs.Held.{Held}
 use Rattle.terra_term.specs.Planted.{trees, typed_trees, typed_at}
-use Rattle.terra_term.specs.Terms.{Term, term, Number, Truth, Nil, Variable, Function, Primitive', Static, Global, Named, Macro, SizeOf, Unary, Binary, Call, Method, Select, Index, New, Let, Typed, Terms, no_more, then_one, Statement, statement, Declare, Var, Assign, If, IfElse, While, Repeat, For, Do, Break, Return, Perform, Statements, done, and_then, Definition, Item, expression, doing, definition}
+use Rattle.terra_term.specs.Stores.{Callable}
+use Rattle.terra_term.specs.Terms.{Term, term, Number, Truth, Nil, Variable, Function, Primitive', Static, Global, Named, Macro, SizeOf}
+use Rattle.terra_term.specs.Terms.{Unary, Binary, Call, Method, Select, Index, New, Let, Typed, Terms, no_more, then_one, Statement}
+use Rattle.terra_term.specs.Terms.{statement, Declare, Var, Assign, If, IfElse, While, Repeat, For, Do, Break, Return, Perform, Statements}
+use Rattle.terra_term.specs.Terms.{done, and_then, Definition, Item, expression, doing, definition}
 use Rattle.terra_term.specs.TypedTerms as typed
 
 abbrev pub none : Size
@@ -166,3 +170,8 @@ size_of_term s t = option_map (λ item. capped (item_size (typed_trees s.typed) 
 
 abbrev pub size_of_typed : Held → TermId → Option Size
 size_of_typed s t = option_map (λ item. capped (typed_item_size item)) (slice_get (typed_trees s.typed) t.0)
+
+-- how many typed nodes a function has, none where it isn't typed
+abbrev pub nodes_of : Option Callable → ℕ
+nodes_of None = 0
+nodes_of (Some k) = (body_size k.body).nodes

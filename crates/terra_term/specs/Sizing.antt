@@ -174,7 +174,9 @@ AllHold P [] = Unit {0}
 AllHold P (x ∷ xs) = P x × AllHold P xs
 
 -- What a store keeps of sizes, and that its quotes and nodes name typed terms that are there.
-pub record AreSized (quotes : List Quote) (terms : List nodes.Term) (typed : List typed_nodes.Typed) (term_sizes typed_sizes : List SizedNode) : Type 0 where
+pub record AreSized
+    (quotes : List Quote) (terms : List nodes.Term) (typed : List typed_nodes.Typed)
+    (term_sizes typed_sizes : List SizedNode) : Type 0 where
   pub of_typed : typed_sizes ≡ typed_kept typed
   pub of_terms : term_sizes ≡ terms_kept typed_sizes terms
   pub named : AllHold (NamesTyped (length typed)) terms

@@ -26,7 +26,7 @@ contents_of s = record {
 }
 
 -- a function's typed term, once it is typed
-abbrev body_in : Option typed.Item → Option typed.Body
+abbrev pub body_in : Option typed.Item → Option typed.Body
 body_in (Some (typed.body b)) = Some b
 body_in _ = None
 

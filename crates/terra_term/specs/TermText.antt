@@ -1,5 +1,6 @@
 -- The text of specialised terms.
-use Rattle.std.specs.Prelude.{ℕ, suc, ◌-◌, ◌^◌, Bool, false, ◌&&◌, if◌then◌else◌, List, [], ◌∷◌, ◌++◌, Option, Some, None, slice_get, unwrap_or, codes, decimal}
+use Rattle.std.specs.Prelude.{ℕ, suc, ◌-◌, ◌^◌, Bool, false, ◌&&◌, if◌then◌else◌, List, [], ◌∷◌, ◌++◌, Option, Some, None, slice_get}
+use Rattle.std.specs.Prelude.{unwrap_or, codes, decimal}
 use Rattle.tl_base.specs.declared.ids.SymId.{SymId}
 use Rattle.tl_base.specs.declared.ids.TypeId.{TypeId}
 use Rattle.tl_base.specs.declared.ids.TextId.{TextId}
@@ -22,7 +23,10 @@ use Rattle.terra_term.specs.declared.lists.Parameter.{Parameter}
 use Rattle.terra_term.specs.declared.lists.VarName.{VarName}
 use Rattle.terra_term.specs.declared.store.TerraGlobal.{TerraGlobal}
 use Rattle.terra_term.specs.declared.store.TextBytes as names
-use Rattle.terra_term.specs.Terms.{Term, term, Number, Truth, Nil, Variable, Function, Primitive', Static, Global, Named, Macro, SizeOf, Unary, Binary, Call, Method, Select, Index, New, Let, Typed, Terms, no_more, then_one, Statement, statement, Declare, Var, Assign, If, IfElse, While, Repeat, For, Do, Break, Return, Perform, Statements, done, and_then, Definition}
+use Rattle.terra_term.specs.Terms.{Term, term, Number, Truth, Nil, Variable, Function, Primitive', Static, Global, Named, Macro, SizeOf}
+use Rattle.terra_term.specs.Terms.{Unary, Binary, Call, Method, Select, Index, New, Let, Typed, Terms, no_more, then_one, Statement}
+use Rattle.terra_term.specs.Terms.{statement, Declare, Var, Assign, If, IfElse, While, Repeat, For, Do, Break, Return, Perform, Statements}
+use Rattle.terra_term.specs.Terms.{done, and_then, Definition}
 use Rattle.terra_term.specs.Terms as trees_of_terms
 use Rattle.terra_term.specs.Planted.{trees}
 use Rattle.terra_term.specs.Held.{Held, state_of, term_in, name_of}
@@ -234,7 +238,9 @@ result_text types (Some t) = type_text types t
 -- the text of a function
 abbrev pub definition_text : Held → FnId → Definition → Bytes
 definition_text store f d =
-    bracketed (codes "fn") (function_name f ∷ in_brackets (parameters_text store.types d.parameters) ∷ result_text store.types d.result ∷ block_texts store d.body)
+    bracketed (codes "fn")
+    (function_name f ∷ in_brackets (parameters_text store.types d.parameters)
+    ∷ result_text store.types d.result ∷ block_texts store d.body)
 
 abbrev pub item_text : Held → FnId → Option trees_of_terms.Item → Bytes
 item_text store f (Some (trees_of_terms.definition d)) = definition_text store f d

@@ -1,10 +1,11 @@
 -- A test that each typed term passes which typing leaves: a node has the type that its operands give it without conversion, a
 -- variable is in scope with its type, a function that is named is typed, what needs a layout has one, entries lie within their
 -- struct, and places are such as a text has. The limits on a term's size are no part of it.
-use Rattle.std.specs.Prelude.{ℕ, ◌+◌, ◌-◌, ◌*◌, ◌^◌, Bool, true, false, not, ◌&&◌, ◌||◌, nat_eq, nat_le, nat_lt, if◌then◌else◌, List, [], ◌∷◌, length, Option, Some, None, slice_get, unwrap_or, is_some}
-use Rattle.tl_base.specs.declared.place.Place.{Place}
+use Rattle.std.specs.Prelude.{ℕ, ◌+◌, ◌-◌, ◌*◌, ◌^◌, Bool, true, false, not, ◌&&◌, ◌||◌, nat_eq, nat_le, nat_lt, if◌then◌else◌, List, []}
+use Rattle.std.specs.Prelude.{◌∷◌, length, Option, Some, None, slice_get, unwrap_or, is_some}
 use Rattle.tl_base.specs.declared.ids.SymId.{SymId}
 use Rattle.tl_base.specs.declared.ids.TypeId.{TypeId}
+use Rattle.tl_base.specs.declared.limits.TheConstants.{MAX_VALUE_BYTES}
 use Rattle.terra_words.specs.declared.words.BinaryOperator.{BinaryOperator}
 use Rattle.terra_words.specs.declared.words.BinaryOperator.TheVariants as operators
 use Rattle.terra_types.specs.declared.layout.Laid.{Laid}
@@ -20,16 +21,23 @@ use Rattle.terra_term.specs.declared.operators.Operation.TheVariants as operatio
 use Rattle.lua_value.specs.declared.primitive.Primitive.{Primitive}
 use Rattle.lua_value.specs.declared.primitive.Primitive.TheVariants.{PutByte, Write, Alloc}
 use Rattle.terra_term.specs.declared.lists.TypedName.{TypedName}
-use Rattle.terra_term.specs.TypedTerms.{Expression, typed, Constant', Variable, Global, Operate, Both, Either, Dereference, Select, Follow, Element, Index, Address, Decay, Let, Expressions, no_more, then_one, Statement, statement, Var, Assign, If, IfElse, While, Repeat, For, Do, Break, Finish, Return, Perform, Statements, done, and_then, Body, type_of, is_place}
+use Rattle.terra_term.specs.TypedTerms.{Expression, typed, Constant', Variable, Global, Operate, Both, Either, Dereference, Select, Follow}
+use Rattle.terra_term.specs.TypedTerms.{Element, Index, Address, Decay, Let, Expressions, no_more, then_one, Statement, statement, Var}
+use Rattle.terra_term.specs.TypedTerms.{Assign, If, IfElse, While, Repeat, For, Do, Break, Finish, Return, Perform, Statements, done}
+use Rattle.terra_term.specs.TypedTerms.{and_then, Body, type_of, is_place}
 use Rattle.terra_term.specs.Stores.{Contents, Callable, callable_of}
+pub use Rattle.tl_base.specs.Places.{is_placed}
+pub use Rattle.terra_words.specs.Words.{is_comparison as compares}
+pub use Rattle.terra_types.specs.Layouts.{is_function_form as function_form}
 
 -- the most bytes of an aggregate that is used as a value
 abbrev pub widest : ℕ
-widest = 128
+widest = MAX_VALUE_BYTES
 
--- a place in a text: its line and its word have at most 32 bits
-abbrev pub is_placed : Place → Bool
-is_placed at = nat_lt at.line (2 ^ 32) && nat_lt at.word (2 ^ 32)
+-- no function that is a value is called
+abbrev pub is_plain_operation : Operation → Bool
+is_plain_operation operations.CallValue = false
+is_plain_operation _ = true
 
 abbrev pub same : TypeId → TypeId → Bool
 same a b = nat_eq a.0 b.0
@@ -44,10 +52,6 @@ integer_form _ = false
 abbrev pub pointer_form : TypeForm → Bool
 pointer_form (forms.Pointer t) = true
 pointer_form _ = false
-
-abbrev pub function_form : TypeForm → Bool
-function_form (forms.Function params result) = true
-function_form _ = false
 
 abbrev pub struct_form : TypeForm → Bool
 struct_form (forms.Struct number place layout) = true
@@ -160,16 +164,7 @@ constant_typed store of constants.Nil = is_pointer store of || is_function store
 constant_typed store of (constants.Static address) = same of rawstring && nat_lt address (2 ^ 64)
 constant_typed store of (constants.FnValue f) = function_type_in (form_at store of) (callable_of store f)
 
--- which operators compare, and which of these only for equality
-abbrev pub compares : BinaryOperator → Bool
-compares operators.Equal = true
-compares operators.NotEqual = true
-compares operators.Less = true
-compares operators.LessEqual = true
-compares operators.Greater = true
-compares operators.GreaterEqual = true
-compares _ = false
-
+-- which of the operators that compare do so for equality alone
 abbrev pub equates : BinaryOperator → Bool
 equates operators.Equal = true
 equates operators.NotEqual = true

@@ -25,6 +25,7 @@ pub use lists::{
 };
 pub use lua_value::Primitive;
 pub use operators::{Constant, Operation, UnaryOperator};
+pub use piece::text_of_integer;
 pub use refusal::{Refusal, RefusalKind, Standing};
 pub use size::Size;
 pub use store::{

@@ -2,7 +2,11 @@
 
 ghost use Rattle.std.specs.Prelude.{◌≡◌, ◌++◌, ◌∷◌, [], IfOk, OnOk};
 ghost use Rattle.terra_term.specs.declared.piece.PartKind.TheVariants as kinds;
-ghost use Rattle.terra_term.specs.Pieces.{spaced_parts, spaced_terms, spaced_statements, listed_terms, listed_names, spaced_names, name_pieces, listed_parameters, spaced_parameters, parameter_pieces, named_value, named_values, bounds_pieces, word_form, part, new_pieces, assignment_pieces, for_pieces, expression_pieces, statement_pieces, definition_pieces, var_pieces, choice_pieces, comma_types, listed_types, function_type_pieces, type_pieces, space};
+ghost use Rattle.terra_term.specs.Pieces.{spaced_parts, spaced_terms, spaced_statements, listed_terms, listed_names, spaced_names};
+ghost use Rattle.terra_term.specs.Pieces.{name_pieces, listed_parameters, spaced_parameters, parameter_pieces, named_value, named_values};
+ghost use Rattle.terra_term.specs.Pieces.{bounds_pieces, word_form, part, new_pieces, assignment_pieces, for_pieces, expression_pieces};
+ghost use Rattle.terra_term.specs.Pieces.{statement_pieces, definition_pieces, var_pieces, choice_pieces, comma_types, listed_types};
+ghost use Rattle.terra_term.specs.Pieces.{function_type_pieces, type_pieces, space};
 ghost use Rattle.terra_term.specs.TermText.{global_address};
 
 use crate::lists::{Parameter, TermList, VarName};

@@ -2,7 +2,8 @@
 
 ghost use Rattle.std.specs.Prelude.{◌≡◌, length};
 ghost use Rattle.terra_term.specs.Sizes.{callee_size};
-ghost use Rattle.terra_term.specs.Sizing.{around, beside, block_at, doing, expression_at, form, list_at, named, of_function, statement_at, term_sized, typed_doing, typed_form, typed_sized};
+ghost use Rattle.terra_term.specs.Sizing.{around, beside, block_at, doing, expression_at, form, list_at, named, of_function, statement_at};
+ghost use Rattle.terra_term.specs.Sizing.{term_sized, typed_doing, typed_form, typed_sized};
 
 use crate::operators::Operation;
 use crate::size::{Size, SizedNode};
@@ -96,7 +97,8 @@ fn ended_size(before: &[SizedNode], block: &[TermId], a: TermId) -> Size
 
 /// The size of an `if` with an `else`.
 fn choice_size(before: &[SizedNode], a: TermId, block: &[TermId], other: &[TermId]) -> Size
-    ensures { result ≡ around (beside (beside (expression_at before.now a) (block_at before.now block.now)) (block_at before.now other.now)) }
+    ensures { result
+        ≡ around (beside (beside (expression_at before.now a) (block_at before.now block.now)) (block_at before.now other.now)) }
 {
     let first = expression_size(before, a).joined(block_size(before, block));
     first.joined(block_size(before, other)).above()

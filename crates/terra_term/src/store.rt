@@ -1,8 +1,13 @@
 // The store of a staging.
 
-ghost use Rattle.std.specs.Prelude.{◌≡◌, ◌≤◌, ◌++◌, ◌∷◌, [], ◌+◌, length, slice_get, IfOk, IfSome, IsOk, OnOk, OnErr, None, true};
+ghost use Rattle.std.specs.Prelude.{◌≡◌, ◌≤◌, ◌++◌, ◌∷◌, [], ◌+◌, ◌/◌, length, slice_get, IfOk, IfSome, IsOk, OnOk, OnErr, None, true};
 ghost use Rattle.std.specs.Option.{option_copied};
-ghost use Rattle.terra_term.specs.Held.{empty, next_symbol, with_symbol, next_function, with_function, state_of, term_in, standing_in, standing_of, with_defined, with_state, begun, finished, refused, next_quote, with_quote, next_constant, with_constant, next_term, with_term, next_typed, with_typed, NamesTyped, QuotesTyped, ended, text_address, room_for, placed_text, with_text, placed_global, with_global, name_of, name_place, with_name};
+ghost use Rattle.tl_base.specs.declared.limits.TheConstants.Limits.{MAX_MEMORY};
+ghost use Rattle.terra_term.specs.Held.{empty, next_symbol, with_symbol, next_function, with_function, state_of, term_in, standing_in};
+ghost use Rattle.terra_term.specs.Held.{standing_of, with_defined, with_state, begun, finished, refused, next_quote, with_quote};
+ghost use Rattle.terra_term.specs.Held.{next_constant, with_constant, next_term, with_term, next_typed, with_typed, NamesTyped};
+ghost use Rattle.terra_term.specs.Held.{QuotesTyped, ended, text_address, room_for, placed_text, with_text, placed_global, with_global};
+ghost use Rattle.terra_term.specs.Held.{name_of, name_place, with_name};
 ghost use Rattle.terra_term.specs.Sizes.{size_of_term, size_of_typed};
 ghost use Rattle.terra_term.specs.Finding.{texts_in, found_texts, ids_of};
 
@@ -17,13 +22,11 @@ use std::alloc::Global;
 use std::marker::Model;
 use std::mem::size_of;
 use terra_types::Types;
+use tl_base::limits::REGION_ADDRESS;
 use tl_base::{
     ConstantId, FnId, GlobalId, NoMemory, Place, QuoteId, SymId, TermId, Text, Text2, TextId,
     TypeId,
 };
-
-/// The address of the first static.
-const FIRST_STATIC: u64 = 0x4000_0000;
 
 /// A symbol, with its type if it has one.
 #[derive(Clone, Copy, Debug, PartialEq, Eq)]
@@ -179,7 +182,7 @@ impl Store {
             typed: Vec::new(alloc),
             term_sizes: Vec::new(alloc),
             typed_sizes: Vec::new(alloc),
-            statics_end: FIRST_STATIC,
+            statics_end: REGION_ADDRESS,
         }
     }
 
@@ -424,12 +427,12 @@ impl Store {
 
     /// Where a static of so many bytes comes to lie; `None` exactly where it would pass half of the memory, which is in bytes.
     fn room(&self, memory: u64, size: usize) -> Option<u64>
-        requires { memory ≤ 67108864 }
+        requires { memory ≤ MAX_MEMORY }
         ensures next { result ≡ room_for memory self.now.statics size }
-        ensures within { IfSome result (λ address. address + size ≤ 0x4000_0000 + 33554432) }
+        ensures within { IfSome result (λ address. address + size ≤ REGION_ADDRESS + MAX_MEMORY / 2) }
     {
         let next = (self.statics_end + 15) / 16 * 16;
-        let limit = FIRST_STATIC + memory / 2;
+        let limit = REGION_ADDRESS + memory / 2;
         if next <= limit && size as u64 <= limit - next {
             Some(next)
         } else {
@@ -440,7 +443,7 @@ impl Store {
     /// The address of a text as a static, with a zero byte behind it. Equal texts share one; a distinct one gets the next
     /// address that is a multiple of 16. `None` exactly where it would pass half of the memory (in bytes, at most 64 MiB).
     pub fn text_static(&mut self, text: &[u8], memory: u64) -> Result<Option<u64>, NoMemory>
-        requires { memory ≤ 67108864 }
+        requires { memory ≤ MAX_MEMORY }
         ensures address { IfOk result (λ a. a ≡ placed_text memory self.old.statics (ended text.now)) }
         ensures ok { OnOk result (self.new ≡ with_text self.old memory (ended text.now)) }
         ensures err { OnErr result (self.new ≡ self.old) }
@@ -473,7 +476,7 @@ impl Store {
         bytes: Text2,
         memory: u64,
     ) -> Result<Option<GlobalId>, NoMemory>
-        requires { memory ≤ 67108864 }
+        requires { memory ≤ MAX_MEMORY }
         ensures id { IfOk result (λ id. id ≡ placed_global self.old memory bytes) }
         ensures ok { OnOk result (self.new ≡ with_global self.old memory of bytes) }
         ensures err { OnErr result (self.new ≡ self.old) }
@@ -616,7 +619,8 @@ fn push_text(
 ) -> Result<(), NoMemory>
     requires same { found_texts texts.old.entries ≡ texts_in statics.old.items }
     requires absent { text_address statics.old.items bytes.items ≡ None }
-    ensures ok { OnOk result (statics.new.items ≡ statics.old.items ++ record { address = address; is_text = true; bytes = bytes.items } ∷ []) }
+    ensures ok { OnOk result
+        (statics.new.items ≡ statics.old.items ++ record { address = address; is_text = true; bytes = bytes.items } ∷ []) }
     ensures err { OnErr result (statics.new.items ≡ statics.old.items) }
     ensures same { found_texts texts.new.entries ≡ texts_in statics.new.items }
 {

@@ -85,7 +85,8 @@ fn step(
     work: &mut VecDeque<Piece>,
     piece: Piece,
 ) -> Result<(), NoMemory>
-    ensures { OnOk result (out.new ++ text_in store.now work.new.items ≡ (out.old ++ piece_text store.now piece) ++ text_in store.now work.old.items) }
+    ensures { OnOk result
+        (out.new ++ text_in store.now work.new.items ≡ (out.old ++ piece_text store.now piece) ++ text_in store.now work.old.items) }
 {
     match piece {
         Piece::Expression(term, below) => {
@@ -141,7 +142,8 @@ fn pieces_of_part(store: &Store, term: TermId, below: u64) -> Result<Vec<Piece>,
 
 /// The pieces of a part that stands as a statement, among the nodes before a number.
 fn pieces_of_doing(store: &Store, term: TermId, below: u64) -> Result<Vec<Piece>, NoMemory>
-    ensures { IfOk result (λ v. text_in store.now v.items ≡ statement_text store.now (statement_at (take below (trees store.now.terms)) term)) }
+    ensures { IfOk result (λ v.
+        text_in store.now v.items ≡ statement_text store.now (statement_at (take below (trees store.now.terms)) term)) }
 {
     match node_before(store, term, below) {
         Some(Term::Statement(_, statement)) => pieces_of_statement(

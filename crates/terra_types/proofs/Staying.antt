@@ -1,5 +1,6 @@
 -- What is there stays, whatever is made or settled.
-use Rattle.std.specs.Prelude.{◌≡◌, refl, ℕ, zero, suc, IsTrue, List, [], ◌∷◌, ◌++◌, position, slice_get, slice_set, unwrap_or, Option, Some, None}
+use Rattle.std.specs.Prelude.{◌≡◌, refl, ℕ, zero, suc, IsTrue, List, [], ◌∷◌, ◌++◌, position, slice_get, slice_set, unwrap_or, Option, Some}
+use Rattle.std.specs.Prelude.{None}
 use Rattle.std.proofs.Common.{sym, ◌∙◌, subst, true≢false}
 use Rattle.std.proofs.lemmas.Option.{none-some, slice_get_within}
 use Rattle.tl_base.specs.declared.ids.TypeId.{TypeId}
@@ -8,7 +9,8 @@ use Rattle.terra_types.specs.declared.layout.Layout.{Layout}
 use Rattle.terra_types.specs.declared.types.TypeForm.{TypeForm}
 use Rattle.terra_types.specs.declared.types.TypeForm.TheVariants as forms
 use Rattle.terra_types.specs.Keeping.{KeepsForm, KeepsTypes}
-use Rattle.terra_types.specs.Making.{awaits_layout, is_same, is_unsettled, new_struct_form, types_in, with_form, with_layout, with_settled, with_struct}
+use Rattle.terra_types.specs.Making.{awaits_layout, is_same, is_unsettled, new_struct_form, types_in, with_form, with_layout, with_settled}
+use Rattle.terra_types.specs.Making.{with_struct}
 use Rattle.terra_types.proofs.Growing.{get-left}
 
 keeps_itself : (f : TypeForm) → KeepsForm f f

@@ -1,5 +1,6 @@
 -- Entry by entry, the layout of all entries is found.
-use Rattle.std.specs.Prelude.{◌≡◌, refl, ℕ, ◌<◌, ◌≤◌, Bool, true, false, not, ◌&&◌, ◌||◌, nat_eq, nat_le, if◌then◌else◌, List, [], ◌∷◌, ◌++◌, Option, Some, None, IfSome}
+use Rattle.std.specs.Prelude.{◌≡◌, refl, ℕ, ◌<◌, ◌≤◌, Bool, true, false, not, ◌&&◌, ◌||◌, nat_eq, nat_le, if◌then◌else◌, List, [], ◌∷◌}
+use Rattle.std.specs.Prelude.{◌++◌, Option, Some, None, IfSome}
 use Rattle.std.proofs.Common.{sym, ◌∙◌, ap, arith, eq-eqb, lit≤}
 use Rattle.std.proofs.lemmas.Bool.{leb-false, lt-leb, ne_eqb, eqb-true, eqb-false}
 use Rattle.tl_base.specs.declared.ids.TextId.{TextId}

@@ -103,8 +103,10 @@ with_laid entries t layout = laid_in (slice_get entries t.0) entries t layout
 pub record AreLawful (types : List TypeForm) : Type 0 where
   pub alone : (i j : ℕ) (t : TypeForm) → slice_get types i ≡ Some t → slice_get types j ≡ Some t → i ≡ j
   pub before : (i : ℕ) (t : TypeForm) → slice_get types i ≡ Some t → NamesBelow i t
-  pub numbered : (i number : ℕ) (place : Place) (layout : Option Layout) → slice_get types i ≡ Some (forms.Struct number place layout) → number ≡ structs_in (take i types) + 1
-  pub limited : (i number : ℕ) (place : Place) (layout : Layout) → slice_get types i ≡ Some (forms.Struct number place (Some layout)) → Within (settled layout)
+  pub numbered : (i number : ℕ) (place : Place) (layout : Option Layout) →
+      slice_get types i ≡ Some (forms.Struct number place layout) → number ≡ structs_in (take i types) + 1
+  pub limited : (i number : ℕ) (place : Place) (layout : Layout) →
+      slice_get types i ≡ Some (forms.Struct number place (Some layout)) → Within (settled layout)
 
 pub record AreKept (entries : List (TypeKey × Kept)) : Type 0 where
   pub fitting : AllFit entries

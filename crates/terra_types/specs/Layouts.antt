@@ -1,6 +1,7 @@
 -- Where the entries of a struct lie: in order, each at the next multiple of its alignment; and the size is rounded up to the
 -- struct's own alignment, which is the largest of them.
-use Rattle.std.specs.Prelude.{ℕ, ◌+◌, ◌-◌, ◌*◌, ◌/◌, max, Bool, true, false, ◌&&◌, ◌||◌, not, nat_eq, nat_le, if◌then◌else◌, List, [], ◌∷◌, ◌++◌, Option, Some, None, slice_get, unwrap_or}
+use Rattle.std.specs.Prelude.{ℕ, ◌+◌, ◌-◌, ◌*◌, ◌/◌, max, Bool, true, false, ◌&&◌, ◌||◌, not, nat_eq, nat_le, if◌then◌else◌, List, [], ◌∷◌}
+use Rattle.std.specs.Prelude.{◌++◌, Option, Some, None, slice_get, unwrap_or}
 use Rattle.tl_base.specs.declared.ids.TypeId.{TypeId}
 use Rattle.tl_base.specs.declared.ids.TextId.{TextId}
 use Rattle.terra_types.specs.declared.layout.Entry.{Entry}
@@ -22,14 +23,18 @@ begun = record { size = 0; align = 1; entries = [] }
 abbrev pub with_entry : Layout → Entry → Measure → Layout
 with_entry l e m =
     let offset = rounded l.size m.align in
-    record { size = offset + m.size; align = max l.align m.align; entries = l.entries ++ record { field = e.field; offset = offset; of = e.of } ∷ [] }
+    record {
+      size = offset + m.size;
+      align = max l.align m.align;
+      entries = l.entries ++ record { field = e.field; offset = offset; of = e.of } ∷ [];
+    }
 
 -- the entries one after the other; none where the layout of one of them isn't settled
 abbrev pub placed : List TypeForm → Layout → List Entry → Option Layout
 placed types l [] = Some l
 placed types l (e ∷ es) = for_some (measure_of types e.of) (λ m. placed types (with_entry l e m) es)
 
-abbrev is_function_form : TypeForm → Bool
+abbrev pub is_function_form : TypeForm → Bool
 is_function_form (forms.Function params result) = true
 is_function_form _ = false
 

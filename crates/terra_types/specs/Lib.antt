@@ -2,9 +2,10 @@
 pub mod Making
 pub mod Opening
 pub mod Keeping
--- How many bytes a type has, and where the entries of a struct lie.
+-- How many bytes a type has, where the entries of a struct lie, and which types have one word.
 pub mod Sizes
 pub mod Layouts
+pub mod Scalars
 -- Lists that grow, by which sizes are found.
 pub mod Grown
 -- Views of the code, which private contracts cite.

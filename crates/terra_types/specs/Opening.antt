@@ -49,5 +49,7 @@ pub record AreTypes (types : List TypeForm) : Type 0 where
   pub opened : (later : List TypeForm) × (types ≡ opening_types ++ later)
   pub alone : (i j : ℕ) (t : TypeForm) → slice_get types i ≡ Some t → slice_get types j ≡ Some t → i ≡ j
   pub before : (i : ℕ) (t : TypeForm) → slice_get types i ≡ Some t → NamesBelow i t
-  pub numbered : (i number : ℕ) (place : Place) (layout : Option Layout) → slice_get types i ≡ Some (forms.Struct number place layout) → number ≡ structs_in (take i types) + 1
-  pub limited : (i number : ℕ) (place : Place) (layout : Layout) → slice_get types i ≡ Some (forms.Struct number place (Some layout)) → Within (settled layout)
+  pub numbered : (i number : ℕ) (place : Place) (layout : Option Layout) →
+      slice_get types i ≡ Some (forms.Struct number place layout) → number ≡ structs_in (take i types) + 1
+  pub limited : (i number : ℕ) (place : Place) (layout : Layout) →
+      slice_get types i ≡ Some (forms.Struct number place (Some layout)) → Within (settled layout)

@@ -1,5 +1,5 @@
 -- How many bytes a type has, and what its addresses are multiples of.
-use Rattle.std.specs.Prelude.{ℕ, ◌≤◌, ◌*◌, Bool, true, false, nat_le, if◌then◌else◌, List, [], Option, Some, None, slice_get}
+use Rattle.std.specs.Prelude.{ℕ, ◌≤◌, ◌*◌, Bool, true, false, nat_le, if◌then◌else◌, List, [], Option, Some, None, slice_get, unwrap_or}
 use Rattle.tl_base.specs.declared.ids.TypeId.{TypeId}
 use Rattle.terra_types.specs.declared.layout.Layout.{Layout}
 use Rattle.terra_types.specs.declared.measure.Measure.{Measure}
@@ -12,6 +12,10 @@ use Rattle.terra_types.specs.declared.types.TypeForm.TheVariants as forms
 -- the most bytes that a type has
 abbrev pub largest_size : ℕ
 largest_size = 67108864
+
+-- what a type is; unit where there is none
+abbrev pub form_at : List TypeForm → TypeId → TypeForm
+form_at types t = unwrap_or (slice_get types t.0) forms.Unit
 
 abbrev pub is_signed : Integer → Bool
 is_signed Int8 = true

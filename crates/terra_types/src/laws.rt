@@ -13,5 +13,6 @@ ghost use Rattle.terra_types.specs.Making.{is_unsettled, with_form, with_settled
 pub fn what_is_there_stays()
     ensures made { (types : List TypeForm) (form : TypeForm) → KeepsTypes types (with_form types form) }
     ensures structs { (types : List TypeForm) (place : Place) → KeepsTypes types (with_struct types place) }
-    ensures settled { (types : List TypeForm) (t : TypeId) (layout : Option Layout) → IsTrue (is_unsettled types t) → KeepsTypes types (with_settled types t layout) }
+    ensures settled { (types : List TypeForm) (t : TypeId) (layout : Option Layout) →
+        IsTrue (is_unsettled types t) → KeepsTypes types (with_settled types t layout) }
 {}

@@ -2,7 +2,8 @@
 //!
 //! `types` has the types by their ids, `layout` what a struct's layout is, and `laying` how a layout is found. `key` has what
 //! tells types apart, and `elements` what is kept of nested arrays. `specs/Sizes.antt` says how many bytes a type has and where
-//! they are aligned, `specs/Layouts.antt` where the entries of a struct lie, and `specs/Making.antt` which id a type has.
+//! they are aligned, `specs/Layouts.antt` where the entries of a struct lie, `specs/Scalars.antt` which types have one word, and
+//! `specs/Making.antt` which id a type has.
 #![tactic(auto)]
 
 pub mod elements;

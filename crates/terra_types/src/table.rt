@@ -80,7 +80,8 @@ pub(crate) fn opening_table(alloc: Global) -> Result<Table, NoMemory>
 fn open_integer(table: &mut Table, integer: Integer) -> Result<(), NoMemory>
     requires { AllFit table.old.entries }
     ensures fit { AllFit table.new.entries }
-    ensures ok { OnOk result (table.new.entries ≡ with_kept table.old.entries (TypeKey.Integer integer) (plain (TypeForm.Integer integer))) }
+    ensures ok { OnOk result
+        (table.new.entries ≡ with_kept table.old.entries (TypeKey.Integer integer) (plain (TypeForm.Integer integer))) }
 {
     let kept = Kept {
         form: TypeForm::Integer(integer),

@@ -1,8 +1,11 @@
 -- Words of 64 bits, and what operators give of them. A word stands for a number of a width: its low bits, with the bits
 -- above zero, or copies of the sign where the width has one.
-use Rattle.std.specs.Prelude.{ℕ, ◌+◌, ◌-◌, ◌*◌, ◌/◌, ◌%◌, ◌^◌, ℤ, pos, negsuc, Bool, true, false, not, ◌&&◌, nat_eq, nat_lt, nat_le, if◌then◌else◌, bit_and, bit_or, bit_xor}
+use Rattle.std.specs.Prelude.{ℕ, ◌+◌, ◌-◌, ◌*◌, ◌/◌, ◌%◌, ◌^◌, ℤ, pos, negsuc, Bool, true, false, not, ◌&&◌, nat_eq, nat_lt, nat_le}
+use Rattle.std.specs.Prelude.{if◌then◌else◌, bit_and, bit_or, bit_xor}
+use Rattle.tl_base.specs.declared.limits.TheConstants.{MAX_CALLS}
 use Rattle.terra_words.specs.declared.words.BinaryOperator.{BinaryOperator}
-use Rattle.terra_words.specs.declared.words.BinaryOperator.TheVariants.{Add, Subtract, Multiply, Divide, Modulo, Xor, And, Or, ShiftLeft, ShiftRight, Equal, NotEqual, Less, LessEqual, Greater, GreaterEqual}
+use Rattle.terra_words.specs.declared.words.BinaryOperator.TheVariants.{Add, Subtract, Multiply, Divide, Modulo, Xor, And, Or, ShiftLeft}
+use Rattle.terra_words.specs.declared.words.BinaryOperator.TheVariants.{ShiftRight, Equal, NotEqual, Less, LessEqual, Greater, GreaterEqual}
 use Rattle.terra_words.specs.declared.words.FaultKind.{FaultKind}
 use Rattle.terra_words.specs.declared.words.FaultKind.TheVariants.{BadAddress, DivZero, StackFull, CallDepth, NoReturn, BadCall}
 use Rattle.terra_words.specs.declared.words.Width.{Width}
@@ -106,6 +109,16 @@ fault_number CallDepth = 4
 fault_number NoReturn = 5
 fault_number BadCall = 6
 
+-- the operators that compare, which give a bool
+abbrev pub is_comparison : BinaryOperator → Bool
+is_comparison Equal = true
+is_comparison NotEqual = true
+is_comparison Less = true
+is_comparison LessEqual = true
+is_comparison Greater = true
+is_comparison GreaterEqual = true
+is_comparison _ = false
+
 -- how many calls may be going on at once, the entry's included
 abbrev pub most_calls : ℕ
-most_calls = 512
+most_calls = MAX_CALLS

@@ -4,6 +4,7 @@ use Rattle.std.specs.declared.io.ErrorKind.{ErrorKind}
 use Rattle.std.specs.declared.io.ErrorKind.TheVariants.{OutOfMemory}
 use Rattle.std.specs.Str.{IsUtf8}
 use Rattle.tl_base.specs.declared.place.Place.{Place}
+use Rattle.tl_lex.specs.declared.TheConstants.{LONGEST_TEXT}
 use Rattle.tl_lex.specs.declared.SyntaxKind.{SyntaxKind}
 use Rattle.tl_lex.specs.declared.SyntaxKind.TheVariants.{TooLong, NotUtf8}
 use Rattle.tl_tree.specs.Tree.{Tree}
@@ -71,7 +72,7 @@ pub data Reading : Type 0 where
 
 -- how many bytes a source may have
 abbrev pub longest : ℕ
-longest = 1048576
+longest = LONGEST_TEXT
 
 -- the place of what concerns a whole source
 abbrev pub nowhere : Place

@@ -4,6 +4,7 @@ use Rattle.tl_base.specs.declared.place.Place.{Place}
 use Rattle.elf_image.specs.declared.error.ImageError.{ImageError}
 use Rattle.elf_image.specs.declared.image.Image.{Image}
 use Rattle.elf_image.specs.declared.image.Symbol.{Symbol}
+use Rattle.elf_image.specs.declared.reading.TheConstants.{LONGEST_IMAGE}
 use Rattle.elf_image.specs.Calls.{symbol_named}
 use Rattle.elf_image.specs.Loads.{Loads, BadBytes}
 use Rattle.elf_image.specs.Written.{bytes_of}
@@ -25,7 +26,7 @@ use Rattle.terrac_call.specs.Due.{Due, refused, after, noting, due_of_result, du
 
 -- how many bytes an image may have
 abbrev pub longest_image : ℕ
-longest_image = 268435456
+longest_image = LONGEST_IMAGE
 
 abbrev pub due_of_bad_image : ImageFault → Due
 due_of_bad_image fault = refused (statuses.BadImage fault)

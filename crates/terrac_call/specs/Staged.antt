@@ -1,6 +1,7 @@
 -- What is due for a source that is staged: what its staging printed, and then lines, or how it ended.
 use Rattle.std.specs.Prelude.{ℕ, ◌≡◌, ◌*◌, nat_lt, List, [], Some, if◌then◌else◌}
 use Rattle.tl_base.specs.declared.place.Place.{Place}
+use Rattle.tl_base.specs.declared.limits.TheConstants.Limits.{MAX_BUDGET, MEMORY_UNIT}
 use Rattle.tl_tree.specs.Code.{Items}
 use Rattle.tl_tree.specs.Nodes.{lay}
 use Rattle.check_stage.specs.declared.staging.End.{End}
@@ -17,11 +18,11 @@ within least most number = if nat_lt number least then least else (if nat_lt num
 
 -- the bytes of a memory of so many KiB; words that are taken name from 64 to 65,536
 abbrev pub bytes_of : ℕ → ℕ
-bytes_of memory = within 64 65536 memory * 1024
+bytes_of memory = within 64 65536 memory * MEMORY_UNIT
 
 -- the units of a budget; words that are taken name from 1 to 4,000,000
 abbrev pub units_of : ℕ → ℕ
-units_of budget = within 1 4000000 budget
+units_of budget = within 1 MAX_BUDGET budget
 
 -- what a staging that ends so owes behind what was printed: these lines, or the line of the refusal
 abbrev pub due_of_end : End → List ℕ → Due

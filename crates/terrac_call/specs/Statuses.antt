@@ -1,7 +1,6 @@
 -- The table of statuses: their numbers, which the process ends with, and the lines that `notes` takes.
 use Rattle.std.specs.Prelude.{ℕ, List, [], ◌++◌, codes}
 use Rattle.std.specs.Fmt.{decimal}
-use Rattle.tl_base.specs.declared.place.Place.{Place}
 use Rattle.tl_lex.specs.declared.SyntaxKind.{SyntaxKind}
 use Rattle.tl_lex.specs.declared.SyntaxKind.TheVariants as syntax
 use Rattle.elf_image.specs.declared.error.ImageError.{ImageError}
@@ -16,6 +15,7 @@ use Rattle.terrac_call.specs.declared.status.Status.{Status}
 use Rattle.terrac_call.specs.declared.status.Status.TheVariants.{Ok, Usage, Syntax, Raised, BudgetSpent, NoEntry}
 use Rattle.terrac_call.specs.declared.status.Status.TheVariants.{BadArgument, Fault, Unfinished, BadImage, ReadFault}
 use Rattle.terrac_call.specs.declared.status.Status.TheVariants.{WriteFault, NoMemory, MachineFault}
+use Rattle.check_stage.specs.Texts.{place_text}
 
 abbrev pub code_of : Status → ℕ
 code_of Ok = 0
@@ -32,10 +32,6 @@ code_of ReadFault = 11
 code_of WriteFault = 12
 code_of NoMemory = 13
 code_of (MachineFault kind pc) = 14
-
--- a place, as line and number of the token on it
-abbrev place_text : Place → List ℕ
-place_text place = decimal place.line ++ codes ":" ++ decimal place.word
 
 abbrev pub kind_name : SyntaxKind → List ℕ
 kind_name syntax.BadByte = codes "BadByte"

@@ -26,13 +26,10 @@ use crate::lines::{
 use crate::status::{FaultKind, ImageFault};
 use crate::words::Call;
 use crate::writing::write_piece;
-use elf_image::{Image, ImageError, Symbol, read, write};
+use elf_image::{Image, ImageError, LONGEST_IMAGE, Symbol, read, write};
 use rv_machine::{Machine, Stop};
 use std::alloc::Global;
 use tl_base::{Failed, NoMemory, Place, Sink};
-
-/// How many bytes an image may have.
-pub(crate) const LONGEST_IMAGE: usize = 268_435_456;
 
 /// How a call on an image is carried out.
 #[derive(Clone, Copy, Drop)]

@@ -3,6 +3,7 @@
 ghost use Rattle.std.specs.Prelude.{◌≡◌, ◌≢◌, ◌≤◌, IfOk, OnErr};
 ghost use Rattle.terrac_call.specs.Due.{after};
 ghost use Rattle.tl_base.specs.Limits.{IsLimits};
+ghost use Rattle.tl_base.specs.declared.limits.TheConstants.Limits.{MAX_MEMORY};
 ghost use Rattle.terrac_call.specs.Staged.{within, bytes_of, units_of, due_of_end, due_of_staging};
 ghost use Rattle.terrac_call.specs.DueView.{shown_due};
 ghost use Rattle.terrac_call.specs.Ending.{Ends};
@@ -36,9 +37,9 @@ fn within(least: u64, most: u64, number: u64) -> u64
 /// The bytes of a memory of so many KiB.
 pub(crate) fn bytes_of(memory: u64) -> u64
     ensures is { result ≡ bytes_of memory }
-    ensures within { result ≤ 67108864 }
+    ensures within { result ≤ MAX_MEMORY }
 {
-    within(64, 65_536, memory) * 1024
+    within(64, 65_536, memory) * StagingLimits::MEMORY_UNIT
 }
 
 /// The limits of a staging whose exports are compiled.
@@ -48,8 +49,8 @@ pub(crate) fn staging_limits(limits: Limits) -> StagingLimits
     ensures memory { result.memory ≡ bytes_of limits.memory }
 {
     StagingLimits {
-        budget: within(1, 4_000_000, limits.budget),
-        memory: within(64, 65_536, limits.memory) * 1024,
+        budget: within(1, StagingLimits::MAX_BUDGET, limits.budget),
+        memory: within(64, 65_536, limits.memory) * StagingLimits::MEMORY_UNIT,
     }
 }
 

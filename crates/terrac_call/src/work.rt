@@ -13,13 +13,14 @@ ghost use Rattle.terrac_call.specs.declared.reading.ReadError.TheVariants as err
 use crate::check::check;
 use crate::due::Ended;
 use crate::emit::emit;
-use crate::exec::{LONGEST_IMAGE, exec};
+use crate::exec::exec;
 use crate::generating::run_generated;
 use crate::lines::{no_memory_due, read_fault_due, usage_due};
 use crate::reading::{ReadError, read_source};
 use crate::run::{Asking, run};
 use crate::terms::terms;
 use crate::words::{Asked, Call, Job, Limits, Running, job_of};
+use elf_image::LONGEST_IMAGE;
 use std::alloc::Global;
 use tl_base::{NoMemory, Sink, Source};
 use tl_lex::LONGEST_TEXT;

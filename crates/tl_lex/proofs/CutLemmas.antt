@@ -1,5 +1,6 @@
 -- What a front of a text decides by itself: with nothing or a space behind it, the text has the same first token.
-use Rattle.std.proofs.Common.{◌≡◌, ℕ, suc, ◌+◌, ◌<◌, ◌≤◌, Bool, true, false, cond, eqb, not, ◌&&◌, List, [], ◌∷◌, ◌++◌, length, take, drop, Option, Some, None, refl, sym, ap, ◌∙◌, subst, arith, codes, inl, inr}
+use Rattle.std.proofs.Common.{◌≡◌, ℕ, suc, ◌+◌, ◌<◌, ◌≤◌, Bool, true, false, cond, eqb, not, ◌&&◌, List, [], ◌∷◌, ◌++◌, length, take, drop}
+use Rattle.std.proofs.Common.{Option, Some, None, refl, sym, ap, ◌∙◌, subst, arith, codes, inl, inr}
 use Rattle.std.specs.Prelude.{bytes_eq, nat_lt, option_map}
 use Rattle.std.specs.List.{prefix_len}
 use Rattle.std.proofs.lemmas.Bool.{true≢false, false≢true, eqb-true, cases_lt, and_parts}
@@ -13,7 +14,8 @@ use Rattle.tl_lex.specs.Signs.{is_single_sign, is_double_sign, is_triple_sign, s
 use Rattle.tl_lex.specs.Brackets.{begins_with, bracket_level, closing_place, inside_at}
 use Rattle.tl_lex.specs.Quoted.{characters, source_len, has_bad_escape}
 use Rattle.tl_lex.specs.Values.{long_value}
-use Rattle.tl_lex.specs.Fronts.{longest_value, quoted_front, bracketed_len, long_by, long_front, long_comment_by, comment_by, comment_front, begins_comment, bracket_or_sign_front, front_of}
+use Rattle.tl_lex.specs.Fronts.{longest_value, quoted_front, bracketed_len, long_by, long_front, long_comment_by, comment_by, comment_front}
+use Rattle.tl_lex.specs.Fronts.{begins_comment, bracket_or_sign_front, front_of}
 use Rattle.tl_lex.specs.declared.quoted.Character.{Character}
 use Rattle.tl_lex.specs.declared.TokenKind.TheVariants as kinds
 use Rattle.tl_lex.specs.declared.SyntaxKind.TheVariants as why
@@ -21,7 +23,8 @@ use Rattle.tl_lex.specs.declared.front.Front.{Front}
 use Rattle.tl_lex.specs.declared.front.Front.TheVariants as fronts
 use Rattle.tl_lex.proofs.FrontLemmas.{any_is, bytes_same}
 use Rattle.tl_lex.proofs.BracketLemmas.{bracket_bounds, closing_bounds, inside_by}
-use Rattle.tl_lex.proofs.LocalLemmas.{level_parts, bracket_in_front, bracket_of_front, closing_in_front, closing_of_front, characters_in_front, characters_of_front}
+use Rattle.tl_lex.proofs.LocalLemmas.{level_parts, bracket_in_front, bracket_of_front, closing_in_front, closing_of_front}
+use Rattle.tl_lex.proofs.LocalLemmas.{characters_in_front, characters_of_front}
 use Rattle.tl_lex.proofs.MunchLemmas.{chosen, front_chosen}
 
 -- nothing, or a text that begins with a space

@@ -1,5 +1,6 @@
 -- A front is within its text, may be cut off, and parts no line end.
-use Rattle.std.proofs.Common.{◌≡◌, ◌≢◌, ℕ, ◌+◌, ◌-◌, ◌*◌, ◌<◌, ◌≤◌, Bool, true, false, cond, eqb, ltb, not, ◌&&◌, List, [], ◌∷◌, length, get_or, take, drop, Option, Some, None, ◌⊎◌, inl, inr, refl, sym, ap, ◌∙◌, subst, arith, codes}
+use Rattle.std.proofs.Common.{◌≡◌, ◌≢◌, ℕ, ◌+◌, ◌-◌, ◌*◌, ◌<◌, ◌≤◌, Bool, true, false, cond, eqb, ltb, not, ◌&&◌, List, [], ◌∷◌, length}
+use Rattle.std.proofs.Common.{get_or, take, drop, Option, Some, None, ◌⊎◌, inl, inr, refl, sym, ap, ◌∙◌, subst, arith, codes}
 use Rattle.std.specs.Prelude.{bytes_eq, nat_eq, nat_lt}
 use Rattle.std.specs.List.{prefix_len, list_any, list_all}
 use Rattle.std.specs.Str.{IsUtf8, IsCharBoundary}
@@ -17,7 +18,8 @@ use Rattle.tl_lex.specs.Signs.{is_single_sign, is_double_sign, is_triple_sign, s
 use Rattle.tl_lex.specs.Brackets.{begins_with, bracket_level, inside_at}
 use Rattle.tl_lex.specs.Quoted.{characters, source_len, has_bad_escape}
 use Rattle.tl_lex.specs.Values.{long_value}
-use Rattle.tl_lex.specs.Fronts.{longest_value, line_len, quoted_front, bracketed_len, long_by, long_front, long_comment_by, comment_by, comment_front, begins_comment, bracket_or_sign_front, front_of}
+use Rattle.tl_lex.specs.Fronts.{longest_value, line_len, quoted_front, bracketed_len, long_by, long_front, long_comment_by, comment_by}
+use Rattle.tl_lex.specs.Fronts.{comment_front, begins_comment, bracket_or_sign_front, front_of}
 use Rattle.tl_lex.specs.declared.TokenKind.TheVariants as kinds
 use Rattle.tl_lex.specs.declared.front.Front.{Front}
 use Rattle.tl_lex.specs.declared.front.Front.TheVariants as fronts

@@ -1,5 +1,6 @@
 -- The laws of the division of texts.
-use Rattle.std.proofs.Common.{◌≡◌, ℕ, zero, suc, ◌+◌, ◌<◌, ◌≤◌, true, List, [], ◌∷◌, ◌++◌, length, take, drop, Ok, refl, sym, ap, ◌∙◌, subst, append_assoc, arith}
+use Rattle.std.proofs.Common.{◌≡◌, ℕ, zero, suc, ◌+◌, ◌<◌, ◌≤◌, true, List, [], ◌∷◌, ◌++◌, length, take, drop, Ok, refl, sym, ap, ◌∙◌}
+use Rattle.std.proofs.Common.{subst, append_assoc, arith}
 use Rattle.std.proofs.lemmas.List.{length-drop, length-take-le, take-append-drop, drop_at}
 use Rattle.tl_lex.specs.Fronts.{front_of}
 use Rattle.tl_lex.specs.Answers.{Token, Answer, token_at, position_behind, answers_at, answers_behind, first_line_len, answers_of}

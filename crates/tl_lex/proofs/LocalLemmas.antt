@@ -1,5 +1,6 @@
 -- What a front of a text decides by itself: long brackets and characters in quotes that end within it.
-use Rattle.std.proofs.Common.{◌≡◌, ℕ, zero, suc, ◌+◌, ◌-◌, ◌<◌, ◌≤◌, min, Bool, true, false, cond, eqb, ◌&&◌, ◌||◌, List, [], ◌∷◌, length, get_or, take, drop, Option, Some, None, refl, sym, ap, ◌∙◌, arith}
+use Rattle.std.proofs.Common.{◌≡◌, ℕ, zero, suc, ◌+◌, ◌-◌, ◌<◌, ◌≤◌, min, Bool, true, false, cond, eqb, ◌&&◌, ◌||◌, List, [], ◌∷◌, length}
+use Rattle.std.proofs.Common.{get_or, take, drop, Option, Some, None, refl, sym, ap, ◌∙◌, arith}
 use Rattle.std.specs.Prelude.{option_map}
 use Rattle.std.specs.List.{prefix_len, list_all}
 use Rattle.std.proofs.lemmas.Bool.{true≢false, false≢true, eqb-true, eq-eqb, ne_eqb, and_parts, and_from}
@@ -8,7 +9,8 @@ use Rattle.std.proofs.lemmas.List.Sums.{sum_by-cons}
 use Rattle.tl_lex.specs.Bytes.{is_line_end, is_digit, is_quote}
 use Rattle.tl_lex.specs.LineEnds.{is_pair, line_end_len}
 use Rattle.tl_lex.specs.Brackets.{begins_with, equals_len, bracket_level, is_level, closes, closing_place}
-use Rattle.tl_lex.specs.Quoted.{character, no_character, decimal, decimal_len, escaped_byte, escape, quoted_character, characters, source_len}
+use Rattle.tl_lex.specs.Quoted.{character, no_character, decimal, decimal_len, escaped_byte, escape, quoted_character, characters}
+use Rattle.tl_lex.specs.Quoted.{source_len}
 use Rattle.tl_lex.specs.declared.quoted.Character.{Character}
 use Rattle.tl_lex.proofs.BracketLemmas.{begins_with-is, is_level-is, closing_step, closing_nil, closing_bounds}
 use Rattle.tl_lex.proofs.QuotedLemmas.{characters_step, last_character, len_of}

@@ -1,5 +1,6 @@
 -- The token at the front of a text is its longest.
-use Rattle.std.proofs.Common.{◌≡◌, ℕ, zero, suc, ◌+◌, ◌-◌, ◌*◌, ◌≤◌, Bool, true, false, cond, not, ◌&&◌, ◌||◌, List, [], ◌∷◌, length, take, drop, Option, Some, None, inl, inr, refl, sym, ap, ◌∙◌, arith}
+use Rattle.std.proofs.Common.{◌≡◌, ℕ, zero, suc, ◌+◌, ◌-◌, ◌*◌, ◌≤◌, Bool, true, false, cond, not, ◌&&◌, ◌||◌, List, [], ◌∷◌, length, take}
+use Rattle.std.proofs.Common.{drop, Option, Some, None, inl, inr, refl, sym, ap, ◌∙◌, arith}
 use Rattle.std.specs.Prelude.{bytes_eq, nat_le}
 use Rattle.std.proofs.lemmas.Bool.{false≢true, eqb-true, eq-eqb, and_parts, or_cases}
 use Rattle.std.proofs.lemmas.List.{length-take-le, length-drop, drop-take}
@@ -17,7 +18,9 @@ use Rattle.tl_lex.specs.declared.front.Front.TheVariants as fronts
 use Rattle.tl_lex.proofs.BracketLemmas.{closing_bounds, inside_by}
 use Rattle.tl_lex.proofs.FrontLemmas.{bytes_same}
 use Rattle.tl_lex.proofs.LocalLemmas.{run_bound, bracket_in_front, closing_in_front, characters_in_front, level_parts}
-use Rattle.tl_lex.proofs.MunchLemmas.{name_reserved, word_all, word_first, numeral_run, is_sign_of, sign_shape, sign_first, sign_byte, sign_longest, sign_short, name_front, digit_front, quote_front, mark_front, bracket_byte, lexeme_word, lexeme_numeral, lexeme_quoted, lexeme_sign, lexeme_long, comment_no_lexeme}
+use Rattle.tl_lex.proofs.MunchLemmas.{name_reserved, word_all, word_first, numeral_run, is_sign_of, sign_shape, sign_first, sign_byte}
+use Rattle.tl_lex.proofs.MunchLemmas.{sign_longest, sign_short, name_front, digit_front, quote_front, mark_front, bracket_byte, lexeme_word}
+use Rattle.tl_lex.proofs.MunchLemmas.{lexeme_numeral, lexeme_quoted, lexeme_sign, lexeme_long, comment_no_lexeme}
 
 -- a text with this token at its front
 pub record At (c : ℕ) (rest : List ℕ) (kind : TokenKind) (len : ℕ) : Type 0 where

@@ -1,5 +1,6 @@
 -- No longer front of a text is a token.
-use Rattle.std.proofs.Common.{◌≡◌, ℕ, zero, suc, ◌+◌, ◌≤◌, Bool, true, false, cond, eqb, not, ◌&&◌, ◌||◌, List, [], ◌∷◌, length, take, drop, Option, Some, None, inl, inr, refl, sym, ap, ◌∙◌, arith, codes}
+use Rattle.std.proofs.Common.{◌≡◌, ℕ, zero, suc, ◌+◌, ◌≤◌, Bool, true, false, cond, eqb, not, ◌&&◌, ◌||◌, List, [], ◌∷◌, length, take, drop}
+use Rattle.std.proofs.Common.{Option, Some, None, inl, inr, refl, sym, ap, ◌∙◌, arith, codes}
 use Rattle.std.specs.Prelude.{bytes_eq, nat_lt}
 use Rattle.std.specs.List.{prefix_len, list_all}
 use Rattle.std.proofs.lemmas.Bool.{false≢true, eqb-true, and_parts, and_from, or_cases, not-true}
@@ -11,7 +12,8 @@ use Rattle.tl_lex.specs.Signs.{is_single_sign, is_double_sign, is_triple_sign, s
 use Rattle.tl_lex.specs.Brackets.{begins_with, bracket_level, inside_at}
 use Rattle.tl_lex.specs.Quoted.{characters, source_len, has_bad_escape}
 use Rattle.tl_lex.specs.Values.{long_value}
-use Rattle.tl_lex.specs.Fronts.{longest_value, quoted_front, bracketed_len, long_by, long_front, long_comment_by, comment_by, comment_front, begins_comment, bracket_or_sign_front, front_of}
+use Rattle.tl_lex.specs.Fronts.{longest_value, quoted_front, bracketed_len, long_by, long_front, long_comment_by, comment_by, comment_front}
+use Rattle.tl_lex.specs.Fronts.{begins_comment, bracket_or_sign_front, front_of}
 use Rattle.tl_lex.specs.Tokens.{is_word, signs}
 use Rattle.tl_lex.specs.declared.TokenKind.{TokenKind}
 use Rattle.tl_lex.specs.declared.TokenKind.TheVariants as kinds

@@ -1,11 +1,13 @@
 -- The characters of a literal in quotes, one after another.
-use Rattle.std.proofs.Common.{◌≡◌, ℕ, zero, suc, ◌+◌, ◌≤◌, Bool, true, false, cond, eqb, ltb, ◌||◌, List, [], ◌∷◌, length, take, drop, refl, sym, ap, ◌∙◌, arith}
+use Rattle.std.proofs.Common.{◌≡◌, ℕ, zero, suc, ◌+◌, ◌≤◌, Bool, true, false, cond, eqb, ltb, ◌||◌, List, [], ◌∷◌, length, take, drop, refl}
+use Rattle.std.proofs.Common.{sym, ap, ◌∙◌, arith}
 use Rattle.std.proofs.lemmas.Bool.{true≢false, ne_eqb, eq-eqb}
 use Rattle.std.proofs.lemmas.List.{drop-drop, length-drop, length-take}
 use Rattle.std.proofs.lemmas.List.Sums.{sum_by-cons, prefix_len-le-length}
 use Rattle.tl_lex.specs.Bytes.{is_line_end, is_digit}
 use Rattle.tl_lex.specs.LineEnds.{line_end_len}
-use Rattle.tl_lex.specs.Quoted.{character, no_character, decimal, decimal_len, escaped_byte, escape, quoted_character, characters_up_to, characters, source_len, has_bad_escape}
+use Rattle.tl_lex.specs.Quoted.{character, no_character, decimal, decimal_len, escaped_byte, escape, quoted_character, characters_up_to}
+use Rattle.tl_lex.specs.Quoted.{characters, source_len, has_bad_escape}
 use Rattle.tl_lex.specs.declared.quoted.Character.{Character}
 use Rattle.tl_lex.proofs.LineEndLemmas.{line_end_len_within}
 

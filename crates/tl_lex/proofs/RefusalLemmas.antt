@@ -1,5 +1,6 @@
 -- Where a text is refused, no token begins.
-use Rattle.std.proofs.Common.{◌≡◌, ℕ, zero, suc, ◌+◌, ◌-◌, ◌*◌, ◌<◌, ◌≤◌, Bool, true, false, cond, eqb, not, ◌&&◌, ◌||◌, List, [], ◌∷◌, length, take, drop, Option, Some, None, inl, inr, refl, sym, ap, ◌∙◌, arith}
+use Rattle.std.proofs.Common.{◌≡◌, ℕ, zero, suc, ◌+◌, ◌-◌, ◌*◌, ◌<◌, ◌≤◌, Bool, true, false, cond, eqb, not, ◌&&◌, ◌||◌, List, [], ◌∷◌}
+use Rattle.std.proofs.Common.{length, take, drop, Option, Some, None, inl, inr, refl, sym, ap, ◌∙◌, arith}
 use Rattle.std.specs.Prelude.{bytes_eq, nat_lt, nat_le}
 use Rattle.std.specs.List.{prefix_len}
 use Rattle.std.proofs.lemmas.Bool.{true≢false, false≢true, eqb-true, eq-eqb, and_parts, or_cases}
@@ -11,7 +12,8 @@ use Rattle.tl_lex.specs.Signs.{sign_len, is_point_and_digit, sign_front}
 use Rattle.tl_lex.specs.Brackets.{begins_with, bracket_level, closing_place, inside_at}
 use Rattle.tl_lex.specs.Quoted.{characters, source_len, has_bad_escape}
 use Rattle.tl_lex.specs.Values.{long_value}
-use Rattle.tl_lex.specs.Fronts.{longest_value, quoted_front, long_by, long_front, long_comment_by, comment_by, comment_front, begins_comment, bracket_or_sign_front, front_of}
+use Rattle.tl_lex.specs.Fronts.{longest_value, quoted_front, long_by, long_front, long_comment_by, comment_by, comment_front}
+use Rattle.tl_lex.specs.Fronts.{begins_comment, bracket_or_sign_front, front_of}
 use Rattle.tl_lex.specs.Tokens.{is_word, signs, is_quoted, ends_at, is_long_at, is_token}
 use Rattle.tl_lex.specs.Laws.{BeginsNoToken, BeginsNoLiteral}
 use Rattle.tl_lex.specs.declared.TokenKind.{TokenKind}
@@ -23,7 +25,8 @@ use Rattle.tl_lex.specs.declared.front.Front.TheVariants as fronts
 use Rattle.tl_lex.proofs.BracketLemmas.{closing_bounds, inside_by}
 use Rattle.tl_lex.proofs.FrontLemmas.{bytes_same}
 use Rattle.tl_lex.proofs.LocalLemmas.{begins_in_front, bracket_in_front, closing_in_front, characters_in_front, level_parts}
-use Rattle.tl_lex.proofs.MunchLemmas.{name_reserved, word_first, numeral_run, sign_shape, sign_first, sign_byte, sign_longest, name_front, digit_front, quote_front, mark_front, bracket_byte}
+use Rattle.tl_lex.proofs.MunchLemmas.{name_reserved, word_first, numeral_run, sign_shape, sign_first, sign_byte, sign_longest, name_front}
+use Rattle.tl_lex.proofs.MunchLemmas.{digit_front, quote_front, mark_front, bracket_byte}
 
 -- the two refusals that say that something does not begin, or does not end
 abbrev is_bad_byte : Front → Bool

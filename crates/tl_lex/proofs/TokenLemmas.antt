@@ -1,5 +1,6 @@
 -- The token at the front of a text is a token by itself.
-use Rattle.std.proofs.Common.{◌≡◌, ℕ, suc, ◌+◌, ◌-◌, ◌*◌, Bool, true, false, cond, eqb, not, ◌&&◌, ◌||◌, List, [], ◌∷◌, length, take, drop, Option, Some, None, refl, sym, ap, ◌∙◌, subst, arith, codes}
+use Rattle.std.proofs.Common.{◌≡◌, ℕ, suc, ◌+◌, ◌-◌, ◌*◌, Bool, true, false, cond, eqb, not, ◌&&◌, ◌||◌, List, [], ◌∷◌, length, take, drop}
+use Rattle.std.proofs.Common.{Option, Some, None, refl, sym, ap, ◌∙◌, subst, arith, codes}
 use Rattle.std.specs.Prelude.{bytes_eq, nat_eq, nat_lt, nat_le, option_map}
 use Rattle.std.specs.List.{prefix_len, list_all}
 use Rattle.std.proofs.lemmas.Bool.{true≢false, false≢true, eqb-true, eq-eqb, and_from, le-leb, ltb-false, not-false}
@@ -11,7 +12,8 @@ use Rattle.tl_lex.specs.Signs.{is_single_sign, is_double_sign, is_triple_sign, s
 use Rattle.tl_lex.specs.Brackets.{begins_with, bracket_level, closing_place, inside_at}
 use Rattle.tl_lex.specs.Quoted.{characters, source_len, has_bad_escape}
 use Rattle.tl_lex.specs.Values.{long_value}
-use Rattle.tl_lex.specs.Fronts.{longest_value, quoted_front, bracketed_len, long_by, long_front, comment_front, begins_comment, bracket_or_sign_front, front_of}
+use Rattle.tl_lex.specs.Fronts.{longest_value, quoted_front, bracketed_len, long_by, long_front, comment_front, begins_comment}
+use Rattle.tl_lex.specs.Fronts.{bracket_or_sign_front, front_of}
 use Rattle.tl_lex.specs.Tokens.{is_word, signs, is_quoted, ends_at, is_long_at, is_token}
 use Rattle.tl_lex.specs.declared.TokenKind.{TokenKind}
 use Rattle.tl_lex.specs.declared.TokenKind.TheVariants as kinds

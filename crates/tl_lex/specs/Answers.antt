@@ -1,5 +1,6 @@
 -- The answers for a text: its tokens in order with their places, up to the end token or the first refusal.
-use Rattle.std.specs.Prelude.{ℕ, zero, suc, ◌+◌, Bool, List, [], ◌∷◌, ◌++◌, length, take, drop, if◌then◌else◌, ◌==◌, count_by, Result, Ok, Err}
+use Rattle.std.specs.Prelude.{ℕ, zero, suc, ◌+◌, Bool, List, [], ◌∷◌, ◌++◌, length, take, drop, if◌then◌else◌, ◌==◌, count_by, Result, Ok}
+use Rattle.std.specs.Prelude.{Err}
 use Rattle.tl_base.specs.declared.place.Place.{Place}
 use Rattle.tl_lex.specs.Brackets.{begins_with}
 use Rattle.tl_lex.specs.LineEnds.{line_ends}

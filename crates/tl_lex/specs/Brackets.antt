@@ -1,5 +1,6 @@
 -- Long brackets (Lua 5.1 manual, section 2.1): `[[`, `[=[` and so on, up to the first closing bracket of the same level.
-use Rattle.std.specs.Prelude.{ℕ, suc, ◌+◌, Bool, false, List, [], ◌∷◌, take, drop, if◌then◌else◌, ◌==◌, ◌&&◌, Option, Some, None, option_map}
+use Rattle.std.specs.Prelude.{ℕ, suc, ◌+◌, Bool, false, List, [], ◌∷◌, take, drop, if◌then◌else◌, ◌==◌, ◌&&◌, Option, Some, None}
+use Rattle.std.specs.Prelude.{option_map}
 use Rattle.std.specs.List.{prefix_len}
 
 abbrev pub begins_with : ℕ → List ℕ → Bool

@@ -1,6 +1,8 @@
 -- What stands at the front of a text: nothing, white space or a comment, a token, or what breaks a rule.
-use Rattle.std.specs.Prelude.{ℕ, ◌+◌, ◌*◌, Bool, false, List, [], ◌∷◌, length, drop, if◌then◌else◌, ◌==◌, ◌&&◌, not, nat_lt, Option, Some, None}
+use Rattle.std.specs.Prelude.{ℕ, ◌+◌, ◌*◌, Bool, false, List, [], ◌∷◌, length, drop, if◌then◌else◌, ◌==◌, ◌&&◌, not, nat_lt, Option, Some}
+use Rattle.std.specs.Prelude.{None}
 use Rattle.std.specs.List.{prefix_len}
+use Rattle.tl_base.specs.declared.text.TheConstants.Text.{MAX_LEN}
 use Rattle.tl_lex.specs.Bytes.{is_white, is_line_end, begins_name, is_digit, is_quote}
 use Rattle.tl_lex.specs.Words.{word_front}
 use Rattle.tl_lex.specs.Numerals.{numeral_front}
@@ -15,7 +17,7 @@ use Rattle.tl_lex.specs.declared.front.Front.TheVariants as fronts
 
 -- the most bytes of a literal's value
 abbrev pub longest_value : ℕ
-longest_value = 65535
+longest_value = MAX_LEN
 
 -- how many bytes come before the first line end
 abbrev pub line_len : List ℕ → ℕ

@@ -1,4 +1,5 @@
--- The promise: the answers for a text, its tokens in order with places and offsets, up to the end or the first refusal. A reader can stop here.
+-- The promise: the answers for a text, its tokens in order with places and offsets, up to the end or the first refusal.
+-- A reader can stop here.
 pub mod Answers
 -- What is proved of them.
 pub mod Laws

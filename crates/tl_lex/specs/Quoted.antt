@@ -1,5 +1,6 @@
 -- Literals in quotes, character by character (Lua 5.1 manual, section 2.1).
-use Rattle.std.specs.Prelude.{ℕ, zero, suc, ◌+◌, ◌-◌, ◌*◌, ◌%◌, Bool, List, [], ◌∷◌, length, take, drop, map, fold, sum_by, if◌then◌else◌, ◌==◌, ◌||◌, nat_lt}
+use Rattle.std.specs.Prelude.{ℕ, zero, suc, ◌+◌, ◌-◌, ◌*◌, ◌%◌, Bool, List, [], ◌∷◌, length, take, drop, map, fold, sum_by, if◌then◌else◌}
+use Rattle.std.specs.Prelude.{◌==◌, ◌||◌, nat_lt}
 use Rattle.std.specs.List.{prefix_len, list_any}
 use Rattle.tl_lex.specs.Bytes.{is_line_end, is_digit}
 use Rattle.tl_lex.specs.LineEnds.{line_end_len}

@@ -14,7 +14,8 @@ is_single_sign c = list_any (λ x. c == x) (codes "+-*/%^#<>=(){}[];:,.@&`")
 -- the signs of two bytes
 abbrev pub is_double_sign : ℕ → ℕ → Bool
 is_double_sign c d =
-    list_any (λ s. bytes_eq (c ∷ d ∷ []) s) (codes "==" ∷ codes "~=" ∷ codes "<=" ∷ codes ">=" ∷ codes "::" ∷ codes ".." ∷ codes "->" ∷ codes "<<" ∷ codes ">>" ∷ [])
+    list_any (λ s. bytes_eq (c ∷ d ∷ []) s)
+    (codes "==" ∷ codes "~=" ∷ codes "<=" ∷ codes ">=" ∷ codes "::" ∷ codes ".." ∷ codes "->" ∷ codes "<<" ∷ codes ">>" ∷ [])
 
 -- the sign of three bytes
 abbrev pub is_triple_sign : ℕ → ℕ → ℕ → Bool

@@ -1,5 +1,6 @@
 -- Which bytes are a token by themselves, said apart from how a text is divided.
-use Rattle.std.specs.Prelude.{ℕ, ◌+◌, ◌-◌, ◌*◌, Bool, false, List, [], ◌∷◌, length, drop, ◌==◌, ◌||◌, ◌&&◌, not, nat_le, Option, Some, None, codes, bytes_eq}
+use Rattle.std.specs.Prelude.{ℕ, ◌+◌, ◌-◌, ◌*◌, Bool, false, List, [], ◌∷◌, length, drop, ◌==◌, ◌||◌, ◌&&◌, not, nat_le, Option, Some, None}
+use Rattle.std.specs.Prelude.{codes, bytes_eq}
 use Rattle.std.specs.List.{list_all}
 use Rattle.tl_lex.specs.Bytes.{begins_name, is_name_byte, is_quote}
 use Rattle.tl_lex.specs.Words.{longest_name, is_one_of, is_reserved}
@@ -17,8 +18,10 @@ is_word (c ∷ rest) = begins_name c && list_all is_name_byte rest
 -- the operators, brackets and marks
 abbrev pub signs : List (List ℕ)
 signs =
-    codes "+" ∷ codes "-" ∷ codes "*" ∷ codes "/" ∷ codes "%" ∷ codes "^" ∷ codes "#" ∷ codes "==" ∷ codes "~=" ∷ codes "<=" ∷ codes ">=" ∷ codes "<" ∷ codes ">" ∷ codes "=" ∷ codes "(" ∷ codes ")" ∷ codes "{" ∷ codes "}" ∷ codes "[" ∷ codes "]"
-    ∷ codes ";" ∷ codes ":" ∷ codes "::" ∷ codes "," ∷ codes "." ∷ codes ".." ∷ codes "..." ∷ codes "->" ∷ codes "@" ∷ codes "&" ∷ codes "<<" ∷ codes ">>" ∷ codes "`" ∷ []
+    codes "+" ∷ codes "-" ∷ codes "*" ∷ codes "/" ∷ codes "%" ∷ codes "^" ∷ codes "#" ∷ codes "==" ∷ codes "~=" ∷ codes "<="
+    ∷ codes ">=" ∷ codes "<" ∷ codes ">" ∷ codes "=" ∷ codes "(" ∷ codes ")" ∷ codes "{" ∷ codes "}" ∷ codes "[" ∷ codes "]"
+    ∷ codes ";" ∷ codes ":" ∷ codes "::" ∷ codes "," ∷ codes "." ∷ codes ".." ∷ codes "..." ∷ codes "->" ∷ codes "@" ∷ codes "&"
+    ∷ codes "<<" ∷ codes ">>" ∷ codes "`" ∷ []
 
 -- in quotes: characters between two quotes
 abbrev pub is_quoted : List ℕ → Bool

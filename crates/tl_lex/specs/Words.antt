@@ -18,8 +18,9 @@ is_one_of word words = list_any (λ w. bytes_eq word w) words
 -- Lua's reserved words (Lua 5.1 manual, section 2.1), and those of Terra code
 abbrev pub reserved_words : List (List ℕ)
 reserved_words =
-    codes "and" ∷ codes "break" ∷ codes "do" ∷ codes "else" ∷ codes "elseif" ∷ codes "end" ∷ codes "false" ∷ codes "for" ∷ codes "function" ∷ codes "if" ∷ codes "in"
-    ∷ codes "local" ∷ codes "nil" ∷ codes "not" ∷ codes "or" ∷ codes "repeat" ∷ codes "return" ∷ codes "then" ∷ codes "true" ∷ codes "until" ∷ codes "while"
+    codes "and" ∷ codes "break" ∷ codes "do" ∷ codes "else" ∷ codes "elseif" ∷ codes "end" ∷ codes "false" ∷ codes "for"
+    ∷ codes "function" ∷ codes "if" ∷ codes "in" ∷ codes "local" ∷ codes "nil" ∷ codes "not" ∷ codes "or" ∷ codes "repeat"
+    ∷ codes "return" ∷ codes "then" ∷ codes "true" ∷ codes "until" ∷ codes "while"
     ∷ codes "terra" ∷ codes "quote" ∷ codes "escape" ∷ codes "emit" ∷ codes "struct" ∷ codes "var" ∷ []
 
 unfoldable pub is_reserved : List ℕ → Bool

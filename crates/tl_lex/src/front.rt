@@ -14,9 +14,10 @@ use crate::quoted::count_characters;
 use crate::signs::sign_front;
 use crate::words::word_front;
 use crate::{SyntaxKind, TokenKind};
+use tl_base::Text;
 
 /// The most bytes of a literal's value.
-const LONGEST_VALUE: usize = 65535;
+const LONGEST_VALUE: usize = Text::MAX_LEN;
 
 /// What stands at the front of a text.
 #[derive(Clone, Copy, Debug, PartialEq, Eq)]

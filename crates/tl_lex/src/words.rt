@@ -41,7 +41,8 @@ fn is_four_byte_word(word: &[u8]) -> bool
 }
 
 fn is_five_byte_word(word: &[u8]) -> bool
-    ensures { result ≡ words.is_one_of word.now (codes "break" ∷ codes "false" ∷ codes "local" ∷ codes "until" ∷ codes "while" ∷ codes "terra" ∷ codes "quote" ∷ []) }
+    ensures { result ≡ words.is_one_of word.now
+        (codes "break" ∷ codes "false" ∷ codes "local" ∷ codes "until" ∷ codes "while" ∷ codes "terra" ∷ codes "quote" ∷ []) }
 {
     word == b"break".as_slice()
         || word == b"false".as_slice()

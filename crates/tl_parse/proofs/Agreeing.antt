@@ -9,13 +9,17 @@ use Rattle.tl_tree.specs.declared.mode.Extra.TheVariants.{Plain, Continues, LuaN
 use Rattle.tl_tree.specs.declared.symbol.Symbol.{Symbol}
 use Rattle.tl_tree.specs.declared.symbol.Symbol.TheVariants as symbols
 use Rattle.tl_tree.specs.Tokens.{Token, is, among, sample}
-use Rattle.tl_tree.specs.Tree.{Tree, Nothing, More, Name, Numeral, Literal, Function, Table, Unary, Paren, NamedField, KeyedField, Part, Expression, Operand, Concatenation, Arguments, Fields, FunctionBody}
+use Rattle.tl_tree.specs.Tree.{Tree, Nothing, More, Name, Numeral, Literal, Function, Table, Unary, Paren, NamedField, KeyedField, Part}
+use Rattle.tl_tree.specs.Tree.{Expression, Operand, Concatenation, Arguments, Fields, FunctionBody}
 use Rattle.tl_tree.specs.Grammar.{Grammar, give, token, bind, Outcome, Took, ◌>>=◌, begins, down}
 use Rattle.tl_tree.specs.Forms.{sign, opening, name, Chained, chained, chain, operand, in_chain, right_operator, unary_of}
 use Rattle.tl_tree.specs.LuaExpressions as lua
 use Rattle.tl_tree.proofs.Unrolling.{bind_again}
 use Rattle.tl_parse.specs.Using.{reading, part_at, used, sign_at, open_at, prefix_at, raise_at, number_at}
-use Rattle.tl_parse.specs.Expressions.{name_at, paren_at, base_at, method_arguments_at, applied_at, suffixes_at, prefixed_at, number_tree_at, literal_at, constant, constant_at, function_at, table_at, simple_at, is_simple, primary_at, right_at, power_at, unary_at, binary_at, inner_at, more_at, concatenation_at, chained_at, is_name, field_behind_at, keyed_field_at, field_at}
+use Rattle.tl_parse.specs.Expressions.{name_at, paren_at, base_at, method_arguments_at, applied_at, suffixes_at, prefixed_at}
+use Rattle.tl_parse.specs.Expressions.{number_tree_at, literal_at, constant, constant_at, function_at, table_at, simple_at, is_simple}
+use Rattle.tl_parse.specs.Expressions.{primary_at, right_at, power_at, unary_at, binary_at, inner_at, more_at, concatenation_at, chained_at}
+use Rattle.tl_parse.specs.Expressions.{is_name, field_behind_at, keyed_field_at, field_at}
 use Rattle.tl_parse.specs.declared.expressions.Precedence.TheVariants as precedences
 pub use Rattle.tl_parse.proofs.Following.{sign_then, opened_then, open_then, then, either_is}
 use Rattle.tl_parse.proofs.TerraCodeAgreeing.{terra_code_agrees}

@@ -21,12 +21,20 @@ use Rattle.tl_tree.specs.LuaStatements as lua
 use Rattle.tl_tree.specs.LuaStatements.{looped, fresh, body_mode, Sequence, sequence, Parameters, parameters_of}
 use Rattle.tl_tree.proofs.Unrolling.{bind_again}
 use Rattle.tl_parse.specs.Using.{reading, part_at, used, barred, sign_at, open_at, call_at, operator_at, raise_at}
-use Rattle.tl_parse.specs.Expressions.{name_at, expressions_at, more_expressions_at, paren_at, base_at, is_other, applied_at, suffixes_at, Suffixed, attached, shape_of, suffix_at, call_suffix_at, index_suffix_at, select_suffix_at, method_arguments_at, method_suffix_at, table_suffix_at, literal_suffix_at}
+use Rattle.tl_parse.specs.Expressions.{name_at, expressions_at, more_expressions_at, paren_at, base_at, is_other, applied_at, suffixes_at}
+use Rattle.tl_parse.specs.Expressions.{Suffixed, attached, shape_of, suffix_at, call_suffix_at, index_suffix_at, select_suffix_at}
+use Rattle.tl_parse.specs.Expressions.{method_arguments_at, method_suffix_at, table_suffix_at, literal_suffix_at}
 use Rattle.tl_parse.specs.Expressions as suffixed
-use Rattle.tl_parse.specs.Statements.{is_unsettled, settling, settle_at, variable_at, more_targets_at, is_call, values_at, call_or_assignment_at, do_at, loop_at, while_at, repeat_at, arm_at, more_arms_at, arms_at, otherwise_at, if_at, step_at, numeric_at, generic, generic_at, for_at, function_statement_at, local_function_at, initial_values_at, local_names_at, definition_symbols, local_at, first_symbols, returned_values_at, return_at, break_at, emit_at, statement_at, last_symbols, next_statement_at, goes_on, parameter_at, with_parameter, more_parameters, more_parameters_at, parameters_at, body_at}
+use Rattle.tl_parse.specs.Statements.{is_unsettled, settling, settle_at, variable_at, more_targets_at, is_call, values_at}
+use Rattle.tl_parse.specs.Statements.{call_or_assignment_at, do_at, loop_at, while_at, repeat_at, arm_at, more_arms_at, arms_at}
+use Rattle.tl_parse.specs.Statements.{otherwise_at, if_at, step_at, numeric_at, generic, generic_at, for_at, function_statement_at}
+use Rattle.tl_parse.specs.Statements.{local_function_at, initial_values_at, local_names_at, definition_symbols, local_at, first_symbols}
+use Rattle.tl_parse.specs.Statements.{returned_values_at, return_at, break_at, emit_at, statement_at, last_symbols, next_statement_at}
+use Rattle.tl_parse.specs.Statements.{goes_on, parameter_at, with_parameter, more_parameters, more_parameters_at, parameters_at, body_at}
 use Rattle.tl_parse.specs.Paths.{more_names_at, names_at, path_at}
 use Rattle.tl_parse.specs.TerraDefinitions.{local_terra_at}
-use Rattle.tl_parse.proofs.Uses.{never, both, bind_same, opened_at, opens_any, token_is, plain_is, sign_is, unrolls, ends, refuses, used_classes}
+use Rattle.tl_parse.proofs.Uses.{never, both, bind_same, opened_at, opens_any, token_is, plain_is, sign_is, unrolls, ends, refuses}
+use Rattle.tl_parse.proofs.Uses.{used_classes}
 use Rattle.tl_parse.proofs.Agreeing.{sign_then, open_then, then, either_is, name_agrees, paren_agrees, expression_agrees}
 use Rattle.tl_parse.proofs.Turns.{with_suffix, used_here, used_use, use_same, suffix_turn_of}
 use Rattle.tl_parse.proofs.Paths.{names_agree, path_agrees}

@@ -16,7 +16,8 @@ use Rattle.tl_tree.specs.LuaStatements.{fresh, body_mode, Parameters, parameters
 use Rattle.tl_parse.specs.Parsing.{tokens_left, items_of, end_of, Ready, Fails}
 use Rattle.tl_parse.specs.Using.{part_at, sign_at}
 use Rattle.tl_parse.specs.Expressions.{name_at, applied_at}
-use Rattle.tl_parse.specs.Statements.{first_place, is_call, more_targets_at, next_target_at, values_at, call_or_assignment_at, numeric_at, generic_at, for_at, parameters_at, body_at}
+use Rattle.tl_parse.specs.Statements.{first_place, is_call, more_targets_at, next_target_at, values_at, call_or_assignment_at, numeric_at}
+use Rattle.tl_parse.specs.Statements.{generic_at, for_at, parameters_at, body_at}
 use Rattle.tl_parse.specs.Paths.{next_name_at, more_names_at}
 use Rattle.tl_parse.specs.Going.{Listing}
 use Rattle.tl_parse.specs.declared.error.SyntaxError.{SyntaxError}

@@ -7,9 +7,11 @@ use Rattle.tl_tree.specs.Tree.{Tree, Nothing, More, Expression, Operand, Concate
 use Rattle.tl_tree.specs.Grammar.{Outcome, Took, ◌>>=◌, begins}
 use Rattle.tl_tree.specs.Forms.{Chained, chain}
 use Rattle.tl_parse.specs.Using.{part_at}
-use Rattle.tl_parse.specs.Expressions.{arguments_at, expressions_at, more_expressions_at, unary_at, concatenation_at, chained_at, binary_at, inner_at, more_fields_at, fields_at}
+use Rattle.tl_parse.specs.Expressions.{arguments_at, expressions_at, more_expressions_at, unary_at, concatenation_at, chained_at, binary_at}
+use Rattle.tl_parse.specs.Expressions.{inner_at, more_fields_at, fields_at}
 use Rattle.tl_parse.specs.declared.expressions.Precedence.TheVariants as precedences
-use Rattle.tl_parse.proofs.Agreeing.{unary_agrees, product_agrees, concatenation_agrees, comparison_agrees, conjunction_agrees, chained_agrees, field_agrees}
+use Rattle.tl_parse.proofs.Agreeing.{unary_agrees, product_agrees, concatenation_agrees, comparison_agrees, conjunction_agrees}
+use Rattle.tl_parse.proofs.Agreeing.{chained_agrees, field_agrees}
 use Rattle.tl_parse.proofs.Failing.{fails_after, fails_bind, fails_same}
 
 pub expression_part : (levels : ℕ) (m : Mode) (ts : List Token) → part_at levels (Expression m) ts ≡ (chained_at levels m ts >>= λ a rest. Took a.tree rest)

@@ -20,14 +20,17 @@ use Rattle.tl_tree.specs.LuaStatements.{Sequence, sequence, parameters_of}
 use Rattle.tl_parse.specs.Parsing.{tokens_left, token_of, with_token_by, HasNext}
 use Rattle.tl_parse.specs.Using.{reading, part_at, sign_at}
 use Rattle.tl_parse.specs.Expressions.{name_at, attached, shape_of, suffix_at}
-use Rattle.tl_parse.specs.Statements.{first_place, is_unsettled, settling, settle_at, variable_at, more_targets_at, next_target_at, arm_at, more_arms_at, next_arm_at, goes_on, block_at, more_statements_at, next_statement_at, more_parameters_at, parameter_at, next_parameter_at, with_parameter, body_at}
+use Rattle.tl_parse.specs.Statements.{first_place, is_unsettled, settling, settle_at, variable_at, more_targets_at, next_target_at, arm_at}
+use Rattle.tl_parse.specs.Statements.{more_arms_at, next_arm_at, goes_on, block_at, more_statements_at, next_statement_at}
+use Rattle.tl_parse.specs.Statements.{more_parameters_at, parameter_at, next_parameter_at, with_parameter, body_at}
 use Rattle.tl_parse.specs.Paths.{more_names_at, next_name_at, behind_sign_at, path_names_at}
 use Rattle.tl_parse.specs.declared.parser.Parser.{Parser}
 use Rattle.tl_parse.proofs.Uses.{bind_same, repeats, ends, shorter_turn}
 use Rattle.tl_parse.proofs.Agreeing.{name_agrees}
 use Rattle.tl_parse.proofs.Turns.{list_goes, list_ends, list_shorter}
 use Rattle.tl_parse.proofs.Paths.{path_turn}
-use Rattle.tl_parse.proofs.AgreeingStatements.{token_with, arm_turn, settle_goes, settle_ends, settle_refuses, variable_agrees, block_turn, parameter_turn, body_agrees}
+use Rattle.tl_parse.proofs.AgreeingStatements.{token_with, arm_turn, settle_goes, settle_ends, settle_refuses, variable_agrees, block_turn}
+use Rattle.tl_parse.proofs.AgreeingStatements.{parameter_turn, body_agrees}
 use Rattle.tl_parse.proofs.Failing.{fails_after, fails_bind, fails_from, fails_same, fails_unexpected}
 use Rattle.tl_parse.proofs.Taking.{next_of}
 

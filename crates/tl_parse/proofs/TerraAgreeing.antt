@@ -8,7 +8,8 @@ use Rattle.tl_tree.specs.declared.mode.Extra.TheVariants.{Plain, TerraNumber}
 use Rattle.tl_tree.specs.declared.symbol.Symbol.{Symbol}
 use Rattle.tl_tree.specs.declared.symbol.Symbol.TheVariants as symbols
 use Rattle.tl_tree.specs.Tokens.{Token, is, among, sample}
-use Rattle.tl_tree.specs.Tree.{Tree, Nothing, More, Numeral, NamedField, TerraUnary, TerraParen, Escape, Expression, TerraExpression, TerraOperand}
+use Rattle.tl_tree.specs.Tree.{Tree, Nothing, More, Numeral, NamedField, TerraUnary, TerraParen, Escape, Expression, TerraExpression}
+use Rattle.tl_tree.specs.Tree.{TerraOperand}
 use Rattle.tl_tree.specs.Grammar.{give, bind, Outcome, Took, ◌>>=◌, begins}
 use Rattle.tl_tree.specs.Forms.{sign, separated_behind, name, Chained, chained, chain, operand, in_chain, operators, unary_of}
 use Rattle.tl_tree.specs.LuaExpressions.{literal}
@@ -17,7 +18,12 @@ use Rattle.tl_tree.specs.TerraExpressions.{terra_numerals, terra_prefix_symbols}
 use Rattle.tl_tree.proofs.Unrolling.{bind_again}
 use Rattle.tl_parse.specs.Using.{reading, part_at, used, sign_at, prefix_at}
 use Rattle.tl_parse.specs.Expressions.{name_at, literal_at, is_name}
-use Rattle.tl_parse.specs.TerraExpressions.{escape_at, terra_name_at, terra_paren_at, terra_base_at, terra_suffixes_at, terra_applied_at, terra_number_at, terra_number_tree_at, terra_constant, terra_constant_at, terra_simple_at, terra_primary_at, terra_prefixed_at, terra_exponent_at, terra_unary_at, terra_inner_at, terra_first_at, terra_more_at, terra_binary_at, named_initialiser_at, initialiser_of, initialiser_at, more_initialisers_at, initialiser_behind_at, first_initialiser_at, initialisers_at}
+use Rattle.tl_parse.specs.TerraExpressions.{escape_at, terra_name_at, terra_paren_at, terra_base_at, terra_suffixes_at, terra_applied_at}
+use Rattle.tl_parse.specs.TerraExpressions.{terra_number_at, terra_number_tree_at, terra_constant, terra_constant_at, terra_simple_at}
+use Rattle.tl_parse.specs.TerraExpressions.{terra_primary_at, terra_prefixed_at, terra_exponent_at, terra_unary_at, terra_inner_at}
+use Rattle.tl_parse.specs.TerraExpressions.{terra_first_at, terra_more_at, terra_binary_at, named_initialiser_at, initialiser_of}
+use Rattle.tl_parse.specs.TerraExpressions.{initialiser_at, more_initialisers_at, initialiser_behind_at, first_initialiser_at}
+use Rattle.tl_parse.specs.TerraExpressions.{initialisers_at}
 use Rattle.tl_parse.specs.declared.terra_expressions.TerraPrecedence.TheVariants as precedences
 use Rattle.tl_parse.proofs.Uses.{both, bind_same, opening_is, plain_is}
 use Rattle.tl_parse.proofs.Following.{sign_then, opened_then, open_then, then, either_is}

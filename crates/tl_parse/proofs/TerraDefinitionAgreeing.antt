@@ -4,7 +4,8 @@ use Rattle.tl_tree.specs.declared.mode.Mode.{Mode}
 use Rattle.tl_tree.specs.declared.mode.Context.{Context}
 use Rattle.tl_tree.specs.declared.symbol.Symbol.TheVariants as symbols
 use Rattle.tl_tree.specs.Tokens.{Token, is}
-use Rattle.tl_tree.specs.Tree.{Tree, Nothing, More, Path, DefineTerra, DeclareTerra, LocalTerra, LocalDeclareTerra, DefineStruct, LocalStruct, Expression, TerraFunctionBody}
+use Rattle.tl_tree.specs.Tree.{Tree, Nothing, More, Path, DefineTerra, DeclareTerra, LocalTerra, LocalDeclareTerra, DefineStruct}
+use Rattle.tl_tree.specs.Tree.{LocalStruct, Expression, TerraFunctionBody}
 use Rattle.tl_tree.specs.Grammar.{give, bind, Outcome, Took, ◌>>=◌, begins, is_of}
 use Rattle.tl_tree.specs.Forms.{sign, opening_at, name, path_names}
 use Rattle.tl_tree.specs.LuaExpressions as expressions
@@ -13,7 +14,8 @@ use Rattle.tl_parse.specs.Using.{reading, part_at, sign_at, open_at}
 use Rattle.tl_parse.specs.Expressions.{name_at}
 use Rattle.tl_parse.specs.Paths.{path_names_at, path_at}
 use Rattle.tl_parse.specs.TerraCode.{struct_body_at}
-use Rattle.tl_parse.specs.TerraDefinitions.{struct_path_at, define_terra_at, local_terra_function_at, local_struct_at, local_terra_at, define_struct_at}
+use Rattle.tl_parse.specs.TerraDefinitions.{struct_path_at, define_terra_at, local_terra_function_at, local_struct_at, local_terra_at}
+use Rattle.tl_parse.specs.TerraDefinitions.{define_struct_at}
 use Rattle.tl_parse.proofs.Following.{sign_then, open_at_then, then, either_is}
 use Rattle.tl_parse.proofs.Agreeing.{name_agrees}
 use Rattle.tl_parse.proofs.TerraCodeAgreeing.{struct_body_agrees}

@@ -6,11 +6,14 @@ use Rattle.tl_tree.specs.Tree.{Nothing, TerraExpression, TerraOperand, TerraArgu
 use Rattle.tl_tree.specs.Grammar.{Outcome, Took, ◌>>=◌}
 use Rattle.tl_tree.specs.Forms.{Chained, chain}
 use Rattle.tl_parse.specs.Using.{part_at}
-use Rattle.tl_parse.specs.TerraExpressions.{terra_exponent_at, terra_unary_at, terra_inner_at, terra_first_at, terra_binary_at, more_terra_expressions_at, terra_expressions_at, terra_arguments_at, initialisers_at}
+use Rattle.tl_parse.specs.TerraExpressions.{terra_exponent_at, terra_unary_at, terra_inner_at, terra_first_at, terra_binary_at}
+use Rattle.tl_parse.specs.TerraExpressions.{more_terra_expressions_at, terra_expressions_at, terra_arguments_at, initialisers_at}
 use Rattle.tl_parse.specs.Entries.{more_entries_at}
 use Rattle.tl_parse.specs.declared.terra_expressions.TerraPrecedence.{TerraPrecedence}
 use Rattle.tl_parse.specs.declared.terra_expressions.TerraPrecedence.TheVariants as precedences
-use Rattle.tl_parse.proofs.TerraAgreeing.{terra_exponent_agrees, terra_unary_agrees, terra_product_agrees, terra_sum_agrees, terra_shift_agrees, terra_comparison_agrees, terra_conjunction_agrees, terra_disjunction_agrees, initialisers_agree}
+use Rattle.tl_parse.proofs.TerraAgreeing.{terra_exponent_agrees, terra_unary_agrees, terra_product_agrees, terra_sum_agrees}
+use Rattle.tl_parse.proofs.TerraAgreeing.{terra_shift_agrees, terra_comparison_agrees, terra_conjunction_agrees, terra_disjunction_agrees}
+use Rattle.tl_parse.proofs.TerraAgreeing.{initialisers_agree}
 use Rattle.tl_parse.proofs.Failing.{fails_after, fails_bind, fails_same}
 
 pub terra_expression_part : (levels : ℕ) (ts : List Token) → part_at levels TerraExpression ts ≡ (terra_binary_at levels precedences.Disjunction chain ts >>= λ a rest. Took a.tree rest)

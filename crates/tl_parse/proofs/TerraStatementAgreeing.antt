@@ -12,9 +12,12 @@ use Rattle.tl_tree.specs.declared.node.UnaryOperator.TheVariants as unary
 use Rattle.tl_tree.specs.declared.symbol.Symbol.{Symbol}
 use Rattle.tl_tree.specs.declared.symbol.Symbol.TheVariants as symbols
 use Rattle.tl_tree.specs.Tokens.{Token, is, among}
-use Rattle.tl_tree.specs.Tree.{Tree, Nothing, More, Just, Name, TerraUnary, TerraParen, Escape, TerraAssign, Splice, TerraDo, TerraWhile, TerraRepeat, TerraIf, TerraFor, Var, EscapeBlock, TerraReturn, TerraBreak, Arm, Parameter, SpliceParameter, Variable, Part, Expression, Statements, TerraExpression, TerraOperand, TerraStatements}
+use Rattle.tl_tree.specs.Tree.{Tree, Nothing, More, Just, Name, TerraUnary, TerraParen, Escape, TerraAssign, Splice, TerraDo, TerraWhile}
+use Rattle.tl_tree.specs.Tree.{TerraRepeat, TerraIf, TerraFor, Var, EscapeBlock, TerraReturn, TerraBreak, Arm, Parameter, SpliceParameter}
+use Rattle.tl_tree.specs.Tree.{Variable, Part, Expression, Statements, TerraExpression, TerraOperand, TerraStatements}
 use Rattle.tl_tree.specs.Grammar.{Grammar, give, bind, when, Outcome, Took, Stop, ◌>>=◌, begins, is_of}
-use Rattle.tl_tree.specs.Forms.{sign, opening, listed, listed_behind, named, Chained, chained, chain, operand, operators, unary_of, comparisons, additive, multiplicative}
+use Rattle.tl_tree.specs.Forms.{sign, opening, listed, listed_behind, named, Chained, chained, chain, operand, operators, unary_of}
+use Rattle.tl_tree.specs.Forms.{comparisons, additive, multiplicative}
 use Rattle.tl_tree.specs.TerraExpressions.{shifts, terra_prefix_symbols}
 use Rattle.tl_tree.specs.TerraExpressions as expressions
 use Rattle.tl_tree.specs.TerraStatements as terra
@@ -22,8 +25,16 @@ use Rattle.tl_tree.proofs.Unrolling.{bind_again}
 use Rattle.tl_parse.specs.Using.{reading, part_at, used, barred, sign_at, open_at, prefix_at}
 use Rattle.tl_parse.specs.Expressions.{name_at}
 use Rattle.tl_parse.specs.Statements.{last_symbols}
-use Rattle.tl_parse.specs.TerraExpressions.{escape_at, terra_name_at, terra_paren_at, terra_base_at, terra_suffixes_at, terra_applied_at, terra_prefixed_at, terra_unary_at, terra_binary_at, more_terra_expressions_at, terra_expressions_at}
-use Rattle.tl_parse.specs.TerraStatements.{written_type_at, terra_loop_at, terra_arm_at, more_terra_arms_at, terra_arms_at, terra_otherwise_at, terra_step_at, terra_variable_at, more_terra_variables_at, terra_variables_at, terra_initial_values_at, terra_returned_values_at, terra_target_at, terra_assignment_at, assignment_symbols, terra_statement_behind_at, terra_simple_statement_at, terra_do_at, terra_while_at, terra_repeat_at, terra_if_at, terra_for_at, terra_var_at, escape_block_at, terra_return_at, terra_break_at, terra_statement_at, terra_parameter_at, more_terra_parameters_at, terra_parameters_at}
+use Rattle.tl_parse.specs.TerraExpressions.{escape_at, terra_name_at, terra_paren_at, terra_base_at, terra_suffixes_at, terra_applied_at}
+use Rattle.tl_parse.specs.TerraExpressions.{terra_prefixed_at, terra_unary_at, terra_binary_at, more_terra_expressions_at}
+use Rattle.tl_parse.specs.TerraExpressions.{terra_expressions_at}
+use Rattle.tl_parse.specs.TerraStatements.{written_type_at, terra_loop_at, terra_arm_at, more_terra_arms_at, terra_arms_at}
+use Rattle.tl_parse.specs.TerraStatements.{terra_otherwise_at, terra_step_at, terra_variable_at, more_terra_variables_at}
+use Rattle.tl_parse.specs.TerraStatements.{terra_variables_at, terra_initial_values_at, terra_returned_values_at, terra_target_at}
+use Rattle.tl_parse.specs.TerraStatements.{terra_assignment_at, assignment_symbols, terra_statement_behind_at, terra_simple_statement_at}
+use Rattle.tl_parse.specs.TerraStatements.{terra_do_at, terra_while_at, terra_repeat_at, terra_if_at, terra_for_at, terra_var_at}
+use Rattle.tl_parse.specs.TerraStatements.{escape_block_at, terra_return_at, terra_break_at, terra_statement_at, terra_parameter_at}
+use Rattle.tl_parse.specs.TerraStatements.{more_terra_parameters_at, terra_parameters_at}
 use Rattle.tl_parse.specs.declared.terra_expressions.TerraPrecedence.TheVariants as precedences
 use Rattle.tl_parse.proofs.Uses.{never, bind_same, opens_any, opened_at}
 use Rattle.tl_parse.proofs.Following.{sign_then, open_then, then, either_is}

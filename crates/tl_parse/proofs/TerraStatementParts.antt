@@ -10,7 +10,8 @@ use Rattle.tl_tree.specs.TerraExpressions as expressions
 use Rattle.tl_tree.specs.TerraStatements as terra
 use Rattle.tl_tree.proofs.Unrolling.{bind_again}
 use Rattle.tl_parse.specs.Using.{reading, part_at, sign_at}
-use Rattle.tl_parse.specs.TerraStatements.{more_terra_statements_at, terra_block_at, written_type_at, terra_parameters_at, terra_function_body_at, quoted_expression_at, quoted_code_at}
+use Rattle.tl_parse.specs.TerraStatements.{more_terra_statements_at, terra_block_at, written_type_at, terra_parameters_at}
+use Rattle.tl_parse.specs.TerraStatements.{terra_function_body_at, quoted_expression_at, quoted_code_at}
 use Rattle.tl_parse.proofs.Following.{sign_then, then}
 use Rattle.tl_parse.proofs.TerraAgreeing.{terra_expression_agrees}
 use Rattle.tl_parse.proofs.TerraStatementAgreeing.{then_give, sign_give, written_type_agrees, terra_parameters_agree}

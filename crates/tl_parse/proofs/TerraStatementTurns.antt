@@ -16,12 +16,16 @@ use Rattle.tl_tree.specs.TerraStatements as terra
 use Rattle.tl_tree.proofs.Unrolling.{bind_again}
 use Rattle.tl_parse.specs.Using.{reading, barred, sign_at}
 use Rattle.tl_parse.specs.TerraExpressions.{next_terra_expression_at, more_terra_expressions_at, terra_expressions_at}
-use Rattle.tl_parse.specs.TerraStatements.{terra_arm_at, next_terra_arm_at, more_terra_arms_at, terra_variable_at, next_terra_variable_at, more_terra_variables_at, terra_assignment_at, terra_statement_at, next_terra_statement_at, terra_goes_on, more_terra_statements_at, terra_parameter_at, next_terra_parameter_at, more_terra_parameters_at}
+use Rattle.tl_parse.specs.TerraStatements.{terra_arm_at, next_terra_arm_at, more_terra_arms_at, terra_variable_at, next_terra_variable_at}
+use Rattle.tl_parse.specs.TerraStatements.{more_terra_variables_at, terra_assignment_at, terra_statement_at, next_terra_statement_at}
+use Rattle.tl_parse.specs.TerraStatements.{terra_goes_on, more_terra_statements_at, terra_parameter_at, next_terra_parameter_at}
+use Rattle.tl_parse.specs.TerraStatements.{more_terra_parameters_at}
 use Rattle.tl_parse.proofs.Uses.{both, bind_same, opened_at, opens_any, token_is, repeats, ends, shorter_turn}
 use Rattle.tl_parse.proofs.Following.{sign_then}
 use Rattle.tl_parse.proofs.Turns.{list_goes, list_ends, list_shorter, used_here, used_use}
 use Rattle.tl_parse.proofs.TerraTurns.{terra_expressions_go, terra_expressions_end, terra_expression_shorter}
-use Rattle.tl_parse.proofs.TerraStatementAgreeing.{sign_give, terra_arm_agrees, terra_variable_agrees, terra_parameter_agrees, statement_opens, statement_by, ends_is}
+use Rattle.tl_parse.proofs.TerraStatementAgreeing.{sign_give, terra_arm_agrees, terra_variable_agrees, terra_parameter_agrees}
+use Rattle.tl_parse.proofs.TerraStatementAgreeing.{statement_opens, statement_by, ends_is}
 use Rattle.tl_parse.proofs.Failing.{fails_after, fails_bind, fails_from, fails_same}
 use Rattle.tl_parse.proofs.Taking.{next_of}
 use Rattle.tl_parse.proofs.TerraStatementParts.{terra_block_part}

@@ -9,7 +9,8 @@ use Rattle.tl_tree.specs.declared.mode.Extra.TheVariants.{Plain, Continues, Call
 use Rattle.tl_tree.specs.declared.symbol.Symbol.{Symbol}
 use Rattle.tl_tree.specs.declared.symbol.Symbol.TheVariants as symbols
 use Rattle.tl_tree.specs.Tokens.{Token, is, among, sample}
-use Rattle.tl_tree.specs.Tree.{Tree, Nothing, More, Name, Entry, TerraMethod, TerraSelect, TerraCall, TerraIndex, Construct, Part, Expression, TerraExpression, TerraArguments, Initialisers}
+use Rattle.tl_tree.specs.Tree.{Tree, Nothing, More, Name, Entry, TerraMethod, TerraSelect, TerraCall, TerraIndex, Construct, Part}
+use Rattle.tl_tree.specs.Tree.{Expression, TerraExpression, TerraArguments, Initialisers}
 use Rattle.tl_tree.specs.Grammar.{give, token, bind, when, Outcome, Took, Stop, ◌>>=◌, begins, is_of, down}
 use Rattle.tl_tree.specs.Forms.{sign, opening, separator, Chained, chained, operand}
 use Rattle.tl_tree.specs.LuaExpressions as lua
@@ -17,14 +18,19 @@ use Rattle.tl_tree.specs.TerraExpressions as terra
 use Rattle.tl_tree.proofs.Unrolling.{bind_again}
 use Rattle.tl_parse.specs.Using.{reading, part_at, used, barred, sign_at, open_at, sign_among_at, operator_at, raise_at, call_at}
 use Rattle.tl_parse.specs.Expressions.{name_at, separators, more_if}
-use Rattle.tl_parse.specs.TerraExpressions.{TerraSuffixed, terra_attached, terra_shape_of, terra_name_at, terra_call_suffix_at, terra_index_suffix_at, terra_select_suffix_at, terra_method_suffix_at, construct_suffix_at, terra_suffix_at, terra_suffixes_at, terra_symbols_of, terra_inner_of, terra_inner_at, terra_more_at, terra_one_more_at, more_terra_expressions_at, next_terra_expression_at, initialiser_of, initialiser_at, more_initialisers_at, next_initialiser_at}
+use Rattle.tl_parse.specs.TerraExpressions.{TerraSuffixed, terra_attached, terra_shape_of, terra_name_at, terra_call_suffix_at}
+use Rattle.tl_parse.specs.TerraExpressions.{terra_index_suffix_at, terra_select_suffix_at, terra_method_suffix_at, construct_suffix_at}
+use Rattle.tl_parse.specs.TerraExpressions.{terra_suffix_at, terra_suffixes_at, terra_symbols_of, terra_inner_of, terra_inner_at}
+use Rattle.tl_parse.specs.TerraExpressions.{terra_more_at, terra_one_more_at, more_terra_expressions_at, next_terra_expression_at}
+use Rattle.tl_parse.specs.TerraExpressions.{initialiser_of, initialiser_at, more_initialisers_at, next_initialiser_at}
 use Rattle.tl_parse.specs.TerraExpressions as suffixed
 use Rattle.tl_parse.specs.Entries.{separator_at, entry_at, more_entries_at}
 use Rattle.tl_parse.specs.declared.terra_expressions.TerraPrecedence.{TerraPrecedence}
 use Rattle.tl_parse.proofs.Uses.{never, both, operator_with, opened_at, opens_any, token_is, plain_is, sign_is, repeats, ends, shorter_turn}
 use Rattle.tl_parse.proofs.Following.{sign_then, open_then, then, either_is}
 use Rattle.tl_parse.proofs.TerraAgreeing.{terra_name_agrees, initialiser_agrees}
-use Rattle.tl_parse.proofs.Turns.{list_goes, list_ends, list_shorter, operators_goes, operators_turn, fields_turn, used_here, used_use, use_behind}
+use Rattle.tl_parse.proofs.Turns.{list_goes, list_ends, list_shorter, operators_goes, operators_turn, fields_turn, used_here, used_use}
+use Rattle.tl_parse.proofs.Turns.{use_behind}
 use Rattle.tl_parse.proofs.Failing.{fails_after, fails_bind, fails_from, fails_same}
 use Rattle.tl_parse.proofs.TerraParts.{entries_part, initialisers_part}
 

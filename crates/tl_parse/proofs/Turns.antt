@@ -15,11 +15,15 @@ use Rattle.tl_tree.specs.Forms.{sign, Chained, chained, operand, listed_behind, 
 use Rattle.tl_tree.specs.LuaExpressions as lua
 use Rattle.tl_tree.proofs.Unrolling.{bind_again}
 use Rattle.tl_parse.specs.Using.{reading, part_at, used, barred, sign_at, sign_among_at, operator_at, raise_at, call_at}
-use Rattle.tl_parse.specs.Expressions.{name_at, more_expressions_at, next_expression_at, Suffixed, attached, shape_of, call_suffix_at, index_suffix_at, select_suffix_at, method_arguments_at, method_suffix_at, table_suffix_at, literal_suffix_at, suffix_at, suffixes_at, symbols_of, inner_of, inner_at, more_at, one_more_at, separators, field_at, more_fields_at, next_field_at, more_if}
+use Rattle.tl_parse.specs.Expressions.{name_at, more_expressions_at, next_expression_at, Suffixed, attached, shape_of, call_suffix_at}
+use Rattle.tl_parse.specs.Expressions.{index_suffix_at, select_suffix_at, method_arguments_at, method_suffix_at, table_suffix_at}
+use Rattle.tl_parse.specs.Expressions.{literal_suffix_at, suffix_at, suffixes_at, symbols_of, inner_of, inner_at, more_at, one_more_at}
+use Rattle.tl_parse.specs.Expressions.{separators, field_at, more_fields_at, next_field_at, more_if}
 use Rattle.tl_parse.specs.Expressions as suffixed
 use Rattle.tl_tree.specs.Tree as trees
 use Rattle.tl_parse.specs.declared.expressions.Precedence.{Precedence}
-use Rattle.tl_parse.proofs.Uses.{never, both, operator_with, bind_same, opened_at, opens_any, token_is, plain_is, sign_is, repeats, ends, shorter_turn}
+use Rattle.tl_parse.proofs.Uses.{never, both, operator_with, bind_same, opened_at, opens_any, token_is, plain_is, sign_is, repeats, ends}
+use Rattle.tl_parse.proofs.Uses.{shorter_turn}
 use Rattle.tl_parse.proofs.Agreeing.{name_agrees, method_arguments_agree, field_agrees}
 use Rattle.tl_parse.proofs.Failing.{fails_after, fails_bind, fails_from, fails_same, fails_unexpected}
 use Rattle.tl_parse.proofs.Parts.{fields_part}

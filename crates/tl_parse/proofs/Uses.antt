@@ -1,5 +1,6 @@
 -- The forms of grammars, in terms of uses of single tokens and of what parts give.
-use Rattle.std.proofs.Common.{◌≡◌, ℕ, zero, suc, ◌-◌, ◌<◌, Bool, true, false, cond, List, [], ◌∷◌, length, Option, Some, None, refl, sym, ap, subst, ◌∙◌, arith}
+use Rattle.std.proofs.Common.{◌≡◌, ℕ, zero, suc, ◌-◌, ◌<◌, Bool, true, false, cond, List, [], ◌∷◌, length, Option, Some, None, refl, sym}
+use Rattle.std.proofs.Common.{ap, subst, ◌∙◌, arith}
 use Rattle.std.specs.Prelude.{◌||◌}
 use Rattle.tl_base.specs.declared.place.Place.{Place}
 use Rattle.tl_lex.specs.declared.SyntaxKind.{SyntaxKind}
@@ -10,7 +11,8 @@ use Rattle.tl_tree.specs.declared.mode.Extra.TheVariants.{Plain}
 use Rattle.tl_tree.specs.Symbols.{is_bad}
 use Rattle.tl_tree.specs.Tokens.{Token, is, sample}
 use Rattle.tl_tree.specs.Tree.{Tree, Nothing, Part}
-use Rattle.tl_tree.specs.Grammar.{Grammar, token, bind, many, Outcome, Took, Stop, ◌>>=◌, begins, is_of, blame, unless, unexpected, opened, bar, is_too_large, is_ambiguous, chain_too_long, below, readers_at}
+use Rattle.tl_tree.specs.Grammar.{Grammar, token, bind, many, Outcome, Took, Stop, ◌>>=◌, begins, is_of, blame, unless, unexpected, opened}
+use Rattle.tl_tree.specs.Grammar.{bar, is_too_large, is_ambiguous, chain_too_long, below, readers_at}
 use Rattle.tl_tree.specs.Forms.{sign, opening, opening_at, Chained}
 use Rattle.tl_tree.specs.Syntax.{syntax_of}
 use Rattle.tl_tree.proofs.Reading.{rest_of, Leaves, leaves, leaves_length, leaves-opened, bind_took}

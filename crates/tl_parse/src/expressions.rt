@@ -678,7 +678,8 @@ impl<'a> Parser<'a> {
         left: u32,
     ) -> Result<(Next<'a>, Operand), SyntaxError>
         requires { Ready self.old }
-        ensures ok { IfOk result (λ r. TookOperation self.old self.new (one_more_at levels precedence mode left (tokens_left self.old)) r.0 r.1) }
+        ensures ok { IfOk result (λ r.
+            TookOperation self.old self.new (one_more_at levels precedence mode left (tokens_left self.old)) r.0 r.1) }
         ensures err { IfErr result (λ e. Fails self.old (one_more_at levels precedence mode left (tokens_left self.old)) e) }
     {
         let token = read!(self.operator(symbols_of(precedence), left));

@@ -27,6 +27,7 @@ use crate::error::SyntaxError;
 use crate::numerals::is_above;
 use crate::symbols::{has, number_of};
 use std::alloc::Global;
+use tl_base::limits::LARGEST_NUMBER;
 use tl_base::{NodeId, Place};
 use tl_lex::laws::one_division;
 use tl_lex::{LONGEST_TEXT, LexError, Lexer, SyntaxKind, TokenKind};
@@ -36,9 +37,6 @@ use tl_tree::{
 
 /// How many tokens may continue a chain.
 pub(crate) const CHAIN: u32 = 1000;
-
-/// The largest number of Lua code.
-const LARGEST_NUMBER: u64 = 99_999_999_999_999;
 
 /// The largest number of Terra code without a suffix.
 const LARGEST_INT: u64 = 2_147_483_647;

@@ -317,7 +317,8 @@ impl<'a> Parser<'a> {
     #[tactic(auto, using(crate::proofs::Taking::shorter), unfolding(crate::specs::TerraExpressions::terra_select_suffix_at))]
     fn terra_select_suffix(&mut self, levels: u32, a: Operand) -> Result<Operand, SyntaxError>
         requires { Ready self.old }
-        ensures ok { IfOk result (λ r. TookTerraSuffix self.old self.new (terra_select_suffix_at levels a.left (tokens_left self.old)) a r) }
+        ensures ok { IfOk result (λ r.
+            TookTerraSuffix self.old self.new (terra_select_suffix_at levels a.left (tokens_left self.old)) a r) }
         ensures err { IfErr result (λ e. Fails self.old (terra_select_suffix_at levels a.left (tokens_left self.old)) e) }
     {
         let token = read!(self.operator(&DOT, a.left));
@@ -338,7 +339,8 @@ impl<'a> Parser<'a> {
     #[tactic(auto, using(crate::proofs::Taking::shorter), unfolding(crate::specs::TerraExpressions::terra_method_suffix_at))]
     fn terra_method_suffix(&mut self, levels: u32, a: Operand) -> Result<Operand, SyntaxError>
         requires { Ready self.old }
-        ensures ok { IfOk result (λ r. TookTerraSuffix self.old self.new (terra_method_suffix_at levels a.left (tokens_left self.old)) a r) }
+        ensures ok { IfOk result (λ r.
+            TookTerraSuffix self.old self.new (terra_method_suffix_at levels a.left (tokens_left self.old)) a r) }
         ensures err { IfErr result (λ e. Fails self.old (terra_method_suffix_at levels a.left (tokens_left self.old)) e) }
     {
         let token = read!(self.operator(&COLON, a.left));
@@ -552,7 +554,8 @@ impl<'a> Parser<'a> {
         left: u32,
     ) -> Result<(Next<'a>, Operand), SyntaxError>
         requires { Ready self.old }
-        ensures ok { IfOk result (λ r. TookOperation self.old self.new (terra_one_more_at levels precedence left (tokens_left self.old)) r.0 r.1) }
+        ensures ok { IfOk result (λ r.
+            TookOperation self.old self.new (terra_one_more_at levels precedence left (tokens_left self.old)) r.0 r.1) }
         ensures err { IfErr result (λ e. Fails self.old (terra_one_more_at levels precedence left (tokens_left self.old)) e) }
     {
         let token = read!(self.operator(terra_symbols_of(precedence), left));

@@ -615,7 +615,8 @@ impl<'a> Parser<'a> {
         levels: u32,
     ) -> Result<NodeId, SyntaxError>
         requires { Ready self.old }
-        ensures ok { IfOk result (λ r. TookTree self.old self.new (part_at levels (parts.TerraFunctionBody place) (tokens_left self.old)) r) }
+        ensures ok { IfOk result (λ r.
+            TookTree self.old self.new (part_at levels (parts.TerraFunctionBody place) (tokens_left self.old)) r) }
         ensures err { IfErr result (λ e. Fails self.old (part_at levels (parts.TerraFunctionBody place) (tokens_left self.old)) e) }
     {
         self.terra_body(place, levels)

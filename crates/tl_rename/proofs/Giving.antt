@@ -1,5 +1,6 @@
 -- What is given one after the other.
-use Rattle.std.specs.Prelude.{◌≡◌, ℕ, suc, ◌+◌, List, [], ◌∷◌, ◌++◌, length, flat_map, replicate, Some, None, if◌then◌else◌, slice_set, nat_lt}
+use Rattle.std.specs.Prelude.{◌≡◌, ℕ, suc, ◌+◌, List, [], ◌∷◌, ◌++◌, length, flat_map, replicate, Some, None, if◌then◌else◌, slice_set}
+use Rattle.std.specs.Prelude.{nat_lt}
 use Rattle.std.proofs.Common.{refl, sym, ap, ◌∙◌, arith, length-append}
 use Rattle.std.proofs.lemmas.List.{length-replicate}
 use Rattle.std.proofs.Math.Seq.{set-append_seam}
@@ -8,7 +9,8 @@ use Rattle.tl_base.specs.declared.ids.NodeId.{NodeId}
 use Rattle.tl_tree.specs.declared.scope.Scope.{Scope}
 use Rattle.tl_tree.specs.Code.{Items}
 use Rattle.tl_tree.specs.Nodes.{last_of}
-use Rattle.tl_tree.specs.Scopes.{Part, Standing, Within, within, give, give_below, all_in, in_order, parts_of, parts_if_any, scope_in, standing_at_first, standing_of, outermost, declared_at, all_declared}
+use Rattle.tl_tree.specs.Scopes.{Part, Standing, Within, within, give, give_below, all_in, in_order, parts_of, parts_if_any, scope_in}
+use Rattle.tl_tree.specs.Scopes.{standing_at_first, standing_of, outermost, declared_at, all_declared}
 
 give_append : (limit : ℕ) (standing : Standing) (ps rs : List Part) → give limit standing (ps ++ rs) ≡ give limit (give limit standing ps) rs
 give_append limit standing [] rs = refl

@@ -22,4 +22,5 @@ latest_in entries owner name = lookup (is_key (owner, name)) entries
 abbrev pub IsIndexed : Items → Entries → List ℕ → Type 0
 IsIndexed items entries reached =
     (owner : ℕ) (name : List ℕ)
-    → latest_in entries owner name ≡ last_found (has_name items name) 0 0 (take (get_or reached owner 0) (declarations items (record { 0 = owner })))
+    → latest_in entries owner name
+    ≡ last_found (has_name items name) 0 0 (take (get_or reached owner 0) (declarations items (record { 0 = owner })))

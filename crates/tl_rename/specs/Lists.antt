@@ -9,4 +9,9 @@ within_of x = record { around = x.around; names = x.names; statements = x.statem
 -- what is read, and then more
 abbrev pub and_more : Inside → Within → Within
 and_more x w =
-    record { around = x.around ++ w.around; names = x.names ++ w.names; statements = x.statements ++ w.statements; behind = x.behind ++ w.behind }
+    record {
+      around = x.around ++ w.around;
+      names = x.names ++ w.names;
+      statements = x.statements ++ w.statements;
+      behind = x.behind ++ w.behind;
+    }

@@ -79,7 +79,8 @@ fn last_in_scope<'a>(
 ) -> Result<Option<Binder>, NoMemory>
     requires declared { declared.now ≡ declared_below (items_of tree.now) (suc (last_of (items_of tree.now)).0) }
     requires indexed { IsIndexed (items_of tree.now) index.old.latest index.old.reached.items }
-    ensures found { IfOk result (λ found. found ≡ scopes.last_found (scopes.has_name (items_of tree.now) name.now) depth 0 (scopes.declared_in (items_of tree.now) scope)) }
+    ensures found { IfOk result (λ found.
+        found ≡ scopes.last_found (scopes.has_name (items_of tree.now) name.now) depth 0 (scopes.declared_in (items_of tree.now) scope)) }
     ensures indexed { OnOk result (IsIndexed (items_of tree.now) index.new.latest index.new.reached.items) }
 {
     let here = declared_in(tree, declared, scope);
@@ -102,7 +103,8 @@ fn found_from<'a>(
     requires declared { declared.now ≡ declared_below (items_of tree.now) (suc (last_of (items_of tree.now)).0) }
     requires indexed { IsIndexed (items_of tree.now) index.old.latest index.old.reached.items }
     ensures indexed { OnOk result (IsIndexed (items_of tree.now) index.new.latest index.new.reached.items) }
-    ensures found { IfOk result (λ found. found ≡ scopes.found_from (length standing.now) (items_of tree.now) standing.now (scopes.has_name (items_of tree.now) name.now) 0 scope) }
+    ensures found { IfOk result (λ found. found ≡ scopes.found_from (length standing.now) (items_of tree.now) standing.now
+        (scopes.has_name (items_of tree.now) name.now) 0 scope) }
 {
     let mut depth: u32 = 0;
     let mut from = scope;

@@ -40,8 +40,8 @@ impl Slots {
         }
     }
 
-    /// How many owners to go outwards, and the position among the owner's declarations, from 0. `None` exactly where the node is no use of a
-    /// local.
+    /// How many owners to go outwards, and the position among the owner's declarations, from 0. `None` exactly where the node is no use of
+    /// a local.
     pub fn path(&self, n: NodeId) -> Option<(u32, u32)>
         ensures { result ≡ option_map (λ b. (b.depth, b.position)) (get_or self.now n.0 None) }
     {

@@ -110,7 +110,8 @@ fn give_in_order(
     before: u64,
     statements: &[NodeId],
 ) -> Result<u64, NoMemory>
-    ensures given { OnOk result (standing.new ≡ scopes.give owner.0 standing.old (scopes.in_order (items_of tree.now) owner before statements.now)) }
+    ensures given { OnOk result
+        (standing.new ≡ scopes.give owner.0 standing.old (scopes.in_order (items_of tree.now) owner before statements.now)) }
     ensures count { IfOk result (λ all. all ≡ before + length (flat_map (scopes.declared_at (items_of tree.now)) statements.now)) }
 {
     let mut count = before;
@@ -135,7 +136,8 @@ fn give_parts(
     n: NodeId,
     scope: Scope,
 ) -> Result<(), NoMemory>
-    ensures { OnOk result (standing.new ≡ scopes.give n.0 standing.old (scopes.parts_of (items_of tree.now) n scope (within_of inside.now))) }
+    ensures { OnOk result
+        (standing.new ≡ scopes.give n.0 standing.old (scopes.parts_of (items_of tree.now) n scope (within_of inside.now))) }
 {
     give_all(standing, n, scope, inside.around.as_slice());
     let before = inside.names.len() as u64;

@@ -354,7 +354,9 @@ impl Inside {
         result_type: Option<NodeId>,
         block: NodeId,
     ) -> Result<(), NoMemory>
-        ensures { OnOk result (within_of self.new ≡ and_more self.old (scopes.owner (parameters.now ++ if_any result_type) (scopes.all_bound_by (items_of tree.now) parameters.now) (statements_at (items_of tree.now) block) [])) }
+        ensures { OnOk result (within_of self.new ≡ and_more self.old
+            (scopes.owner (parameters.now ++ if_any result_type) (scopes.all_bound_by (items_of tree.now) parameters.now)
+            (statements_at (items_of tree.now) block) [])) }
     {
         self.around.push_all(parameters)?;
         self.around.push_any(result_type)?;
@@ -370,7 +372,8 @@ impl Inside {
         method: bool,
         body: NodeId,
     ) -> Result<(), NoMemory>
-        ensures { OnOk result (within_of self.new ≡ and_more self.old (scopes.within_function (items_of tree.now) n [] method (item_at (items_of tree.now) body))) }
+        ensures { OnOk result (within_of self.new
+            ≡ and_more self.old (scopes.within_function (items_of tree.now) n [] method (item_at (items_of tree.now) body))) }
     {
         let Node::Piece(Piece::Body(names, _, block)) = tree.node(body) else {
             return Ok(());
@@ -390,7 +393,8 @@ impl Inside {
         method: bool,
         body: NodeId,
     ) -> Result<(), NoMemory>
-        ensures { OnOk result (within_of self.new ≡ and_more self.old (scopes.within_terra_function (items_of tree.now) n [] method (item_at (items_of tree.now) body))) }
+        ensures { OnOk result (within_of self.new
+            ≡ and_more self.old (scopes.within_terra_function (items_of tree.now) n [] method (item_at (items_of tree.now) body))) }
     {
         let Node::Piece(Piece::TerraBody(_, parameters, result, block)) = tree.node(body) else {
             return Ok(());

@@ -1,5 +1,6 @@
 -- Trees that bind alike have the same scopes, and a declaration that a use finds by its name is found by its number by the same steps.
-use Rattle.std.specs.Prelude.{◌≡◌, ℕ, zero, suc, ◌+◌, ◌==◌, Bool, true, false, List, [], ◌∷◌, length, get_or, map, take, Option, Some, None, if◌then◌else◌}
+use Rattle.std.specs.Prelude.{◌≡◌, ℕ, zero, suc, ◌+◌, ◌==◌, Bool, true, false, List, [], ◌∷◌, length, get_or, map, take, Option, Some, None}
+use Rattle.std.specs.Prelude.{if◌then◌else◌}
 use Rattle.std.proofs.Common.{refl, sym, ap, subst, ◌∙◌, arith}
 use Rattle.std.proofs.lemmas.Bool.{eqb-true, eq-eqb, false≢true}
 use Rattle.std.proofs.lemmas.Option.{none-some}
@@ -10,8 +11,10 @@ use Rattle.tl_tree.specs.Item as kept
 use Rattle.tl_tree.specs.Nodes.{item_at, absent_item}
 use Rattle.tl_tree.specs.Code.{Items}
 use Rattle.tl_tree.specs.declared.scope.Scope.{Scope}
-use Rattle.tl_tree.specs.Scopes.{Found, Standing, scope_in, scope_at, standing_of, or_found, last_found, declared_in, declarations, found_from, found_for, has_name, binder}
-use Rattle.tl_tree.specs.Binding.{BoundItem, Declared, Used, OtherName, NumberValue, TextValue, Other, bound, bound_from, bound_item, bound_name, name_alone, is_declared_below}
+use Rattle.tl_tree.specs.Scopes.{Found, Standing, scope_in, scope_at, standing_of, or_found, last_found, declared_in, declarations}
+use Rattle.tl_tree.specs.Scopes.{found_from, found_for, has_name, binder}
+use Rattle.tl_tree.specs.Binding.{BoundItem, Declared, Used, OtherName, NumberValue, TextValue, Other, bound, bound_from, bound_item}
+use Rattle.tl_tree.specs.Binding.{bound_name, name_alone, is_declared_below}
 use Rattle.tl_tree.specs.ScopeLaws.{BoundDetermines}
 use Rattle.tl_tree.proofs.Nameless.{bare, all_bare, declarations_same, standing_same}
 

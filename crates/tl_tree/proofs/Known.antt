@@ -1,6 +1,7 @@
 -- In a tree that is laid out each node is given where it stands once, so that what it was given stays: when a node gives its parts, none of
 -- the nodes below it has been given anything, and its parts stand in a row.
-use Rattle.std.specs.Prelude.{◌≡◌, ℕ, zero, suc, ◌<◌, ◌≤◌, Bool, true, false, ltb, eqb, List, [], ◌∷◌, ◌++◌, length, replicate, Option, Some, None, if◌then◌else◌, slice_set, nat_lt, ◌⊎◌}
+use Rattle.std.specs.Prelude.{◌≡◌, ℕ, zero, suc, ◌<◌, ◌≤◌, Bool, true, false, ltb, eqb, List, [], ◌∷◌, ◌++◌, length, replicate, Option}
+use Rattle.std.specs.Prelude.{Some, None, if◌then◌else◌, slice_set, nat_lt, ◌⊎◌}
 use Rattle.std.proofs.Common.{refl, sym, subst, ◌∙◌, arith, inl, inr}
 use Rattle.std.proofs.lemmas.Bool.{ltb-true, ltb-false, eqb-true, eqb-false, cases_lt}
 use Rattle.std.proofs.lemmas.List.{get_or-set_same, get_or-set_other, length-set, length-replicate}
@@ -10,7 +11,8 @@ use Rattle.tl_tree.specs.Nodes.{item_at, last_of, lay}
 use Rattle.tl_tree.specs.Code.{Items}
 use Rattle.tl_tree.specs.Children.{children_of}
 use Rattle.tl_tree.specs.declared.scope.Scope.{Scope}
-use Rattle.tl_tree.specs.Scopes.{Part, Standing, scope_in, scope_at, give, give_below, parts, parts_if_any, standing_at_first, standing_of, outermost}
+use Rattle.tl_tree.specs.Scopes.{Part, Standing, scope_in, scope_at, give, give_below, parts, parts_if_any, standing_at_first, standing_of}
+use Rattle.tl_tree.specs.Scopes.{outermost}
 use Rattle.tl_tree.specs.ScopeLaws.{Stands, AtRoot, InNode, KnowsWhereNodesStand, FindsBindersOfText}
 use Rattle.tl_tree.proofs.Rows.{Row, Next, Begins, ordered}
 use Rattle.tl_tree.proofs.PartsInRows.{nodes_of, parts_rowed}

@@ -1,5 +1,6 @@
 -- Scopes don't depend on what names are: a tree without the texts of its names has the same.
-use Rattle.std.specs.Prelude.{◌≡◌, ℕ, zero, suc, ◌+◌, Bool, false, List, [], ◌∷◌, ◌++◌, length, map, flat_map, pred, Option, Some, None, if◌then◌else◌}
+use Rattle.std.specs.Prelude.{◌≡◌, ℕ, zero, suc, ◌+◌, Bool, false, List, [], ◌∷◌, ◌++◌, length, map, flat_map, pred, Option, Some, None}
+use Rattle.std.specs.Prelude.{if◌then◌else◌}
 use Rattle.std.proofs.Common.{refl, ap, ◌∙◌}
 use Rattle.std.proofs.lemmas.List.{length-map}
 use Rattle.std.proofs.Math.ListN.{get_or-map}
@@ -18,7 +19,11 @@ use Rattle.tl_tree.specs.Item as kept
 use Rattle.tl_tree.specs.Nodes.{item_at, last_of, absent_item}
 use Rattle.tl_tree.specs.Code.{Items, statements_of, statements_at, path_names_of, path_method_of, names_method, is_any, if_any}
 use Rattle.tl_tree.specs.declared.scope.Scope.{Scope}
-use Rattle.tl_tree.specs.Scopes.{Part, Standing, Within, scope_in, standing_of, standing_at_first, within, within_item, within_statement, within_terra_expression, within_terra_statement, within_piece, within_function, within_terra_function, path_use, first_only, implicit_self, owner, plain, is_name, if_name, unless_name, bound_by, all_bound_by, declared_by, declared_at, declarations, sees_itself, in_order, all_in, parts, parts_if_any, give, give_below}
+use Rattle.tl_tree.specs.Scopes.{Part, Standing, Within, scope_in, standing_of, standing_at_first, within, within_item, within_statement}
+use Rattle.tl_tree.specs.Scopes.{within_terra_expression, within_terra_statement, within_piece, within_function, within_terra_function}
+use Rattle.tl_tree.specs.Scopes.{path_use, first_only, implicit_self, owner, plain, is_name, if_name, unless_name, bound_by, all_bound_by}
+use Rattle.tl_tree.specs.Scopes.{declared_by, declared_at, declarations, sees_itself, in_order, all_in, parts, parts_if_any, give}
+use Rattle.tl_tree.specs.Scopes.{give_below}
 
 -- a node without its text
 abbrev pub bare : Item → Item

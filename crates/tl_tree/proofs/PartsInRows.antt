@@ -20,7 +20,9 @@ use Rattle.tl_tree.specs.Item as kept
 use Rattle.tl_tree.specs.Nodes.{item_at}
 use Rattle.tl_tree.specs.Code.{Items, statements_of, statements_at, path_names_of, names_method, if_any}
 use Rattle.tl_tree.specs.Children.{children_of, of_expression, of_statement, of_terra_expression, of_terra_statement, of_piece}
-use Rattle.tl_tree.specs.Scopes.{Within, Part, plain, is_name, unless_name, first_only, path_use, within_function, within_terra_function, within_expression, within_statement, within_terra_expression, within_terra_statement, within_piece, within_item, within, all_in, in_order, parts, declared_at, declarations}
+use Rattle.tl_tree.specs.Scopes.{Within, Part, plain, is_name, unless_name, first_only, path_use, within_function, within_terra_function}
+use Rattle.tl_tree.specs.Scopes.{within_expression, within_statement, within_terra_expression, within_terra_statement, within_piece}
+use Rattle.tl_tree.specs.Scopes.{within_item, within, all_in, in_order, parts, declared_at, declarations}
 use Rattle.tl_tree.proofs.Rows.{Row, Thins, none, joined, instead, any}
 
 -- the nodes that stand within a node

@@ -5,7 +5,8 @@ use Rattle.tl_base.specs.declared.ids.NodeId.{NodeId}
 use Rattle.tl_tree.specs.Nodes.{last_of}
 use Rattle.tl_tree.specs.Code.{Items}
 use Rattle.tl_tree.specs.declared.scope.Scope.{Scope}
-use Rattle.tl_tree.specs.Scopes.{Found, Standing, scope_in, scope_at, standing_of, or_found, last_found, declared_in, found_from, found_for, has_name}
+use Rattle.tl_tree.specs.Scopes.{Found, Standing, scope_in, scope_at, standing_of, or_found, last_found, declared_in, found_from, found_for}
+use Rattle.tl_tree.specs.Scopes.{has_name}
 use Rattle.tl_tree.specs.ScopeLaws.{HasNone, IsLast, Finds, Here, Around, Nowhere, BinderFinds}
 use Rattle.tl_tree.proofs.Standings.{owners_before, standing_length}
 

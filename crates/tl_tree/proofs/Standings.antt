@@ -1,6 +1,7 @@
 -- The walk from the last node to the first: what holds of where the root stands, and passes from each node to its parts, holds of where
 -- each node stands.
-use Rattle.std.specs.Prelude.{◌≡◌, ℕ, zero, suc, ◌+◌, ◌<◌, ◌≤◌, Bool, true, false, ltb, eqb, List, [], ◌∷◌, ◌++◌, length, set, replicate, Option, Some, None, ◌⊎◌, ⊤, if◌then◌else◌, slice_set, nat_lt}
+use Rattle.std.specs.Prelude.{◌≡◌, ℕ, zero, suc, ◌+◌, ◌<◌, ◌≤◌, Bool, true, false, ltb, eqb, List, [], ◌∷◌, ◌++◌, length, set, replicate}
+use Rattle.std.specs.Prelude.{Option, Some, None, ◌⊎◌, ⊤, if◌then◌else◌, slice_set, nat_lt}
 use Rattle.std.proofs.Common.{refl, sym, ap, subst, ◌∙◌, arith, append_assoc, inl, inr}
 use Rattle.std.proofs.lemmas.Bool.{ltb-true, ltb-false, eqb-true, eqb-false}
 use Rattle.std.proofs.lemmas.List.{get_or-set_same, get_or-set_other, length-set, get_or-replicate, length-replicate, get_or_past}
@@ -9,7 +10,8 @@ use Rattle.tl_base.specs.declared.ids.NodeId.{NodeId}
 use Rattle.tl_tree.specs.Nodes.{item_at, last_of}
 use Rattle.tl_tree.specs.Code.{Items}
 use Rattle.tl_tree.specs.declared.scope.Scope.{Scope}
-use Rattle.tl_tree.specs.Scopes.{Part, Standing, scope_in, give, give_below, parts, parts_if_any, standing_at_first, standing_of, outermost, all_in, in_order, within, declarations, declared_at, sees_itself}
+use Rattle.tl_tree.specs.Scopes.{Part, Standing, scope_in, give, give_below, parts, parts_if_any, standing_at_first, standing_of, outermost}
+use Rattle.tl_tree.specs.Scopes.{all_in, in_order, within, declarations, declared_at, sees_itself}
 use Rattle.tl_tree.specs.ScopeLaws.{Stands, NodesStand, AtRoot, InNode}
 
 -- each of the parts

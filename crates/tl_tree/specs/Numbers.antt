@@ -2,6 +2,7 @@
 use Rattle.std.specs.Prelude.{ℕ, ◌+◌, ◌-◌, ◌*◌, Bool, false, List, [], ◌∷◌, drop, if◌then◌else◌, ◌==◌, ◌||◌, ◌&&◌}
 use Rattle.std.specs.Prelude.{nat_lt, nat_le, Option, Some, None}
 use Rattle.std.specs.Option.{option_map_or}
+use Rattle.tl_base.specs.declared.limits.TheConstants.{LARGEST_NUMBER}
 use Rattle.tl_lex.specs.Bytes.{is_hex_digit}
 use Rattle.tl_tree.specs.declared.symbol.Symbol.{Symbol}
 use Rattle.tl_tree.specs.declared.symbol.Symbol.TheVariants as symbols
@@ -34,7 +35,7 @@ fitting n = if nat_lt n 18446744073709551616 then Some n else None
 
 -- the largest number of Lua code
 abbrev pub largest_lua : ℕ
-largest_lua = 99999999999999
+largest_lua = LARGEST_NUMBER
 
 -- the largest numeral of Terra code: an int32, or with `LL` an int64, or with `ULL` a uint64
 abbrev pub largest_terra : Symbol → ℕ

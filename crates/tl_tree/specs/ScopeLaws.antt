@@ -46,7 +46,8 @@ pub record IsLast (items : Items) (name : List ℕ) (ds : List NodeId) (position
 -- What a name finds that stands so many owners inside of where it was written: the last of the names declared so far that is equal to it;
 -- where there is none, what it finds around the owner.
 pub data Finds (items : Items) (name : List ℕ) : ℕ → Scope → Option Found → Type 0 where
-  Here : (depth : ℕ) (scope : Scope) (position : ℕ) (declaration : NodeId) → IsLast items name (declared_in items scope) position declaration
+  Here : (depth : ℕ) (scope : Scope) (position : ℕ) (declaration : NodeId)
+      → IsLast items name (declared_in items scope) position declaration
       → Finds items name depth scope (Some (record { depth = depth; position = position; declaration = declaration }))
   Around : (depth : ℕ) (scope outer : Scope) (found : Option Found) → HasNone items name (declared_in items scope)
       → scope_at items scope.owner ≡ Some outer → Finds items name (depth + 1) outer found → Finds items name depth scope found

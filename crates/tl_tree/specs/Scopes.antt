@@ -6,7 +6,8 @@
 --
 -- A local's scope begins after its statement; a `local function`, `local terra` or `local struct` sees itself. A parameter's scope is its
 -- function's block alone, so the types of parameters and the result type of a Terra function don't see it.
-use Rattle.std.specs.Prelude.{ℕ, zero, suc, ◌+◌, Bool, true, false, List, [], ◌∷◌, ◌++◌, length, take, map, flat_map, replicate, codes, bytes_eq, nat_lt, slice_set, slice_index_or, Option, Some, None, if◌then◌else◌}
+use Rattle.std.specs.Prelude.{ℕ, zero, suc, ◌+◌, Bool, true, false, List, [], ◌∷◌, ◌++◌, length, take, map, flat_map, replicate, codes}
+use Rattle.std.specs.Prelude.{bytes_eq, nat_lt, slice_set, slice_index_or, Option, Some, None, if◌then◌else◌}
 use Rattle.tl_base.specs.declared.ids.NodeId.{NodeId}
 use Rattle.tl_tree.specs.declared.node.Expression as of_expressions
 use Rattle.tl_tree.specs.declared.node.Expression.TheVariants as expressions

@@ -1,7 +1,8 @@
 //! Laws of scopes. The functions do nothing: their contracts are the laws.
 
 ghost use Rattle.tl_tree.specs.Arena.{items_of};
-ghost use Rattle.tl_tree.specs.ScopeLaws.{NodesStand, KnowsWhereNodesStand, BinderFinds, FindsBindersOfText, OnlyNamesHaveBinders, StatementsSeeBefore, BoundDetermines};
+ghost use Rattle.tl_tree.specs.ScopeLaws.{NodesStand, KnowsWhereNodesStand, BinderFinds, FindsBindersOfText, OnlyNamesHaveBinders};
+ghost use Rattle.tl_tree.specs.ScopeLaws.{StatementsSeeBefore, BoundDetermines};
 
 use crate::tree::Tree;
 
@@ -16,9 +17,9 @@ pub fn knows_where_nodes_stand(text: &str)
     ensures { KnowsWhereNodesStand text.now }
 {}
 
-/// What `binder` answers for a name that stands somewhere is the search of the scopes from there: the last of the names declared so far that
-/// is equal to it, and where there is none, what it finds around the owner. There is no binder exactly where no owner around declares the
-/// name.
+/// What `binder` answers for a name that stands somewhere is the search of the scopes from there: the last of the names declared so far
+/// that is equal to it, and where there is none, what it finds around the owner. There is no binder exactly where no owner around declares
+/// the name.
 pub fn binder_finds(tree: &Tree)
     ensures { BinderFinds (items_of tree.now) }
 {}
@@ -39,8 +40,8 @@ pub fn statements_see_before(tree: &Tree)
     ensures { StatementsSeeBefore (items_of tree.now) }
 {}
 
-/// Where two texts bind alike, each use of a local in one finds its declaration as that in the other does: by as many owners to go outwards,
-/// at the same position, in the same node.
+/// Where two texts bind alike, each use of a local in one finds its declaration as that in the other does: by as many owners to go
+/// outwards, at the same position, in the same node.
 pub fn bound_determines_binders(tree: &Tree, other: &Tree)
     ensures { BoundDetermines (items_of tree.now) (items_of other.now) }
 {}

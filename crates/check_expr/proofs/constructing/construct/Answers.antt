@@ -13,8 +13,8 @@ use Rattle.check_expr.specs.Frames.{initials_in}
 use Rattle.check_expr.proofs.Doing.{moved, chosen}
 use Rattle.check_expr.proofs.constructing.construct.Goals as goal
 
-pub returns-then-bytes-gt-WIDEST-clause-means : goal.returns-then-bytes-gt-WIDEST-clause-means
-returns-then-bytes-gt-WIDEST-clause-means c = λ left.
+pub returns-then-bytes-gt-MAX_VALUE_BYTES-clause-means : goal.returns-then-bytes-gt-MAX_VALUE_BYTES-clause-means
+returns-then-bytes-gt-MAX_VALUE_BYTES-clause-means c = λ left.
     let a = c.args in
     let n = a.node in
     let fs = a.frames.now.items in
@@ -23,7 +23,7 @@ returns-then-bytes-gt-WIDEST-clause-means c = λ left.
     let rest : BodyPlan = models.initialised ls (initials_in a.values.names a.values.values) a.of n.at n.source n.site in
     chosen fs fs (nat_lt widest (bytes_in w.stage a.of)) true (refuse TooWide n.at n.site) rest w w left left c.refuse.result
     (ap (λ (v : TypingState). nat_lt widest (bytes_in v.stage a.of)) (sym c.typing.view_is) ∙ ap (nat_lt widest) (sym c.bytes.ensures)
-    ∙ lt-ltb widest c.bytes.result c.if-bytes-gt-WIDEST.true) (c.refuse.ensures.means w left fs)
+    ∙ lt-ltb widest c.bytes.result c.if-bytes-gt-MAX_VALUE_BYTES.true) (c.refuse.ensures.means w left fs)
 
 pub returns-then-entry_count-len-clause-means : goal.returns-then-entry_count-len-clause-means
 returns-then-entry_count-len-clause-means c = λ left.
@@ -38,7 +38,7 @@ returns-then-entry_count-len-clause-means c = λ left.
     let step = c.refuse-then-entry_count-len.result in
     chosen fs fs (nat_lt widest (bytes_in w.stage a.of)) false (refuse TooWide n.at n.site) (plan a.values.names) w w left left step
     (ap (λ (v : TypingState). nat_lt widest (bytes_in v.stage a.of)) (sym c.typing.view_is) ∙ ap (nat_lt widest) (sym c.bytes.ensures)
-    ∙ le-ltb widest c.bytes.result c.if-bytes-gt-WIDEST.false)
+    ∙ le-ltb widest c.bytes.result c.if-bytes-gt-MAX_VALUE_BYTES.false)
     (moved fs fs (plan a.values.names) (plan None) w w w left left step (ap plan c.in-None.is) refl
     (chosen fs fs (nat_lt (length ls) (length ts)) true (refuse WrongCount n.at n.site) all w w left left step
     (ap (λ (v : TypingState). nat_lt (length (entries_of v.stage.store.types a.of)) (length ts)) (sym c.typing.view_is)
@@ -61,7 +61,7 @@ returns-in_ok-step-in-None-clause-means c = λ left.
     let all : List (Option Laid) → BodyPlan = λ es. models.into es ts n.at n.site [] [] (models.constructed a.of n.at n.source) in
     chosen fs fs2 (nat_lt widest (bytes_in w.stage a.of)) false (refuse TooWide n.at n.site) (plan a.values.names) w w2 left left step
     (ap (λ (v : TypingState). nat_lt widest (bytes_in v.stage a.of)) (sym c.typing.view_is) ∙ ap (nat_lt widest) (sym c.bytes.ensures)
-    ∙ le-ltb widest c.bytes.result c.if-bytes-gt-WIDEST.false)
+    ∙ le-ltb widest c.bytes.result c.if-bytes-gt-MAX_VALUE_BYTES.false)
     (moved fs fs2 (plan a.values.names) (plan None) w w w2 left left step (ap plan c.in-None.is) refl
     (chosen fs fs2 (nat_lt (length ls) (length ts)) false (refuse WrongCount n.at n.site) (all (models.in_order ls ts)) w w2 left left step
     (ap (λ (v : TypingState). nat_lt (length (entries_of v.stage.store.types a.of)) (length ts)) (sym c.typing.view_is)
@@ -88,7 +88,7 @@ returns-in_ok-step-in-Some-clause-means c = λ left.
     let all : List (Option Laid) → BodyPlan = λ es. models.into es ts n.at n.site [] [] (models.constructed a.of n.at n.source) in
     chosen fs fs2 (nat_lt widest (bytes_in w.stage a.of)) false (refuse TooWide n.at n.site) (plan a.values.names) w w2 left left step
     (ap (λ (v : TypingState). nat_lt widest (bytes_in v.stage a.of)) (sym c.typing.view_is) ∙ ap (nat_lt widest) (sym c.bytes.ensures)
-    ∙ le-ltb widest c.bytes.result c.if-bytes-gt-WIDEST.false)
+    ∙ le-ltb widest c.bytes.result c.if-bytes-gt-MAX_VALUE_BYTES.false)
     (moved fs fs2 (plan a.values.names) (plan (Some names)) w w w2 left left step (ap plan c.in-Some.is) refl
     (moved fs fs2 (all (models.by_name ls names)) (all c.in_ok-entries-in-Some.entries) w w w2 left left step
     (ap all (ap (models.by_name ls) (sym c.as_slice-in-Some.ensures)

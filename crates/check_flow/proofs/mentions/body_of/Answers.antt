@@ -1,5 +1,6 @@
 use Rattle.check_flow.specs.Parts.{parts_mentions}
-use Rattle.check_flow.proofs.Through.{node_there, node_absent, body_mentioned, no_body_expression, no_body_statement, no_body_there, none_before, before_old}
+use Rattle.check_flow.proofs.Through.{node_there, node_absent, body_mentioned, no_body_expression, no_body_statement, no_body_there}
+use Rattle.check_flow.proofs.Through.{none_before, before_old}
 use Rattle.check_flow.proofs.mentions.body_of.Goals as goal
 
 pub returns-in_ok-all-in-Some-Function : goal.returns-in_ok-all-in-Some-Function

@@ -1,6 +1,7 @@
 use Rattle.std.proofs.Common.{true, false}
 use Rattle.check_flow.specs.Parts.{parts_mentions}
-use Rattle.check_flow.proofs.Through.{node_there, node_absent, from_not, none_gone, misplaced_expression, misplaced_statement, function_mentions, absent_mentions, expression_gone, statement_gone}
+use Rattle.check_flow.proofs.Through.{node_there, node_absent, from_not, none_gone, misplaced_expression, misplaced_statement}
+use Rattle.check_flow.proofs.Through.{function_mentions, absent_mentions, expression_gone, statement_gone}
 use Rattle.check_flow.proofs.mentions.go_through.Goals as goal
 
 pub returns-then-part-2 : goal.returns-then-part-2

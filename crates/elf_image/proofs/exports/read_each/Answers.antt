@@ -2,7 +2,8 @@ use Rattle.std.proofs.Common.{◌+◌, ◌*◌, ◌∙◌, sym, ap}
 use Rattle.elf_image.specs.declared.error.ImageError.TheVariants.{BadSymbol}
 use Rattle.elf_image.specs.Fields.{unless}
 use Rattle.elf_image.specs.Exports.{is_right}
-use Rattle.elf_image.proofs.Steps.{params_le, records_turn, symbols_at_step, symbols_at_none, are_right_step, are_right_none, push_turn, push_end, and_turn, unless_none}
+use Rattle.elf_image.proofs.Steps.{params_le, records_turn, symbols_at_step, symbols_at_none, are_right_step, are_right_none, push_turn}
+use Rattle.elf_image.proofs.Steps.{push_end, and_turn, unless_none}
 use Rattle.elf_image.proofs.exports.read_each.Goals as goal
 
 pub read_export-requires-clause-params : goal.read_export-requires-clause-params

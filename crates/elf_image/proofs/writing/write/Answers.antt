@@ -3,7 +3,8 @@ use Rattle.std.specs.List.{list_all}
 use Rattle.elf_image.specs.declared.image.Symbol.{Symbol}
 use Rattle.elf_image.specs.declared.layout.Layout.{Layout}
 use Rattle.elf_image.specs.Lawful.{is_lawful_symbol}
-use Rattle.elf_image.specs.Written.{layout_for, header_bytes, segments_bytes, words_bytes, terra_bytes, symtab_bytes, strtab_bytes, sections_bytes, bytes_of}
+use Rattle.elf_image.specs.Written.{layout_for, header_bytes, segments_bytes, words_bytes, terra_bytes, symtab_bytes, strtab_bytes}
+use Rattle.elf_image.specs.Written.{sections_bytes, bytes_of}
 use Rattle.elf_image.proofs.Puts.{eight}
 use Rattle.elf_image.proofs.writing.write.Goals as goal
 

@@ -19,6 +19,6 @@ returns-in-Some c =
     let text = c.in-Some.text in
     if-some c.spot_of.result c.spot_of.ensures (λ spot h. λ items left.
     text_goes items [] [] bytes (λ key. held a.object key) s s s left left (Return (Many (held_in spot))) (values.Text text)
-    (found_value s bytes text c.if-name-gt65535.false c.in-Some.ensures) (found_state s bytes text c.if-name-gt65535.false c.in-Some.ensures)
+    (found_value s bytes text c.if-name-gt-MAX_LEN.false c.in-Some.ensures) (found_state s bytes text c.if-name-gt-MAX_LEN.false c.in-Some.ensures)
     (moved items [] [] (held a.object (values.Text text)) (Give (Many (held_in spot))) s s s left left (Return (Many (held_in spot)))
     (ap (λ (vs : List Value). Give (Many vs)) (sym h)) refl (returned items [] (Many (held_in spot)) s left)))

@@ -16,5 +16,5 @@ returns-in-Some c =
     let text = c.in-Some.text in
     if-some c.field.result c.field.ensures (λ v h. λ items place outer left.
     text_goes items [] [] bytes (λ key. read a.object key place outer give) s s s left left (Return (One v)) (values.Text text)
-    (found_value s bytes text c.if-name-gt65535.false c.in-Some.ensures) (found_state s bytes text c.if-name-gt65535.false c.in-Some.ensures)
+    (found_value s bytes text c.if-name-gt-MAX_LEN.false c.in-Some.ensures) (found_state s bytes text c.if-name-gt-MAX_LEN.false c.in-Some.ensures)
     (h items place outer left))

@@ -5,7 +5,8 @@ use Rattle.lua_table.specs.Borders.{AreTable, index_in}
 use Rattle.lua_table.specs.Pairs.{Pairs}
 use Rattle.lua_table.proofs.Listed.{table_cut, table_stored, table_elsewhere}
 use Rattle.lua_table.proofs.table.store.Goals as goal
-use Rattle.lua_table.proofs.table.store.Goals.{else-index-gt0-via-then-index-gt0+else-index-len, else-index-gt0-via-else-index-gt0, else-index-len-2-via-then-index-len-2+else-not-is_nil, else-index-len-2-via-else-index-len-2}
+use Rattle.lua_table.proofs.table.store.Goals.{else-index-gt0-via-then-index-gt0+else-index-len, else-index-gt0-via-else-index-gt0}
+use Rattle.lua_table.proofs.table.store.Goals.{else-index-len-2-via-then-index-len-2+else-not-is_nil, else-index-len-2-via-else-index-len-2}
 
 pub returns-then-is_nil-clause-table : goal.returns-then-is_nil-clause-table
 returns-then-is_nil-clause-table c =

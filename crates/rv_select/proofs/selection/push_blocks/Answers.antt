@@ -1,7 +1,8 @@
 use Rattle.std.proofs.Common.{◌*◌, length, ap, ◌∙◌}
 use Rattle.rv_select.specs.Places.{with_reads}
 use Rattle.rv_select.specs.Shapes.{start_of}
-use Rattle.rv_select.proofs.Loops.{begins-end, begins-turn, blocks-calls-end, blocks-calls-turn, blocks-end, blocks-have-turn, blocks-turn, items-end, rest-put, rest-turn}
+use Rattle.rv_select.proofs.Loops.{begins-end, begins-turn, blocks-calls-end, blocks-calls-turn, blocks-end, blocks-have-turn, blocks-turn}
+use Rattle.rv_select.proofs.Loops.{items-end, rest-put, rest-turn}
 use Rattle.rv_select.proofs.selection.push_blocks.Goals as goal
 
 pub push_block-requires : goal.push_block-requires

@@ -9,8 +9,8 @@ use Rattle.spec_machine.proofs.Texts.{text_got, text_refused}
 use Rattle.spec_machine.proofs.Worlds.{heap_by}
 use Rattle.spec_machine.proofs.raise.text.Goals as goal
 
-pub returns-then-bytes-gt-LONGEST_TEXT-clause-means : goal.returns-then-bytes-gt-LONGEST_TEXT-clause-means
-returns-then-bytes-gt-LONGEST_TEXT-clause-means c = text_refused c.args.bytes.now c.args.world.now (omega arith)
+pub returns-then-bytes-gt-MAX_LEN-clause-means : goal.returns-then-bytes-gt-MAX_LEN-clause-means
+returns-then-bytes-gt-MAX_LEN-clause-means c = text_refused c.args.bytes.now c.args.world.now (omega arith)
 
 pub returns-clause-means : goal.returns-clause-means
 returns-clause-means c =

@@ -2,7 +2,8 @@ use Rattle.std.proofs.Common.{◌≡◌, [], refl, arith}
 use Rattle.std.proofs.lemmas.Grind.{common_steps}
 use Rattle.tl_base.specs.Layer.{state, given}
 use Rattle.stage_form.specs.Stage.{Finished, Exhausted}
-use Rattle.stage_form.proofs.Reaching.{reaches_end, reaches_spent, unwinds_spent, leads_ended, leads_asked, all_wait-push, all_wait-pop, all_wait-on}
+use Rattle.stage_form.proofs.Reaching.{reaches_end, reaches_spent, unwinds_spent, leads_ended, leads_asked, all_wait-push, all_wait-pop}
+use Rattle.stage_form.proofs.Reaching.{all_wait-on}
 use Rattle.stage_form.proofs.staging.run.Goals as goal
 
 pub returns-in-Spent-clause-means : goal.returns-in-Spent-clause-means

@@ -3,7 +3,9 @@ use Rattle.tac_copies.specs.Kept.{name_in, told_once}
 use Rattle.tac_copies.specs.Shortened.{own_names, shortened}
 use Rattle.tac_copies.proofs.ShortenedSteps.{leaves-all, stays-all}
 use Rattle.tac_copies.proofs.shortening.shortened_block.Goals as goal
-use Rattle.tac_copies.proofs.shortening.shortened_block.Goals.{in-Some+in_ok-put-in-Some+in-Call-1, in-Some+in_ok-put-in-Some+in-CallValue-1, in-Some+in_ok-put-in-Some+in-Compute-1, in-None+in_ok-push-in-None}
+use Rattle.tac_copies.proofs.shortening.shortened_block.Goals.{in-Some+in_ok-put-in-Some+in-Call-1}
+use Rattle.tac_copies.proofs.shortening.shortened_block.Goals.{in-Some+in_ok-put-in-Some+in-CallValue-1}
+use Rattle.tac_copies.proofs.shortening.shortened_block.Goals.{in-Some+in_ok-put-in-Some+in-Compute-1, in-None+in_ok-push-in-None}
 
 -- the three arms of a copy that goes differ in how the instruction is let go
 pub loop-at-preserved : goal.loop-at-preserved

@@ -1,4 +1,5 @@
-use Rattle.std.proofs.Common.{◌≡◌, refl, sym, ap, ◌∙◌, subst, ℕ, ◌+◌, ◌-◌, suc, List, [], ◌∷◌, ◌++◌, Option, Some, map, length, arith, zero-add, append_assoc, length-append}
+use Rattle.std.proofs.Common.{◌≡◌, refl, sym, ap, ◌∙◌, subst, ℕ, ◌+◌, ◌-◌, suc, List, [], ◌∷◌, ◌++◌, Option, Some, map, length, arith}
+use Rattle.std.proofs.Common.{zero-add, append_assoc, length-append}
 use Rattle.terra_types.specs.declared.types.TypeForm.{TypeForm}
 use Rattle.terra_term.specs.Events.{events_of, block_events, scope}
 use Rattle.terra_meaning.specs.Meaning.{in_block, in_expression, in_list, in_statement, the_value}
@@ -9,14 +10,18 @@ use Rattle.tac_form.specs.declared.tac.Operand.{Operand}
 use Rattle.tac_form.specs.declared.tac.Operand.TheVariants.{Temp}
 use Rattle.tac_form.specs.declared.tac.Instruction.TheVariants.{Copy}
 use Rattle.tac_lower.specs.Items.{Item, does, ends, skips, tests, count_ends, repeats, loop_of, repeats_unless}
-use Rattle.tac_lower.specs.Pieces.{Piece, Result, Used, Holders, a_word, declare, declare_all, number_of, with_temp, word_at, word_of, taken}
-use Rattle.tac_lower.specs.Lowering.{Counting, all, assigned_all, choice, counted_on, counting, opposite, passed_over, piece, repeat_loop, runs, while_loop}
+use Rattle.tac_lower.specs.Pieces.{Piece, Result, Used, Holders, a_word, declare, declare_all, number_of, with_temp, word_at, word_of}
+use Rattle.tac_lower.specs.Pieces.{taken}
+use Rattle.tac_lower.specs.Lowering.{Counting, all, assigned_all, choice, counted_on, counting, opposite, passed_over, piece, repeat_loop}
+use Rattle.tac_lower.specs.Lowering.{runs, while_loop}
 use Rattle.tac_lower.specs.Data.{counting_of, result_of, target_of, want_of}
 use Rattle.tac_lower.specs.Works.{Declared, Made, Put, past, scoped}
 use Rattle.tac_lower.specs.declared.value.Value.{Value}
 use Rattle.tac_lower.specs.declared.value.Target as code_target
-use Rattle.tac_lower.specs.Views.{around_of, both_tree, piece_at, piece_of, pieces_of, targets_of, either_tree, all_of, if_tree, one_at, choice_tree, for_of, while_tree, repeat_tree}
-use Rattle.tac_lower.proofs.Building.{Built, built-past, built-item, built-nothing, built-temp, built-term, passed-built, built-plain, built-all, built-left, built-scoped, built-closed, tested-built, built-loop}
+use Rattle.tac_lower.specs.Views.{around_of, both_tree, piece_at, piece_of, pieces_of, targets_of, either_tree, all_of, if_tree, one_at}
+use Rattle.tac_lower.specs.Views.{choice_tree, for_of, while_tree, repeat_tree}
+use Rattle.tac_lower.proofs.Building.{Built, built-past, built-item, built-nothing, built-temp, built-term, passed-built, built-plain}
+use Rattle.tac_lower.proofs.Building.{built-all, built-left, built-scoped, built-closed, tested-built, built-loop}
 use Rattle.tac_lower.proofs.Passing.{declared_append, declared_scope}
 use Rattle.tl_base.specs.declared.ids.TermId.{TermId}
 use Rattle.tac_lower.proofs.Listing.{block-all, block-later, list-all, list-result, list-work, target-all, target-result, target-work}

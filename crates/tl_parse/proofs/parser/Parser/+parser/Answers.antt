@@ -9,10 +9,14 @@ use Rattle.tl_tree.specs.Grammar.{Outcome, Took, ◌>>=◌, down}
 use Rattle.tl_tree.specs.Forms.{Chained, chained}
 use Rattle.tl_tree.specs.LuaStatements.{Sequence}
 use Rattle.tl_parse.specs.Parsing.{token_of, tokens_left, items_of}
-use Rattle.tl_parse.specs.Expressions.{Suffixed, attached, shape_of, suffixes_at, expressions_at, more_expressions_at, more_at, binary_at, field_at, fields_at, more_fields_at}
+use Rattle.tl_parse.specs.Expressions.{Suffixed, attached, shape_of, suffixes_at, expressions_at, more_expressions_at, more_at, binary_at}
+use Rattle.tl_parse.specs.Expressions.{field_at, fields_at, more_fields_at}
 use Rattle.tl_parse.specs.Statements.{arms_at, more_arms_at, variable_at, settle_at, more_statements_at}
-use Rattle.tl_parse.specs.TerraExpressions.{TerraSuffixed, terra_attached, terra_shape_of, terra_suffixes_at, terra_applied_at, terra_expressions_at, more_terra_expressions_at, terra_more_at, terra_binary_at}
-use Rattle.tl_parse.specs.TerraStatements.{terra_arms_at, more_terra_arms_at, terra_variables_at, more_terra_variables_at, terra_parameter_at, terra_parameters_at, more_terra_parameters_at, terra_assignment_at, more_terra_statements_at}
+use Rattle.tl_parse.specs.TerraExpressions.{TerraSuffixed, terra_attached, terra_shape_of, terra_suffixes_at, terra_applied_at}
+use Rattle.tl_parse.specs.TerraExpressions.{terra_expressions_at, more_terra_expressions_at, terra_more_at, terra_binary_at}
+use Rattle.tl_parse.specs.TerraStatements.{terra_arms_at, more_terra_arms_at, terra_variables_at, more_terra_variables_at}
+use Rattle.tl_parse.specs.TerraStatements.{terra_parameter_at, terra_parameters_at, more_terra_parameters_at, terra_assignment_at}
+use Rattle.tl_parse.specs.TerraStatements.{more_terra_statements_at}
 use Rattle.tl_parse.specs.Entries.{more_entries_at}
 use Rattle.tl_parse.proofs.Uses.{operator_with}
 use Rattle.tl_parse.proofs.Turns.{suffix_shorter, suffixes_go, operation_shorter, operations_go, expressions_go, fields_go}
@@ -20,8 +24,10 @@ use Rattle.tl_parse.proofs.Failing.{fails_same}
 use Rattle.tl_parse.proofs.Parts.{fields_part, inner_product, inner_sum, inner_comparison, inner_conjunction, inner_disjunction}
 use Rattle.tl_parse.proofs.TerraParts as terra_parts
 use Rattle.tl_parse.proofs.StatementTurns.{arms_go, block_goes, settles_on}
-use Rattle.tl_parse.proofs.Looping.{listing_first, listing_next, numbers_next, targets_begin, targets_next, names_begin, names_next, body_fails}
-use Rattle.tl_parse.proofs.TerraTurns.{terra_suffix_shorter, terra_suffixes_go, terra_operation_shorter, terra_operations_go, terra_expressions_go, initialisers_go, entries_go}
+use Rattle.tl_parse.proofs.Looping.{listing_first, listing_next, numbers_next, targets_begin, targets_next, names_begin, names_next}
+use Rattle.tl_parse.proofs.Looping.{body_fails}
+use Rattle.tl_parse.proofs.TerraTurns.{terra_suffix_shorter, terra_suffixes_go, terra_operation_shorter, terra_operations_go}
+use Rattle.tl_parse.proofs.TerraTurns.{terra_expressions_go, initialisers_go, entries_go}
 use Rattle.tl_parse.proofs.TerraStatementTurns.{terra_block_goes, terra_arms_go, terra_variables_go, terra_parameters_go, terra_targets_go}
 use Rattle.tl_parse.proofs.parser.Parser.+parser.Goals as goal
 

@@ -6,13 +6,16 @@ use Rattle.tl_parse.specs.Parsing.{tokens_left}
 use Rattle.tl_parse.specs.Using.{part_at}
 use Rattle.tl_parse.specs.Expressions.{applied_at, binary_at, expressions_at, more_expressions_at, more_fields_at}
 use Rattle.tl_parse.specs.Going.{Binding, Applying, Listing, Settling, Sequencing, rank_of}
-use Rattle.tl_parse.specs.Statements.{first_place, call_or_assignment_at, more_targets_at, values_at, variable_at, arms_at, more_arms_at, for_at, generic_at}
+use Rattle.tl_parse.specs.Statements.{first_place, call_or_assignment_at, more_targets_at, values_at, variable_at, arms_at, more_arms_at}
+use Rattle.tl_parse.specs.Statements.{for_at, generic_at}
 use Rattle.tl_parse.specs.Paths.{more_names_at}
-use Rattle.tl_parse.specs.TerraExpressions.{terra_binary_at, terra_applied_at, terra_expressions_at, more_terra_expressions_at, more_initialisers_at}
+use Rattle.tl_parse.specs.TerraExpressions.{terra_binary_at, terra_applied_at, terra_expressions_at, more_terra_expressions_at}
+use Rattle.tl_parse.specs.TerraExpressions.{more_initialisers_at}
 use Rattle.tl_parse.specs.Entries.{more_entries_at}
 use Rattle.tl_parse.specs.TerraGoing.{TerraBinding, TerraApplying, terra_rank_of}
 use Rattle.tl_tree.specs.Tree.{TerraStatements}
-use Rattle.tl_parse.specs.TerraStatements.{terra_arms_at, more_terra_arms_at, terra_variables_at, more_terra_variables_at, terra_simple_statement_at, terra_assignment_at, terra_parameters_at, more_terra_parameters_at}
+use Rattle.tl_parse.specs.TerraStatements.{terra_arms_at, more_terra_arms_at, terra_variables_at, more_terra_variables_at}
+use Rattle.tl_parse.specs.TerraStatements.{terra_simple_statement_at, terra_assignment_at, terra_parameters_at, more_terra_parameters_at}
 use Rattle.tl_parse.specs.TerraLines.{TerraSequencing}
 use Rattle.tl_parse.proofs.parser.Parser.+parser.Given as goal
 
