@@ -11,6 +11,7 @@ pub mod StartLemmas
 pub mod ValueLemmas
 pub mod LocalLemmas
 pub mod MunchLemmas
+pub mod SpaceLemmas
 pub mod LongestLemmas
 pub mod TokenLemmas
 pub mod LawLemmas

@@ -1,6 +1,7 @@
 // The lexer.
 ghost use Rattle.std.specs.Prelude.{◌+◌, ◌<◌, ◌^◌, length};
 
+use crate::brackets::begins_with;
 use crate::front::{Front, front_of};
 use crate::line_ends::count_line_ends;
 use crate::places::{first_line_len, line_ends_in, moved};
@@ -59,8 +60,17 @@ impl<'a> Lexer<'a> {
         front
     }
 
-    /// Passes over white space and comments, up to another front.
-    fn pass_blanks(&mut self) -> Front
+    /// Passes over spaces.
+    fn pass_spaces(&mut self)
+        ensures { answers_left self.new ≡ answers_left self.old }
+    {
+        'spaces: while begins_with(b' ', self.rest.as_bytes()) {
+            self.pass(1, 0, 0);
+        }
+    }
+
+    /// Passes over runs of white space and comments, up to another front.
+    fn pass_runs(&mut self) -> Front
         ensures front { result ≡ front_of self.new.rest.now }
         ensures other { IsOther result }
         ensures left { answers_left self.new ≡ answers_left self.old }
@@ -74,6 +84,16 @@ impl<'a> Lexer<'a> {
             let lines = count_line_ends(&bytes[..len]).line_ends;
             self.pass(len, lines, 0);
         }
+    }
+
+    /// Passes over white space and comments, up to another front. Most of it is single spaces.
+    fn pass_blanks(&mut self) -> Front
+        ensures front { result ≡ front_of self.new.rest.now }
+        ensures other { IsOther result }
+        ensures left { answers_left self.new ≡ answers_left self.old }
+    {
+        self.pass_spaces();
+        self.pass_runs()
     }
 
     /// The next token. The end token, and a refusal, come again and again. Takes no memory.

@@ -7,7 +7,7 @@ use Rattle.tl_lex.specs.Fronts.{front_of}
 use Rattle.tl_lex.specs.Lexing.{position_of, behind, answers_from}
 use Rattle.tl_lex.specs.declared.front.Front.TheVariants as fronts
 use Rattle.tl_lex.proofs.LexLemmas.{blank_fits, answers_blank}
-use Rattle.tl_lex.proofs.lexer.Lexer.pass_blanks.Goals as goal
+use Rattle.tl_lex.proofs.lexer.Lexer.pass_runs.Goals as goal
 
 pub slice_bounds-count_line_ends-end : goal.slice_bounds-count_line_ends-end
 slice_bounds-count_line_ends-end c =
