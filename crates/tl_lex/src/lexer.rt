@@ -70,6 +70,7 @@ impl<'a> Lexer<'a> {
     }
 
     /// Passes over runs of white space and comments, up to another front.
+    #[inline(always)]
     fn pass_runs(&mut self) -> Front
         ensures front { result ≡ front_of self.new.rest.now }
         ensures other { IsOther result }
@@ -87,6 +88,7 @@ impl<'a> Lexer<'a> {
     }
 
     /// Passes over white space and comments, up to another front. Most of it is single spaces.
+    #[inline(always)]
     fn pass_blanks(&mut self) -> Front
         ensures front { result ≡ front_of self.new.rest.now }
         ensures other { IsOther result }
@@ -97,6 +99,7 @@ impl<'a> Lexer<'a> {
     }
 
     /// The next token. The end token, and a refusal, come again and again. Takes no memory.
+    #[inline(always)]
     pub fn next_token(&mut self) -> Result<Token<'a>, LexError>
         ensures first { slice_get (answers_left self.old) 0 ≡ Some (answer_of result) }
         ensures rest { answers_left self.new ≡ behind_first (answers_left self.old) }

@@ -200,6 +200,7 @@ fn numeral_of(text: &[u8]) -> Symbol
 
 /// The symbol of a token of the lexer. A word or sign that the lexer doesn't give is `Finish`.
 #[tactic(auto, unfolding(crate::specs::Symbols::symbol_of))]
+#[inline(always)]
 pub fn symbol_of(kind: TokenKind, text: &str) -> Symbol
     ensures { result ≡ spec.symbol_of kind text.now }
 {
