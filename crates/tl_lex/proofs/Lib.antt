@@ -12,6 +12,7 @@ pub mod ValueLemmas
 pub mod LocalLemmas
 pub mod MunchLemmas
 pub mod SpaceLemmas
+pub mod LoneLemmas
 pub mod LongestLemmas
 pub mod TokenLemmas
 pub mod LawLemmas

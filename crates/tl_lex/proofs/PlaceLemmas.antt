@@ -9,7 +9,7 @@ use Rattle.tl_lex.specs.Bytes.{is_line_end}
 use Rattle.tl_lex.specs.LineEnds.{line_ends}
 use Rattle.tl_lex.specs.Fronts.{front_of}
 use Rattle.tl_lex.specs.Answers.{Token, Answer, Position, token_at, place_at, place_behind, position_behind, answers_at, answers_behind}
-use Rattle.tl_lex.specs.Lexing.{moved, behind, counted_at, counted}
+use Rattle.tl_lex.specs.Lexing.{moved, counted_at, counted}
 use Rattle.tl_lex.specs.declared.front.Front.{Front}
 use Rattle.tl_lex.specs.declared.front.Front.TheVariants as fronts
 use Rattle.tl_lex.proofs.LineLemmas.{Apart, last_of, first_of, line_ends-append, last_of-append, last_of-is, first_of-is}

@@ -1,5 +1,5 @@
 -- Reserved words by their length.
-use Rattle.std.proofs.Common.{◌≡◌, ◌≢◌, ℕ, Bool, true, false, cond, eqb, List, [], ◌∷◌, length, refl, sym, ap, ◌∙◌, arith, filter}
+use Rattle.std.proofs.Common.{◌≡◌, ◌≢◌, ℕ, ◌<◌, Bool, true, false, cond, eqb, List, [], ◌∷◌, length, get_or, refl, sym, ap, ◌∙◌, arith, filter}
 use Rattle.std.specs.Prelude.{bytes_eq, ◌||◌, ◌&&◌, nat_eq}
 use Rattle.std.proofs.lemmas.Bool.{eqb-false, ne_eqb}
 use Rattle.tl_lex.specs.Words.{is_one_of, is_reserved, reserved_words}
@@ -44,3 +44,9 @@ none_of_length n h2 h3 h4 h5 h6 h8 =
 pub reserved_of_no_length : (w : List ℕ) → length w ≢ 2 → length w ≢ 3 → length w ≢ 4 → length w ≢ 5 → length w ≢ 6 → length w ≢ 8 → is_reserved w ≡ false
 reserved_of_no_length w h2 h3 h4 h5 h6 h8 =
     reserved_of_length w (length w) refl ∙ ap (λ words. is_one_of w words) (none_of_length (length w) h2 h3 h4 h5 h6 h8)
+
+-- texts whose first bytes differ
+pub first_differs : (a b : List ℕ) → 0 < length a → 0 < length b → (get_or a 0 0 ≡ get_or b 0 0 → ⊥) → bytes_eq a b ≡ false
+first_differs [] b p q h = absurd (omega arith)
+first_differs (x ∷ xs) [] p q h = absurd (omega arith)
+first_differs (x ∷ xs) (y ∷ ys) p q h = ap (λ (c : Bool). c && bytes_eq xs ys) (ne_eqb x y h)

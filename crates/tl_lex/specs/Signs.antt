@@ -11,6 +11,10 @@ use Rattle.tl_lex.specs.declared.front.Front.TheVariants as fronts
 abbrev pub is_single_sign : ℕ → Bool
 is_single_sign c = list_any (λ x. c == x) (codes "+-*/%^#<>=(){}[];:,.@&`")
 
+-- those with which no longer sign begins, and no comment and no long bracket
+abbrev pub is_lone_sign : ℕ → Bool
+is_lone_sign c = list_any (λ x. c == x) (codes "#%&()*+,/;@]^`{}")
+
 -- the signs of two bytes
 abbrev pub is_double_sign : ℕ → ℕ → Bool
 is_double_sign c d =

@@ -11,7 +11,7 @@ use crate::bytes::{begins_name, is_digit, is_line_end, is_quote, is_white};
 use crate::line_ends::count_line_ends;
 use crate::numerals::numeral_front;
 use crate::quoted::count_characters;
-use crate::signs::sign_front;
+use crate::signs::{is_lone_sign, sign_front};
 use crate::words::word_front;
 use crate::{SyntaxKind, TokenKind};
 use tl_base::Text;
@@ -119,6 +119,7 @@ fn begins_comment(bytes: &[u8]) -> bool
     bytes.len() > 1 && bytes[0] == b'-' && bytes[1] == b'-'
 }
 
+#[inline(always)]
 fn bracket_or_sign_front(bytes: &[u8]) -> Front
     ensures { result ≡ fronts.bracket_or_sign_front (brackets.bracket_level 91 bytes.now) bytes.now }
 {
@@ -129,7 +130,8 @@ fn bracket_or_sign_front(bytes: &[u8]) -> Front
 }
 
 /// The front of a text, by its first byte.
-#[tactic(auto, unfolding(crate::specs::Fronts::front_of))]
+#[tactic(auto, using(crate::proofs::LoneLemmas::lone_front), unfolding(crate::specs::Fronts::front_of))]
+#[inline(always)]
 pub(crate) fn front_of(bytes: &[u8]) -> Front
     ensures { result ≡ fronts.front_of bytes.now }
 {
@@ -141,6 +143,8 @@ pub(crate) fn front_of(bytes: &[u8]) -> Front
         Front::Blank(white_len(bytes))
     } else if begins_name(c) {
         word_front(bytes)
+    } else if is_lone_sign(c) {
+        Front::Lexeme(TokenKind::Sign, 1)
     } else if is_digit(c) {
         numeral_front(bytes)
     } else if is_quote(c) {

@@ -6,6 +6,7 @@ use crate::bytes::is_digit;
 use crate::front::Front;
 use crate::{SyntaxKind, TokenKind};
 
+#[inline(always)]
 fn is_single_sign(c: u8) -> bool
     ensures { result ≡ signs.is_single_sign c }
 {
@@ -13,6 +14,17 @@ fn is_single_sign(c: u8) -> bool
         b'+' | b'-' | b'*' | b'/' | b'%' | b'^' | b'#' | b'<' | b'>' | b'=' => true,
         b'(' | b')' | b'{' | b'}' | b'[' | b']' | b';' | b':' | b',' | b'.' => true,
         b'@' | b'&' | b'`' => true,
+        _ => false,
+    }
+}
+
+/// Signs of one byte with which no longer sign begins, and no comment and no long bracket.
+pub(crate) fn is_lone_sign(c: u8) -> bool
+    ensures { result ≡ signs.is_lone_sign c }
+{
+    match c {
+        b'#' | b'%' | b'&' | b'(' | b')' | b'*' | b'+' | b',' | b'/' => true,
+        b';' | b'@' | b']' | b'^' | b'`' | b'{' | b'}' => true,
         _ => false,
     }
 }
@@ -59,6 +71,7 @@ fn is_point_and_digit(bytes: &[u8]) -> bool
 
 /// The front of a text that begins with a sign or with no token.
 #[tactic(auto, unfolding(crate::specs::Signs::sign_front))]
+#[inline(always)]
 pub(crate) fn sign_front(bytes: &[u8]) -> Front
     ensures { result ≡ signs.sign_front bytes.now }
 {

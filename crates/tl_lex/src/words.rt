@@ -1,5 +1,5 @@
 // Names and reserved words.
-ghost use Rattle.std.specs.Prelude.{◌≡◌, ◌<◌, ◌≤◌, [], ◌∷◌, length, codes};
+ghost use Rattle.std.specs.Prelude.{◌≡◌, ◌<◌, ◌≤◌, [], ◌∷◌, length, codes, bytes_eq};
 ghost use Rattle.std.specs.List.{prefix_len};
 ghost use Rattle.tl_lex.specs.Bytes as classes;
 ghost use Rattle.tl_lex.specs.Words as words;
@@ -11,65 +11,78 @@ use crate::{SyntaxKind, TokenKind};
 /// The most bytes of a name.
 const LONGEST_NAME: usize = 255;
 
+/// Is the word this one? Most others differ from it in their first byte.
+#[tactic(auto, using(crate::proofs::WordLemmas::first_differs))]
+#[inline(always)]
+fn is_word(word: &[u8], other: &[u8]) -> bool
+    ensures { result ≡ bytes_eq word.now other.now }
+{
+    if !word.is_empty() && !other.is_empty() && word[0] != other[0] {
+        return false;
+    }
+    word == other
+}
+
 fn is_two_byte_word(word: &[u8]) -> bool
     ensures { result ≡ words.is_one_of word.now (codes "do" ∷ codes "if" ∷ codes "in" ∷ codes "or" ∷ []) }
 {
-    word == b"do".as_slice()
-        || word == b"if".as_slice()
-        || word == b"in".as_slice()
-        || word == b"or".as_slice()
+    is_word(word, b"do".as_slice())
+        || is_word(word, b"if".as_slice())
+        || is_word(word, b"in".as_slice())
+        || is_word(word, b"or".as_slice())
 }
 
 fn is_three_byte_word(word: &[u8]) -> bool
     ensures { result ≡ words.is_one_of word.now (codes "and" ∷ codes "end" ∷ codes "for" ∷ codes "nil" ∷ codes "not" ∷ codes "var" ∷ []) }
 {
-    word == b"and".as_slice()
-        || word == b"end".as_slice()
-        || word == b"for".as_slice()
-        || word == b"nil".as_slice()
-        || word == b"not".as_slice()
-        || word == b"var".as_slice()
+    is_word(word, b"and".as_slice())
+        || is_word(word, b"end".as_slice())
+        || is_word(word, b"for".as_slice())
+        || is_word(word, b"nil".as_slice())
+        || is_word(word, b"not".as_slice())
+        || is_word(word, b"var".as_slice())
 }
 
 fn is_four_byte_word(word: &[u8]) -> bool
     ensures { result ≡ words.is_one_of word.now (codes "else" ∷ codes "then" ∷ codes "true" ∷ codes "emit" ∷ []) }
 {
-    word == b"else".as_slice()
-        || word == b"then".as_slice()
-        || word == b"true".as_slice()
-        || word == b"emit".as_slice()
+    is_word(word, b"else".as_slice())
+        || is_word(word, b"then".as_slice())
+        || is_word(word, b"true".as_slice())
+        || is_word(word, b"emit".as_slice())
 }
 
 fn is_five_byte_word(word: &[u8]) -> bool
     ensures { result ≡ words.is_one_of word.now
         (codes "break" ∷ codes "false" ∷ codes "local" ∷ codes "until" ∷ codes "while" ∷ codes "terra" ∷ codes "quote" ∷ []) }
 {
-    word == b"break".as_slice()
-        || word == b"false".as_slice()
-        || word == b"local".as_slice()
-        || word == b"until".as_slice()
-        || word == b"while".as_slice()
-        || word == b"terra".as_slice()
-        || word == b"quote".as_slice()
+    is_word(word, b"break".as_slice())
+        || is_word(word, b"false".as_slice())
+        || is_word(word, b"local".as_slice())
+        || is_word(word, b"until".as_slice())
+        || is_word(word, b"while".as_slice())
+        || is_word(word, b"terra".as_slice())
+        || is_word(word, b"quote".as_slice())
 }
 
 fn is_six_byte_word(word: &[u8]) -> bool
     ensures { result ≡ words.is_one_of word.now (codes "elseif" ∷ codes "repeat" ∷ codes "return" ∷ codes "escape" ∷ codes "struct" ∷ []) }
 {
-    word == b"elseif".as_slice()
-        || word == b"repeat".as_slice()
-        || word == b"return".as_slice()
-        || word == b"escape".as_slice()
-        || word == b"struct".as_slice()
+    is_word(word, b"elseif".as_slice())
+        || is_word(word, b"repeat".as_slice())
+        || is_word(word, b"return".as_slice())
+        || is_word(word, b"escape".as_slice())
+        || is_word(word, b"struct".as_slice())
 }
 
 fn is_eight_byte_word(word: &[u8]) -> bool
     ensures { result ≡ words.is_one_of word.now (codes "function" ∷ []) }
 {
-    word == b"function".as_slice()
+    is_word(word, b"function".as_slice())
 }
 
 /// By the length of the word, then by comparison.
+#[inline(never)]
 fn is_reserved(word: &[u8]) -> bool
     ensures { result ≡ words.is_reserved word.now }
 {
@@ -101,6 +114,7 @@ fn name_len(bytes: &[u8]) -> usize
 
 /// The front of a text that begins with a letter or `_`.
 #[tactic(auto, unfolding(crate::specs::Words::word_front))]
+#[inline(always)]
 pub(crate) fn word_front(bytes: &[u8]) -> Front
     ensures { result ≡ words.word_front bytes.now }
 {

@@ -1,3 +1,4 @@
+pub mod FirstBytes
 pub mod Spelled
 pub mod Spelt
 pub mod TextsGo

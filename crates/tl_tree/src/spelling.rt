@@ -1,21 +1,33 @@
 // The symbols of the lexer's tokens.
-ghost use Rattle.std.specs.Prelude.{◌≡◌, ◌<◌, ◌≤◌, [], ◌∷◌, length};
+ghost use Rattle.std.specs.Prelude.{◌≡◌, ◌<◌, ◌≤◌, [], ◌∷◌, length, bytes_eq};
 ghost use Rattle.tl_tree.specs.Symbols as spec;
 ghost use Rattle.tl_tree.specs.declared.symbol.Symbol.TheVariants as symbols;
 
 use crate::symbol::Symbol;
 use tl_lex::TokenKind;
 
+/// Is the text this word? Most others differ from it in their first byte.
+#[tactic(auto, using(crate::proofs::FirstBytes::first_differs))]
+#[inline(always)]
+fn is_word(text: &[u8], word: &[u8]) -> bool
+    ensures { result ≡ bytes_eq text.now word.now }
+{
+    if !text.is_empty() && !word.is_empty() && text[0] != word[0] {
+        return false;
+    }
+    text == word
+}
+
 fn two_byte_word(text: &[u8]) -> Symbol
     ensures { result ≡ spec.written (spec.of_length 2 spec.words) text.now }
 {
-    if text == b"do".as_slice() {
+    if is_word(text, b"do".as_slice()) {
         Symbol::Do
-    } else if text == b"if".as_slice() {
+    } else if is_word(text, b"if".as_slice()) {
         Symbol::If
-    } else if text == b"in".as_slice() {
+    } else if is_word(text, b"in".as_slice()) {
         Symbol::In
-    } else if text == b"or".as_slice() {
+    } else if is_word(text, b"or".as_slice()) {
         Symbol::Or
     } else {
         Symbol::Finish
@@ -25,17 +37,17 @@ fn two_byte_word(text: &[u8]) -> Symbol
 fn three_byte_word(text: &[u8]) -> Symbol
     ensures { result ≡ spec.written (spec.of_length 3 spec.words) text.now }
 {
-    if text == b"and".as_slice() {
+    if is_word(text, b"and".as_slice()) {
         Symbol::And
-    } else if text == b"end".as_slice() {
+    } else if is_word(text, b"end".as_slice()) {
         Symbol::End
-    } else if text == b"for".as_slice() {
+    } else if is_word(text, b"for".as_slice()) {
         Symbol::For
-    } else if text == b"nil".as_slice() {
+    } else if is_word(text, b"nil".as_slice()) {
         Symbol::Nil
-    } else if text == b"not".as_slice() {
+    } else if is_word(text, b"not".as_slice()) {
         Symbol::Not
-    } else if text == b"var".as_slice() {
+    } else if is_word(text, b"var".as_slice()) {
         Symbol::Var
     } else {
         Symbol::Finish
@@ -45,13 +57,13 @@ fn three_byte_word(text: &[u8]) -> Symbol
 fn four_byte_word(text: &[u8]) -> Symbol
     ensures { result ≡ spec.written (spec.of_length 4 spec.words) text.now }
 {
-    if text == b"else".as_slice() {
+    if is_word(text, b"else".as_slice()) {
         Symbol::Else
-    } else if text == b"then".as_slice() {
+    } else if is_word(text, b"then".as_slice()) {
         Symbol::Then
-    } else if text == b"true".as_slice() {
+    } else if is_word(text, b"true".as_slice()) {
         Symbol::True
-    } else if text == b"emit".as_slice() {
+    } else if is_word(text, b"emit".as_slice()) {
         Symbol::Emit
     } else {
         Symbol::Finish
@@ -61,19 +73,19 @@ fn four_byte_word(text: &[u8]) -> Symbol
 fn five_byte_word(text: &[u8]) -> Symbol
     ensures { result ≡ spec.written (spec.of_length 5 spec.words) text.now }
 {
-    if text == b"break".as_slice() {
+    if is_word(text, b"break".as_slice()) {
         Symbol::Break
-    } else if text == b"false".as_slice() {
+    } else if is_word(text, b"false".as_slice()) {
         Symbol::False
-    } else if text == b"local".as_slice() {
+    } else if is_word(text, b"local".as_slice()) {
         Symbol::Local
-    } else if text == b"until".as_slice() {
+    } else if is_word(text, b"until".as_slice()) {
         Symbol::Until
-    } else if text == b"while".as_slice() {
+    } else if is_word(text, b"while".as_slice()) {
         Symbol::While
-    } else if text == b"terra".as_slice() {
+    } else if is_word(text, b"terra".as_slice()) {
         Symbol::Terra
-    } else if text == b"quote".as_slice() {
+    } else if is_word(text, b"quote".as_slice()) {
         Symbol::Quote
     } else {
         Symbol::Finish
@@ -83,15 +95,15 @@ fn five_byte_word(text: &[u8]) -> Symbol
 fn six_byte_word(text: &[u8]) -> Symbol
     ensures { result ≡ spec.written (spec.of_length 6 spec.words) text.now }
 {
-    if text == b"elseif".as_slice() {
+    if is_word(text, b"elseif".as_slice()) {
         Symbol::Elseif
-    } else if text == b"repeat".as_slice() {
+    } else if is_word(text, b"repeat".as_slice()) {
         Symbol::Repeat
-    } else if text == b"return".as_slice() {
+    } else if is_word(text, b"return".as_slice()) {
         Symbol::Return
-    } else if text == b"escape".as_slice() {
+    } else if is_word(text, b"escape".as_slice()) {
         Symbol::Escape
-    } else if text == b"struct".as_slice() {
+    } else if is_word(text, b"struct".as_slice()) {
         Symbol::Struct
     } else {
         Symbol::Finish
@@ -101,7 +113,7 @@ fn six_byte_word(text: &[u8]) -> Symbol
 fn eight_byte_word(text: &[u8]) -> Symbol
     ensures { result ≡ spec.written (spec.of_length 8 spec.words) text.now }
 {
-    if text == b"function".as_slice() {
+    if is_word(text, b"function".as_slice()) {
         Symbol::Function
     } else {
         Symbol::Finish
@@ -124,6 +136,7 @@ fn word_of(text: &[u8]) -> Symbol
 }
 
 /// The sign that is this byte.
+#[inline(always)]
 fn single_sign(c: u8) -> Symbol
     ensures { result ≡ spec.written (spec.of_length 1 spec.signs) (c ∷ []) }
 {
@@ -174,6 +187,7 @@ fn double_sign(c: u8, d: u8) -> Symbol
 }
 
 /// The sign that is written so, by its length and then by its bytes.
+#[inline(always)]
 fn sign_of(text: &[u8]) -> Symbol
     ensures { result ≡ spec.written spec.signs text.now }
 {
