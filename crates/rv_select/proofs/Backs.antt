@@ -50,7 +50,7 @@ use Rattle.rv_select.proofs.Pairing.{before-next, plain-get}
 use Rattle.rv_select.proofs.Leaves.{exit-in-graph, exit-reads-live}
 use Rattle.rv_select.proofs.Lives.{housed, step-in-graph, write-used}
 use Rattle.rv_select.proofs.Moves.{Settles, first-small, put-away, settled}
-use Rattle.rv_select.proofs.Passes.{IsPartGiven, part_value}
+use Rattle.rv_select.proofs.Passes.{IsPartFirst, part_value}
 use Rattle.rv_select.proofs.Receives.{housed-fewer}
 use Rattle.rv_select.proofs.Returns.{BackIn, HeldIn, Resumes, UsedBut, back-holds, goes-back, resumes}
 use Rattle.rv_select.proofs.Stands.{AtExit, AtPlace, at-plain-exit, at-instruction, both-true, exit-within, instruction-within}
@@ -72,7 +72,7 @@ run-returned program z (suc more) e =
 part-given : (code : Tac) (x : List (Option Home)) (held : Option ℕ) (block : Block) (b k : ℕ) (v : Part) → exit_fits code (Return v) ≡ true →
     slice_get code.blocks b ≡ Some block → slice_get block.instructions k ≡ None →
     block.exit ≡ Return v → ((t : ℕ) → has (given_asks held v) t ≡ true → HasHome (layout_of code x) t) →
-    IsPartGiven (layout_of code x) held (InUse (graph_of code) b k) v
+    IsPartFirst (layout_of code x) held (InUse (graph_of code) b k) v
 part-given code x held block b k (parts.Word a) fits e g is asked =
     let q = exit-in-graph code block b k e g in
     first-read code (layout_of code x) held (InUse (graph_of code) b k) a fits
@@ -449,7 +449,7 @@ to-one : (p : Program) (image : Image) (program : List (Option Instr)) (most siz
     (s : tac.State) (base : ℕ) (m : State) (y : Layout) (held : Option ℕ) (Used : ℕ → Type 0) (frame : ℕ) →
     Holds y Used (world_of s) base m → s.here.base + frame ≤ end_address s.region → length s.region.bytes ≡ size →
     (a : Activation) (to : Destination) (cs : List Caller) (v : Part) (link : ℕ) → length s.callers ≡ suc (length cs) →
-    IsPartGiven y held Used v →
+    IsPartFirst y held Used v →
     (W : Waiting p image most (record { waits = a; to = to }) (length cs) link (base + frame_bytes y) (s.here.base + frame)
     (restored y base m)) →
     Waits p image most size cs (private_word m (base + frame_bytes y))
@@ -514,7 +514,7 @@ return-steps p image program most size linked s base m x block v in-f in-b alone
     let e1 = x.function in
     rw (e1, in-f, in-b) (rw is (go s.callers refl x.waits))
   where
-    reads : IsPartGiven (layout_of x.code (image s.here.function).homes) (held_in x.code s.here.block s.here.at)
+    reads : IsPartFirst (layout_of x.code (image s.here.function).homes) (held_in x.code s.here.block s.here.at)
         (InUse (graph_of x.code) s.here.block s.here.at) v
     reads =
         part-given x.code (image s.here.function).homes (held_in x.code s.here.block s.here.at) block s.here.block s.here.at v

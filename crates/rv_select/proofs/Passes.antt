@@ -29,7 +29,7 @@ use Rattle.rv_select.specs.Places.{private_word, slot_offset, value_in, word_at}
 use Rattle.rv_select.specs.Shapes.{far_part, is_held, moved, taken, x2, x7, x10}
 use Rattle.rv_select.specs.Entering.{stored_below}
 use Rattle.rv_select.specs.Calls.{part_given, part_taken, passed, word_given, part_passed}
-pub use Rattle.rv_select.specs.Frames.{IsPartGiven, IsPartRead, part_value, ArePassed, IsPartFirst}
+pub use Rattle.rv_select.specs.Frames.{ArePassed, IsPartFirst, IsPartRead, part_value}
 use Rattle.rv_select.proofs.Areas.{Saves, area-near}
 use Rattle.rv_select.proofs.Bytes.{other-than-word, stored-length, stored-word}
 use Rattle.rv_select.proofs.Frames.{framed-address, framed-count}
@@ -202,7 +202,7 @@ word-goes y held Used w base m (operands.Temp t) f p h r = either (is_held held 
         (r.0, ⊎_elim (λ g. let no : true ≡ false = sym g ∙ e in cc) (λ o. o) r.1)
 
 pub give-part : (y : Layout) (held : Option ℕ) (Used : ℕ → Type 0) (w : World) (base : ℕ) (m : State) (p : Part) → IsHeld held w.temps m →
-    Holds y Used w base m → Housed y Used → IsPartGiven y held Used p → Loads 10 (part_given y held p) m (part_value y base w p)
+    Holds y Used w base m → Housed y Used → IsPartFirst y held Used p → Loads 10 (part_given y held p) m (part_value y base w p)
 give-part y held Used w base m (parts.Word a) f p h r = word-goes y held Used w base m a f p h r
 give-part y held Used w base m (parts.Area k) f p h r =
     take-part y x10 Used w base m (parts.Area k) (λ z. omega (arith, z)) (λ z. omega (arith, z)) p h r

@@ -43,16 +43,12 @@ abbrev pub IsPartRead : Layout → (ℕ → Type 0) → Part → Type 0
 IsPartRead y Used (parts.Word a) = IsRead y Used a
 IsPartRead y Used (parts.Area n) = n < y.areas
 
--- and where it is given back: a word that x5 holds needs no home
-abbrev pub IsPartGiven : Layout → (held : Option ℕ) → (ℕ → Type 0) → Part → Type 0
-IsPartGiven y held Used (parts.Word a) = IsFirst y held Used a
-IsPartGiven y held Used (parts.Area n) = n < y.areas
-
--- the parts that a call passes, of which x5 may hold the first
+-- the first part that a call passes, and what is given back: a word that x5 holds needs no home
 abbrev pub IsPartFirst : Layout → (held : Option ℕ) → (ℕ → Type 0) → Part → Type 0
 IsPartFirst y held Used (parts.Word a) = IsFirst y held Used a
 IsPartFirst y held Used (parts.Area n) = n < y.areas
 
+-- the parts that a call passes, of which x5 may hold the first
 abbrev pub ArePassed : Layout → (held : Option ℕ) → (ℕ → Type 0) → List Part → Type 0
 ArePassed y held Used [] = Unit {0}
 ArePassed y held Used (p ∷ ps) = IsPartFirst y held Used p × ArePassed y None Used ps
@@ -164,7 +160,7 @@ FunctionsAreLeft =
     (base frame last link : ℕ) (v : Part) (m : State) (setting : Setting) →
     let y : Layout = layout_of code homes in
     let Used : ℕ → Type 0 = InUse (graph_of code) block step in
-    IsRight code homes → Holds y Used w base m → IsHeld held w.temps m → IsPartGiven y held Used v → m.pc + 256 ≤ 2 ^ 30 →
+    IsRight code homes → Holds y Used w base m → IsHeld held w.temps m → IsPartFirst y held Used v → m.pc + 256 ≤ 2 ^ 30 →
     last < 2 ^ 30 → last % 2 ≡ 0 →
     (IsTrue setting.short → (m.pc ≤ last) × (last ≤ m.pc + 2 ^ 19)) →
     (setting.next ≡ None → last ≡ m.pc + 4 * length (returned y setting held m.pc last v)) →
