@@ -48,7 +48,8 @@ use Rattle.rv_select.proofs.Regions.{insides, region-loads}
 use Rattle.rv_select.proofs.Stores.{region-stores}
 use Rattle.rv_select.proofs.Areas.{area-loads, area-stores}
 use Rattle.rv_select.proofs.Clears.{clears}
-use Rattle.rv_select.proofs.Transports.{area-moves, nothing-comes, nothing-moves, put-none, region-moves, some-is, stores-moved}
+use Rattle.rv_select.proofs.Nothing.{nothing-happens}
+use Rattle.rv_select.proofs.Transports.{area-moves, nothing-comes, put-none, region-moves, some-is, stores-moved}
 use Rattle.rv_select.proofs.Printed.{byte-puts}
 use Rattle.rv_select.proofs.Ranges.{RangeWritten, range-inside, range-none, range-outside, ranges}
 use Rattle.rv_select.proofs.Allocs.{allocs}
@@ -723,7 +724,7 @@ carry-move-out p code homes held at a n offset zero s program base m x =
       nothing-written s.out,
       subst (λ z. Comes (layout_of code homes) program (next code s) (with_region (world_of s) z) base (words_of (Move (spots.Region at a) (spots.Area n offset) 0))
           (behind m (shape_of (layout_of code homes) held (Move (spots.Region at a) (spots.Area n offset) 0))) [] m) same
-          (nothing-moves (layout_of code homes) (used code s) (next code s) (world_of s) base (words_of (Move (spots.Region at a) (spots.Area n offset) 0)) program m x.stands (omega arith) x.holds
+          (nothing-happens (layout_of code homes) (used code s) (next code s) (world_of s) base (words_of (Move (spots.Region at a) (spots.Area n offset) 0)) program m x.stands (omega arith) x.holds
           (housed code homes s.here.block s.here.at x.right) (fewer p code homes held i s program base m x refl)),
       tt,
     ))

@@ -2,7 +2,7 @@
 use Rattle.std.proofs.Common.{◌≡◌, ◌≢◌, ℕ, suc, ◌+◌, ◌*◌, ◌^◌, ◌<◌, ◌≤◌, Bool, true, false, not, List, [], ◌∷◌, ◌++◌, length, Option, refl}
 use Rattle.std.proofs.Common.{sym, ap, ◌∙◌, subst, ⊎_elim, arith, inl}
 use Rattle.std.specs.Prelude.{if◌then◌else◌, nat_eq, nat_le}
-use Rattle.std.proofs.lemmas.Bool.{cases_lt, eq-eqb, ne_eqb, le-leb, lt-leb}
+use Rattle.std.proofs.lemmas.Bool.{cases_lt, eq-eqb, ltb-true, ne_eqb, le-leb, lt-leb}
 use Rattle.std.proofs.lemmas.List.{length-append}
 use Rattle.tl_base.specs.declared.place.Place.{Place}
 use Rattle.rv_isa.specs.declared.instr.Instr.{Instr}
@@ -13,13 +13,15 @@ use Rattle.rv_isa.specs.declared.operation.BranchCondition.TheVariants.{Ne}
 use Rattle.rv_machine.specs.Word.{low}
 use Rattle.rv_machine.specs.Machine.{State, GoesOn, at_with}
 use Rattle.terra_words.specs.declared.words.FaultKind.TheVariants.{DivZero}
+use Rattle.tac_form.specs.declared.tac.Operand.{Operand}
+use Rattle.tac_form.specs.declared.tac.Operand.TheVariants.{Temp, Constant}
 use Rattle.tac_form.specs.declared.tac.Instruction.TheVariants.{TestDivisor}
 use Rattle.tac_form.specs.Weights.{operand_words, words_of}
 use Rattle.rv_operators.specs.Codes.{x0, x5}
 use Rattle.rv_operators.specs.Runs.{Stands}
 use Rattle.rv_select.specs.Places.{World, Holds, Housed, Layout, value_in}
 use Rattle.rv_select.specs.Numbers.{constant, immediate_of}
-use Rattle.rv_select.specs.Shapes.{failed, first_taken, located, over, x8}
+use Rattle.rv_select.specs.Shapes.{branched_over, failed, first_taken, is_never_zero, located, moved, over, x8}
 use Rattle.rv_select.specs.Steps.{Comes, Ends, AreFewer, IsPlace, behind}
 use Rattle.rv_select.proofs.Claims.{AddressesAreCarried, DivisorsAreTested}
 use Rattle.rv_select.proofs.Straight.{Loads, behind-both, loads-both, loads-five, loads-one, low-below, low-small}
@@ -28,6 +30,7 @@ use Rattle.rv_select.proofs.Ways.{Near, Way, at_pc, near-both, near-pc, scratch-
 use Rattle.rv_select.proofs.Homes.{first-count, take-first}
 use Rattle.rv_select.proofs.Faults.{branch-way, failed-count, fails, later-ends}
 use Rattle.rv_select.proofs.Moves.{fewer-holds, near-holds, near-keeps, straight-put}
+use Rattle.rv_select.proofs.Nothing.{nothing-happens}
 
 -- a way to a state near, where all is as before
 pub stays : (y : Layout) (Used Next : ℕ → Type 0) (w : World) (base k weight target : ℕ) (program : List (Option Instr)) (m n : State) →
@@ -76,11 +79,25 @@ tests y Used Next w base v most weight at A F program m l is fa enough ff stands
           (fails program (at_pc l.after t) DivZero at (low-below (l.after.pc + 4)) place (omega arith) (omega arith) (subst (λ c. Stands program t c) is rest.1)) (omega arith),
     )
 
+never-zero : (w : World) (a : Operand) → is_never_zero a ≡ true → value_in w.temps a ≢ 0
+never-zero w (Temp t) e z = cc
+never-zero w (Constant c) e z = omega (arith, ltb-true 0 c e, z)
+
 pub divisors : DivisorsAreTested
-divisors y held at a Used Next w base program m stands five place p h r f =
-    tests y Used Next w base (value_in w.temps a) (operand_words a) (words_of (TestDivisor at a)) at (first_taken y held a) (failed DivZero at) program m
-    (take-first y held Used w base m a five p h r)
-    refl (first-count y held a) (omega arith) (failed-count DivZero at) stands place p h f
+divisors y held at a Used Next w base program m stands five place p h r f = either (is_never_zero a) refl stands
+  where
+    code : Bool → List Instr
+    code never = if never then moved x0 x0 ∷ [] else first_taken y held a ++ branched_over Ne x5 x0 DivZero at
+
+    either : (never : Bool) → is_never_zero a ≡ never → Stands program m.pc (code never) →
+        (value_in w.temps a ≢ 0 → Comes y program Next w base (words_of (TestDivisor at a)) (behind m (code never)) [] m)
+        × (value_in w.temps a ≡ 0 → Ends program DivZero at (words_of (TestDivisor at a)) m)
+    either true e there =
+        (λ n. nothing-happens y Used Next w base (words_of (TestDivisor at a)) program m there (omega arith) p h f, λ z. absurd (never-zero w a e z))
+    either false e there =
+        tests y Used Next w base (value_in w.temps a) (operand_words a) (words_of (TestDivisor at a)) at (first_taken y held a) (failed DivZero at) program m
+        (take-first y held Used w base m a five p h r)
+        refl (first-count y held a) (omega arith) (failed-count DivZero at) there place p h f
 
 -- x5 gets the address of an offset of the frame in the region
 near-located : (m : State) (placed offset : ℕ) → m.registers 8 ≡ placed → placed + offset < 2 ^ 64 → offset < 2048 →

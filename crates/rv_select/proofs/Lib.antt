@@ -1,5 +1,6 @@
 pub mod Straight
 pub mod Ways
+pub mod Nothing
 pub mod Numbers
 pub mod Bytes
 pub mod Parts

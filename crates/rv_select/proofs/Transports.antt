@@ -38,6 +38,7 @@ use Rattle.rv_select.proofs.Areas.{Saves, area-comes, area-near, area-room, area
 use Rattle.rv_select.proofs.Frames.{framed-address, framed-count, framed-some}
 use Rattle.rv_select.proofs.Homes.{region-small}
 use Rattle.rv_select.proofs.Moves.{fewer-holds, home-keeps, keeps-both, lasts-not, near-holds, near-keeps, scratch-holds}
+use Rattle.rv_select.proofs.Nothing.{nothing-done}
 use Rattle.rv_select.proofs.Parts.{none-written, part-within}
 use Rattle.rv_select.proofs.Regions.{Reached, end-small, frame-reached, inside-true, insides, low-enough, outside-false, range-is, weaker}
 use Rattle.rv_select.proofs.Regions.{weaker-ends, word-inside, word-outside}
@@ -438,35 +439,6 @@ moved-count y held to from size k h one = either (nat_eq size 0)
     either : (b : Bool) → length (if b then moved x0 x0 ∷ [] else some_moved y held to from size) ≤ k
     either true = one
     either false = h
-
--- a step that does nothing
-nothing-done : (m : State) → Scratch (moved x0 x0 ∷ []) m (at_with m (low (m.pc + 4)) 0 (low (0 + 0)))
-nothing-done m = record {
-  goes = refl;
-  behind = low-first m.pc;
-  keeps = λ r five six seven. refl;
-  region = refl;
-  private = refl;
-  straight = refl;
-}
-
-pub nothing-moves : (y : Layout) (Used Next : ℕ → Type 0) (w : World) (base weight : ℕ) (program : List (Option Instr)) (m : State) → Stands program m.pc (moved x0 x0 ∷ []) → 1 ≤ weight →
-    Holds y Used w base m → Housed y Used → AreFewer Used Next → Comes y program Next w base weight (behind m (moved x0 x0 ∷ [])) [] m
-nothing-moves y Used Next w base weight program m there some p h f =
-    let A : List Instr = moved x0 x0 ∷ [] in
-    let z : State = at_with m (low (m.pc + 4)) 0 (low (0 + 0)) in
-    let s : Scratch A m z = nothing-done m in
-    let way : Way program 1 m z = straight-way program A m z there s.straight s.goes in
-    record {
-      steps = 1;
-      after = z;
-      some = omega arith;
-      few = some;
-      runs = way.runs;
-      at = s.behind;
-      holds = fewer-holds y Used Next w base z f (scratch-holds y Used w base A m z p h s);
-      keeps = near-keeps y base m z (scratch-near A m z s);
-    }
 
 -- no bytes go to an area
 pub nothing-comes : (y : Layout) (Used Next : ℕ → Type 0) (w : World) (base n offset weight : ℕ) (program : List (Option Instr)) (m : State) → Stands program m.pc (moved x0 x0 ∷ []) → 1 ≤ weight →

@@ -23,8 +23,9 @@ use Rattle.tac_form.specs.Flow.{bytes_of, width_of}
 use Rattle.tac_form.specs.Weights.{operand_words, operator_words, words_of}
 use Rattle.rv_operators.specs.Codes.{code_of, x0, x5, x6, zero_immediate}
 use Rattle.rv_select.specs.Places.{Layout, area_offset, home_of}
-use Rattle.rv_select.specs.Shapes.{all_carried, applied_to, area_reached, bounds_tested, byte_taken, bytes_given, chosen, exit_shape}
-use Rattle.rv_select.specs.Shapes.{failed, first_taken, framed, from_area, heap_aligned, is_second, is_turned, is_zero, limit_found}
+use Rattle.rv_select.specs.Shapes.{all_carried, applied_to, area_reached, bounds_tested, branched_over, byte_taken, bytes_given, chosen}
+use Rattle.rv_select.specs.Shapes.{exit_shape, failed, first_taken, framed, from_area, heap_aligned, is_never_zero, is_second, is_turned}
+use Rattle.rv_select.specs.Shapes.{is_zero, limit_found}
 use Rattle.rv_select.specs.Shapes.{load_of, located, moved, operated, operated_second, over, put_at, put_from, range_tested, reached}
 use Rattle.rv_select.specs.Shapes.{store_of, taken, to_area, write_call, x11, x12, zeros}
 use Rattle.rv_select.specs.Steps.{ExitsKeepWithin, ShapesKeepWithin}
@@ -74,6 +75,14 @@ copy-count : (y : Layout) (held : Option ℕ) (d : ℕ) (a : Operand) (zero : Bo
 copy-count y held d a true = let h : length (put_from x0 (home_of y d)) ≤ 3 = put-count x0 (home_of y d) in omega arith
 copy-count y held d a false = both (first_taken y held a) (put_at y d) (operand_words a) 3 (first-count y held a) (put-few y d)
 
+test-count : (y : Layout) (held : Option ℕ) (at : Place) (a : Operand) (never : Bool) →
+    length (if never then moved x0 x0 ∷ [] else first_taken y held a ++ branched_over Ne x5 x0 DivZero at) ≤ words_of (TestDivisor at a)
+test-count y held at a true = omega arith
+test-count y held at a false =
+    more (operand_words a + 12) (words_of (TestDivisor at a)) _ (omega arith)
+    (both (first_taken y held a) (branched_over Ne x5 x0 DivZero at) (operand_words a) 12 (first-count y held a)
+    (one-more (instrs.Branch Ne x5 x0 (over (failed DivZero at))) (failed DivZero at) 11 (failed-count DivZero at)))
+
 operated-count : (y : Layout) (held : Option ℕ) (d : ℕ) (op : BinaryOperator) (form : Number) (a b : Operand) →
     length (operated y held d op (width_of form) a b) ≤ operand_words a + (operand_words b + operator_words op + 3)
 operated-count y held d op form a b =
@@ -114,10 +123,7 @@ within y held (Compute d op form a b) h =
         length (if c then x else z) ≤ words_of (Compute d op form a b)
     either true x z f g = f
     either false x z f g = g
-within y held (TestDivisor at a) h =
-    more (operand_words a + 12) (words_of (TestDivisor at a)) _ (omega arith)
-    (both (first_taken y held a) (instrs.Branch Ne x5 x0 (over (failed DivZero at)) ∷ failed DivZero at) (operand_words a) 12 (first-count y held a)
-    (one-more (instrs.Branch Ne x5 x0 (over (failed DivZero at))) (failed DivZero at) 11 (failed-count DivZero at)))
+within y held (TestDivisor at a) h = test-count y held at a (is_never_zero a)
 within y held (Copy d a) h = copy-count y held d a (is_zero a)
 within y held (Locate d offset) h = both (located offset) (put_at y d) 9 3 (located-count offset) (put-few y d)
 within y held (Load d form (spots.Region at (Word a))) h =

@@ -1,6 +1,6 @@
 -- Which instructions carry out those of three-address code that stay within a function.
 use Rattle.std.specs.Prelude.{◌≡◌, ℕ, suc, zero, ◌+◌, ◌-◌, ◌*◌, ◌/◌, ◌%◌, ◌^◌, pos, negsuc, Bool, true, false, ◌&&◌, nat_eq, nat_le}
-use Rattle.std.specs.Prelude.{if◌then◌else◌, List, [], ◌∷◌, ◌++◌, length, Option, Some, None, slice_get, unwrap_or}
+use Rattle.std.specs.Prelude.{nat_lt, if◌then◌else◌, List, [], ◌∷◌, ◌++◌, length, Option, Some, None, slice_get, unwrap_or}
 use Rattle.std.proofs.Common.{lit≤, subst, sym, refl, eqb→eq}
 use Rattle.tl_base.specs.declared.limits.TheConstants.{REGION_ADDRESS}
 use lib.Dec.{T}
@@ -167,7 +167,7 @@ failed kind at = constant x11 (place_number at) ++ fault_call kind
 abbrev pub branched_over : BranchCondition → Register → Register → FaultKind → Place → List Instr
 branched_over condition a b kind at = Branch condition a b (over (failed kind at)) ∷ failed kind at
 
--- a copy, an operator, and a test of a divisor. A zero needs no register but x0
+-- a copy, and an operator. A zero needs no register but x0
 abbrev pub copied : Layout → (held : Option ℕ) → ℕ → Operand → List Instr
 copied y held d a = if is_zero a then put_from x0 (home_of y d) else first_taken y held a ++ put_at y d
 
@@ -190,8 +190,14 @@ computed y held d op w a b =
     else if is_second held b then operated_second y held d op w a
     else operated y held d op w a b
 
+-- A test of a divisor. A constant that isn't zero needs none, so that its test only takes a step.
+abbrev pub is_never_zero : Operand → Bool
+is_never_zero (Temp t) = false
+is_never_zero (Constant c) = nat_lt 0 c
+
 abbrev pub divisor_tested : Layout → (held : Option ℕ) → Place → Operand → List Instr
-divisor_tested y held at a = first_taken y held a ++ (Branch Ne x5 x0 (over (failed DivZero at)) ∷ failed DivZero at)
+divisor_tested y held at a =
+    if is_never_zero a then moved x0 x0 ∷ [] else first_taken y held a ++ branched_over Ne x5 x0 DivZero at
 
 -- x5 gets the address of an offset of the frame in the region
 abbrev pub located : ℕ → List Instr

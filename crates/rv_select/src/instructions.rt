@@ -11,8 +11,8 @@ ghost use Rattle.rv_select.specs.Folded.{folded, is_folded};
 ghost use Rattle.rv_select.specs.Numbers.{constant};
 ghost use Rattle.rv_select.specs.Places.{with_homes};
 ghost use Rattle.rv_select.specs.Shapes.{applied_to, area_reached, bounds_tested, cleared, computed, copied, divisor_tested, failed};
-ghost use Rattle.rv_select.specs.Shapes.{fault_call, first_taken, branched_over, has_shape, held_after, is_held, is_second, is_symmetric};
-ghost use Rattle.rv_select.specs.Shapes.{is_turned, is_zero, load_of, loaded, located, operated, operated_second, place_number, put_at};
+ghost use Rattle.rv_select.specs.Shapes.{fault_call, first_taken, branched_over, has_shape, held_after, is_held, is_never_zero};
+ghost use Rattle.rv_select.specs.Shapes.{is_second, is_symmetric, is_turned, is_zero, load_of, loaded, located, operated, operated_second, place_number, put_at};
 ghost use Rattle.rv_select.specs.Shapes.{reached, shape_of, small, store_of, stored, taken, zero_put, zeros};
 
 use crate::emit::{
@@ -439,6 +439,7 @@ pub(crate) fn push_branch_over(
     push_failed(code, kind, at)
 }
 
+/// A test of a divisor. That of a constant which isn't zero only takes a step.
 fn push_divisor_test(
     code: &mut Vec<u32>,
     homes: &[Option<Home>],
@@ -448,8 +449,21 @@ fn push_divisor_test(
 ) -> Result<(), NoMemory>
     ensures { OnOk result (code.new.items ≡ code.old.items ++ map word_of (divisor_tested (with_homes homes.now) held at a)) }
 {
+    if is_never_zero(a) {
+        return push_moved(code, X0, X0);
+    }
     push_first(code, homes, held, a)?;
     push_branch_over(code, BranchCondition::Ne, X5, X0, FaultKind::DivZero, at)
+}
+
+/// Whether an operand is a constant that isn't zero.
+fn is_never_zero(a: Operand) -> bool
+    ensures { result ≡ is_never_zero a }
+{
+    match a {
+        Operand::Temp(_) => false,
+        Operand::Constant(number) => number > 0,
+    }
 }
 
 /// x5 gets the address of an offset of the frame in the region.
