@@ -72,6 +72,13 @@ def signed(n, bits):
     return n - (1 << bits) if n >> (bits - 1) else n
 
 
+def distance(w):
+    """How many bytes a jump or a branch leads on."""
+    if w & 127 == 0x6F:
+        return signed((w >> 31 & 1) << 20 | (w >> 12 & 255) << 12 | (w >> 20 & 1) << 11 | (w >> 21 & 1023) << 1, 21)
+    return signed((w >> 31 & 1) << 12 | (w >> 7 & 1) << 11 | (w >> 25 & 63) << 5 | (w >> 8 & 15) << 1, 13)
+
+
 def quotient(a, b):
     return abs(a) // abs(b) * (1 if (a < 0) == (b < 0) else -1)
 
@@ -126,14 +133,12 @@ class Guest:
         if opcode in (0x37, 0x17):
             value = signed(w & 0xFFFFF000, 32) + (pc if opcode == 0x17 else 0)
         elif opcode == 0x6F:
-            to = (w >> 31 & 1) << 20 | (w >> 12 & 255) << 12 | (w >> 20 & 1) << 11 | (w >> 21 & 1023) << 1
-            self.pc, value = pc + signed(to, 21), pc + 4
+            self.pc, value = pc + distance(w), pc + 4
         elif opcode == 0x67:
             self.pc, value = (a + i) % (1 << 64) & ~1, pc + 4
         elif opcode == 0x63:
             test = {0: a == b, 4: signed(a, 64) < signed(b, 64), 6: a < b}[funct3 & 6] != bool(funct3 & 1)
-            to = (w >> 31 & 1) << 12 | (w >> 7 & 1) << 11 | (w >> 25 & 63) << 5 | (w >> 8 & 15) << 1
-            self.pc = pc + signed(to, 13) if test else pc + 4
+            self.pc = pc + distance(w) if test else pc + 4
         elif opcode == 0x03:
             n = 1 << (funct3 & 3)
             memory, at = self.at((a + i) % (1 << 64), n)
