@@ -1,5 +1,5 @@
 -- What reading each name of the grammar of Lua expressions gives is what its grammar gives.
-use Rattle.std.proofs.Common.{◌≡◌, ℕ, ◌-◌, Bool, true, false, cond, List, [], ◌∷◌, Some, refl, sym, ap, ◌∙◌}
+use Rattle.std.proofs.Common.{◌≡◌, ℕ, zero, suc, ◌+◌, ◌-◌, ◌<◌, ◌≤◌, Bool, true, false, cond, List, [], ◌∷◌, Some, refl, sym, ap, ◌∙◌, arith}
 use Rattle.tl_base.specs.declared.place.Place.{Place}
 use Rattle.tl_tree.specs.declared.mode.Mode.{Mode}
 use Rattle.tl_tree.specs.declared.mode.Mode.TheVariants as modes
@@ -9,22 +9,17 @@ use Rattle.tl_tree.specs.declared.mode.Extra.TheVariants.{Plain, Continues, LuaN
 use Rattle.tl_tree.specs.declared.symbol.Symbol.{Symbol}
 use Rattle.tl_tree.specs.declared.symbol.Symbol.TheVariants as symbols
 use Rattle.tl_tree.specs.Tokens.{Token, is, among, sample}
-use Rattle.tl_tree.specs.Tree.{Tree, Nothing, More, Name, Numeral, Literal, Function, Table, Unary, Paren, NamedField, KeyedField, Part}
-use Rattle.tl_tree.specs.Tree.{Expression, Operand, Concatenation, Arguments, Fields, FunctionBody}
-use Rattle.tl_tree.specs.Grammar.{Grammar, give, token, bind, Outcome, Took, ◌>>=◌, begins, down}
+use Rattle.tl_tree.specs.Tree.{Tree, Nothing, More, Name, Numeral, Literal, Function, Table, Unary, Paren, NamedField, KeyedField, Part, Expression, Operand, Concatenation, Arguments, Fields, FunctionBody}
+use Rattle.tl_tree.specs.Grammar.{Grammar, give, token, bind, Outcome, Took, Stop, ◌>>=◌, begins, down}
 use Rattle.tl_tree.specs.Forms.{sign, opening, name, Chained, chained, chain, operand, in_chain, right_operator, unary_of}
 use Rattle.tl_tree.specs.LuaExpressions as lua
 use Rattle.tl_tree.proofs.Unrolling.{bind_again}
 use Rattle.tl_parse.specs.Using.{reading, part_at, used, sign_at, open_at, prefix_at, raise_at, number_at}
-use Rattle.tl_parse.specs.Expressions.{name_at, paren_at, base_at, method_arguments_at, applied_at, suffixes_at, prefixed_at}
-use Rattle.tl_parse.specs.Expressions.{number_tree_at, literal_at, constant, constant_at, function_at, table_at, simple_at, is_simple}
-use Rattle.tl_parse.specs.Expressions.{primary_at, right_at, power_at, unary_at, binary_at, inner_at, more_at, concatenation_at, chained_at}
-use Rattle.tl_parse.specs.Expressions.{is_name, field_behind_at, keyed_field_at, field_at}
-use Rattle.tl_parse.specs.declared.expressions.Precedence.TheVariants as precedences
+use Rattle.tl_parse.specs.Expressions.{name_at, paren_at, base_at, method_arguments_at, applied_at, suffixes_at, prefixed_at, number_tree_at, literal_at, constant, constant_at, function_at, table_at, simple_at, is_simple, primary_at, right_at, power_at, unary_at, inner_of, more_at, ranks_at, binary_at, chained_at, is_name, field_behind_at, keyed_field_at, field_at}
 pub use Rattle.tl_parse.proofs.Following.{sign_then, opened_then, open_then, then, either_is}
 use Rattle.tl_parse.proofs.TerraCodeAgreeing.{terra_code_agrees}
 use Rattle.tl_parse.specs.TerraCode.{terra_code_at}
-use Rattle.tl_parse.proofs.Uses.{both, opening_is, plain_is}
+use Rattle.tl_parse.proofs.Uses.{both, bind_same, opening_is, plain_is}
 
 -- ---- names, prefix expressions
 
@@ -157,7 +152,7 @@ primary_agrees levels m left (t ∷ ts) = primary_by levels m left t.symbol t.te
 -- ---- operators
 
 right_agrees : (levels : ℕ) (s : Symbol) (part : Part) (a : Chained) (ts : List Token) → reading levels (right_operator s part lua.operation a) ts ≡ right_at levels s part a ts
-unfolding right_at raise_at
+unfolding raise_at
 right_agrees levels s part a ts =
     either_is (begins (is s) ts) (reading levels (bind (token (is s) (λ t. Continues a.left) (λ t. Some part) (sample s)) λ x. give (operand (down a.left) (lua.operation x.0 a.tree x.1))) ts) (Took a ts)
     (used (is s) true levels (Continues a.left) ts >>= λ t b. part_at (levels - 1) part b >>= λ x rest. Took (operand (down a.left) (lua.operation t a.tree x)) rest) (Took a ts)
@@ -180,37 +175,48 @@ unary_agrees levels m left ts =
     ∙ opened_then levels (Operand m) (used (among lua.prefix_symbols) true levels Plain ts) (λ x. give (operand left (Unary x.0.place (unary_of x.0.symbol) x.1))) (λ t x rest. Took (operand left (Unary t.place (unary_of t.symbol) x)) rest) (λ t x us. refl))
     (power_agrees levels m left ts)
 
-pub product_agrees : (levels : ℕ) (m : Mode) (left : ℕ) (ts : List Token) → reading levels (lua.product m left) ts ≡ binary_at levels precedences.Product m left ts
-unfolding binary_at inner_at more_at
-product_agrees levels m left ts = refl
+pub bind_end : {A : Type 0} (o : Outcome A) → (o >>= λ a rest. Took a rest) ≡ o
+bind_end (Took a rest) = refl
+bind_end (Stop kind rest) = refl
 
-pub sum_agrees : (levels : ℕ) (m : Mode) (left : ℕ) (ts : List Token) → reading levels (lua.sum m left) ts ≡ binary_at levels precedences.Sum m left ts
-unfolding binary_at inner_at more_at
-sum_agrees levels m left ts = refl
+-- the operators of a rank come behind those of the ranks before it
+rank_agrees : (levels rank : ℕ) (m : Mode) (left : ℕ) (ts : List Token) → rank < 6 → reading levels (inner_of (suc rank) m left) ts ≡ (reading levels (inner_of rank m left) ts >>= λ a rest. more_at levels rank m a rest)
+unfolding more_at
+rank_agrees levels zero m left ts h = refl
+rank_agrees levels (suc zero) m left ts h = refl
+rank_agrees levels (suc (suc zero)) m left ts h =
+    then levels (lua.sum m left) (λ a. right_operator symbols.DoubleDot (Concatenation m) lua.operation a) (λ us. reading levels (lua.sum m left) us) (λ a rest. right_at levels symbols.DoubleDot (Concatenation m) a rest)
+    (λ us. refl) (λ a us. right_agrees levels symbols.DoubleDot (Concatenation m) a us) ts
+rank_agrees levels (suc (suc (suc zero))) m left ts h = refl
+rank_agrees levels (suc (suc (suc (suc zero)))) m left ts h = refl
+rank_agrees levels (suc (suc (suc (suc (suc zero))))) m left ts h = refl
+rank_agrees levels (suc (suc (suc (suc (suc (suc rank)))))) m left ts h = absurd (omega (arith, h))
 
-pub concatenation_agrees : (levels : ℕ) (m : Mode) (left : ℕ) (ts : List Token) → reading levels (lua.concatenation m left) ts ≡ concatenation_at levels m left ts
-unfolding concatenation_at
-concatenation_agrees levels m left ts =
-    then levels (lua.sum m left) (λ a. right_operator symbols.DoubleDot (Concatenation m) lua.operation a) (λ us. binary_at levels precedences.Sum m left us) (λ a rest. right_at levels symbols.DoubleDot (Concatenation m) a rest)
-    (λ us. sum_agrees levels m left us) (λ a us. right_agrees levels symbols.DoubleDot (Concatenation m) a us) ts
+ranks_last : (n levels rank last : ℕ) (m : Mode) (a : Chained) (ts : List Token) → last ≡ rank + n → ranks_at levels (suc n) rank m a ts ≡ (ranks_at levels n rank m a ts >>= λ b rest. more_at levels last m b rest)
+unfolding ranks_at
+ranks_last zero levels rank last m a ts h =
+    let same : rank ≡ last = omega (arith, h) in
+    bind_end (more_at levels rank m a ts) ∙ ap (λ (k : ℕ). more_at levels k m a ts) same
+ranks_last (suc n) levels rank last m a ts h =
+    bind_same (more_at levels rank m a ts) (λ b rest. more_at levels (suc rank) m b rest >>= λ c rest. ranks_at levels n (suc (suc rank)) m c rest) (λ b rest. ranks_at levels n (suc rank) m b rest >>= λ c rest. more_at levels last m c rest)
+    (λ b rest. ranks_last n levels (suc rank) last m b rest (omega (arith, h)))
+    ∙ sym (bind_again (more_at levels rank m a ts) (λ b rest. ranks_at levels n (suc rank) m b rest) (λ c rest. more_at levels last m c rest))
 
-pub comparison_agrees : (levels : ℕ) (m : Mode) (left : ℕ) (ts : List Token) → reading levels (lua.comparison m left) ts ≡ binary_at levels precedences.Comparison m left ts
-unfolding binary_at inner_at more_at
-comparison_agrees levels m left ts = refl
-
-pub conjunction_agrees : (levels : ℕ) (m : Mode) (left : ℕ) (ts : List Token) → reading levels (lua.conjunction m left) ts ≡ binary_at levels precedences.Conjunction m left ts
-unfolding binary_at inner_at more_at
-conjunction_agrees levels m left ts = refl
-
-pub disjunction_agrees : (levels : ℕ) (m : Mode) (left : ℕ) (ts : List Token) → reading levels (lua.disjunction m left) ts ≡ binary_at levels precedences.Disjunction m left ts
-unfolding binary_at inner_at more_at
-disjunction_agrees levels m left ts = refl
+-- operands with the operators of the first ranks between them, so many
+pub binary_agrees : (ranks levels : ℕ) (m : Mode) (left : ℕ) (ts : List Token) → ranks ≤ 6 → reading levels (inner_of ranks m left) ts ≡ binary_at levels ranks m left ts
+unfolding binary_at ranks_at
+binary_agrees zero levels m left ts h = unary_agrees levels m left ts ∙ sym (bind_end (unary_at levels m left ts))
+binary_agrees (suc n) levels m left ts h =
+    rank_agrees levels n m left ts (omega (arith, h))
+    ∙ ap (λ (o : Outcome Chained). o >>= λ a rest. more_at levels n m a rest) (binary_agrees n levels m left ts (omega (arith, h)))
+    ∙ bind_again (unary_at levels m left ts) (λ a rest. ranks_at levels n 0 m a rest) (λ b rest. more_at levels n m b rest)
+    ∙ bind_same (unary_at levels m left ts) (λ a mid. ranks_at levels n 0 m a mid >>= λ b rest. more_at levels n m b rest) (λ a mid. ranks_at levels (suc n) 0 m a mid) (λ a mid. sym (ranks_last n levels 0 n m a mid (omega arith)))
 
 pub chained_agrees : (levels : ℕ) (m : Mode) (ts : List Token) → reading levels (lua.chained_expression m) ts ≡ chained_at levels m ts
 unfolding chained_at
 chained_agrees levels m ts =
-    then levels (lua.disjunction m chain) (λ a. right_operator symbols.Arrow (Expression m) lua.operation a) (λ us. binary_at levels precedences.Disjunction m chain us) (λ a rest. right_at levels symbols.Arrow (Expression m) a rest)
-    (λ us. disjunction_agrees levels m chain us) (λ a us. right_agrees levels symbols.Arrow (Expression m) a us) ts
+    then levels (lua.disjunction m chain) (λ a. right_operator symbols.Arrow (Expression m) lua.operation a) (λ us. binary_at levels 6 m chain us) (λ a rest. right_at levels symbols.Arrow (Expression m) a rest)
+    (λ us. binary_agrees 6 levels m chain us (omega arith)) (λ a us. right_agrees levels symbols.Arrow (Expression m) a us) ts
 
 -- ---- fields
 
@@ -219,7 +225,6 @@ unfolding part_at
 expression_agrees levels m ts = refl
 
 field_behind_agrees : (levels : ℕ) (m : Mode) (e : Chained) (ts : List Token) → reading levels (lua.field_behind m e.shape e.tree) ts ≡ field_behind_at levels m e ts
-unfolding field_behind_at
 field_behind_agrees levels m e ts = go e.shape
   where
     named : Outcome Tree

@@ -13,7 +13,7 @@ use Rattle.tl_tree.specs.declared.symbol.Symbol.TheVariants as symbols
 use Rattle.tl_tree.specs.Symbols.{is_bad}
 use Rattle.tl_tree.specs.Tokens.{Token, is, among, sample}
 use Rattle.tl_tree.specs.Tree as trees
-use Rattle.tl_tree.specs.Tree.{Tree, Nothing, More, Just, Part, Expression, Statements, FunctionBody}
+use Rattle.tl_tree.specs.Tree.{Tree, Nothing, More, Just, Expression, Statements, FunctionBody}
 use Rattle.tl_tree.specs.Grammar.{Grammar, give, token, bind, when, many, Outcome, Took, Stop, ◌>>=◌, begins, is_of, unexpected}
 use Rattle.tl_tree.specs.Forms.{sign, opening, name, names, semicolon, listed_behind, Chained, chained, chain}
 use Rattle.tl_tree.specs.LuaExpressions as expressions
@@ -22,7 +22,7 @@ use Rattle.tl_tree.specs.LuaStatements.{looped, fresh, body_mode, Sequence, sequ
 use Rattle.tl_tree.proofs.Unrolling.{bind_again}
 use Rattle.tl_parse.specs.Using.{reading, part_at, used, barred, sign_at, open_at, call_at, operator_at, raise_at}
 use Rattle.tl_parse.specs.Expressions.{name_at, expressions_at, more_expressions_at, paren_at, base_at, is_other, applied_at, suffixes_at}
-use Rattle.tl_parse.specs.Expressions.{Suffixed, attached, shape_of, suffix_at, call_suffix_at, index_suffix_at, select_suffix_at}
+use Rattle.tl_parse.specs.Expressions.{Suffixed, shape_of, suffix_at, call_suffix_at, index_suffix_at, select_suffix_at}
 use Rattle.tl_parse.specs.Expressions.{method_arguments_at, method_suffix_at, table_suffix_at, literal_suffix_at}
 use Rattle.tl_parse.specs.Expressions as suffixed
 use Rattle.tl_parse.specs.Statements.{is_unsettled, settling, settle_at, variable_at, more_targets_at, is_call, values_at}

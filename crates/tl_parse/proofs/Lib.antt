@@ -5,6 +5,9 @@ pub mod Numbers
 pub mod Uses
 pub mod Agreeing
 pub mod Turns
+pub mod Ranks
+pub mod Climbing
+pub mod Binding
 pub mod Parts
 pub mod AgreeingStatements
 pub mod StatementTurns

@@ -198,6 +198,13 @@ next_is_so s t ts h = is_so s t.symbol (is_bad t.symbol) h refl ∙ sym (begins-
 pub next_is_among : (ss : List Symbol) (t : Token) (ts : List Token) → has ss 65 ≡ false → has ss (number_of t.symbol) ≡ begins (among ss) (with_token false t ts)
 next_is_among ss t ts h = is_among ss t.symbol (is_bad t.symbol) h refl ∙ sym (begins-unless_bad (among ss) (is_bad t.symbol) t ts)
 
+-- the same of the parser's next token
+pub next_is_there : (s : Symbol) (p : Parser) (n k : ℕ) → is_bad s ≡ false → p.current.is_end ≡ false → n ≡ number_of s → k ≡ number_of p.current.symbol → eqb n k ≡ begins (is s) (tokens_left p)
+unfolding tokens_left
+next_is_there s p n k good more first second =
+    ap (λ (x : ℕ). eqb x k) first ∙ ap (λ (x : ℕ). eqb (number_of s) x) second ∙ next_is_so s (token_of p.current) (tokens_in (answers_left p.lexer)).tokens good
+    ∙ ap (λ (e : Bool). begins (is s) (with_token e (token_of p.current) (tokens_in (answers_left p.lexer)).tokens)) (sym more)
+
 pub some_left : (t : Token) (ts : List Token) → with_token false t ts ≡ [] → ⊥
 some_left t ts h = go (is_bad t.symbol) h
   where

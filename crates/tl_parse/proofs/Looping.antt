@@ -13,7 +13,7 @@ use Rattle.tl_tree.specs.Nodes.{laid, last_of}
 use Rattle.tl_tree.specs.Grammar.{Outcome, Took, ◌>>=◌, begins}
 use Rattle.tl_tree.specs.Forms.{Chained, chained}
 use Rattle.tl_tree.specs.LuaStatements.{fresh, body_mode, Parameters, parameters_of}
-use Rattle.tl_parse.specs.Parsing.{tokens_left, items_of, end_of, Ready, Fails}
+use Rattle.tl_parse.specs.Parsing.{tokens_left, items_of, end_of, Ready, Fails, TookList}
 use Rattle.tl_parse.specs.Using.{part_at, sign_at}
 use Rattle.tl_parse.specs.Expressions.{name_at, applied_at}
 use Rattle.tl_parse.specs.Statements.{first_place, is_call, more_targets_at, next_target_at, values_at, call_or_assignment_at, numeric_at}
@@ -47,6 +47,18 @@ listing_next start now new o more e n numbers longer s goes finish ready items i
       items = all;
       list = list ∙ ap (λ (x : NodeId). numbers ++ x ∷ []) (is_last ∙ ap (λ (i : List Item). last_of i) all) ∙ ap (λ (ns : List NodeId). ns ++ last_of (laid e (laid s.tree (items_of start)).items).items ∷ []) s.list;
     }
+
+-- what is read behind a list so far stops where it does
+pub listing_fails : (start now : Parser) (o behind : Outcome Tree) (more : Tree → List Token → Outcome Tree) (numbers : List NodeId) (e : SyntaxError) (s : Listing start now o more numbers) → more s.tree (tokens_left now) ≡ behind → Fails now behind e → Fails start o e
+listing_fails start now o behind more numbers e s goes f = fails_from start now o behind e (s.goes_on ∙ goes) s.finish f
+
+-- the same of what begins with one more tree of the list
+pub listing_stops : {A : Type 0} (start now : Parser) (o : Outcome Tree) (more : Tree → List Token → Outcome Tree) (numbers : List NodeId) (s : Listing start now o more numbers) (x : Outcome A) (f : A → List Token → Outcome Tree) (e : SyntaxError) → more s.tree (tokens_left now) ≡ (x >>= f) → Fails now x e → Fails start o e
+listing_stops start now o more numbers s x f e goes h = listing_fails start now o (x >>= f) more numbers e s goes (fails_bind now x f e h)
+
+-- a list that no more tree follows
+pub listing_ends : (start now : Parser) (o : Outcome Tree) (more : Tree → List Token → Outcome Tree) (numbers : List NodeId) (s : Listing start now o more numbers) → more s.tree (tokens_left now) ≡ Took s.tree (tokens_left now) → TookList start now o numbers
+listing_ends start now o more numbers s goes = record { tree = s.tree; took = s.goes_on ∙ goes; finish = s.finish; ready = s.ready; items = s.items; list = s.list }
 
 -- the numbers of one more tree
 pub numbers_next : (start now new : Parser) (tree e : Tree) (n : NodeId) (numbers longer : List NodeId) → items_of now ≡ (laid tree (items_of start)).items → numbers ≡ (laid tree (items_of start)).numbers → items_of new ≡ (laid e (items_of now)).items → n ≡ last_of (items_of new) → longer ≡ numbers ++ n ∷ [] →

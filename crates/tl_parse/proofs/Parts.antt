@@ -1,5 +1,5 @@
 -- What reading the parts of Lua expressions gives.
-use Rattle.std.proofs.Common.{◌≡◌, ℕ, cond, List, refl, ap}
+use Rattle.std.proofs.Common.{◌≡◌, ℕ, cond, List, refl, ap, arith}
 use Rattle.tl_tree.specs.declared.mode.Mode.{Mode}
 use Rattle.tl_tree.specs.declared.symbol.Symbol.TheVariants as symbols
 use Rattle.tl_tree.specs.Tokens.{Token, is}
@@ -7,11 +7,8 @@ use Rattle.tl_tree.specs.Tree.{Tree, Nothing, More, Expression, Operand, Concate
 use Rattle.tl_tree.specs.Grammar.{Outcome, Took, ◌>>=◌, begins}
 use Rattle.tl_tree.specs.Forms.{Chained, chain}
 use Rattle.tl_parse.specs.Using.{part_at}
-use Rattle.tl_parse.specs.Expressions.{arguments_at, expressions_at, more_expressions_at, unary_at, concatenation_at, chained_at, binary_at}
-use Rattle.tl_parse.specs.Expressions.{inner_at, more_fields_at, fields_at}
-use Rattle.tl_parse.specs.declared.expressions.Precedence.TheVariants as precedences
-use Rattle.tl_parse.proofs.Agreeing.{unary_agrees, product_agrees, concatenation_agrees, comparison_agrees, conjunction_agrees}
-use Rattle.tl_parse.proofs.Agreeing.{chained_agrees, field_agrees}
+use Rattle.tl_parse.specs.Expressions.{arguments_at, expressions_at, more_expressions_at, unary_at, chained_at, binary_at, more_fields_at, fields_at}
+use Rattle.tl_parse.proofs.Agreeing.{unary_agrees, binary_agrees, chained_agrees, field_agrees}
 use Rattle.tl_parse.proofs.Failing.{fails_after, fails_bind, fails_same}
 
 pub expression_part : (levels : ℕ) (m : Mode) (ts : List Token) → part_at levels (Expression m) ts ≡ (chained_at levels m ts >>= λ a rest. Took a.tree rest)
@@ -22,9 +19,9 @@ pub operand_part : (levels : ℕ) (m : Mode) (ts : List Token) → part_at level
 unfolding part_at
 operand_part levels m ts = ap (λ (o : Outcome Chained). o >>= λ a rest. Took a.tree rest) (unary_agrees levels m chain ts)
 
-pub concatenation_part : (levels : ℕ) (m : Mode) (ts : List Token) → part_at levels (Concatenation m) ts ≡ (concatenation_at levels m chain ts >>= λ a rest. Took a.tree rest)
+pub concatenation_part : (levels : ℕ) (m : Mode) (ts : List Token) → part_at levels (Concatenation m) ts ≡ (binary_at levels 3 m chain ts >>= λ a rest. Took a.tree rest)
 unfolding part_at
-concatenation_part levels m ts = ap (λ (o : Outcome Chained). o >>= λ a rest. Took a.tree rest) (concatenation_agrees levels m chain ts)
+concatenation_part levels m ts = ap (λ (o : Outcome Chained). o >>= λ a rest. Took a.tree rest) (binary_agrees 3 levels m chain ts (omega arith))
 
 pub arguments_part : (levels : ℕ) (m : Mode) (ts : List Token) → part_at levels (Arguments m) ts ≡ arguments_at levels m ts
 unfolding part_at arguments_at expressions_at more_expressions_at
@@ -35,24 +32,4 @@ unfolding part_at fields_at more_fields_at
 fields_part levels m ts =
     ap (λ (o : Outcome Tree). cond (begins (is symbols.CloseBrace) ts) (Took Nothing ts) (o >>= λ f rest. more_fields_at levels m (More Nothing f) rest)) (field_agrees levels m ts)
 
-pub inner_product : (levels : ℕ) (m : Mode) (left : ℕ) (ts : List Token) → inner_at levels precedences.Product m left ts ≡ unary_at levels m left ts
-unfolding inner_at
-inner_product levels m left ts = unary_agrees levels m left ts
-
-pub inner_sum : (levels : ℕ) (m : Mode) (left : ℕ) (ts : List Token) → inner_at levels precedences.Sum m left ts ≡ binary_at levels precedences.Product m left ts
-unfolding inner_at
-inner_sum levels m left ts = product_agrees levels m left ts
-
-pub inner_comparison : (levels : ℕ) (m : Mode) (left : ℕ) (ts : List Token) → inner_at levels precedences.Comparison m left ts ≡ concatenation_at levels m left ts
-unfolding inner_at
-inner_comparison levels m left ts = concatenation_agrees levels m left ts
-
-pub inner_conjunction : (levels : ℕ) (m : Mode) (left : ℕ) (ts : List Token) → inner_at levels precedences.Conjunction m left ts ≡ binary_at levels precedences.Comparison m left ts
-unfolding inner_at
-inner_conjunction levels m left ts = comparison_agrees levels m left ts
-
-pub inner_disjunction : (levels : ℕ) (m : Mode) (left : ℕ) (ts : List Token) → inner_at levels precedences.Disjunction m left ts ≡ binary_at levels precedences.Conjunction m left ts
-unfolding inner_at
-inner_disjunction levels m left ts = conjunction_agrees levels m left ts
-
-pub ruleset inner = (fails_bind, fails_after, inner_product, inner_sum, inner_comparison, inner_conjunction, inner_disjunction, fails_same)
+pub ruleset arguments = (fails_bind, fails_after, fails_same, arguments_part)

@@ -20,9 +20,7 @@ use Rattle.tl_tree.specs.LuaStatements.{Sequence, sequence, parameters_of}
 use Rattle.tl_parse.specs.Parsing.{tokens_left, token_of, with_token_by, HasNext}
 use Rattle.tl_parse.specs.Using.{reading, part_at, sign_at}
 use Rattle.tl_parse.specs.Expressions.{name_at, attached, shape_of, suffix_at}
-use Rattle.tl_parse.specs.Statements.{first_place, is_unsettled, settling, settle_at, variable_at, more_targets_at, next_target_at, arm_at}
-use Rattle.tl_parse.specs.Statements.{more_arms_at, next_arm_at, goes_on, block_at, more_statements_at, next_statement_at}
-use Rattle.tl_parse.specs.Statements.{more_parameters_at, parameter_at, next_parameter_at, with_parameter, body_at}
+use Rattle.tl_parse.specs.Statements.{first_place, plain_statements, is_unsettled, settling, settle_at, variable_at, more_targets_at, next_target_at, arm_at, more_arms_at, next_arm_at, goes_on, block_at, more_statements_at, next_statement_at, more_parameters_at, parameter_at, next_parameter_at, with_parameter, body_at}
 use Rattle.tl_parse.specs.Paths.{more_names_at, next_name_at, behind_sign_at, path_names_at}
 use Rattle.tl_parse.specs.declared.parser.Parser.{Parser}
 use Rattle.tl_parse.proofs.Uses.{bind_same, repeats, ends, shorter_turn}
@@ -44,12 +42,6 @@ next_place p h = go p.current.is_end (is_bad p.current.symbol) h
     go true b h = absurd h
     go false true h = refl
     go false false h = refl
-
--- the tokens that begin a statement wherever one stands
-abbrev pub plain_statements : List Symbol
-plain_statements =
-    symbols.Name ∷ symbols.OpenParen ∷ symbols.Do ∷ symbols.While ∷ symbols.Repeat ∷ symbols.If ∷ symbols.For ∷ symbols.Function ∷ symbols.Local ∷ symbols.Return
-    ∷ symbols.Terra ∷ symbols.Struct ∷ []
 
 goes_on_break : (x e : Bool) → (x && not e) ≡ cond e false x
 goes_on_break true true = refl
@@ -243,3 +235,5 @@ pub ruleset arms = (fails_bind, fails_after, fails_from, arms_go, arms_end, arm_
 pub ruleset blocks = (fails_bind, fails_after, next_of, block_part, block_goes, block_ends, statement_shorter, fails_same, fails_from)
 
 pub ruleset parameters = (fails_bind, fails_after, fails_from, parameters_go, parameters_end, parameters_stop, parameter_shorter)
+
+pub ruleset body = (fails_bind, fails_after, fails_same, body_part)

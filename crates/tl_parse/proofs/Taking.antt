@@ -172,3 +172,7 @@ less (suc n) = omega arith
 pub ruleset shorter = (fails_bind, fails_after, less)
 
 pub ruleset taking = (taken, barred_there, refused_there, next_of)
+
+pub ruleset advancing = (takes, bars, barred_next_is, next_place)
+
+pub ruleset calling = (taken, barred_there, refused_there, next_of, level_left, calls_left)

@@ -193,7 +193,7 @@ named_behind levels e ts =
     (λ y a. bind_again (part_at levels TerraExpression a) (λ v rest. Took (with_name (NamedField e v) true) rest) (λ f rest. behind_first levels f rest)))
 
 initialisers_behind_agrees : (levels : ℕ) (e : Chained) (ts : List Token) → reading levels (terra.initialisers_behind e.shape e.tree) ts ≡ (initialiser_behind_at levels e ts >>= λ f rest. behind_first levels f rest)
-unfolding initialiser_behind_at more_initialisers_at
+unfolding more_initialisers_at
 initialisers_behind_agrees levels e ts = go e.shape
   where
     positional : reading levels (terra.positional_initialisers e.tree) ts ≡ behind_first levels (with_name e.tree false) ts

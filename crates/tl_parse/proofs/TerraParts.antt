@@ -70,3 +70,7 @@ first_others precedences.Power levels left ts h = absurd (h refl)
 first_others _ levels left ts h = refl
 
 pub ruleset inner = (fails_bind, fails_after, inner_power, inner_product, inner_sum, inner_shift, inner_comparison, inner_conjunction, inner_disjunction, fails_same)
+
+pub ruleset first = (fails_bind, fails_after, fails_same, first_others)
+
+pub ruleset arguments = (fails_bind, fails_after, fails_same, terra_arguments_part)

@@ -167,7 +167,6 @@ splice_or true x y z e = e
 splice_or false x y z e = refl
 
 simple_by : (levels : ℕ) (t : Token) (tree : Tree) (left : ℕ) (shape : Shape) (ts : List Token) → reading levels (terra.terra_simple_statement t shape tree) ts ≡ terra_statement_behind_at levels t.place (chained tree left shape) ts
-unfolding terra_statement_behind_at
 simple_by levels t tree left shapes.Call ts = refl
 simple_by levels t tree left shapes.Escape ts =
     splice_or (begins (among assignment_symbols) ts) (reading levels (terra.terra_assignment t tree) ts) (terra_assignment_at levels t.place (More Nothing tree) ts) (Took (Splice t.place tree) ts) (terra_assignment_agrees levels t tree ts)
@@ -405,7 +404,7 @@ prefixed_first levels t ts h =
 
 at_is : (levels : ℕ) (t : Token) (ts : List Token) → is_of (is symbols.At) t ≡ true → is_of (among terra_prefix_symbols) t ≡ true → unary_of t.symbol ≡ unary.Dereference →
     (used_here (barred true levels Plain t) t ts >>= λ u mid. part_at (levels - 1) TerraOperand mid >>= λ x rest. reading levels (terra.terra_statement terra.FromAt t x) rest) ≡ terra_simple_statement_at levels (t ∷ ts)
-unfolding terra_simple_statement_at terra_target_at terra_statement_behind_at
+unfolding terra_simple_statement_at terra_target_at
 at_is levels t ts h is_prefix same_operator =
     use_same (barred true levels Plain t) t ts (λ u mid. part_at (levels - 1) TerraOperand mid >>= λ x rest. reading levels (terra.terra_statement terra.FromAt t x) rest) (λ u mid. part_at (levels - 1) TerraOperand mid >>= λ x rest. goes (operand chain (TerraUnary u.place (unary_of u.symbol) x)) rest)
     (bind_same (part_at (levels - 1) TerraOperand ts) (λ x rest. reading levels (terra.terra_statement terra.FromAt t x) rest) (λ x rest. goes (operand chain (TerraUnary t.place (unary_of t.symbol) x)) rest)

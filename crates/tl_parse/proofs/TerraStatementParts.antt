@@ -15,6 +15,7 @@ use Rattle.tl_parse.specs.TerraStatements.{terra_function_body_at, quoted_expres
 use Rattle.tl_parse.proofs.Following.{sign_then, then}
 use Rattle.tl_parse.proofs.TerraAgreeing.{terra_expression_agrees}
 use Rattle.tl_parse.proofs.TerraStatementAgreeing.{then_give, sign_give, written_type_agrees, terra_parameters_agree}
+use Rattle.tl_parse.proofs.Failing.{fails_after, fails_bind, fails_same}
 
 pub terra_block_part : (levels : ℕ) (ts : List Token) → part_at levels TerraStatements ts ≡ terra_block_at levels ts
 unfolding part_at terra_block_at more_terra_statements_at
@@ -68,3 +69,5 @@ quoted_code_is levels ts = refl
 
 pub quoted_code_part : (levels : ℕ) (ts : List Token) → part_at levels QuotedCode ts ≡ quoted_code_at levels ts
 quoted_code_part levels ts = quoted_code_is levels ts ∙ quoted_code_agrees levels ts
+
+pub ruleset quoted_code = (fails_bind, fails_after, fails_same, quoted_code_part)

@@ -15,15 +15,10 @@ use Rattle.tl_tree.specs.Forms.{sign, Chained, chained, operand, listed_behind, 
 use Rattle.tl_tree.specs.LuaExpressions as lua
 use Rattle.tl_tree.proofs.Unrolling.{bind_again}
 use Rattle.tl_parse.specs.Using.{reading, part_at, used, barred, sign_at, sign_among_at, operator_at, raise_at, call_at}
-use Rattle.tl_parse.specs.Expressions.{name_at, more_expressions_at, next_expression_at, Suffixed, attached, shape_of, call_suffix_at}
-use Rattle.tl_parse.specs.Expressions.{index_suffix_at, select_suffix_at, method_arguments_at, method_suffix_at, table_suffix_at}
-use Rattle.tl_parse.specs.Expressions.{literal_suffix_at, suffix_at, suffixes_at, symbols_of, inner_of, inner_at, more_at, one_more_at}
-use Rattle.tl_parse.specs.Expressions.{separators, field_at, more_fields_at, next_field_at, more_if}
+use Rattle.tl_parse.specs.Expressions.{name_at, more_expressions_at, next_expression_at, Suffixed, attached, shape_of, call_suffix_at, index_suffix_at, select_suffix_at, method_arguments_at, method_suffix_at, table_suffix_at, literal_suffix_at, suffix_at, suffixes_at, separators, field_at, more_fields_at, next_field_at, more_if}
 use Rattle.tl_parse.specs.Expressions as suffixed
 use Rattle.tl_tree.specs.Tree as trees
-use Rattle.tl_parse.specs.declared.expressions.Precedence.{Precedence}
-use Rattle.tl_parse.proofs.Uses.{never, both, operator_with, bind_same, opened_at, opens_any, token_is, plain_is, sign_is, repeats, ends}
-use Rattle.tl_parse.proofs.Uses.{shorter_turn}
+use Rattle.tl_parse.proofs.Uses.{never, both, operator_with, bind_same, opened_at, opens_any, token_is, plain_is, sign_is, repeats, ends, shorter_turn}
 use Rattle.tl_parse.proofs.Agreeing.{name_agrees, method_arguments_agree, field_agrees}
 use Rattle.tl_parse.proofs.Failing.{fails_after, fails_bind, fails_from, fails_same, fails_unexpected}
 use Rattle.tl_parse.proofs.Parts.{fields_part}
@@ -85,21 +80,6 @@ pub operators_goes : (levels : ℕ) (ss : List Symbol) (x : ℕ → Grammar Chai
 operators_goes levels ss x make a ts h =
     repeats levels (λ a t. among ss t) (λ a t. Continues a.left) (λ a t. None) (λ t y a. bind (x (down a.left)) λ b. give (operand b.left (make t a.tree b.tree))) (sample symbols.Plus) a
     (operator_at ss a.left ts >>= λ t mid. reading levels (x (down a.left)) mid >>= λ b rest. Took (operator_with t b) rest) (λ p. operand p.1.left (make p.0 a.tree p.1.tree)) ts h (operators_turn levels ss x make (sample symbols.Plus) a ts)
-
-pub operations_go : (levels : ℕ) (p : Precedence) (m : Mode) (tree : Tree) (left : ℕ) (shape : Shape) (ts : List Token) → begins (among (symbols_of p)) ts ≡ true → more_at levels p m (chained tree left shape) ts ≡ (one_more_at levels p m left ts >>= λ r rest. more_at levels p m (operand r.1.left (lua.operation r.0 tree r.1.tree)) rest)
-unfolding more_at one_more_at inner_at
-operations_go levels p m tree left shape ts h = operators_goes levels (symbols_of p) (λ left. inner_of p m left) lua.operation (chained tree left shape) ts h
-
-pub operations_end : (levels : ℕ) (p : Precedence) (m : Mode) (a : Chained) (ts : List Token) → begins (among (symbols_of p)) ts ≡ false → more_at levels p m a ts ≡ Took a ts
-unfolding more_at
-operations_end levels p m a ts h = ends levels (λ a t. among (symbols_of p) t) (λ a t. Continues a.left) (λ a t. None) (λ t y a. bind (inner_of p m (down a.left)) λ b. give (operand b.left (lua.operation t a.tree b.tree))) a ts h
-
-pub operation_shorter : (levels : ℕ) (p : Precedence) (m : Mode) (left : ℕ) (x : Token × Chained) (ts rest : List Token) → one_more_at levels p m left ts ≡ Took x rest → length rest < length ts
-unfolding one_more_at inner_at
-operation_shorter levels p m left x ts rest e =
-    let a : Chained = operand left Nothing in
-    shorter_turn levels (λ t. among (symbols_of p) t) (λ t. Continues left) (λ t. None) (sample symbols.Plus) (λ y. bind (inner_of p m (down left)) λ b. give (operand b.left (lua.operation y.0 Nothing b.tree)))
-    (operator_at (symbols_of p) left ts >>= λ t mid. reading levels (inner_of p m (down left)) mid >>= λ b rest. Took (operator_with t b) rest) (λ p. operand p.1.left (lua.operation p.0 Nothing p.1.tree)) x ts rest (operators_turn levels (symbols_of p) (λ left. inner_of p m left) lua.operation (sample symbols.Plus) a ts) e
 
 -- ---- fields
 
@@ -254,7 +234,5 @@ suffix_shorter levels m left x ts rest h e =
 pub ruleset expressions = (fails_bind, fails_after, fails_from, expressions_go, expressions_end, expression_shorter)
 
 pub ruleset suffixes = (fails_bind, fails_after, fails_from, fails_unexpected, suffixes_go, suffixes_end, suffix_shorter)
-
-pub ruleset operations = (fails_bind, fails_after, fails_from, operations_go, operations_end, operation_shorter)
 
 pub ruleset fields = (fails_bind, fails_after, fields_part, fails_same, fails_from, fields_go, fields_end, field_shorter)

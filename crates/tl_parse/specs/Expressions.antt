@@ -1,6 +1,6 @@
 -- What reading each name of the grammar of Lua expressions gives, from left to right. `proofs/Agreeing.antt` shows that it is what the
 -- grammar of the name gives.
-use Rattle.std.specs.Prelude.{ℕ, ◌-◌, Bool, true, false, not, ◌&&◌, List, [], ◌∷◌, if◌then◌else◌, Option, Some, None}
+use Rattle.std.specs.Prelude.{ℕ, zero, suc, ◌-◌, Bool, true, false, not, ◌&&◌, ◌==◌, List, [], ◌∷◌, if◌then◌else◌, Option, Some, None}
 use Rattle.tl_base.specs.declared.place.Place.{Place}
 use Rattle.tl_tree.specs.declared.symbol.Symbol.{Symbol}
 use Rattle.tl_tree.specs.declared.symbol.Symbol.TheVariants as symbols
@@ -20,8 +20,7 @@ use Rattle.tl_tree.specs.LuaExpressions.{is_varargs}
 use Rattle.tl_parse.specs.Using.{reading, part_at, sign_at, open_at, prefix_at, operator_at, raise_at, call_at}
 use Rattle.tl_parse.specs.Using.{number_at, sign_among_at}
 use Rattle.tl_parse.specs.TerraCode.{terra_code_at}
-use Rattle.tl_parse.specs.declared.expressions.Precedence.{Precedence}
-use Rattle.tl_parse.specs.declared.expressions.Precedence.TheVariants as precedences
+use Rattle.tl_parse.specs.Ranks.{ranked_at}
 
 unfoldable pub name_at : List Token → Outcome Tree
 name_at ts = sign_at symbols.Name ts >>= λ t rest. Took (Name t.place t.offset t.text) rest
@@ -200,7 +199,7 @@ primary_at levels m left ts =
 -- ---- operators
 
 -- an operator that groups to the right, behind an operand
-unfoldable pub right_at : ℕ → Symbol → Part → Chained → List Token → Outcome Chained
+abbrev pub right_at : ℕ → Symbol → Part → Chained → List Token → Outcome Chained
 right_at levels s part a ts =
     if begins (is s) ts then (raise_at s levels a.left ts >>= λ t b. part_at (levels - 1) part b
     >>= λ x rest. Took (operand (down a.left) (lua.operation t a.tree x)) rest)
@@ -216,42 +215,49 @@ unary_at levels m left ts =
     >>= λ x rest. Took (operand left (Unary t.place (unary_of t.symbol) x)) rest)
     else power_at levels m left ts
 
--- the operators of a precedence
-abbrev pub symbols_of : Precedence → List Symbol
-symbols_of precedences.Product = multiplicative
-symbols_of precedences.Sum = additive
-symbols_of precedences.Comparison = comparisons
-symbols_of precedences.Conjunction = symbols.And ∷ []
-symbols_of precedences.Disjunction = symbols.Or ∷ []
+-- the operators of a rank
+abbrev pub symbols_of : ℕ → List Symbol
+symbols_of zero = multiplicative
+symbols_of (suc zero) = additive
+symbols_of (suc (suc zero)) = symbols.DoubleDot ∷ []
+symbols_of (suc (suc (suc zero))) = comparisons
+symbols_of (suc (suc (suc (suc zero)))) = symbols.And ∷ []
+symbols_of _ = symbols.Or ∷ []
 
 -- their operands
-abbrev pub inner_of : Precedence → Mode → ℕ → Grammar Chained
-inner_of precedences.Product m left = lua.unary m left
-inner_of precedences.Sum m left = lua.product m left
-inner_of precedences.Comparison m left = lua.concatenation m left
-inner_of precedences.Conjunction m left = lua.comparison m left
-inner_of precedences.Disjunction m left = lua.conjunction m left
+abbrev pub inner_of : ℕ → Mode → ℕ → Grammar Chained
+inner_of zero m left = lua.unary m left
+inner_of (suc zero) m left = lua.product m left
+inner_of (suc (suc zero)) m left = lua.sum m left
+inner_of (suc (suc (suc zero))) m left = lua.concatenation m left
+inner_of (suc (suc (suc (suc zero)))) m left = lua.comparison m left
+inner_of (suc (suc (suc (suc (suc zero))))) m left = lua.conjunction m left
+inner_of _ m left = lua.disjunction m left
 
-unfoldable pub inner_at : ℕ → Precedence → Mode → ℕ → List Token → Outcome Chained
-inner_at levels p m left ts = reading levels (inner_of p m left) ts
+-- the operators of a rank behind an operand: `..` groups to the right, the others to the left
+unfoldable pub more_at : ℕ → ℕ → Mode → Chained → List Token → Outcome Chained
+more_at levels (suc (suc zero)) m a ts = right_at levels symbols.DoubleDot (Concatenation m) a ts
+more_at levels rank m a ts =
+    reading levels (operators (symbols_of rank) (λ left. inner_of rank m left) lua.operation a) ts
 
-unfoldable pub more_at : ℕ → Precedence → Mode → Chained → List Token → Outcome Chained
-more_at levels p m a ts = reading levels (operators (symbols_of p) (λ left. inner_of p m left) lua.operation a) ts
+-- the operators of so many ranks from this one on, rank after rank, behind an operand
+unfoldable pub ranks_at : ℕ → ℕ → ℕ → Mode → Chained → List Token → Outcome Chained
+ranks_at levels zero rank m a ts = Took a ts
+ranks_at levels (suc n) rank m a ts = more_at levels rank m a ts >>= λ b rest. ranks_at levels n (suc rank) m b rest
 
--- an operator and its right operand
-unfoldable pub one_more_at : ℕ → Precedence → Mode → ℕ → List Token → Outcome (Token × Chained)
-one_more_at levels p m left ts = operator_at (symbols_of p) left ts >>= λ t a. inner_at levels p m (down left) a
-    >>= λ b rest. Took (t, b) rest
+-- operands with operators of the first ranks between them, so many
+unfoldable pub binary_at : ℕ → ℕ → Mode → ℕ → List Token → Outcome Chained
+binary_at levels ranks m left ts = unary_at levels m left ts >>= λ a rest. ranks_at levels ranks 0 m a rest
 
-unfoldable pub binary_at : ℕ → Precedence → Mode → ℕ → List Token → Outcome Chained
-binary_at levels p m left ts = inner_at levels p m left ts >>= λ a rest. more_at levels p m a rest
-
-unfoldable pub concatenation_at : ℕ → Mode → ℕ → List Token → Outcome Chained
-concatenation_at levels m left ts = binary_at levels precedences.Sum m left ts >>= λ a rest.
-    right_at levels symbols.DoubleDot (Concatenation m) a rest
+-- an operator of a rank and its right operand
+unfoldable pub one_more_at : ℕ → ℕ → Mode → ℕ → List Token → Outcome (Token × Chained)
+one_more_at levels rank m left ts =
+    if rank == 2 then (raise_at symbols.DoubleDot levels left ts >>= λ t a. part_at (levels - 1) (Concatenation m) a
+    >>= λ x rest. Took (t, operand (down left) x) rest)
+    else (ranked_at rank left ts >>= λ t a. binary_at levels rank m (down left) a >>= λ b rest. Took (t, b) rest)
 
 unfoldable pub chained_at : ℕ → Mode → List Token → Outcome Chained
-chained_at levels m ts = binary_at levels precedences.Disjunction m chain ts >>= λ a rest.
+chained_at levels m ts = binary_at levels 6 m chain ts >>= λ a rest.
     right_at levels symbols.Arrow (Expression m) a rest
 
 -- ---- fields of tables
@@ -260,7 +266,7 @@ abbrev pub is_name : Shape → Bool
 is_name shapes.Name = true
 is_name _ = false
 
-unfoldable pub field_behind_at : ℕ → Mode → Chained → List Token → Outcome Tree
+abbrev pub field_behind_at : ℕ → Mode → Chained → List Token → Outcome Tree
 field_behind_at levels m e ts =
     if is_name e.shape then (if begins (is symbols.Equal) ts then (sign_at symbols.Equal ts >>= λ y a.
     part_at levels (Expression m) a >>= λ v rest. Took (NamedField e.tree v) rest) else Took e.tree ts)

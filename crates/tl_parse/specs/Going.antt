@@ -1,5 +1,5 @@
 -- How far the loops have come, and what one turn of them adds.
-use Rattle.std.specs.Prelude.{◌≡◌, ℕ, Bool, List}
+use Rattle.std.specs.Prelude.{◌≡◌, ℕ, ◌-◌, Bool, List}
 use Rattle.tl_base.specs.declared.ids.NodeId.{NodeId}
 use Rattle.tl_tree.specs.declared.mode.Mode.{Mode}
 use Rattle.tl_tree.specs.Tokens.{Token}
@@ -13,9 +13,7 @@ use Rattle.tl_tree.specs.LuaStatements.{Sequence, sequence, Parameters, paramete
 use Rattle.tl_parse.specs.Statements.{Numeric, Generic, settle_at, more_statements_at, more_parameters_at}
 use Rattle.tl_parse.specs.declared.statements.Numeric as code_statements
 use Rattle.tl_parse.specs.Parsing.{token_of, tokens_left, items_of, end_of, Ready}
-use Rattle.tl_parse.specs.Expressions.{Suffixed, attached, shape_of, suffixes_at, more_at}
-use Rattle.tl_parse.specs.declared.expressions.Precedence.{Precedence}
-use Rattle.tl_parse.specs.declared.expressions.Precedence.TheVariants as precedences
+use Rattle.tl_parse.specs.Expressions.{Suffixed, attached, shape_of, suffixes_at, ranks_at}
 use Rattle.tl_parse.specs.declared.parser.Parser.{Parser}
 use Rattle.tl_parse.specs.declared.parser.Next as code
 use Rattle.tl_parse.specs.declared.parser.Operand.{Operand}
@@ -41,10 +39,10 @@ pub record TookSuffix (old new : Parser) (o : Outcome Suffixed) (a r : Operand) 
       → a.node ≡ last_of (items_of old) → items_of new ≡ (laid (attached suffix tree) before).items
   pub is_last : r.node ≡ last_of (items_of new)
 
--- An operand and operators behind it are a tree so far, and the rest is read from here as from the beginning.
-pub record Binding (levels : ℕ) (p : Precedence) (m : Mode) (start now : Parser) (o : Outcome Chained) (a : Operand) : Type 0 where
+-- An operand and operators behind it are a tree so far, and the operators of the ranks from this one on, before that one, follow.
+pub record Binding (levels rank end : ℕ) (m : Mode) (start now : Parser) (o : Outcome Chained) (a : Operand) : Type 0 where
   pub tree : Tree
-  pub goes_on : o ≡ more_at levels p m (chained tree a.left a.shape) (tokens_left now)
+  pub goes_on : o ≡ ranks_at levels (end - rank) rank m (chained tree a.left a.shape) (tokens_left now)
   pub finish : end_of now ≡ end_of start
   pub ready : Ready now
   pub items : items_of now ≡ (laid tree (items_of start)).items
@@ -68,14 +66,6 @@ pub record Listing (start now : Parser) (o : Outcome Tree) (more : Tree → List
   pub ready : Ready now
   pub items : items_of now ≡ (laid tree (items_of start)).items
   pub list : numbers ≡ (laid tree (items_of start)).numbers
-
--- how far a precedence is from the highest
-abbrev pub rank_of : Precedence → ℕ
-rank_of precedences.Product = 18
-rank_of precedences.Sum = 21
-rank_of precedences.Comparison = 25
-rank_of precedences.Conjunction = 28
-rank_of precedences.Disjunction = 31
 
 -- ---- statements
 

@@ -18,6 +18,8 @@ pub mod TerraExpressions
 pub mod TerraStatements
 -- Uses of single tokens.
 pub mod Using
+-- Operators between operands, by their ranks.
+pub mod Ranks
 -- What the parser has before it, and what its functions took.
 pub mod Parsing
 -- One token ahead.

@@ -231,6 +231,12 @@ next_statement_at levels c ts =
     >>= λ y rest. Took (sequence s (begins (among last_symbols) ts)) rest)
     else Took (sequence s (begins (among last_symbols) ts)) a
 
+-- the tokens that begin a statement in all blocks
+abbrev pub plain_statements : List Symbol
+plain_statements =
+    symbols.Name ∷ symbols.OpenParen ∷ symbols.Do ∷ symbols.While ∷ symbols.Repeat ∷ symbols.If ∷ symbols.For ∷ symbols.Function
+    ∷ symbols.Local ∷ symbols.Return ∷ symbols.Terra ∷ symbols.Struct ∷ []
+
 -- May a token be the first of one more statement of a block?
 abbrev pub goes_on : Context → Bool → Token → Bool
 goes_on c ended t = lua.is_statement c t && not ended

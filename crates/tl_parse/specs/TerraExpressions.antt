@@ -245,7 +245,7 @@ next_initialiser_at levels named ts =
     else (initialiser_at levels named a >>= λ f rest. Took (Some f) rest)
 
 -- The first initialiser, and whether it is named: a name alone before "=" is.
-unfoldable pub initialiser_behind_at : ℕ → Chained → List Token → Outcome (Tree × Bool)
+abbrev pub initialiser_behind_at : ℕ → Chained → List Token → Outcome (Tree × Bool)
 initialiser_behind_at levels e ts =
     if is_name e.shape then (if begins (is symbols.Equal) ts then (sign_at symbols.Equal ts >>= λ y a.
     part_at levels TerraExpression a >>= λ v rest. Took (NamedField e.tree v, true) rest)

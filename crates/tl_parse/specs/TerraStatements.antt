@@ -106,7 +106,7 @@ terra_assignment_at levels place before ts =
 abbrev pub assignment_symbols : List Symbol
 assignment_symbols = symbols.Equal ∷ symbols.Comma ∷ []
 
-unfoldable pub terra_statement_behind_at : ℕ → Place → Chained → List Token → Outcome Tree
+abbrev pub terra_statement_behind_at : ℕ → Place → Chained → List Token → Outcome Tree
 terra_statement_behind_at levels place a ts =
     if is_call a.shape then Took (TerraPerform place a.tree) ts
     else (if is_escape a.shape && not (begins (among assignment_symbols) ts) then Took (Splice place a.tree) ts

@@ -14,43 +14,20 @@ ghost use Rattle.tl_parse.specs.Expressions.{base_at, call_suffix_at, index_suff
 ghost use Rattle.tl_parse.specs.Expressions.{method_arguments_at, method_suffix_at, table_suffix_at};
 ghost use Rattle.tl_parse.specs.Expressions.{literal_suffix_at, suffix_at, applied_at, prefixed_at, number_tree_at};
 ghost use Rattle.tl_parse.specs.Expressions.{literal_at, constant, constant_at, function_at, table_at, simple_at};
-ghost use Rattle.tl_parse.specs.Expressions.{is_simple, primary_at, power_at, unary_at, symbols_of, inner_at};
-ghost use Rattle.tl_parse.specs.Expressions.{one_more_at, binary_at, concatenation_at, chained_at, is_name, is_other};
+ghost use Rattle.tl_parse.specs.Expressions.{is_simple, primary_at, power_at, unary_at};
+ghost use Rattle.tl_parse.specs.Expressions.{one_more_at, binary_at, chained_at, is_name, is_other};
 ghost use Rattle.tl_parse.specs.Expressions.{field_behind_at, keyed_field_at, field_at, next_field_at, fields_at};
 ghost use Rattle.tl_parse.specs.Expressions.{simple_symbols, separators};
 ghost use Rattle.tl_parse.specs.Going.{TookOperation, TookSuffix};
 
 use crate::error::SyntaxError;
 use crate::parser::{CHAIN, Next, Operand, Parser, add};
+use crate::symbols::{CONCATENATION, rank_behind};
 use tl_base::NodeId;
 use tl_tree::{Expression, Mode, Node, NodeList, Piece, Shape, Symbol, UnaryOperator};
 
-/// The precedences of the operators that group to the left, from the highest.
-#[derive(Clone, Copy, Debug, PartialEq, Eq)]
-pub(crate) enum Precedence {
-    Product,
-    Sum,
-    Comparison,
-    Conjunction,
-    Disjunction,
-}
-
-static PRODUCT: [Symbol; 3] = [Symbol::Star, Symbol::Slash, Symbol::Percent];
-
-static SUM: [Symbol; 2] = [Symbol::Plus, Symbol::Minus];
-
-static COMPARISON: [Symbol; 6] = [
-    Symbol::Less,
-    Symbol::Greater,
-    Symbol::LessEqual,
-    Symbol::GreaterEqual,
-    Symbol::NotEqual,
-    Symbol::DoubleEqual,
-];
-
-static CONJUNCTION: [Symbol; 1] = [Symbol::And];
-
-static DISJUNCTION: [Symbol; 1] = [Symbol::Or];
+/// How many ranks the operators have that group to the left, and `..`.
+const RANKS: u8 = 6;
 
 static PREFIX: [Symbol; 4] = [Symbol::Not, Symbol::Hash, Symbol::Minus, Symbol::Ampersand];
 
@@ -66,20 +43,6 @@ static DOT: [Symbol; 1] = [Symbol::Dot];
 static COLON: [Symbol; 1] = [Symbol::Colon];
 
 static LITERAL: [Symbol; 1] = [Symbol::Literal];
-
-/// The operators of a precedence.
-fn symbols_of(precedence: Precedence) -> &'static [Symbol]
-    ensures symbols { result.now ≡ symbols_of precedence }
-    ensures good { has result.now 65 ≡ false }
-{
-    match precedence {
-        Precedence::Product => &PRODUCT,
-        Precedence::Sum => &SUM,
-        Precedence::Comparison => &COMPARISON,
-        Precedence::Conjunction => &CONJUNCTION,
-        Precedence::Disjunction => &DISJUNCTION,
-    }
-}
 
 /// The operator that a token is, before its operand.
 pub(crate) fn unary_of(symbol: Symbol) -> UnaryOperator
@@ -222,13 +185,13 @@ impl<'a> Parser<'a> {
         ensures ok { IfOk result (λ r. TookTree self.old self.new (part_at levels (parts.Concatenation mode) (tokens_left self.old)) r) }
         ensures err { IfErr result (λ e. Fails self.old (part_at levels (parts.Concatenation mode) (tokens_left self.old)) e) }
     {
-        let a = read!(self.concatenation(mode, levels, CHAIN));
+        let a = read!(self.binary(CONCATENATION + 1, mode, levels, CHAIN));
         Ok(a.node)
     }
 
     /// [exps], up to a ")"
     #[cycle(parser)]
-    #[tactic(auto, using(crate::proofs::Failing::failing_same, crate::proofs::Parts::arguments_part), unfolding(crate::specs::Expressions::arguments_at))]
+    #[tactic(auto, using(crate::proofs::Parts::arguments), unfolding(crate::specs::Expressions::arguments_at))]
     fn arguments(&mut self, mode: Mode, levels: u32) -> Result<NodeList, SyntaxError>
         requires { Ready self.old }
         ensures ok { IfOk result (λ r. TookList self.old self.new (part_at levels (parts.Arguments mode) (tokens_left self.old)) r) }
@@ -604,7 +567,7 @@ impl<'a> Parser<'a> {
 
     /// exp "^" exp
     #[cycle(parser)]
-    #[tactic(auto, using(crate::proofs::Taking::shorter), unfolding(crate::specs::Expressions::power_at, crate::specs::Expressions::right_at))]
+    #[tactic(auto, using(crate::proofs::Taking::shorter), unfolding(crate::specs::Expressions::power_at))]
     fn power(&mut self, mode: Mode, levels: u32, left: u32) -> Result<Operand, SyntaxError>
         requires { Ready self.old }
         ensures ok { IfOk result (λ r. TookOperand self.old self.new (power_at levels mode left (tokens_left self.old)) r) }
@@ -627,7 +590,7 @@ impl<'a> Parser<'a> {
         ensures ok { IfOk result (λ r. TookOperand self.old self.new (unary_at levels mode left (tokens_left self.old)) r) }
         ensures err { IfErr result (λ e. Fails self.old (unary_at levels mode left (tokens_left self.old)) e) }
     {
-        if self.next_is_among(&PREFIX) {
+        if self.next_is_prefix() {
             let token = read!(self.open_among(&PREFIX, levels));
             let operand = read!(self.operand(mode, levels - 1));
             let node = read!(self.push(Node::Expression(
@@ -643,100 +606,74 @@ impl<'a> Parser<'a> {
         self.power(mode, levels, left)
     }
 
-    /// the operand of a precedence
-    #[cycle(parser)]
-    #[tactic(auto, using(crate::proofs::Parts::inner))]
-    fn inner(
-        &mut self,
-        precedence: Precedence,
-        mode: Mode,
-        levels: u32,
-        left: u32,
-    ) -> Result<Operand, SyntaxError>
-        requires { Ready self.old }
-        ensures ok { IfOk result (λ r. TookOperand self.old self.new (inner_at levels precedence mode left (tokens_left self.old)) r) }
-        ensures err { IfErr result (λ e. Fails self.old (inner_at levels precedence mode left (tokens_left self.old)) e) }
-    {
-        match precedence {
-            Precedence::Product => self.unary(mode, levels, left),
-            Precedence::Sum => self.binary(Precedence::Product, mode, levels, left),
-            Precedence::Comparison => self.concatenation(mode, levels, left),
-            Precedence::Conjunction => self.binary(Precedence::Comparison, mode, levels, left),
-            Precedence::Disjunction => self.binary(Precedence::Conjunction, mode, levels, left),
-        }
-    }
-
-    /// operator exp, of a precedence
+    /// operator exp, of a rank
     #[cycle(parser)]
     #[tactic(auto, using(crate::proofs::Taking::shorter), unfolding(crate::specs::Expressions::one_more_at))]
     #[inline(never)]
     fn one_more(
         &mut self,
-        precedence: Precedence,
+        rank: u8,
         mode: Mode,
         levels: u32,
         left: u32,
     ) -> Result<(Next<'a>, Operand), SyntaxError>
-        requires { Ready self.old }
-        ensures ok { IfOk result (λ r.
-            TookOperation self.old self.new (one_more_at levels precedence mode left (tokens_left self.old)) r.0 r.1) }
-        ensures err { IfErr result (λ e. Fails self.old (one_more_at levels precedence mode left (tokens_left self.old)) e) }
+        requires some { rank < 6 }
+        requires ready { Ready self.old }
+        ensures ok { IfOk result (λ r. TookOperation self.old self.new (one_more_at levels rank mode left (tokens_left self.old)) r.0 r.1) }
+        ensures err { IfErr result (λ e. Fails self.old (one_more_at levels rank mode left (tokens_left self.old)) e) }
     {
-        let token = read!(self.operator(symbols_of(precedence), left));
-        let operand = read!(self.inner(precedence, mode, levels, left - 1));
+        if rank == CONCATENATION {
+            let token = read!(self.raise(Symbol::DoubleDot, levels, left));
+            let node = read!(self.concatenated(mode, levels - 1));
+            let right = Operand {
+                node,
+                left: left - 1,
+                shape: Shape::Other,
+            };
+            return Ok((token, right));
+        }
+        let token = read!(self.ranked_operator(rank, left));
+        let operand = read!(self.binary(rank, mode, levels, left - 1));
         Ok((token, operand))
     }
 
-    /// exp {operator exp}, of a precedence
+    /// exp {operator exp}, of so many ranks. Where no operator follows the operand, no rank is looked at.
     #[cycle(parser)]
-    #[tactic(auto, using(crate::proofs::Turns::operations), unfolding(crate::specs::Expressions::binary_at))]
     #[inline(always)]
     fn binary(
         &mut self,
-        precedence: Precedence,
+        ranks: u8,
         mode: Mode,
         levels: u32,
         left: u32,
     ) -> Result<Operand, SyntaxError>
-        requires { Ready self.old }
-        ensures ok { IfOk result (λ r. TookOperand self.old self.new (binary_at levels precedence mode left (tokens_left self.old)) r) }
-        ensures err { IfErr result (λ e. Fails self.old (binary_at levels precedence mode left (tokens_left self.old)) e) }
+        requires some { ranks ≤ 6 }
+        requires ready { Ready self.old }
+        ensures ok { IfOk result (λ r. TookOperand self.old self.new (binary_at levels ranks mode left (tokens_left self.old)) r) }
+        ensures err { IfErr result (λ e. Fails self.old (binary_at levels ranks mode left (tokens_left self.old)) e) }
     {
-        let symbols = symbols_of(precedence);
-        let mut a = read!(self.inner(precedence, mode, levels, left));
-        'more: while self.next_is_among(symbols) {
-            let (token, b) = read!(self.one_more(precedence, mode, levels, a.left));
+        let mut a = read!(self.unary(mode, levels, left));
+        let mut from = 0;
+        // An operator that binds more than the one before it stands in the right operand of that.
+        'more: while self.next_is_ranked(from, ranks) {
+            let rank = self.next_rank();
+            let (token, b) = read!(self.one_more(rank, mode, levels, a.left));
             a = read!(self.operation(token, a, b.node, b.left));
-        }
-        Ok(a)
-    }
-
-    /// exp {".." exp}
-    #[cycle(parser)]
-    #[tactic(auto, using(crate::proofs::Taking::shorter), unfolding(crate::specs::Expressions::concatenation_at, crate::specs::Expressions::right_at))]
-    fn concatenation(&mut self, mode: Mode, levels: u32, left: u32) -> Result<Operand, SyntaxError>
-        requires { Ready self.old }
-        ensures ok { IfOk result (λ r. TookOperand self.old self.new (concatenation_at levels mode left (tokens_left self.old)) r) }
-        ensures err { IfErr result (λ e. Fails self.old (concatenation_at levels mode left (tokens_left self.old)) e) }
-    {
-        let a = read!(self.binary(Precedence::Sum, mode, levels, left));
-        if self.next_is(Symbol::DoubleDot) {
-            let token = read!(self.raise(Symbol::DoubleDot, levels, a.left));
-            let right = read!(self.concatenated(mode, levels - 1));
-            return self.operation(token, a, right, a.left - 1);
+            from = rank_behind(rank);
         }
         Ok(a)
     }
 
     /// exp {"->" exp}, with what it is
     #[cycle(parser)]
-    #[tactic(auto, using(crate::proofs::Taking::shorter), unfolding(crate::specs::Expressions::chained_at, crate::specs::Expressions::right_at))]
+    #[tactic(auto, using(crate::proofs::Taking::shorter), unfolding(crate::specs::Expressions::chained_at))]
+    #[inline(always)]
     pub(crate) fn chained(&mut self, mode: Mode, levels: u32) -> Result<Operand, SyntaxError>
         requires { Ready self.old }
         ensures ok { IfOk result (λ r. TookOperand self.old self.new (chained_at levels mode (tokens_left self.old)) r) }
         ensures err { IfErr result (λ e. Fails self.old (chained_at levels mode (tokens_left self.old)) e) }
     {
-        let a = read!(self.binary(Precedence::Disjunction, mode, levels, CHAIN));
+        let a = read!(self.binary(RANKS, mode, levels, CHAIN));
         if self.next_is(Symbol::Arrow) {
             let token = read!(self.raise(Symbol::Arrow, levels, a.left));
             let right = read!(self.expression(mode, levels - 1));

@@ -8,9 +8,9 @@ ghost use Rattle.tl_tree.specs.LuaExpressions as lua;
 ghost use Rattle.tl_tree.specs.TerraExpressions as terra;
 ghost use Rattle.tl_tree.specs.Numbers.{largest_terra};
 ghost use Rattle.tl_parse.specs.TerraExpressions.{terra_number_at};
-ghost use Rattle.tl_parse.specs.Expressions.{is_simple, is_types, is_variadic};
+ghost use Rattle.tl_parse.specs.Expressions.{is_simple, simple_symbols, is_types, is_variadic};
 ghost use Rattle.tl_parse.specs.Joining.{Joined};
-ghost use Rattle.tl_parse.specs.Statements.{first_place, goes_on};
+ghost use Rattle.tl_parse.specs.Statements.{first_place, goes_on, plain_statements};
 ghost use Rattle.tl_lex.specs.Lexing.{answers_left};
 ghost use Rattle.tl_lex.specs.Laws.{EndsOnce};
 ghost use Rattle.tl_tree.specs.Symbols.{number_of, is_bad, has};
@@ -22,10 +22,13 @@ ghost use Rattle.tl_parse.specs.Parsing.{TookToken, token_of, with_token};
 ghost use Rattle.tl_parse.specs.Using.{is_number, sign_at, open_at, sign_among_at, prefix_at, operator_at, raise_at};
 ghost use Rattle.tl_parse.specs.Using.{call_at, number_at};
 ghost use Rattle.tl_parse.specs.Taking.{bar_of, Uses, Barred};
+ghost use Rattle.tl_parse.specs.Ranks.{rank_at, is_ranked, is_of_rank, ranked_at};
 
 use crate::error::SyntaxError;
 use crate::numerals::is_above;
-use crate::symbols::{has, number_of};
+use crate::symbols::{
+    NO_OPERATOR, has, is_prefix, is_simple, is_statement, is_suffix, number_of, rank_of,
+};
 use std::alloc::Global;
 use tl_base::limits::LARGEST_NUMBER;
 use tl_base::{NodeId, Place};
@@ -56,44 +59,6 @@ static TERRA_NUMERAL: [Symbol; 3] = [
     Symbol::Numeral,
     Symbol::LongNumeral,
     Symbol::UnsignedNumeral,
-];
-
-static SUFFIX: [Symbol; 6] = [
-    Symbol::OpenParen,
-    Symbol::OpenBracket,
-    Symbol::Dot,
-    Symbol::Colon,
-    Symbol::OpenBrace,
-    Symbol::Literal,
-];
-
-static SIMPLE: [Symbol; 11] = [
-    Symbol::Numeral,
-    Symbol::Literal,
-    Symbol::Nil,
-    Symbol::False,
-    Symbol::True,
-    Symbol::Function,
-    Symbol::OpenBrace,
-    Symbol::Terra,
-    Symbol::Struct,
-    Symbol::Quote,
-    Symbol::Backtick,
-];
-
-static STATEMENT: [Symbol; 12] = [
-    Symbol::Name,
-    Symbol::OpenParen,
-    Symbol::Do,
-    Symbol::While,
-    Symbol::Repeat,
-    Symbol::If,
-    Symbol::For,
-    Symbol::Function,
-    Symbol::Local,
-    Symbol::Return,
-    Symbol::Terra,
-    Symbol::Struct,
 ];
 
 /// A token as the grammar sees it, or the end.
@@ -234,7 +199,7 @@ impl<'a> Parser<'a> {
     }
 
     /// Is the next token this one?
-    #[tactic(auto, using(crate::proofs::Looking::next_is_so), unfolding(crate::specs::Parsing::tokens_left))]
+    #[tactic(auto, unfolding(crate::specs::Parsing::tokens_left))]
     pub(crate) fn next_is(&self, symbol: Symbol) -> bool
         requires { is_bad symbol ≡ false }
         ensures { result ≡ begins (is symbol) (tokens_left self.now) }
@@ -249,6 +214,37 @@ impl<'a> Parser<'a> {
         ensures { result ≡ begins (among symbols.now) (tokens_left self.now) }
     {
         !self.current.is_end && has(symbols, number_of(self.current.symbol))
+    }
+
+    /// The rank of the next token.
+    #[tactic(auto, using(crate::proofs::Ranks::next_rank), unfolding(crate::specs::Parsing::tokens_left))]
+    #[inline(always)]
+    pub(crate) fn next_rank(&self) -> u8
+        ensures { result ≡ rank_at (tokens_left self.now) }
+    {
+        if self.current.is_end {
+            NO_OPERATOR
+        } else {
+            rank_of(self.current.symbol)
+        }
+    }
+
+    /// Has the next token a rank from this one on, before that one?
+    #[inline(always)]
+    pub(crate) fn next_is_ranked(&self, from: u8, end: u8) -> bool
+        ensures { result ≡ is_ranked from end (tokens_left self.now) }
+    {
+        let rank = self.next_rank();
+        from <= rank && rank < end
+    }
+
+    /// Is the next token an operator of this rank?
+    #[tactic(auto, using(crate::proofs::Ranks::begins_of_rank))]
+    fn next_is_of_rank(&self, rank: u8) -> bool
+        requires { rank < 6 }
+        ensures { result ≡ begins (is_of_rank rank) (tokens_left self.now) }
+    {
+        self.next_rank() == rank
     }
 
     /// Is there no next token?
@@ -286,7 +282,7 @@ impl<'a> Parser<'a> {
     }
 
     /// Adds a node.
-    #[tactic(auto, unfolding(crate::specs::Parsing::tokens_left, crate::specs::Parsing::end_of, crate::specs::Parsing::Ready, crate::specs::Parsing::items_of))]
+    #[inline(always)]
     pub(crate) fn push(&mut self, node: Node<'a>) -> Result<NodeId, SyntaxError>
         ensures ok { IfOk result (λ id. Pushed self.old self.new node.entry id) }
         ensures err { IfErr result (λ e. e ≡ SyntaxError.NoMemory) }
@@ -295,21 +291,32 @@ impl<'a> Parser<'a> {
         Ok(NodeId((self.nodes.len() - 1) as u64))
     }
 
-    /// Takes the next token.
+    /// Passes over the next token.
     #[tactic(auto, using(crate::proofs::Looking::advanced))]
     #[inline(never)]
+    fn pass(&mut self)
+        requires next { HasNext (tokens_left self.old) }
+        requires ready { Ready self.old }
+        ensures { Advanced self.old self.new self.old.current }
+    {
+        self.current = Next::new(self.lexer.next_token());
+    }
+
+    /// Takes the next token.
+    #[inline(always)]
     fn next(&mut self) -> Next<'a>
         requires next { HasNext (tokens_left self.old) }
         requires ready { Ready self.old }
         ensures { Advanced self.old self.new result }
     {
         let token = self.current;
-        self.current = Next::new(self.lexer.next_token());
+        self.pass();
         token
     }
 
     /// Takes the next token, where the limits allow its use.
-    #[tactic(auto, using(crate::proofs::Taking::takes, crate::proofs::Taking::bars, crate::proofs::Taking::barred_next_is, crate::proofs::Taking::next_place))]
+    #[tactic(auto, using(crate::proofs::Taking::advancing))]
+    #[inline(always)]
     fn advance(&mut self, opens: bool, levels: u32, extra: Extra) -> Result<Next<'a>, SyntaxError>
         requires next { HasNext (tokens_left self.old) }
         requires ready { Ready self.old }
@@ -327,7 +334,6 @@ impl<'a> Parser<'a> {
     }
 
     /// Takes this token, which has no other use.
-    #[tactic(auto, using(crate::proofs::Taking::taking), unfolding(crate::specs::Using::sign_at))]
     pub(crate) fn take(&mut self, symbol: Symbol) -> Result<Next<'a>, SyntaxError>
         requires first { is_bad symbol ≡ false }
         requires ready { Ready self.old }
@@ -342,7 +348,6 @@ impl<'a> Parser<'a> {
     }
 
     /// Takes this token, which opens a level of nesting where so many are left.
-    #[tactic(auto, using(crate::proofs::Taking::taking, crate::proofs::Taking::level_left), unfolding(crate::specs::Using::open_at))]
     pub(crate) fn open(&mut self, symbol: Symbol, levels: u32) -> Result<Next<'a>, SyntaxError>
         requires first { is_bad symbol ≡ false }
         requires ready { Ready self.old }
@@ -412,8 +417,23 @@ impl<'a> Parser<'a> {
         }
     }
 
+    /// Takes an operator of this rank, which continues a chain that so many may continue.
+    #[tactic(auto, using(crate::proofs::Taking::taking, crate::proofs::Taking::chain_left), unfolding(crate::specs::Ranks::ranked_at))]
+    pub(crate) fn ranked_operator(&mut self, rank: u8, left: u32) -> Result<Next<'a>, SyntaxError>
+        requires some { rank < 6 }
+        requires ready { Ready self.old }
+        ensures ok { IfOk result (λ t. TookToken self.old self.new (ranked_at rank left (tokens_left self.old)) t) }
+        ensures chain { IfOk result (λ _. 0 < left) }
+        ensures err { IfErr result (λ e. Fails self.old (ranked_at rank left (tokens_left self.old)) e) }
+    {
+        if self.next_is_of_rank(rank) {
+            Ok(read!(self.advance(false, 0, Extra::Continues(left))))
+        } else {
+            Err(self.refusal())
+        }
+    }
+
     /// Takes this token, which opens a level and continues a chain.
-    #[tactic(auto, using(crate::proofs::Taking::taking, crate::proofs::Taking::level_left, crate::proofs::Taking::chain_left), unfolding(crate::specs::Using::raise_at))]
     pub(crate) fn raise(
         &mut self,
         symbol: Symbol,
@@ -435,7 +455,7 @@ impl<'a> Parser<'a> {
     }
 
     /// Takes the bracket that calls what is before it.
-    #[tactic(auto, using(crate::proofs::Taking::taking, crate::proofs::Taking::level_left, crate::proofs::Taking::calls_left), unfolding(crate::specs::Using::call_at))]
+    #[tactic(auto, using(crate::proofs::Taking::calling), unfolding(crate::specs::Using::call_at))]
     pub(crate) fn open_call(&mut self, levels: u32, left: u32) -> Result<Next<'a>, SyntaxError>
         requires ready { Ready self.old }
         ensures ok { IfOk result (λ t. TookToken self.old self.new (call_at levels left (tokens_left self.old)) t) }
@@ -506,15 +526,41 @@ impl<'a> Parser<'a> {
         is_types(mode) && self.next_is(Symbol::OpenBracket) && self.current.first_on_line
     }
 
+    /// Does the next token follow a prefix expression, wherever that stands?
+    #[tactic(auto, using(crate::proofs::Looking::next_is_among), unfolding(crate::specs::Parsing::tokens_left))]
+    #[inline(always)]
+    fn next_is_any_suffix(&self) -> bool
+        ensures { result ≡ begins (among lua.suffix_symbols) (tokens_left self.now) }
+    {
+        !self.current.is_end && is_suffix(self.current.symbol)
+    }
+
     /// Does the next token follow a prefix expression, and belong to it?
     #[tactic(auto, using(crate::proofs::Looking::suffixes))]
+    #[inline(always)]
     pub(crate) fn next_is_suffix(&self, mode: Mode) -> bool
         ensures { result ≡ begins (λ t. lua.is_suffix mode t) (tokens_left self.now) }
     {
         if self.next_is_barred(mode) {
             return false;
         }
-        self.next_is_among(&SUFFIX)
+        self.next_is_any_suffix()
+    }
+
+    /// Is the next token an operator before its operand?
+    #[tactic(auto, using(crate::proofs::Looking::next_is_among), unfolding(crate::specs::Parsing::tokens_left))]
+    pub(crate) fn next_is_prefix(&self) -> bool
+        ensures { result ≡ begins (among lua.prefix_symbols) (tokens_left self.now) }
+    {
+        !self.current.is_end && is_prefix(self.current.symbol)
+    }
+
+    /// Does the next token begin an operand that is no prefix expression, in all functions?
+    #[tactic(auto, using(crate::proofs::Looking::next_is_among), unfolding(crate::specs::Parsing::tokens_left))]
+    fn next_is_plain_simple(&self) -> bool
+        ensures { result ≡ begins (among simple_symbols) (tokens_left self.now) }
+    {
+        !self.current.is_end && is_simple(self.current.symbol)
     }
 
     /// Does the next token begin an operand that is no prefix expression?
@@ -522,7 +568,7 @@ impl<'a> Parser<'a> {
     pub(crate) fn next_is_simple(&self, mode: Mode) -> bool
         ensures { result ≡ is_simple mode (tokens_left self.now) }
     {
-        self.next_is_among(&SIMPLE) || (is_variadic(mode) && self.next_is(Symbol::Ellipsis))
+        self.next_is_plain_simple() || (is_variadic(mode) && self.next_is(Symbol::Ellipsis))
     }
 
     /// The place of the next token.
@@ -532,6 +578,14 @@ impl<'a> Parser<'a> {
         ensures { result ≡ first_place (tokens_left self.now) }
     {
         self.current.place
+    }
+
+    /// Does the next token begin a statement, in all blocks?
+    #[tactic(auto, using(crate::proofs::Looking::next_is_among), unfolding(crate::specs::Parsing::tokens_left))]
+    fn next_is_statement(&self) -> bool
+        ensures { result ≡ begins (among plain_statements) (tokens_left self.now) }
+    {
+        !self.current.is_end && is_statement(self.current.symbol)
     }
 
     /// May the next token begin one more statement of a block, which has ended or hasn't?
@@ -548,7 +602,7 @@ impl<'a> Parser<'a> {
         if self.next_is(Symbol::Emit) {
             return context.emits;
         }
-        self.next_is_among(&STATEMENT)
+        self.next_is_statement()
     }
 
     /// No nodes.
@@ -569,7 +623,7 @@ impl<'a> Parser<'a> {
     }
 
     /// Adds an operator with its operands, in a chain that so many tokens may continue.
-    #[inline(never)]
+    #[inline(always)]
     pub(crate) fn operation(
         &mut self,
         token: Next<'a>,

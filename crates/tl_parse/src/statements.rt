@@ -734,7 +734,7 @@ impl<'a> Parser<'a> {
 
     /// body = "(" [names ["," "..."] | "..."] ")" block "end", behind its "("
     #[cycle(parser)]
-    #[tactic(auto, using(crate::proofs::Failing::failing_same, crate::proofs::StatementTurns::body_part), unfolding(crate::specs::Statements::body_at))]
+    #[tactic(auto, using(crate::proofs::StatementTurns::body), unfolding(crate::specs::Statements::body_at))]
     pub(crate) fn function_body(&mut self, levels: u32) -> Result<NodeId, SyntaxError>
         requires { Ready self.old }
         ensures ok { IfOk result (λ r. TookTree self.old self.new (part_at levels parts.FunctionBody (tokens_left self.old)) r) }

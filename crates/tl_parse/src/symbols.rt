@@ -1,6 +1,10 @@
 // The symbols of tokens.
 ghost use Rattle.std.specs.Prelude.{◌≡◌};
 ghost use Rattle.tl_tree.specs.Symbols as spec;
+ghost use Rattle.tl_parse.specs.Ranks as ranks;
+ghost use Rattle.tl_parse.specs.Expressions.{simple_symbols};
+ghost use Rattle.tl_parse.specs.Statements.{plain_statements};
+ghost use Rattle.tl_tree.specs.LuaExpressions.{prefix_symbols, suffix_symbols};
 
 use tl_tree::Symbol;
 
@@ -76,6 +80,83 @@ pub(crate) fn number_of(symbol: Symbol) -> u8
         Symbol::Literal => 64,
         Symbol::Bad(_) => 65,
         Symbol::Finish => 66,
+    }
+}
+
+/// The rank that a token has behind all operators.
+pub(crate) const NO_OPERATOR: u8 = 6;
+
+/// The rank of `..`.
+pub(crate) const CONCATENATION: u8 = 2;
+
+/// The rank of the operator that a token is between two operands of Lua code: 0 is the highest precedence. Tokens that
+/// are none, and `->`, stand behind all ranks.
+#[inline(always)]
+pub(crate) fn rank_of(symbol: Symbol) -> u8
+    ensures { result ≡ ranks.rank_of symbol }
+{
+    match symbol {
+        Symbol::Star | Symbol::Slash | Symbol::Percent => 0,
+        Symbol::Plus | Symbol::Minus => 1,
+        Symbol::DoubleDot => CONCATENATION,
+        Symbol::Less | Symbol::Greater | Symbol::LessEqual => 3,
+        Symbol::GreaterEqual | Symbol::NotEqual | Symbol::DoubleEqual => 3,
+        Symbol::And => 4,
+        Symbol::Or => 5,
+        _ => NO_OPERATOR,
+    }
+}
+
+/// The rank from which it goes on behind an operator and its right operand.
+pub(crate) fn rank_behind(rank: u8) -> u8
+    ensures { result ≡ ranks.rank_behind rank }
+{
+    if rank == CONCATENATION { 3 } else { rank }
+}
+
+/// The operators before an operand of Lua code.
+pub(crate) fn is_prefix(symbol: Symbol) -> bool
+    ensures { result ≡ spec.has prefix_symbols (spec.number_of symbol) }
+{
+    match symbol {
+        Symbol::Not | Symbol::Hash | Symbol::Minus | Symbol::Ampersand => true,
+        _ => false,
+    }
+}
+
+/// The tokens that begin an operand of Lua code that is no prefix expression.
+pub(crate) fn is_simple(symbol: Symbol) -> bool
+    ensures { result ≡ spec.has simple_symbols (spec.number_of symbol) }
+{
+    match symbol {
+        Symbol::Numeral | Symbol::Literal | Symbol::Nil | Symbol::False | Symbol::True => true,
+        Symbol::Function | Symbol::OpenBrace => true,
+        Symbol::Terra | Symbol::Struct | Symbol::Quote | Symbol::Backtick => true,
+        _ => false,
+    }
+}
+
+/// The tokens that follow a prefix expression of Lua code, and belong to it.
+#[inline(always)]
+pub(crate) fn is_suffix(symbol: Symbol) -> bool
+    ensures { result ≡ spec.has suffix_symbols (spec.number_of symbol) }
+{
+    match symbol {
+        Symbol::OpenParen | Symbol::OpenBracket | Symbol::Dot | Symbol::Colon => true,
+        Symbol::OpenBrace | Symbol::Literal => true,
+        _ => false,
+    }
+}
+
+/// The tokens that begin a statement of Lua code, in a loop or not.
+pub(crate) fn is_statement(symbol: Symbol) -> bool
+    ensures { result ≡ spec.has plain_statements (spec.number_of symbol) }
+{
+    match symbol {
+        Symbol::Name | Symbol::OpenParen | Symbol::Do | Symbol::While | Symbol::Repeat => true,
+        Symbol::If | Symbol::For | Symbol::Function | Symbol::Local | Symbol::Return => true,
+        Symbol::Terra | Symbol::Struct => true,
+        _ => false,
     }
 }
 

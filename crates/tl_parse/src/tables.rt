@@ -46,7 +46,7 @@ impl<'a> Parser<'a> {
 
     /// field = "[" exp "]" "=" exp | Name "=" exp | exp
     #[cycle(parser)]
-    #[tactic(auto, using(crate::proofs::Failing::failing), unfolding(crate::specs::Expressions::field_at, crate::specs::Expressions::field_behind_at))]
+    #[tactic(auto, using(crate::proofs::Failing::failing), unfolding(crate::specs::Expressions::field_at))]
     fn field(&mut self, mode: Mode, levels: u32) -> Result<NodeId, SyntaxError>
         requires { Ready self.old }
         ensures ok { IfOk result (λ r. TookTree self.old self.new (field_at levels mode (tokens_left self.old)) r) }

@@ -526,7 +526,7 @@ impl<'a> Parser<'a> {
 
     /// the first operand of a precedence
     #[cycle(parser)]
-    #[tactic(auto, using(crate::proofs::Failing::failing_same, crate::proofs::TerraParts::first_others), unfolding(crate::specs::TerraExpressions::terra_first_at))]
+    #[tactic(auto, using(crate::proofs::TerraParts::first), unfolding(crate::specs::TerraExpressions::terra_first_at))]
     fn terra_first(
         &mut self,
         precedence: TerraPrecedence,
@@ -642,7 +642,7 @@ impl<'a> Parser<'a> {
 
     /// [texps], up to a ")"
     #[cycle(parser)]
-    #[tactic(auto, using(crate::proofs::Failing::failing_same, crate::proofs::TerraParts::terra_arguments_part), unfolding(crate::specs::TerraExpressions::terra_arguments_at))]
+    #[tactic(auto, using(crate::proofs::TerraParts::arguments), unfolding(crate::specs::TerraExpressions::terra_arguments_at))]
     fn terra_arguments(&mut self, levels: u32) -> Result<NodeList, SyntaxError>
         requires { Ready self.old }
         ensures ok { IfOk result (λ r. TookList self.old self.new (part_at levels parts.TerraArguments (tokens_left self.old)) r) }
@@ -684,7 +684,7 @@ impl<'a> Parser<'a> {
 
     /// init, the first one, and whether it is named
     #[cycle(parser)]
-    #[tactic(auto, using(crate::proofs::Failing::failing), unfolding(crate::specs::TerraExpressions::first_initialiser_at, crate::specs::TerraExpressions::initialiser_behind_at))]
+    #[tactic(auto, using(crate::proofs::Failing::failing), unfolding(crate::specs::TerraExpressions::first_initialiser_at))]
     fn first_initialiser(&mut self, levels: u32) -> Result<(NodeId, bool), SyntaxError>
         requires { Ready self.old }
         ensures ok { IfOk result (λ r. TookInitialiser self.old self.new (first_initialiser_at levels (tokens_left self.old)) r.0 r.1) }

@@ -290,7 +290,7 @@ impl<'a> Parser<'a> {
 
     /// tstat = texp {"," texp} "=" texps | tcall | "[" exp "]"
     #[cycle(parser)]
-    #[tactic(auto, using(crate::proofs::TerraStatementTurns::targets), unfolding(crate::specs::TerraStatements::terra_simple_statement_at, crate::specs::TerraStatements::terra_statement_behind_at, crate::specs::TerraStatements::terra_assignment_at))]
+    #[tactic(auto, using(crate::proofs::TerraStatementTurns::targets), unfolding(crate::specs::TerraStatements::terra_simple_statement_at))]
     fn terra_simple_statement(&mut self, levels: u32) -> Result<NodeId, SyntaxError>
         requires ready { Ready self.old }
         requires next { HasNext (tokens_left self.old) }
@@ -640,7 +640,7 @@ impl<'a> Parser<'a> {
 
     /// tblock ["in" texp], behind "quote"
     #[cycle(parser)]
-    #[tactic(auto, using(crate::proofs::Failing::failing_same, crate::proofs::TerraStatementParts::quoted_code_part), unfolding(crate::specs::TerraStatements::quoted_code_at))]
+    #[tactic(auto, using(crate::proofs::TerraStatementParts::quoted_code), unfolding(crate::specs::TerraStatements::quoted_code_at))]
     pub(crate) fn quoted_code(&mut self, levels: u32) -> Result<NodeId, SyntaxError>
         requires { Ready self.old }
         ensures ok { IfOk result (λ r. TookTree self.old self.new (part_at levels parts.QuotedCode (tokens_left self.old)) r) }

@@ -1,4 +1,4 @@
-use Rattle.std.proofs.Common.{◌≡◌, ℕ, ◌<◌, refl, arith, sym, ap, subst, ◌∙◌, cond, Bool, List, [], ◌∷◌, ◌++◌, length}
+use Rattle.std.proofs.Common.{◌≡◌, ℕ, ◌<◌, ◌≤◌, arith, sym, ap, subst, ◌∙◌, cond, Bool, List, [], ◌∷◌, ◌++◌, length}
 use Rattle.tl_base.specs.declared.ids.NodeId.{NodeId}
 use Rattle.tl_tree.specs.declared.mode.Shape.{Shape}
 use Rattle.tl_tree.specs.Tokens.{Token}
@@ -7,28 +7,30 @@ use Rattle.tl_tree.specs.Nodes.{laid}
 use Rattle.tl_tree.specs.Tree.{Tree, Nothing, More, Block}
 use Rattle.tl_tree.specs.Grammar.{Outcome, Took, ◌>>=◌, down}
 use Rattle.tl_tree.specs.Forms.{Chained, chained}
-use Rattle.tl_tree.specs.LuaStatements.{Sequence}
+use Rattle.tl_tree.specs.LuaStatements.{Sequence, sequence}
 use Rattle.tl_parse.specs.Parsing.{token_of, tokens_left, items_of}
-use Rattle.tl_parse.specs.Expressions.{Suffixed, attached, shape_of, suffixes_at, expressions_at, more_expressions_at, more_at, binary_at}
-use Rattle.tl_parse.specs.Expressions.{field_at, fields_at, more_fields_at}
-use Rattle.tl_parse.specs.Statements.{arms_at, more_arms_at, variable_at, settle_at, more_statements_at}
-use Rattle.tl_parse.specs.TerraExpressions.{TerraSuffixed, terra_attached, terra_shape_of, terra_suffixes_at, terra_applied_at}
+use Rattle.tl_parse.specs.Expressions.{Suffixed, attached, shape_of, suffixes_at, expressions_at, more_expressions_at, next_expression_at, field_at, fields_at, more_fields_at, suffix_at, next_field_at, more_if}
+use Rattle.tl_parse.specs.Ranks.{rank_at}
+use Rattle.tl_parse.specs.Statements.{arms_at, more_arms_at, variable_at, settle_at, more_statements_at, next_arm_at, next_statement_at}
+use Rattle.tl_parse.specs.TerraExpressions.{TerraSuffixed, terra_attached, terra_shape_of, terra_suffixes_at, terra_applied_at, next_terra_expression_at, terra_suffix_at, next_initialiser_at, more_initialisers_at}
 use Rattle.tl_parse.specs.TerraExpressions.{terra_expressions_at, more_terra_expressions_at, terra_more_at, terra_binary_at}
-use Rattle.tl_parse.specs.TerraStatements.{terra_arms_at, more_terra_arms_at, terra_variables_at, more_terra_variables_at}
+use Rattle.tl_parse.specs.TerraStatements.{terra_arms_at, more_terra_arms_at, terra_variables_at, more_terra_variables_at, next_terra_arm_at, next_terra_variable_at, next_terra_parameter_at, next_terra_statement_at}
 use Rattle.tl_parse.specs.TerraStatements.{terra_parameter_at, terra_parameters_at, more_terra_parameters_at, terra_assignment_at}
 use Rattle.tl_parse.specs.TerraStatements.{more_terra_statements_at}
-use Rattle.tl_parse.specs.Entries.{more_entries_at}
+use Rattle.tl_parse.specs.Entries.{more_entries_at, entry_at}
 use Rattle.tl_parse.proofs.Uses.{operator_with}
-use Rattle.tl_parse.proofs.Turns.{suffix_shorter, suffixes_go, operation_shorter, operations_go, expressions_go, fields_go}
-use Rattle.tl_parse.proofs.Failing.{fails_same}
-use Rattle.tl_parse.proofs.Parts.{fields_part, inner_product, inner_sum, inner_comparison, inner_conjunction, inner_disjunction}
+use Rattle.tl_parse.proofs.Turns.{suffix_shorter, suffixes_go, expressions_go, expressions_end, expression_shorter, fields_go, fields_end}
+use Rattle.tl_parse.proofs.Failing.{fails_same, fails_bind, fails_from}
+use Rattle.tl_parse.proofs.Parts.{fields_part}
+use Rattle.tl_parse.proofs.Climbing.{ranked_below, one_more_shorter}
+use Rattle.tl_parse.proofs.Binding.{binding_first, binding_none, binding_next, binding_fails, binding_ends}
 use Rattle.tl_parse.proofs.TerraParts as terra_parts
-use Rattle.tl_parse.proofs.StatementTurns.{arms_go, block_goes, settles_on}
-use Rattle.tl_parse.proofs.Looping.{listing_first, listing_next, numbers_next, targets_begin, targets_next, names_begin, names_next}
+use Rattle.tl_parse.proofs.StatementTurns.{arms_go, block_goes, settles_on, arms_end, arm_shorter, statement_shorter}
+use Rattle.tl_parse.proofs.Looping.{listing_first, listing_next, listing_stops, listing_ends, numbers_next, targets_begin, targets_next, names_begin, names_next}
 use Rattle.tl_parse.proofs.Looping.{body_fails}
-use Rattle.tl_parse.proofs.TerraTurns.{terra_suffix_shorter, terra_suffixes_go, terra_operation_shorter, terra_operations_go}
+use Rattle.tl_parse.proofs.TerraTurns.{terra_suffix_shorter, terra_suffixes_go, terra_operation_shorter, terra_operations_go, terra_expressions_end, terra_expression_shorter, initialisers_end, entries_end, entry_shorter}
 use Rattle.tl_parse.proofs.TerraTurns.{terra_expressions_go, initialisers_go, entries_go}
-use Rattle.tl_parse.proofs.TerraStatementTurns.{terra_block_goes, terra_arms_go, terra_variables_go, terra_parameters_go, terra_targets_go}
+use Rattle.tl_parse.proofs.TerraStatementTurns.{terra_block_goes, terra_arms_go, terra_variables_go, terra_parameters_go, terra_targets_go, terra_arms_end, terra_arm_shorter, terra_variables_end, terra_variable_shorter, terra_parameters_end, terra_parameter_shorter, terra_target_shorter, terra_statement_shorter}
 use Rattle.tl_parse.proofs.parser.Parser.+parser.Goals as goal
 
 pub applied-more-smaller : goal.applied-more-smaller
@@ -43,8 +45,14 @@ pub binary-more-smaller : goal.binary-more-smaller
 binary-more-smaller t c =
     let o = c.in-Ok-one_more.ensures.ok in
     let x = c.in-Ok-one_more.x in
+    let rank = c.next_rank-rank.result in
+    let below = ranked_below c.more.from c.args.ranks (tokens_left c.more.self) (sym c.next_is_ranked.ensures ∙ c.more-test.true) in
+    let high : rank_at (tokens_left c.more.self) < c.args.ranks = below.1 in
+    let same : rank ≡ rank_at (tokens_left c.more.self) = c.next_rank-rank.ensures in
+    let most : c.args.ranks ≤ 6 = c.requires.some in
+    let small : rank < 6 = omega arith in
     subst (λ (ts : List Token). length ts < length (tokens_left c.more.self)) (sym c.in-Ok-operation.ensures.ok.pushed.rest)
-    (operation_shorter c.args.levels c.args.precedence c.args.mode c.more.a.left (operator_with (token_of x.0) (chained o.tree x.1.left x.1.shape)) (tokens_left c.more.self) (tokens_left c.one_more.new.self) o.took)
+    (one_more_shorter c.args.levels rank c.args.mode c.more.a.left (operator_with (token_of x.0) (chained o.tree x.1.left x.1.shape)) (tokens_left c.more.self) (tokens_left c.one_more.new.self) small o.took)
 
 pub call_or_assignment-more-init : goal.call_or_assignment-more-init
 call_or_assignment-more-init t c =
@@ -211,17 +219,7 @@ terra_applied-more-preserved t c =
     }
 
 pub binary-more-init : goal.binary-more-init
-unfolding binary_at
-binary-more-init t c =
-    let o = c.in-Ok.ensures.ok in
-    record {
-      tree = o.tree;
-      goes_on = ap (λ (o : Outcome Chained). o >>= λ a rest. more_at c.args.levels c.args.precedence c.args.mode a rest) o.took;
-      finish = o.finish;
-      ready = o.ready;
-      items = o.items;
-      is_last = o.is_last;
-    }
+binary-more-init t c = binding_first c.args.levels c.args.ranks c.args.mode c.args.left c.args.self.now c.unary.new.self c.in-Ok.x c.in-Ok.ensures.ok
 
 pub terra_binary-more-init : goal.terra_binary-more-init
 unfolding terra_binary_at
@@ -346,40 +344,23 @@ pub initialisers-more-preserved : goal.initialisers-more-preserved
 initialisers-more-preserved t c = grind (arith, initialisers_go)
 
 pub binary-more-preserved : goal.binary-more-preserved
-binary-more-preserved t c = grind (arith, operations_go)
+binary-more-preserved t c =
+    binding_next c.args.levels c.more.from c.rank_behind-from.result c.args.ranks c.next_rank-rank.result c.args.mode c.args.self.now c.more.self c.one_more.new.self c.operation.new.self _ c.more.a c.in-Ok-one_more.x.1 c.in-Ok-operation.x c.in-Ok-one_more.x.0
+    c.requires.some (sym c.next_is_ranked.ensures ∙ c.more-test.true) c.next_rank-rank.ensures c.rank_behind-from.ensures c.more.invariant c.in-Ok-one_more.ensures.ok c.in-Ok-operation.ensures.ok
+
+pub binary-returns-in-Err-clause-err : goal.binary-returns-in-Err-clause-err
+binary-returns-in-Err-clause-err t c = binding_none c.args.levels c.args.ranks c.args.mode c.args.left c.args.self.now c.in-Err.e c.in-Err.ensures.err
+
+pub binary-returns-in-Err-one_more-clause-err : goal.binary-returns-in-Err-one_more-clause-err
+binary-returns-in-Err-one_more-clause-err t c =
+    binding_fails c.args.levels c.more.from c.args.ranks c.next_rank-rank.result c.args.mode c.args.self.now c.more.self _ c.more.a c.in-Err-one_more.e c.requires.some (sym c.next_is_ranked.ensures ∙ c.more-test.true) c.next_rank-rank.ensures c.more.invariant c.in-Err-one_more.ensures.err
+
+pub binary-returns-clause-ok : goal.binary-returns-clause-ok
+binary-returns-clause-ok t c =
+    binding_ends c.args.levels c.more.from c.args.ranks c.args.mode c.args.self.now c.more.self _ c.more.a c.requires.some (sym c.next_is_ranked.ensures ∙ c.more-test.false) c.more.invariant
 
 pub terra_binary-more-preserved : goal.terra_binary-more-preserved
 terra_binary-more-preserved t c = grind (arith, terra_operations_go)
-
-pub inner-returns-in-Product-clause-ok : goal.inner-returns-in-Product-clause-ok
-inner-returns-in-Product-clause-ok t c = grind (arith, inner_product)
-
-pub inner-returns-in-Product-clause-err : goal.inner-returns-in-Product-clause-err
-inner-returns-in-Product-clause-err t c = grind (arith, inner_product, fails_same)
-
-pub inner-returns-in-Sum-clause-ok : goal.inner-returns-in-Sum-clause-ok
-inner-returns-in-Sum-clause-ok t c = grind (arith, inner_sum)
-
-pub inner-returns-in-Sum-clause-err : goal.inner-returns-in-Sum-clause-err
-inner-returns-in-Sum-clause-err t c = grind (arith, inner_sum, fails_same)
-
-pub inner-returns-in-Comparison-clause-ok : goal.inner-returns-in-Comparison-clause-ok
-inner-returns-in-Comparison-clause-ok t c = grind (arith, inner_comparison)
-
-pub inner-returns-in-Comparison-clause-err : goal.inner-returns-in-Comparison-clause-err
-inner-returns-in-Comparison-clause-err t c = grind (arith, inner_comparison, fails_same)
-
-pub inner-returns-in-Conjunction-clause-ok : goal.inner-returns-in-Conjunction-clause-ok
-inner-returns-in-Conjunction-clause-ok t c = grind (arith, inner_conjunction)
-
-pub inner-returns-in-Conjunction-clause-err : goal.inner-returns-in-Conjunction-clause-err
-inner-returns-in-Conjunction-clause-err t c = grind (arith, inner_conjunction, fails_same)
-
-pub inner-returns-in-Disjunction-clause-ok : goal.inner-returns-in-Disjunction-clause-ok
-inner-returns-in-Disjunction-clause-ok t c = grind (arith, inner_disjunction)
-
-pub inner-returns-in-Disjunction-clause-err : goal.inner-returns-in-Disjunction-clause-err
-inner-returns-in-Disjunction-clause-err t c = grind (arith, inner_disjunction, fails_same)
 
 pub terra_inner-returns-in-Power-clause-ok : goal.terra_inner-returns-in-Power-clause-ok
 terra_inner-returns-in-Power-clause-ok t c = grind (arith, terra_parts.inner_power)
@@ -422,3 +403,170 @@ terra_inner-returns-in-Disjunction-clause-ok t c = grind (arith, terra_parts.inn
 
 pub terra_inner-returns-in-Disjunction-clause-err : goal.terra_inner-returns-in-Disjunction-clause-err
 terra_inner-returns-in-Disjunction-clause-err t c = grind (arith, terra_parts.inner_disjunction, fails_same)
+
+pub expressions-more-smaller : goal.expressions-more-smaller
+expressions-more-smaller t c = let e = c.in-Ok-next_expression.ensures.ok in expression_shorter c.args.levels c.args.mode e.tree (tokens_left c.more.self) (tokens_left c.next_expression.new.self) e.took
+
+pub expressions-returns-in-Err-next_expression-clause-err : goal.expressions-returns-in-Err-next_expression-clause-err
+expressions-returns-in-Err-next_expression-clause-err t c =
+    let i = c.more.invariant in
+    listing_stops c.args.self.now c.more.self _ _ c.more.list i (next_expression_at c.args.levels c.args.mode (tokens_left c.more.self)) (λ e rest. more_expressions_at c.args.levels c.args.mode (More i.tree e) rest) c.in-Err-next_expression.e (expressions_go c.args.levels c.args.mode i.tree (tokens_left c.more.self) (sym c.next_is.ensures ∙ c.more-test.true)) c.in-Err-next_expression.ensures.err
+
+pub expressions-returns-clause-ok : goal.expressions-returns-clause-ok
+expressions-returns-clause-ok t c =
+    let i = c.more.invariant in
+    listing_ends c.args.self.now c.more.self _ _ c.more.list i (expressions_end c.args.levels c.args.mode i.tree (tokens_left c.more.self) (sym c.next_is.ensures ∙ c.more-test.false))
+
+pub arms-more-smaller : goal.arms-more-smaller
+arms-more-smaller t c = let e = c.in-Ok-next_arm.ensures.ok in arm_shorter c.args.levels c.args.context e.tree (tokens_left c.more.self) (tokens_left c.next_arm.new.self) e.took
+
+pub arms-returns-in-Err-next_arm-clause-err : goal.arms-returns-in-Err-next_arm-clause-err
+arms-returns-in-Err-next_arm-clause-err t c =
+    let i = c.more.invariant in
+    listing_stops c.args.self.now c.more.self _ _ c.more.list i (next_arm_at c.args.levels c.args.context (tokens_left c.more.self)) (λ e rest. more_arms_at c.args.levels c.args.context (More i.tree e) rest) c.in-Err-next_arm.e (arms_go c.args.levels c.args.context i.tree (tokens_left c.more.self) (sym c.next_is.ensures ∙ c.more-test.true)) c.in-Err-next_arm.ensures.err
+
+pub arms-returns-clause-ok : goal.arms-returns-clause-ok
+arms-returns-clause-ok t c =
+    let i = c.more.invariant in
+    listing_ends c.args.self.now c.more.self _ _ c.more.list i (arms_end c.args.levels c.args.context i.tree (tokens_left c.more.self) (sym c.next_is.ensures ∙ c.more-test.false))
+
+pub terra_arms-more-smaller : goal.terra_arms-more-smaller
+terra_arms-more-smaller t c = let e = c.in-Ok-next_terra_arm.ensures.ok in terra_arm_shorter c.args.levels e.tree (tokens_left c.more.self) (tokens_left c.next_terra_arm.new.self) e.took
+
+pub terra_arms-returns-in-Err-next_terra_arm-clause-err : goal.terra_arms-returns-in-Err-next_terra_arm-clause-err
+terra_arms-returns-in-Err-next_terra_arm-clause-err t c =
+    let i = c.more.invariant in
+    listing_stops c.args.self.now c.more.self _ _ c.more.arms i (next_terra_arm_at c.args.levels (tokens_left c.more.self)) (λ e rest. more_terra_arms_at c.args.levels (More i.tree e) rest) c.in-Err-next_terra_arm.e (terra_arms_go c.args.levels i.tree (tokens_left c.more.self) (sym c.next_is.ensures ∙ c.more-test.true)) c.in-Err-next_terra_arm.ensures.err
+
+pub terra_arms-returns-clause-ok : goal.terra_arms-returns-clause-ok
+terra_arms-returns-clause-ok t c =
+    let i = c.more.invariant in
+    listing_ends c.args.self.now c.more.self _ _ c.more.arms i (terra_arms_end c.args.levels i.tree (tokens_left c.more.self) (sym c.next_is.ensures ∙ c.more-test.false))
+
+pub terra_expressions-more-smaller : goal.terra_expressions-more-smaller
+terra_expressions-more-smaller t c = let e = c.in-Ok-next_terra_expression.ensures.ok in terra_expression_shorter c.args.levels e.tree (tokens_left c.more.self) (tokens_left c.next_terra_expression.new.self) e.took
+
+pub terra_expressions-returns-in-Err-next_terra_expression-clause-err : goal.terra_expressions-returns-in-Err-next_terra_expression-clause-err
+terra_expressions-returns-in-Err-next_terra_expression-clause-err t c =
+    let i = c.more.invariant in
+    listing_stops c.args.self.now c.more.self _ _ c.more.list i (next_terra_expression_at c.args.levels (tokens_left c.more.self)) (λ e rest. more_terra_expressions_at c.args.levels (More i.tree e) rest) c.in-Err-next_terra_expression.e (terra_expressions_go c.args.levels i.tree (tokens_left c.more.self) (sym c.next_is.ensures ∙ c.more-test.true)) c.in-Err-next_terra_expression.ensures.err
+
+pub terra_expressions-returns-clause-ok : goal.terra_expressions-returns-clause-ok
+terra_expressions-returns-clause-ok t c =
+    let i = c.more.invariant in
+    listing_ends c.args.self.now c.more.self _ _ c.more.list i (terra_expressions_end c.args.levels i.tree (tokens_left c.more.self) (sym c.next_is.ensures ∙ c.more-test.false))
+
+pub terra_variables-more-smaller : goal.terra_variables-more-smaller
+terra_variables-more-smaller t c = let e = c.in-Ok-next_terra_variable.ensures.ok in terra_variable_shorter c.args.levels e.tree (tokens_left c.more.self) (tokens_left c.next_terra_variable.new.self) e.took
+
+pub terra_variables-returns-in-Err-next_terra_variable-clause-err : goal.terra_variables-returns-in-Err-next_terra_variable-clause-err
+terra_variables-returns-in-Err-next_terra_variable-clause-err t c =
+    let i = c.more.invariant in
+    listing_stops c.args.self.now c.more.self _ _ c.more.list i (next_terra_variable_at c.args.levels (tokens_left c.more.self)) (λ e rest. more_terra_variables_at c.args.levels (More i.tree e) rest) c.in-Err-next_terra_variable.e (terra_variables_go c.args.levels i.tree (tokens_left c.more.self) (sym c.next_is.ensures ∙ c.more-test.true)) c.in-Err-next_terra_variable.ensures.err
+
+pub terra_variables-returns-clause-ok : goal.terra_variables-returns-clause-ok
+terra_variables-returns-clause-ok t c =
+    let i = c.more.invariant in
+    listing_ends c.args.self.now c.more.self _ _ c.more.list i (terra_variables_end c.args.levels i.tree (tokens_left c.more.self) (sym c.next_is.ensures ∙ c.more-test.false))
+
+pub terra_parameters-more-smaller : goal.terra_parameters-more-smaller
+terra_parameters-more-smaller t c = let e = c.in-Ok-next_terra_parameter.ensures.ok in terra_parameter_shorter c.args.levels e.tree (tokens_left c.more.self) (tokens_left c.next_terra_parameter.new.self) e.took
+
+pub terra_parameters-returns-in-Err-next_terra_parameter-clause-err : goal.terra_parameters-returns-in-Err-next_terra_parameter-clause-err
+terra_parameters-returns-in-Err-next_terra_parameter-clause-err t c =
+    let i = c.more.invariant in
+    listing_stops c.args.self.now c.more.self _ _ c.more.list i (next_terra_parameter_at c.args.levels (tokens_left c.more.self)) (λ e rest. more_terra_parameters_at c.args.levels (More i.tree e) rest) c.in-Err-next_terra_parameter.e (terra_parameters_go c.args.levels i.tree (tokens_left c.more.self) (sym c.next_is-in-more.ensures ∙ c.more-test.true)) c.in-Err-next_terra_parameter.ensures.err
+
+pub terra_parameters-returns-clause-ok : goal.terra_parameters-returns-clause-ok
+terra_parameters-returns-clause-ok t c =
+    let i = c.more.invariant in
+    listing_ends c.args.self.now c.more.self _ _ c.more.list i (terra_parameters_end c.args.levels i.tree (tokens_left c.more.self) (sym c.next_is-in-more.ensures ∙ c.more-test.false))
+
+pub entries-more-smaller : goal.entries-more-smaller
+entries-more-smaller t c = let e = c.in-Ok.ensures.ok in entry_shorter c.args.levels c.args.mode e.tree (tokens_left c.more.self) (tokens_left c.entry.new.self) e.took
+
+pub entries-returns-in-Err-clause-err : goal.entries-returns-in-Err-clause-err
+entries-returns-in-Err-clause-err t c =
+    let i = c.more.invariant in
+    listing_stops c.args.self.now c.more.self _ _ c.more.list i (entry_at c.args.levels c.args.mode (tokens_left c.more.self)) (λ e rest. more_entries_at c.args.levels c.args.mode (More i.tree e) rest) c.in-Err.e (entries_go c.args.levels c.args.mode i.tree (tokens_left c.more.self) (sym c.next_is.ensures ∙ c.more-test.true)) c.in-Err.ensures.err
+
+pub entries-returns-clause-ok : goal.entries-returns-clause-ok
+entries-returns-clause-ok t c =
+    let i = c.more.invariant in
+    listing_ends c.args.self.now c.more.self _ _ c.more.list i (entries_end c.args.levels c.args.mode i.tree (tokens_left c.more.self) (sym c.next_is.ensures ∙ c.more-test.false))
+
+pub fields-returns-in-Err-next_field-clause-err : goal.fields-returns-in-Err-next_field-clause-err
+fields-returns-in-Err-next_field-clause-err t c =
+    let i = c.more.invariant in
+    listing_stops c.args.self.now c.more.self _ _ c.more.list i (next_field_at c.args.levels c.args.mode (tokens_left c.more.self)) (λ f rest. more_fields_at c.args.levels c.args.mode (more_if i.tree f) rest) c.in-Err-next_field.e (fields_go c.args.levels c.args.mode i.tree (tokens_left c.more.self) (sym c.next_is_among.ensures ∙ c.more-test.true)) c.in-Err-next_field.ensures.err
+
+pub fields-returns-clause-ok : goal.fields-returns-clause-ok
+fields-returns-clause-ok t c =
+    let i = c.more.invariant in
+    listing_ends c.args.self.now c.more.self _ _ c.more.list i (fields_end c.args.levels c.args.mode i.tree (tokens_left c.more.self) (sym c.next_is_among.ensures ∙ c.more-test.false))
+
+pub initialisers-returns-in-Err-next_initialiser-clause-err : goal.initialisers-returns-in-Err-next_initialiser-clause-err
+initialisers-returns-in-Err-next_initialiser-clause-err t c =
+    let i = c.more.invariant in
+    let named = c.in-Ok.x.1 in
+    listing_stops c.args.self.now c.more.self _ _ c.more.list i (next_initialiser_at c.args.levels named (tokens_left c.more.self)) (λ f rest. more_initialisers_at c.args.levels named (more_if i.tree f) rest) c.in-Err-next_initialiser.e (initialisers_go c.args.levels named i.tree (tokens_left c.more.self) (sym c.next_is_among.ensures ∙ c.more-test.true)) c.in-Err-next_initialiser.ensures.err
+
+pub initialisers-returns-clause-ok : goal.initialisers-returns-clause-ok
+initialisers-returns-clause-ok t c =
+    let i = c.more.invariant in
+    listing_ends c.args.self.now c.more.self _ _ c.more.list i (initialisers_end c.args.levels c.in-Ok.x.1 i.tree (tokens_left c.more.self) (sym c.next_is_among.ensures ∙ c.more-test.false))
+
+pub terra_simple_statement-more-smaller : goal.terra_simple_statement-more-smaller
+terra_simple_statement-more-smaller t c = let e = c.in-Ok-next_terra_expression.ensures.ok in terra_target_shorter c.args.levels e.tree (tokens_left c.more.self) (tokens_left c.next_terra_expression.new.self) e.took
+
+pub terra_simple_statement-returns-in-Err-next_terra_expression-clause-err : goal.terra_simple_statement-returns-in-Err-next_terra_expression-clause-err
+terra_simple_statement-returns-in-Err-next_terra_expression-clause-err t c =
+    let i = c.more.invariant in
+    let place = c.next_place-place.result in
+    listing_stops c.args.self.now c.more.self _ _ c.more.targets i (next_terra_expression_at c.args.levels (tokens_left c.more.self)) (λ e rest. terra_assignment_at c.args.levels place (More i.tree e) rest) c.in-Err-next_terra_expression.e (terra_targets_go c.args.levels place i.tree (tokens_left c.more.self) (sym c.next_is.ensures ∙ c.more-test.true)) c.in-Err-next_terra_expression.ensures.err
+
+pub applied-returns-in-Err-suffix-clause-err : goal.applied-returns-in-Err-suffix-clause-err
+applied-returns-in-Err-suffix-clause-err t c =
+    let i = c.more.invariant in
+    let x = suffix_at c.args.levels c.args.mode c.more.a.left (tokens_left c.more.self) in
+    let f : Suffixed → List Token → Outcome Chained = λ s rest. suffixes_at c.args.levels c.args.mode (chained (attached s i.tree) (down c.more.a.left) (shape_of s)) rest in
+    fails_from c.args.self.now c.more.self _ (x >>= f) c.in-Err-suffix.e (i.goes_on ∙ suffixes_go c.args.levels c.args.mode i.tree c.more.a.left c.more.a.shape (tokens_left c.more.self) (sym c.next_is_suffix-in-more.ensures ∙ c.more-test.true)) i.finish
+    (fails_bind c.more.self x f c.in-Err-suffix.e c.in-Err-suffix.ensures.err)
+
+pub terra_applied-returns-in-Err-terra_suffix-clause-err : goal.terra_applied-returns-in-Err-terra_suffix-clause-err
+terra_applied-returns-in-Err-terra_suffix-clause-err t c =
+    let i = c.more.invariant in
+    let x = terra_suffix_at c.args.levels c.more.a.left (tokens_left c.more.self) in
+    let f : TerraSuffixed → List Token → Outcome Chained = λ s rest. terra_suffixes_at c.args.levels (chained (terra_attached s i.tree) (down c.more.a.left) (terra_shape_of s)) rest in
+    fails_from c.args.self.now c.more.self _ (x >>= f) c.in-Err-terra_suffix.e (i.goes_on ∙ terra_suffixes_go c.args.levels i.tree c.more.a.left c.more.a.shape (tokens_left c.more.self) (sym c.next_is_terra_suffix.ensures ∙ c.more-test.true)) i.finish
+    (fails_bind c.more.self x f c.in-Err-terra_suffix.e c.in-Err-terra_suffix.ensures.err)
+
+pub block-more-smaller : goal.block-more-smaller
+block-more-smaller t c =
+    let s = c.in-Ok.ensures.ok in
+    statement_shorter c.args.levels c.args.context c.more.ended (sequence s.tree c.in-Ok.x.1) (tokens_left c.more.self) (tokens_left c.next_statement.new.self) (sym c.next_goes_on.ensures ∙ c.more-test.true) s.took
+
+pub block-returns-in-Err-clause-err : goal.block-returns-in-Err-clause-err
+block-returns-in-Err-clause-err t c =
+    let i = c.more.invariant in
+    let x = next_statement_at c.args.levels c.args.context (tokens_left c.more.self) in
+    let f : Sequence → List Token → Outcome Sequence = λ s rest. more_statements_at c.args.levels c.args.context (More i.tree s.statements) s.ended rest in
+    let g : Sequence → List Token → Outcome Tree = λ a rest. Took (Block a.statements) rest in
+    fails_from c.args.self.now c.more.self _ ((x >>= f) >>= g) c.in-Err.e
+    (i.goes_on ∙ ap (λ (o : Outcome Sequence). o >>= g) (block_goes c.args.levels c.args.context i.tree c.more.ended (tokens_left c.more.self) (sym c.next_goes_on.ensures ∙ c.more-test.true))) i.finish
+    (fails_bind c.more.self (x >>= f) g c.in-Err.e (fails_bind c.more.self x f c.in-Err.e c.in-Err.ensures.err))
+
+pub terra_block-more-smaller : goal.terra_block-more-smaller
+terra_block-more-smaller t c =
+    let s = c.in-Ok.ensures.ok in
+    terra_statement_shorter c.args.levels c.more.ended (sequence s.tree c.in-Ok.x.1) (tokens_left c.more.self) (tokens_left c.next_terra_statement.new.self) (sym c.next_goes_on_with_terra.ensures ∙ c.more-test.true) s.took
+
+pub terra_block-returns-in-Err-clause-err : goal.terra_block-returns-in-Err-clause-err
+terra_block-returns-in-Err-clause-err t c =
+    let i = c.more.invariant in
+    let x = next_terra_statement_at c.args.levels (tokens_left c.more.self) in
+    let f : Sequence → List Token → Outcome Sequence = λ s rest. more_terra_statements_at c.args.levels (More i.tree s.statements) s.ended rest in
+    let g : Sequence → List Token → Outcome Tree = λ a rest. Took (Block a.statements) rest in
+    fails_from c.args.self.now c.more.self _ ((x >>= f) >>= g) c.in-Err.e
+    (i.goes_on ∙ ap (λ (o : Outcome Sequence). o >>= g) (terra_block_goes c.args.levels i.tree c.more.ended (tokens_left c.more.self) (sym c.next_goes_on_with_terra.ensures ∙ c.more-test.true))) i.finish
+    (fails_bind c.more.self (x >>= f) g c.in-Err.e (fails_bind c.more.self x f c.in-Err.e c.in-Err.ensures.err))

@@ -5,9 +5,8 @@ use Rattle.tl_tree.specs.Grammar.{Took, ◌>>=◌}
 use Rattle.tl_parse.specs.Parsing.{tokens_left}
 use Rattle.tl_parse.specs.Using.{part_at}
 use Rattle.tl_parse.specs.Expressions.{applied_at, binary_at, expressions_at, more_expressions_at, more_fields_at}
-use Rattle.tl_parse.specs.Going.{Binding, Applying, Listing, Settling, Sequencing, rank_of}
-use Rattle.tl_parse.specs.Statements.{first_place, call_or_assignment_at, more_targets_at, values_at, variable_at, arms_at, more_arms_at}
-use Rattle.tl_parse.specs.Statements.{for_at, generic_at}
+use Rattle.tl_parse.specs.Going.{Binding, Applying, Listing, Settling, Sequencing}
+use Rattle.tl_parse.specs.Statements.{first_place, call_or_assignment_at, more_targets_at, values_at, variable_at, arms_at, more_arms_at, for_at, generic_at}
 use Rattle.tl_parse.specs.Paths.{more_names_at}
 use Rattle.tl_parse.specs.TerraExpressions.{terra_binary_at, terra_applied_at, terra_expressions_at, more_terra_expressions_at}
 use Rattle.tl_parse.specs.TerraExpressions.{more_initialisers_at}
@@ -48,9 +47,6 @@ decreases-chained l = 64 * l.levels + 34
 
 abbrev pub decreases-concatenated : goal.decreases-concatenated
 decreases-concatenated l = 64 * l.levels + 25
-
-abbrev pub decreases-concatenation : goal.decreases-concatenation
-decreases-concatenation l = 64 * l.levels + 24
 
 abbrev pub decreases-do_statement : goal.decreases-do_statement
 decreases-do_statement l = 64 * l.levels + 10
@@ -190,17 +186,14 @@ decreases-variable l = 64 * l.levels + 13
 abbrev pub decreases-while_statement : goal.decreases-while_statement
 decreases-while_statement l = 64 * l.levels + 36
 
-abbrev pub decreases-inner : goal.decreases-inner
-decreases-inner l = 64 * l.levels + (rank_of l.precedence + 0)
-
 abbrev pub decreases-one_more : goal.decreases-one_more
-decreases-one_more l = 64 * l.levels + (rank_of l.precedence + 1)
+decreases-one_more l = 64 * l.levels + (2 * l.rank + 19)
 
 abbrev pub decreases-binary : goal.decreases-binary
-decreases-binary l = 64 * l.levels + (rank_of l.precedence + 2)
+decreases-binary l = 64 * l.levels + (2 * l.ranks + 18)
 
 abbrev pub invariant-binary-more : goal.invariant-binary-more
-invariant-binary-more l = Binding l.fn.levels l.fn.precedence l.fn.mode l.fn.self l.self (binary_at l.fn.levels l.fn.precedence l.fn.mode l.fn.left (tokens_left l.fn.self)) l.a
+invariant-binary-more l = Binding l.fn.levels l.from l.fn.ranks l.fn.mode l.fn.self l.self (binary_at l.fn.levels l.fn.ranks l.fn.mode l.fn.left (tokens_left l.fn.self)) l.a
 
 abbrev pub decreases-binary-more : goal.decreases-binary-more
 decreases-binary-more l = length (tokens_left l.self)

@@ -6,4 +6,4 @@ pub returns-then-next_is_barred : goal.returns-then-next_is_barred
 returns-then-next_is_barred c = barred_suffix c.args.self.now c.args.mode (sym c.next_is_barred.ensures ∙ c.if-next_is_barred.true)
 
 pub returns : goal.returns
-returns c = c.next_is_among.ensures ∙ free_suffix c.args.self.now c.args.mode (sym c.next_is_barred.ensures ∙ c.if-next_is_barred.false)
+returns c = c.next_is_any_suffix.ensures ∙ free_suffix c.args.self.now c.args.mode (sym c.next_is_barred.ensures ∙ c.if-next_is_barred.false)

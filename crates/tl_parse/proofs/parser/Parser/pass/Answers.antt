@@ -1,6 +1,6 @@
 use Rattle.std.proofs.Common.{refl}
 use Rattle.tl_parse.proofs.Looking.{advanced}
-use Rattle.tl_parse.proofs.parser.Parser.next.Goals as goal
+use Rattle.tl_parse.proofs.parser.Parser.pass.Goals as goal
 
 pub returns : goal.returns
 returns c =
