@@ -1,7 +1,7 @@
 -- What is done at once: jobs that end so, what goes on behind them, and the results of operators and reads.
 use Rattle.std.proofs.Common.{arith, ◌≡◌, ℕ, ◌+◌, ◌-◌, ◌≤◌, Bool, true, false, List, [], ◌∷◌, ◌++◌, length, refl, sym, ap, ◌∙◌, Option}
 use Rattle.std.proofs.Common.{Some, None}
-use Rattle.std.specs.Prelude.{IfSome, codes, if◌then◌else◌, nat_le}
+use Rattle.std.specs.Prelude.{IfSome, codes, if◌then◌else◌}
 use Rattle.std.proofs.lemmas.Bool.{le-leb}
 use Rattle.tl_base.specs.declared.ids.NodeId.{NodeId}
 use Rattle.tl_base.specs.declared.ids.TableId.{TableId}
@@ -9,11 +9,10 @@ use Rattle.tl_base.specs.declared.ids.TextId.{TextId}
 use Rattle.tl_base.specs.declared.place.Place.{Place}
 use Rattle.tl_base.specs.declared.machine.Step.TheVariants.{Return}
 use Rattle.tl_base.specs.Layer.{state}
-use Rattle.tl_base.specs.Plan.{Run, Gives, Give, Do, IsWithin, then_do, run, run_job}
+use Rattle.tl_base.specs.Plan.{Run, Gives, Give, Do, IsWithin, then_do, run}
 use Rattle.tl_base.specs.Machine.{plug}
 use Rattle.tl_base.proofs.Plans.{run_job-is, paid-enough, plan_run-within}
 use Rattle.tl_tree.specs.Code.{Items}
-use Rattle.tl_tree.specs.Nodes.{item_at}
 use Rattle.tl_tree.specs.declared.node.BinaryOperator.{BinaryOperator}
 use Rattle.tl_tree.specs.declared.node.BinaryOperator.TheVariants as binary
 use Rattle.lua_value.specs.declared.value.Value.{Value}
@@ -36,11 +35,11 @@ use Rattle.lua_model.specs.declared.end.End.TheVariants.{One}
 use Rattle.lua_model.specs.declared.question.LuaQuestion.{LuaQuestion}
 use Rattle.lua_model.specs.declared.question.LuaAnswer.{LuaAnswer}
 use Rattle.lua_model.specs.declared.scope.Scope.{Scope}
-use Rattle.lua_model.specs.Plans.{LuaPlan, give, on_one, on_all, value_of, values_of}
-use Rattle.lua_model.specs.Fields.{read_by, read_table}
+use Rattle.lua_model.specs.Plans.{LuaPlan, give, on_one, on_all, value_of, values_of, with_text_of}
+use Rattle.lua_model.specs.Fields.{read, read_by, read_table}
 use Rattle.lua_model.specs.Operators.{arith as arith_plan, minus, compare, compared, settle, operate, binary_plan}
-use Rattle.lua_model.specs.Expressions.{node_plan}
 use Rattle.lua_model.specs.Meaning.{LuaGiven, job_plan}
+use Rattle.lua_model.proofs.Composing.{with_text_then, run_read}
 use Rattle.lua_eval.specs.AtOnce.{EndsAtOnce, Becomes}
 use Rattle.lua_eval.specs.declared.frame.LuaFrame.{LuaFrame}
 use Rattle.lua_eval.specs.Frames.{lua_rules}
@@ -99,6 +98,20 @@ pub behind_value : (items : Items) (fs fs2 : List LuaFrame) (n : NodeId) (scope 
 behind_value items fs fs2 n scope v go s t s2 left mid left2 step same h g =
     behind items fs fs2 (jobs.Expression n scope) (One v) (λ r. on_one r go) s s s2 left mid left2 step
     (rw same at h) g
+
+-- what is behind a read under a name that was done at once goes on with its value
+pub named_behind : (items : Items) (fs fs2 : List LuaFrame) (object v : Value) (bytes : List ℕ) (place : Place) (outer : Option Place)
+    (go : Value → LuaPlan) (s s2 : LuaState) (left mid left2 : ℕ) (step : LuaStep)
+    → Goes items [] (with_text_of bytes (λ key. read object key place outer give)) s left [] (Return (One v)) s mid
+    → Goes items fs (go v) s mid fs2 step s2 left2
+    → Goes items fs (with_text_of bytes (λ key. read object key place outer go)) s left fs2 step s2 left2
+named_behind items fs fs2 object v bytes place outer go s s2 left mid left2 step h g = λ later.
+    ap (plug (lua_rules items) fs)
+    (with_text_then (jobs_of items) bytes (λ key. read object key place outer go)
+    (λ key. read object key place outer give) (λ r. run (jobs_of items) (on_one r go))
+    (λ key t l. run_read (jobs_of items) object key place outer go t l) (state s left) later
+    ∙ ap (λ (o : Run LuaState LuaQuestion LuaAnswer End). then_do o (λ r. run (jobs_of items) (on_one r go))) (h later))
+    ∙ g later
 
 -- a plan of which a part was done goes on as what remains of it
 pub passed : (items : Items) (fs fs2 : List LuaFrame) (p q : LuaPlan) (s t s2 : LuaState) (left mid left2 : ℕ) (step : LuaStep)
@@ -164,6 +177,29 @@ field_gives items table key v place outer s left is full =
     (read_by (handler_at s table (codes "__index")) table key place outer give) (give found) s s left left (Return (One v))
     (ap is_nil (sym is) ∙ full)
     (moved items [] [] (give found) (give v) s s s left left (Return (One v)) (ap give (sym is)) refl (returns items [] (One v) s left))
+
+-- what the table says to read that has nothing there
+pub absent_gives : (items : Items) (table : TableId) (key v w : Value) (place : Place) (outer : Option Place) (s : LuaState) (left left2 : ℕ)
+    → v ≡ value_in (table_at s table) key → is_nil v ≡ true
+    → Goes items [] (read_by (handler_at s table (codes "__index")) table key place outer give) s left [] (Return (One w)) s left2
+    → Goes items [] (read_table table key place outer give) s left [] (Return (One w)) s left2
+absent_gives items table key v w place outer s left left2 is absent g =
+    let found = value_in (table_at s table) key in
+    chosen items [] [] (is_nil found) true
+    (read_by (handler_at s table (codes "__index")) table key place outer give) (give found) s s left left2 (Return (One w))
+    (ap is_nil (sym is) ∙ absent) g
+
+-- what stands in the table that another one says to read, and isn't nil
+pub inherited_gives : (items : Items) (table parent : TableId) (key v handler : Value) (place : Place) (outer : Option Place) (s : LuaState) (left : ℕ)
+    → handler ≡ values.Table parent → 1 ≤ left → v ≡ value_in (table_at s parent) key → is_nil v ≡ false
+    → Goes items [] (read_by handler table key place outer give) s left [] (Return (One v)) s (left - 1)
+inherited_gives items table parent key v handler place outer s left named enough is full =
+    let job = jobs.Read (values.Table parent) key place outer in
+    moved items [] [] (read_by handler table key place outer give) (Do job (λ r. on_one r give)) s s s left (left - 1) (Return (One v))
+    (ap (λ (h : Value). read_by h table key place outer give) named) refl
+    (behind items [] [] job (One v) (λ r. on_one r give) s s s left (left - 1) (left - 1) (Return (One v))
+    (begun items job (One v) s s left (left - 1) enough (field_gives items parent key v place outer s (left - 1) is full))
+    (returns items [] (One v) s (left - 1)))
 
 -- ---- texts that stand in the heap
 

@@ -7,7 +7,7 @@ use Rattle.tl_base.specs.declared.place.Place.{Place}
 use Rattle.tl_base.specs.declared.ids.NodeId.{NodeId}
 use Rattle.tl_base.specs.Layer.{State, state}
 use Rattle.tl_base.specs.Plan.{Give, Read, Write, then_do, run, run_job}
-use Rattle.tl_base.specs.Machine.{plug, plan_run}
+use Rattle.tl_base.specs.Machine.{plug}
 use Rattle.tl_base.proofs.Steps.{plug-push}
 use Rattle.tl_tree.specs.Code.{Items}
 use Rattle.tl_tree.specs.Item.{Item}

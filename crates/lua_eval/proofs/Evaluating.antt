@@ -1,5 +1,5 @@
 -- What nodes do that are expressions, where what they hold is known by equations.
-use Rattle.std.proofs.Common.{◌≡◌, ℕ, List, ◌++◌, [], ◌∷◌, refl, sym, ap, ◌∙◌, Option, Some, None}
+use Rattle.std.proofs.Common.{◌≡◌, ℕ, List, ◌++◌, [], ◌∷◌, refl, sym, ap, ◌∙◌, Some, None}
 use Rattle.tl_base.specs.declared.ids.NodeId.{NodeId}
 use Rattle.tl_base.specs.declared.place.Place.{Place}
 use Rattle.tl_base.specs.declared.machine.Step.TheVariants.{Enter, Return}
@@ -10,7 +10,7 @@ use Rattle.tl_tree.specs.Code.{Items}
 use Rattle.tl_tree.specs.Item.{Item}
 use Rattle.tl_tree.specs.Item as kept
 use Rattle.tl_tree.specs.Nodes.{item_at}
-use Rattle.tl_tree.specs.Scopes.{Found, binder}
+use Rattle.tl_tree.specs.Scopes.{binder}
 use Rattle.tl_tree.specs.declared.node.BinaryOperator.{BinaryOperator}
 use Rattle.tl_tree.specs.declared.node.BinaryOperator.TheVariants as binary
 use Rattle.tl_lex.specs.Values.{value_of as literal_value}

@@ -1,7 +1,8 @@
 pub mod AtOnce
 pub mod Below
-pub mod Calling
+pub mod Invoking
 pub mod Choosing
+pub mod Counted
 pub mod Counting
 pub mod Declaring
 pub mod Doing
@@ -16,6 +17,11 @@ pub mod Making
 pub mod Named
 pub mod Numbering
 pub mod Operands
+pub mod Passing
+pub mod Over
 pub mod Targeting
 pub mod Reading
+pub mod Reached
+pub mod Taking
 pub mod Turning
+pub mod Waited

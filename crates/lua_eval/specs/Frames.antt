@@ -1,12 +1,12 @@
 -- How each frame goes on with the end that it waited for: the plan that waited there.
-use Rattle.std.specs.Prelude.{ℕ, ◌+◌, ◌+ℤ◌, Bool, true, false, List, [], ◌∷◌, ◌++◌, length, Option, Some, None, if◌then◌else◌}
+use Rattle.std.specs.Prelude.{ℕ, ◌+◌, ◌+ℤ◌, Bool, true, false, List, [], ◌∷◌, ◌++◌, length, if◌then◌else◌}
 use Rattle.tl_base.specs.declared.ids.NodeId.{NodeId}
 use Rattle.tl_base.specs.Plan.{Give, Read, Write}
 use Rattle.tl_base.specs.Machine.{Rules}
 use Rattle.tl_tree.specs.declared.node.BinaryOperator.{BinaryOperator}
 use Rattle.tl_tree.specs.declared.node.BinaryOperator.TheVariants as binary
 use Rattle.tl_tree.specs.Nodes.{item_at}
-use Rattle.tl_tree.specs.Code.{Items, if_any, name_at, node_in}
+use Rattle.tl_tree.specs.Code.{Items, if_any, name_at}
 use Rattle.tl_base.specs.declared.place.Place.{Place}
 use Rattle.lua_value.specs.Numbers.{number_from}
 use Rattle.lua_value.specs.declared.value.Value.{Value}
@@ -36,6 +36,7 @@ use Rattle.lua_model.specs.Loops.{turn, over, after_turn, while_test, repeat_tes
 use Rattle.lua_model.specs.Loops.{list_next}
 use Rattle.lua_model.specs.Statements.{block_plan, arms_plan}
 use Rattle.lua_model.specs.Meaning.{job_plan, first_plan, close}
+use Rattle.lua_eval.specs.Waits.{waited}
 use Rattle.lua_eval.specs.declared.frame.LuaFrame.{LuaFrame}
 use Rattle.lua_eval.specs.declared.frame.LuaFrame.TheVariants as frames
 use Rattle.lua_eval.specs.declared.frame.OneFrame.{OneFrame}
@@ -44,7 +45,6 @@ use Rattle.lua_eval.specs.declared.frame.AllFrame.{AllFrame}
 use Rattle.lua_eval.specs.declared.frame.AllFrame.TheVariants as alls
 use Rattle.lua_eval.specs.declared.frame.ValueFrame.{ValueFrame}
 use Rattle.lua_eval.specs.declared.frame.ValueFrame.TheVariants as of_value
-use Rattle.lua_eval.specs.declared.frame.ListFrame.{ListFrame}
 use Rattle.lua_eval.specs.declared.frame.Then.{Then}
 use Rattle.lua_eval.specs.declared.frame.Then.TheVariants as thens
 use Rattle.lua_eval.specs.declared.frame.CallFrame.{CallFrame}
@@ -169,6 +169,7 @@ with_all items (alls.Stores ns scope us vs left) dropped = stores items ns.now s
 with_all items (alls.Name n function scope) dropped = define_name items n function scope
 with_all items (alls.Listed n names scope f state out) vs = listed n names.now scope f state vs out
 with_all items alls.Done dropped = fell
+with_all items (alls.Wait wait scope) vs = waited wait scope vs fell
 
 -- ---- ends
 

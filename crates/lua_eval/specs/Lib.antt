@@ -1,3 +1,5 @@
+-- What statements do with the values of the calls that they make.
+pub mod Waits
 -- How frames go on, and the language of a tree.
 pub mod Frames
 -- What the steps do.
@@ -29,3 +31,13 @@ pub mod CallPlans
 pub mod Choices
 -- Where assignments store.
 pub mod Spots
+-- Stores that ask no handler.
+pub mod Storing
+-- What is left of statements, of which some were executed at once.
+pub mod Running
+-- What is left of calls, of which some was done at once.
+pub mod Called
+-- What is left of statements, with the calls that they make.
+pub mod Waiting
+-- What is left of a numeric `for`, of which some turns were done at once.
+pub mod Turns

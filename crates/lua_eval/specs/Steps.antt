@@ -1,6 +1,6 @@
 -- What steps do that push no frame: whatever the frames below, a plan is that step.
 use Rattle.std.specs.Prelude.{ℕ, List}
-use Rattle.tl_base.specs.Layer.{State, state}
+use Rattle.tl_base.specs.Layer.{state}
 use Rattle.tl_base.specs.declared.machine.Step.{Step}
 use Rattle.tl_base.specs.Machine.{GoesOn}
 use Rattle.tl_tree.specs.Code.{Items}

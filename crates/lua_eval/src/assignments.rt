@@ -19,9 +19,10 @@ ghost use Rattle.lua_eval.specs.Steps.{Goes, Does};
 use crate::cells::set_local;
 use crate::code::{name, name_place};
 use crate::direct::targets_at_once;
+use crate::expressions::begin_list;
 use crate::fields::{GLOBALS, read_named, store, store_named};
 use crate::frame::{AllFrame, LuaFrame, OneFrame, TargetFrame, Then};
-use crate::lists::{list, nth};
+use crate::lists::nth;
 use crate::raise::{LuaStep, text_value};
 use crate::values::{copy, two};
 use lua_model::{End, Job, Scope};
@@ -62,7 +63,7 @@ pub fn targets<'a>(
         None => {
             let none = Values::new(heap.allocator());
             let then = Then::Assign(all, held);
-            let step = list(tree, slots, frames, heap, budget, values, scope, none, then)?;
+            let step = begin_list(tree, slots, frames, heap, budget, values, scope, none, then)?;
             Ok(step)
         }
     }

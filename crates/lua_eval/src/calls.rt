@@ -11,9 +11,11 @@ ghost use Rattle.lua_model.specs.Plans.{statements, raise};
 ghost use Rattle.std.specs.Bool.{OnTrue};
 ghost use Rattle.lua_model.specs.Calls.{most_calls, call, call_closure, call_library, call_handler};
 ghost use Rattle.lua_eval.specs.Calls.{entered_state, entered_scope, call_fault};
+ghost use Rattle.lua_eval.specs.Slots.{ArePaths};
 ghost use Rattle.lua_eval.specs.Steps.{Goes};
 ghost use Rattle.tl_base.specs.Plan.{Give};
 
+use crate::calling::{call_at_once, called_on};
 use crate::cells::{declare_all, with_cells};
 use crate::code::{Parts, block_statements, function_parts};
 use crate::frame::LuaFrame;
@@ -25,10 +27,11 @@ use lua_table::{Closure, Heap, LibCall};
 use lua_value::{Kind, Value, Values};
 use tl_base::limits::MAX_LUA_CALLS;
 use tl_base::{Budget, ClosureId, NoMemory, NodeId, Place, Step};
+use tl_rename::Slots;
 use tl_tree::Tree;
 
 /// Holds where one more call may be in progress.
-fn may_call(heap: &Heap) -> bool
+pub fn may_call(heap: &Heap) -> bool
     ensures same { result ≡ nat_lt heap.now.calls most_calls }
     ensures few { OnTrue result (heap.now.calls < MAX_LUA_CALLS) }
 {
@@ -119,9 +122,38 @@ pub fn call_closure<'a>(
     }
 }
 
+/// Calls a function of Lua code, and executes its statements at once, as far as that is possible.
+pub fn enter_closure<'a>(
+    tree: &'a Tree<'a>,
+    slots: &Slots,
+    frames: &mut Vec<LuaFrame<'a>>,
+    heap: &mut Heap,
+    budget: &mut Budget,
+    closure: ClosureId,
+    args: Values,
+    place: Place,
+) -> Result<LuaStep, NoMemory>
+    requires { ArePaths (items_of tree.now) slots.now }
+    ensures means { IfOk result (λ step.
+        Goes (items_of tree.now) frames.old.items (call_closure (items_of tree.now) closure args place Give)
+        heap.old budget.old frames.new.items step heap.new budget.new) }
+    ensures kept { OnOk result (KeepsHeap heap.old heap.new) }
+{
+    if may_call(heap) {
+        let args = args.as_slice();
+        let mut given = Value::Nil;
+        let called = call_at_once(tree, slots, heap, budget, closure, args, place, &mut given)?;
+        called_on(frames, heap, called, given)
+    } else {
+        let step = raise(heap, budget, place, Fault::StackOverflow)?;
+        Ok(step)
+    }
+}
+
 /// Makes the environment of a call in progress, with the parameters, and puts the values of `...` into cells.
 #[tactic(auto, using(lua_table::proofs::Keeping::keeps_env, lua_table::proofs::Keeping::keeps_then))]
-fn enter_call(
+#[inline(always)]
+pub fn enter_call(
     heap: &mut Heap,
     code: &Closure,
     parts: &Parts<'_>,

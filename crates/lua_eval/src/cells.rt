@@ -28,6 +28,7 @@ fn env_out(heap: &Heap, env: EnvId, depth: u32) -> EnvId
 }
 
 /// The cell at a position of the environment so many steps outwards. Where there is none it is the next one.
+#[inline(always)]
 fn local_cell(heap: &Heap, env: EnvId, depth: u32, position: u32) -> CellId
     ensures { result ≡ local_cell heap.now env depth position }
 {
@@ -39,6 +40,7 @@ fn local_cell(heap: &Heap, env: EnvId, depth: u32, position: u32) -> CellId
 }
 
 /// The value of a local.
+#[inline(always)]
 pub fn local(heap: &Heap, env: EnvId, depth: u32, position: u32) -> Value
     ensures { result ≡ local_value heap.now env depth position }
 {
@@ -54,6 +56,7 @@ pub fn set_local(heap: &mut Heap, env: EnvId, depth: u32, position: u32, value: 
 }
 
 /// Declares a local with a value.
+#[inline(always)]
 pub fn declare(heap: &mut Heap, env: EnvId, value: Value) -> Result<(), NoMemory>
     ensures ok { OnOk result (heap.new ≡ declare env value heap.old) }
     ensures kept { OnOk result (KeepsHeap heap.old heap.new) }

@@ -13,6 +13,7 @@ ghost use Rattle.lua_eval.specs.Slots.{ArePaths};
 ghost use Rattle.lua_eval.specs.Steps.{Goes};
 ghost use Rattle.lua_eval.specs.AtOnce.{EndsAtOnce, Becomes};
 ghost use Rattle.lua_eval.specs.Spots.{held_in};
+ghost use Rattle.lua_eval.specs.Storing.{StoresIn, IsField};
 
 use crate::code::name;
 use crate::quick::{Depth, Quick, spend};
@@ -40,6 +41,7 @@ pub struct Aimed {
 }
 
 /// Evaluates a target at once, with so many units: a local, or a field of a table.
+#[inline(always)]
 pub fn aim<'a>(
     tree: &'a Tree<'a>,
     slots: &Slots,
@@ -52,6 +54,7 @@ pub fn aim<'a>(
     ensures found { IfSome result (λ aimed.
         EndsAtOnce (items_of tree.now) (jobs.Target node scope.now) (Many (held_in aimed.spot)) heap.old left
         heap.old aimed.left) }
+    ensures at { IfSome result (λ aimed. StoresIn (items_of tree.now) node scope.now aimed.spot) }
     ensures same { heap.new ≡ heap.old }
 {
     if left == 0 {
@@ -83,6 +86,7 @@ fn aim_in<'a>(
     ensures found { IfSome result (λ aimed.
         Goes (items_of tree.now) [] (plans.target_of (items_of tree.now) expression.now scope.now) heap.old left
         [] (Return (Many (held_in aimed.spot))) heap.old aimed.left) }
+    ensures field { IfSome result (λ aimed. IsField aimed.spot) }
     ensures same { heap.new ≡ heap.old }
 {
     match expression {
@@ -108,6 +112,7 @@ fn aim_at<'a>(
     ensures found { IfSome result (λ aimed.
         Goes (items_of tree.now) [] (value_of object scope.now (λ o. value_of key scope.now (λ k. plans.held o k))) heap.old left
         [] (Return (Many (held_in aimed.spot))) heap.old aimed.left) }
+    ensures field { IfSome result (λ aimed. IsField aimed.spot) }
     ensures same { heap.new ≡ heap.old }
 {
     let object = Quick::find(tree, slots, heap, object, scope, left)?;
@@ -123,7 +128,8 @@ fn aim_at<'a>(
 
 /// The field of a table under a key, which isn't nil.
 fn spot_of(object: Value, key: Value) -> Option<Spot>
-    ensures { IfSome result (λ spot. held_in spot ≡ object ∷ key ∷ []) }
+    ensures held { IfSome result (λ spot. held_in spot ≡ object ∷ key ∷ []) }
+    ensures field { IfSome result (λ spot. IsField spot) }
 {
     match object {
         Value::Table(table) => {
@@ -152,6 +158,7 @@ fn aim_named<'a>(
         Goes (items_of tree.now) []
         (value_of object scope.now (λ o. with_text_of (name_at (items_of tree.now) key) (λ k. plans.held o k))) heap.old left
         [] (Return (Many (held_in aimed.spot))) heap.old aimed.left) }
+    ensures field { IfSome result (λ aimed. IsField aimed.spot) }
     ensures same { heap.new ≡ heap.old }
 {
     let object = Quick::find(tree, slots, heap, object, scope, left)?;
@@ -166,9 +173,10 @@ fn aim_named<'a>(
 
 /// The field of a table under a name, whose text the heap has.
 fn named_spot(heap: &Heap, object: Value, name: &[u8]) -> Option<Spot>
-    ensures { IfSome result (λ spot. (items : Items) (left : ℕ) →
+    ensures found { IfSome result (λ spot. (items : Items) (left : ℕ) →
         Goes items [] (with_text_of name.now (λ k. plans.held object k)) heap.now left
         [] (Return (Many (held_in spot))) heap.now left) }
+    ensures field { IfSome result (λ spot. IsField spot) }
 {
     if name.len() > Text::MAX_LEN {
         return None;

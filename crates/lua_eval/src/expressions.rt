@@ -1,6 +1,10 @@
 // Expressions (Lua 5.1 manual, section 2.5).
 
-ghost use Rattle.std.specs.Prelude.{◌≡◌, ℕ, IfOk, OnOk};
+ghost use Rattle.std.specs.Prelude.{◌≡◌, ℕ, [], ◌∷◌, ◌++◌, IfOk, IfSome, IfNone, OnOk};
+ghost use Rattle.tl_base.specs.Plan.{Do, Give};
+ghost use Rattle.lua_model.specs.declared.job.Job.TheVariants as jobs;
+ghost use Rattle.lua_model.specs.declared.end.End.TheVariants.{One};
+ghost use Rattle.lua_eval.specs.AtOnce.{EndsAtOnce};
 ghost use Rattle.tl_tree.specs.Arena.{items_of};
 ghost use Rattle.tl_tree.specs.Code.{Items};
 ghost use Rattle.tl_tree.specs.Nodes.{item_at};
@@ -8,21 +12,26 @@ ghost use Rattle.lua_table.specs.LuaState.{LuaState};
 ghost use Rattle.lua_table.specs.Keeping.{KeepsHeap};
 ghost use Rattle.tl_tree.specs.Numbers.{value_of};
 ghost use Rattle.lua_model.specs.Plans.{whole};
+ghost use Rattle.lua_model.specs.Plans as model;
 ghost use Rattle.lua_model.specs.Expressions as plans;
+ghost use Rattle.lua_model.specs.Operators as of_operators;
 ghost use Rattle.lua_eval.specs.Slots.{ArePaths};
-ghost use Rattle.lua_eval.specs.Frames.{with_left, with_value, with_call};
-ghost use Rattle.lua_eval.specs.CallPlans.{call_plan};
+ghost use Rattle.lua_eval.specs.Frames.{after, list_plan, with_left, with_value, with_call};
+ghost use Rattle.lua_eval.specs.CallPlans.{call_plan, item_plan, method_call, method_plan};
 ghost use Rattle.lua_eval.specs.Steps.{Goes};
+ghost use Rattle.lua_model.specs.declared.end.End.{End};
+ghost use Rattle.lua_eval.specs.declared.frame.LuaFrame.{LuaFrame};
 
+use crate::calling::{Called, call_of, inside_on};
 use crate::cells::{local, values_from};
 use crate::code::name;
 use crate::fields::{GLOBALS, read, read_named};
-use crate::frame::{CallFrame, LuaFrame, OneFrame, Then, ValueFrame};
-use crate::lists::list;
+use crate::frame::{AllFrame, CallFrame, ListFrame, LuaFrame, OneFrame, Then, ValueFrame};
+use crate::lists::{list, values_at_once, with_list};
 use crate::operators::{operate, operate_one, whole};
-use crate::quick::{at_once, expression_at_once};
+use crate::quick::{at_once, named_field, spend};
 use crate::raise::{LuaStep, text_value};
-use crate::tables::fields;
+use crate::tables::{fields, fields_left};
 use crate::values::{copy, one};
 use lua_model::{End, Job, LuaQuestion, Scope};
 use lua_table::{Closure, Heap};
@@ -58,7 +67,7 @@ pub fn node<'a>(
             }
             None => {
                 let globals = Value::Table(GLOBALS);
-                let step = read_named(
+                read_named(
                     frames,
                     heap,
                     budget,
@@ -66,8 +75,7 @@ pub fn node<'a>(
                     text.as_bytes(),
                     *place,
                     scope.call,
-                )?;
-                Ok(step)
+                )
             }
         },
         Node::Numeral(_, text) => Ok(Step::Return(End::One(numeral(text)))),
@@ -77,10 +85,9 @@ pub fn node<'a>(
             Ok(Step::Return(End::One(value)))
         }
         Node::Expression(place, expression) => {
-            let step = evaluate_quickly(
+            evaluate_further(
                 tree, slots, frames, heap, budget, expression, node, *place, scope,
-            )?;
-            Ok(step)
+            )
         }
         Node::Statement(_, _) => Ok(Step::Return(End::One(Value::Nil))),
         Node::TerraExpression(_, _) => Ok(Step::Return(End::One(Value::Nil))),
@@ -91,42 +98,13 @@ pub fn node<'a>(
 
 /// The value of a numeral.
 #[tactic(auto, using(crate::proofs::Numbering::unfit_is_nil, crate::proofs::Numbering::fit_is_whole))]
+#[inline(always)]
 pub fn numeral(text: &str) -> Value
     ensures { result ≡ whole (value_of text.now) }
 {
     match numeral_value(text) {
         Some(number) => whole(number),
         None => Value::Nil,
-    }
-}
-
-/// Evaluates an expression that is no name, number or text, at once where that is possible.
-fn evaluate_quickly<'a>(
-    tree: &'a Tree<'a>,
-    slots: &Slots,
-    frames: &mut Vec<LuaFrame<'a>>,
-    heap: &mut Heap,
-    budget: &mut Budget,
-    expression: &'a Expression,
-    node: NodeId,
-    place: Place,
-    scope: Scope,
-) -> Result<LuaStep, NoMemory>
-    requires { ArePaths (items_of tree.now) slots.now }
-    ensures means { IfOk result (λ step.
-        Goes (items_of tree.now) frames.old.items
-        (plans.expression_plan (items_of tree.now) expression.now node place scope)
-        heap.old budget.old frames.new.items step heap.new budget.new) }
-    ensures kept { OnOk result (KeepsHeap heap.old heap.new) }
-{
-    match expression_at_once(tree, slots, heap, budget, expression, &scope) {
-        Some(value) => Ok(Step::Return(End::One(value))),
-        None => {
-            let step = evaluate_further(
-                tree, slots, frames, heap, budget, expression, node, place, scope,
-            )?;
-            Ok(step)
-        }
     }
 }
 
@@ -151,7 +129,7 @@ fn evaluate_further<'a>(
 {
     match expression {
         Expression::Call(function, arguments) => {
-            let step = evaluate_call(
+            evaluate_call(
                 tree,
                 slots,
                 frames,
@@ -161,13 +139,45 @@ fn evaluate_further<'a>(
                 arguments.as_slice(),
                 place,
                 scope,
-            )?;
-            Ok(step)
+            )
         }
-        _ => {
-            let step = evaluate(tree, frames, heap, expression, node, place, scope)?;
-            Ok(step)
+        Expression::Binary(op, left, right) => evaluate_binary(
+            tree, slots, frames, heap, budget, *op, *left, *right, place, scope,
+        ),
+        Expression::Method(object, name, arguments) => {
+            evaluate_method(
+                tree,
+                slots,
+                frames,
+                heap,
+                budget,
+                *object,
+                *name,
+                arguments.as_slice(),
+                place,
+                scope,
+            )
         }
+        Expression::Paren(inner) => {
+            frames.push(LuaFrame::One(OneFrame::Value(ValueFrame::First)))?;
+            inside(tree, slots, frames, heap, budget, *inner, scope)
+        }
+        Expression::Table(list) => {
+            let table = heap.new_table()?;
+            fields(
+                tree,
+                slots,
+                frames,
+                heap,
+                budget,
+                list.as_slice(),
+                table,
+                1,
+                place,
+                scope,
+            )
+        }
+        _ => { evaluate(tree, frames, heap, expression, node, place, scope) }
     }
 }
 
@@ -195,10 +205,9 @@ fn evaluate_call<'a>(
         Some(value) => {
             let none = Values::new(heap.allocator());
             let then = Then::Call(value, place);
-            let step = list(
+            list(
                 tree, slots, frames, heap, budget, arguments, scope, none, then,
-            )?;
-            Ok(step)
+            )
         }
         None => {
             let frame = CallFrame::Function(arguments, place, scope);
@@ -206,6 +215,358 @@ fn evaluate_call<'a>(
             Ok(Step::Enter(Job::Expression(function, scope)))
         }
     }
+}
+
+#[tactic(auto, using(tl_base::proofs::Steps::pushes))]
+/// Evaluates the left operand of an operator, at once where that is possible, and goes on with the right one.
+fn evaluate_binary<'a>(
+    tree: &'a Tree<'a>,
+    slots: &Slots,
+    frames: &mut Vec<LuaFrame<'a>>,
+    heap: &mut Heap,
+    budget: &mut Budget,
+    op: BinaryOperator,
+    left: NodeId,
+    right: NodeId,
+    place: Place,
+    scope: Scope,
+) -> Result<LuaStep, NoMemory>
+    requires { ArePaths (items_of tree.now) slots.now }
+    ensures means { IfOk result (λ step.
+        Goes (items_of tree.now) frames.old.items
+        (of_operators.binary_plan (items_of tree.now) op left right place scope)
+        heap.old budget.old frames.new.items step heap.new budget.new) }
+    ensures kept { OnOk result (KeepsHeap heap.old heap.new) }
+{
+    match operand_at_once(tree, slots, heap, budget, left, &scope) {
+        Some(value) => with_left(
+            tree, slots, frames, heap, budget, op, right, place, scope, value,
+        ),
+        None => call_left(
+            tree, slots, frames, heap, budget, op, left, right, place, scope,
+        ),
+    }
+}
+
+/// Calls the left operand of an operator at once, where it is a call and that is possible, and goes on with the right one.
+fn call_left<'a>(
+    tree: &'a Tree<'a>,
+    slots: &Slots,
+    frames: &mut Vec<LuaFrame<'a>>,
+    heap: &mut Heap,
+    budget: &mut Budget,
+    op: BinaryOperator,
+    left: NodeId,
+    right: NodeId,
+    place: Place,
+    scope: Scope,
+) -> Result<LuaStep, NoMemory>
+    requires { ArePaths (items_of tree.now) slots.now }
+    ensures means { IfOk result (λ step.
+        Goes (items_of tree.now) frames.old.items (of_operators.binary_plan (items_of tree.now) op left right place scope)
+        heap.old budget.old frames.new.items step heap.new budget.new) }
+    ensures kept { OnOk result (KeepsHeap heap.old heap.new) }
+{
+    let mut given = Value::Nil;
+    let units = budget.left();
+    let called = call_of(tree, slots, heap, budget, left, &scope, units, &mut given)?;
+    match called {
+        None => {
+            let frame = ValueFrame::Left(op, right, place, scope);
+            frames.push(LuaFrame::One(OneFrame::Value(frame)))?;
+            operand(tree, slots, frames, heap, budget, left, scope)
+        }
+        Some(Called::Nothing) => with_left(
+            tree,
+            slots,
+            frames,
+            heap,
+            budget,
+            op,
+            right,
+            place,
+            scope,
+            Value::Nil,
+        ),
+        Some(Called::Gave) => with_left(
+            tree, slots, frames, heap, budget, op, right, place, scope, given,
+        ),
+        Some(Called::Inside(halt, inner)) => {
+            let frame = ValueFrame::Left(op, right, place, scope);
+            frames.push(LuaFrame::One(OneFrame::Value(frame)))?;
+            inside_on(frames, heap, halt, inner)
+        }
+    }
+}
+
+/// Evaluates expressions in their order behind values, and does that with all values, as a statement does: the first that
+/// isn't evaluated at once is begun.
+pub fn begin_list<'a>(
+    tree: &'a Tree<'a>,
+    slots: &Slots,
+    frames: &mut Vec<LuaFrame<'a>>,
+    heap: &mut Heap,
+    budget: &mut Budget,
+    nodes: &'a [NodeId],
+    scope: Scope,
+    values: Values,
+    then: Then<'a>,
+) -> Result<LuaStep, NoMemory>
+    requires { ArePaths (items_of tree.now) slots.now }
+    ensures means { IfOk result (λ step.
+        Goes (items_of tree.now) frames.old.items (list_plan (items_of tree.now) nodes.now scope values then.entry)
+        heap.old budget.old frames.new.items step heap.new budget.new) }
+    ensures kept { OnOk result (KeepsHeap heap.old heap.new) }
+{
+    let mut values = values;
+    let rest = values_at_once(tree, slots, heap, budget, nodes, &scope, &mut values)?;
+    match rest.split_first() {
+        None => with_list(tree, slots, frames, heap, budget, scope, values, then),
+        Some((first, behind)) => {
+            let frame = ListFrame {
+                rest: behind,
+                scope,
+                values,
+                then,
+            };
+            push_item(frames, frame)?;
+            inside(tree, slots, frames, heap, budget, *first, scope)
+        }
+    }
+}
+
+/// Waits for an expression of a list: for all values of the last one, and for one value of any other.
+fn push_item<'a>(frames: &mut Vec<LuaFrame<'a>>, frame: ListFrame<'a>) -> Result<(), NoMemory>
+    ensures { OnOk result ((pushed : LuaFrame) × (frames.new.items ≡ frames.old.items ++ pushed ∷ [])
+        × ((items : Items) (r : End) → after items pushed r
+        ≡ item_plan items frame.entry.rest.now frame.entry.scope frame.entry.values frame.entry.then r)) }
+{
+    if frame.rest.is_empty() {
+        frames.push(LuaFrame::All(AllFrame::Last(frame)))?;
+    } else {
+        frames.push(LuaFrame::One(OneFrame::Item(frame)))?;
+    }
+    Ok(())
+}
+
+/// Evaluates an expression in parentheses that isn't evaluated at once: an operator over two operands is begun, and what
+/// else it is is evaluated as an operand.
+pub fn inside<'a>(
+    tree: &'a Tree<'a>,
+    slots: &Slots,
+    frames: &mut Vec<LuaFrame<'a>>,
+    heap: &mut Heap,
+    budget: &mut Budget,
+    node: NodeId,
+    scope: Scope,
+) -> Result<LuaStep, NoMemory>
+    requires { ArePaths (items_of tree.now) slots.now }
+    ensures means { IfOk result (λ step.
+        Goes (items_of tree.now) frames.old.items (Do (jobs.Expression node scope) Give)
+        heap.old budget.old frames.new.items step heap.new budget.new) }
+    ensures kept { OnOk result (KeepsHeap heap.old heap.new) }
+{
+    match tree.node(node) {
+        Node::Expression(place, expression) => match expression {
+            Expression::Binary(op, left, right) => {
+                if !budget.pay(1) {
+                    return Ok(Step::Spent);
+                }
+                evaluate_binary(
+                    tree, slots, frames, heap, budget, *op, *left, *right, *place, scope,
+                )
+            }
+            _ => operand(tree, slots, frames, heap, budget, node, scope),
+        },
+        _ => operand(tree, slots, frames, heap, budget, node, scope),
+    }
+}
+
+#[tactic(auto, using(tl_base::proofs::Steps::pushes))]
+/// Evaluates the object of the call of a method, at once where that is possible, and goes on with the method.
+fn evaluate_method<'a>(
+    tree: &'a Tree<'a>,
+    slots: &Slots,
+    frames: &mut Vec<LuaFrame<'a>>,
+    heap: &mut Heap,
+    budget: &mut Budget,
+    object: NodeId,
+    method: NodeId,
+    arguments: &'a [NodeId],
+    place: Place,
+    scope: Scope,
+) -> Result<LuaStep, NoMemory>
+    requires { ArePaths (items_of tree.now) slots.now }
+    ensures means { IfOk result (λ step.
+        Goes (items_of tree.now) frames.old.items
+        (method_plan (items_of tree.now) object method arguments.now place scope)
+        heap.old budget.old frames.new.items step heap.new budget.new) }
+    ensures kept { OnOk result (KeepsHeap heap.old heap.new) }
+{
+    match operand_at_once(tree, slots, heap, budget, object, &scope) {
+        Some(value) => with_object(
+            tree, slots, frames, heap, budget, method, arguments, place, scope, value,
+        ),
+        None => {
+            let frame = CallFrame::Method(method, arguments, place, scope);
+            frames.push(LuaFrame::One(OneFrame::Call(frame)))?;
+            Ok(Step::Enter(Job::Expression(object, scope)))
+        }
+    }
+}
+
+/// Goes on with the call of a method of an object: at once with its arguments, where the object has the method itself.
+fn with_object<'a>(
+    tree: &'a Tree<'a>,
+    slots: &Slots,
+    frames: &mut Vec<LuaFrame<'a>>,
+    heap: &mut Heap,
+    budget: &mut Budget,
+    method: NodeId,
+    arguments: &'a [NodeId],
+    place: Place,
+    scope: Scope,
+    object: Value,
+) -> Result<LuaStep, NoMemory>
+    requires { ArePaths (items_of tree.now) slots.now }
+    ensures means { IfOk result (λ step.
+        Goes (items_of tree.now) frames.old.items
+        (method_call (items_of tree.now) object method arguments.now place scope)
+        heap.old budget.old frames.new.items step heap.new budget.new) }
+    ensures kept { OnOk result (KeepsHeap heap.old heap.new) }
+{
+    let text = name(tree, method).as_bytes();
+    match named_field(heap, copy(&object), text, budget.left()) {
+        Some(found) => {
+            spend(budget, found.left);
+            let function = found.value;
+            let first = one(heap.allocator(), object)?;
+            let then = Then::Call(function, place);
+            list(
+                tree, slots, frames, heap, budget, arguments, scope, first, then,
+            )
+        }
+        None => find_method(
+            tree, frames, heap, budget, method, arguments, place, scope, object,
+        ),
+    }
+}
+
+/// Looks for the method of an object, with a frame for the call.
+fn find_method<'a>(
+    tree: &'a Tree<'a>,
+    frames: &mut Vec<LuaFrame<'a>>,
+    heap: &mut Heap,
+    budget: &mut Budget,
+    method: NodeId,
+    arguments: &'a [NodeId],
+    place: Place,
+    scope: Scope,
+    object: Value,
+) -> Result<LuaStep, NoMemory>
+    ensures means { IfOk result (λ step.
+        Goes (items_of tree.now) frames.old.items
+        (method_call (items_of tree.now) object method arguments.now place scope)
+        heap.old budget.old frames.new.items step heap.new budget.new) }
+    ensures kept { OnOk result (KeepsHeap heap.old heap.new) }
+{
+    let frame = CallFrame::MethodOf(copy(&object), arguments, place, scope);
+    frames.push(LuaFrame::One(OneFrame::Call(frame)))?;
+    read_named(
+        frames,
+        heap,
+        budget,
+        object,
+        name(tree, method).as_bytes(),
+        place,
+        scope.call,
+    )
+}
+
+/// Evaluates an operand that isn't evaluated at once: a call is begun, and what else it is is entered.
+fn operand<'a>(
+    tree: &'a Tree<'a>,
+    slots: &Slots,
+    frames: &mut Vec<LuaFrame<'a>>,
+    heap: &mut Heap,
+    budget: &mut Budget,
+    node: NodeId,
+    scope: Scope,
+) -> Result<LuaStep, NoMemory>
+    requires { ArePaths (items_of tree.now) slots.now }
+    ensures means { IfOk result (λ step.
+        Goes (items_of tree.now) frames.old.items (Do (jobs.Expression node scope) Give)
+        heap.old budget.old frames.new.items step heap.new budget.new) }
+    ensures kept { OnOk result (KeepsHeap heap.old heap.new) }
+{
+    match tree.node(node) {
+        Node::Expression(place, expression) => match expression {
+            Expression::Call(function, arguments) => {
+                if !budget.pay(1) {
+                    return Ok(Step::Spent);
+                }
+                evaluate_call(
+                    tree,
+                    slots,
+                    frames,
+                    heap,
+                    budget,
+                    *function,
+                    arguments.as_slice(),
+                    *place,
+                    scope,
+                )
+            }
+            Expression::Method(object, name, arguments) => {
+                if !budget.pay(1) {
+                    return Ok(Step::Spent);
+                }
+                evaluate_method(
+                    tree,
+                    slots,
+                    frames,
+                    heap,
+                    budget,
+                    *object,
+                    *name,
+                    arguments.as_slice(),
+                    *place,
+                    scope,
+                )
+            }
+            _ => Ok(Step::Enter(Job::Expression(node, scope))),
+        },
+        _ => Ok(Step::Enter(Job::Expression(node, scope))),
+    }
+}
+
+/// Whether a node is a call.
+fn is_call(node: &Node<'_>) -> bool {
+    match node {
+        Node::Expression(_, Expression::Call(_, _)) => true,
+        _ => false,
+    }
+}
+
+/// Evaluates an operand at once, where that is possible. A call never is.
+fn operand_at_once<'a>(
+    tree: &'a Tree<'a>,
+    slots: &Slots,
+    heap: &mut Heap,
+    budget: &mut Budget,
+    node: NodeId,
+    scope: &Scope,
+) -> Option<Value>
+    requires { ArePaths (items_of tree.now) slots.now }
+    ensures found { IfSome result (λ value.
+        EndsAtOnce (items_of tree.now) (jobs.Expression node scope.now) (One value) heap.old budget.old heap.old budget.new) }
+    ensures none { IfNone result (budget.new ≡ budget.old) }
+    ensures same { heap.new ≡ heap.old }
+{
+    if is_call(tree.node(node)) {
+        return None;
+    }
+    at_once(tree, slots, heap, budget, node, scope)
 }
 
 #[tactic(auto, using(tl_base::proofs::Steps::pushes))]
@@ -242,8 +603,7 @@ fn evaluate<'a>(
         }
         Expression::Table(list) => {
             let table = heap.new_table()?;
-            let step = fields(tree, frames, list.as_slice(), table, 1, place, scope)?;
-            Ok(step)
+            fields_left(tree, frames, list.as_slice(), table, 1, place, scope)
         }
         Expression::Binary(op, left, right) => {
             let frame = ValueFrame::Left(*op, *right, place, scope);
@@ -292,15 +652,22 @@ fn evaluate<'a>(
 #[tactic(auto, using(tl_base::proofs::Steps::pushes))]
 /// Goes on with the left operand of an operator.
 fn with_left<'a>(
+    tree: &'a Tree<'a>,
+    slots: &Slots,
     frames: &mut Vec<LuaFrame<'a>>,
+    heap: &mut Heap,
+    budget: &mut Budget,
     op: BinaryOperator,
     right: NodeId,
     place: Place,
     scope: Scope,
     value: Value,
 ) -> Result<LuaStep, NoMemory>
-    ensures means { IfOk result (λ step. (items : Items) (s : LuaState) (left : ℕ) →
-        Goes items frames.old.items (with_left items op right place scope value) s left frames.new.items step s left) }
+    requires { ArePaths (items_of tree.now) slots.now }
+    ensures means { IfOk result (λ step.
+        Goes (items_of tree.now) frames.old.items (with_left (items_of tree.now) op right place scope value)
+        heap.old budget.old frames.new.items step heap.new budget.new) }
+    ensures kept { OnOk result (KeepsHeap heap.old heap.new) }
 {
     match op {
         BinaryOperator::And => {
@@ -317,10 +684,90 @@ fn with_left<'a>(
             frames.push(LuaFrame::One(OneFrame::Value(ValueFrame::First)))?;
             Ok(Step::Enter(Job::Expression(right, scope)))
         }
-        _ => {
+        _ => evaluate_right(
+            tree, slots, frames, heap, budget, op, right, place, scope, value,
+        ),
+    }
+}
+
+#[tactic(auto, using(tl_base::proofs::Steps::pushes))]
+/// Evaluates the right operand of an operator, at once where that is possible, and goes on with both.
+fn evaluate_right<'a>(
+    tree: &'a Tree<'a>,
+    slots: &Slots,
+    frames: &mut Vec<LuaFrame<'a>>,
+    heap: &mut Heap,
+    budget: &mut Budget,
+    op: BinaryOperator,
+    right: NodeId,
+    place: Place,
+    scope: Scope,
+    value: Value,
+) -> Result<LuaStep, NoMemory>
+    requires { ArePaths (items_of tree.now) slots.now }
+    ensures means { IfOk result (λ step.
+        Goes (items_of tree.now) frames.old.items
+        (model.value_of right scope (λ b. of_operators.operate (items_of tree.now) op value b place scope.call))
+        heap.old budget.old frames.new.items step heap.new budget.new) }
+    ensures kept { OnOk result (KeepsHeap heap.old heap.new) }
+{
+    match operand_at_once(tree, slots, heap, budget, right, &scope) {
+        Some(other) => operate(
+            tree, frames, heap, budget, op, value, other, place, scope.call,
+        ),
+        None => call_right(
+            tree, slots, frames, heap, budget, op, right, place, scope, value,
+        ),
+    }
+}
+
+/// Calls the right operand of an operator at once, where it is a call and that is possible, and goes on with both.
+fn call_right<'a>(
+    tree: &'a Tree<'a>,
+    slots: &Slots,
+    frames: &mut Vec<LuaFrame<'a>>,
+    heap: &mut Heap,
+    budget: &mut Budget,
+    op: BinaryOperator,
+    right: NodeId,
+    place: Place,
+    scope: Scope,
+    value: Value,
+) -> Result<LuaStep, NoMemory>
+    requires { ArePaths (items_of tree.now) slots.now }
+    ensures means { IfOk result (λ step.
+        Goes (items_of tree.now) frames.old.items
+        (model.value_of right scope (λ b. of_operators.operate (items_of tree.now) op value b place scope.call))
+        heap.old budget.old frames.new.items step heap.new budget.new) }
+    ensures kept { OnOk result (KeepsHeap heap.old heap.new) }
+{
+    let mut given = Value::Nil;
+    let units = budget.left();
+    let called = call_of(tree, slots, heap, budget, right, &scope, units, &mut given)?;
+    match called {
+        None => {
             let frame = ValueFrame::Right(op, value, place, scope.call);
             frames.push(LuaFrame::One(OneFrame::Value(frame)))?;
-            Ok(Step::Enter(Job::Expression(right, scope)))
+            operand(tree, slots, frames, heap, budget, right, scope)
+        }
+        Some(Called::Nothing) => operate(
+            tree,
+            frames,
+            heap,
+            budget,
+            op,
+            value,
+            Value::Nil,
+            place,
+            scope.call,
+        ),
+        Some(Called::Gave) => operate(
+            tree, frames, heap, budget, op, value, given, place, scope.call,
+        ),
+        Some(Called::Inside(halt, inner)) => {
+            let frame = ValueFrame::Right(op, value, place, scope.call);
+            frames.push(LuaFrame::One(OneFrame::Value(frame)))?;
+            inside_on(frames, heap, halt, inner)
         }
     }
 }
@@ -329,12 +776,14 @@ fn with_left<'a>(
 /// Goes on with an expression that waited for one value.
 pub fn with_value<'a>(
     tree: &'a Tree<'a>,
+    slots: &Slots,
     frames: &mut Vec<LuaFrame<'a>>,
     heap: &mut Heap,
     budget: &mut Budget,
     frame: ValueFrame,
     value: Value,
 ) -> Result<LuaStep, NoMemory>
+    requires { ArePaths (items_of tree.now) slots.now }
     ensures means { IfOk result (λ step.
         Goes (items_of tree.now) frames.old.items (with_value (items_of tree.now) frame value)
         heap.old budget.old frames.new.items step heap.new budget.new) }
@@ -347,16 +796,15 @@ pub fn with_value<'a>(
             Ok(Step::Return(End::Many(values)))
         }
         ValueFrame::Left(op, right, place, scope) => {
-            let step = with_left(frames, op, right, place, scope, value)?;
-            Ok(step)
+            with_left(
+                tree, slots, frames, heap, budget, op, right, place, scope, value,
+            )
         }
         ValueFrame::Right(op, left, place, outer) => {
-            let step = operate(tree, frames, heap, budget, op, left, value, place, outer)?;
-            Ok(step)
+            operate(tree, frames, heap, budget, op, left, value, place, outer)
         }
         ValueFrame::Unary(op, place, outer) => {
-            let step = operate_one(tree, frames, heap, budget, op, value, place, outer)?;
-            Ok(step)
+            operate_one(tree, frames, heap, budget, op, value, place, outer)
         }
         ValueFrame::Answer(handler) => {
             let truth = value.is_true() != handler.negated;
@@ -368,11 +816,10 @@ pub fn with_value<'a>(
             Ok(Step::Enter(Job::Expression(key, scope)))
         }
         ValueFrame::Key(object, place, outer) => {
-            let step = read(frames, heap, budget, object, value, place, outer)?;
-            Ok(step)
+            read(frames, heap, budget, object, value, place, outer)
         }
         ValueFrame::Select(node, place, outer) => {
-            let step = read_named(
+            read_named(
                 frames,
                 heap,
                 budget,
@@ -380,8 +827,7 @@ pub fn with_value<'a>(
                 name(tree, node).as_bytes(),
                 place,
                 outer,
-            )?;
-            Ok(step)
+            )
         }
     }
 }
@@ -407,32 +853,21 @@ pub fn with_call<'a>(
         CallFrame::Function(arguments, place, scope) => {
             let none = Values::new(heap.allocator());
             let then = Then::Call(value, *place);
-            let step = list(
+            list(
                 tree, slots, frames, heap, budget, *arguments, *scope, none, then,
-            )?;
-            Ok(step)
+            )
         }
         CallFrame::Method(node, arguments, place, scope) => {
-            let frame = CallFrame::MethodOf(copy(&value), *arguments, *place, *scope);
-            frames.push(LuaFrame::One(OneFrame::Call(frame)))?;
-            let found = read_named(
-                frames,
-                heap,
-                budget,
-                value,
-                name(tree, *node).as_bytes(),
-                *place,
-                scope.call,
-            )?;
-            Ok(found)
+            find_method(
+                tree, frames, heap, budget, *node, *arguments, *place, *scope, value,
+            )
         }
         CallFrame::MethodOf(object, arguments, place, scope) => {
             let first = one(heap.allocator(), copy(object))?;
             let then = Then::Call(value, *place);
-            let step = list(
+            list(
                 tree, slots, frames, heap, budget, *arguments, *scope, first, then,
-            )?;
-            Ok(step)
+            )
         }
     }
 }

@@ -53,6 +53,19 @@ pub enum AllFrame<'a> {
     Listed(NodeId, &'a [NodeId], Scope, Value, Value, Values),
     /// Values that are dropped.
     Done,
+    /// The values of the call that a statement makes.
+    Wait(Wait<'a>, Scope),
+}
+
+/// What a statement does with the values of the call that it makes.
+#[derive(Clone, Copy, Debug)]
+pub enum Wait<'a> {
+    /// They are dropped.
+    Nothing,
+    /// They are those of these locals.
+    Local(&'a [NodeId]),
+    /// The first one is stored in a local: how many environments outwards, and at which position there.
+    Store(u32, u32),
 }
 
 /// What an expression waits for.

@@ -13,9 +13,9 @@
 //!    `specs/Frames`) computes to what the plan has behind the job. `using(tl_base::proofs::Steps::pushes)`, or
 //!    `payments` where it pays, is meant to prove it; by hand it is `returns`, `enters`, `enters_alone` or `asks` of
 //!    `proofs/Doing`.
-//! 2. It passes on to a step whose plan is its own: `let step = f(..)?; Ok(step)`. Where its plan, its heap or its
-//!    arguments are the callee's by equations alone, the answer is `moved` of `proofs/Below`, with an equation of plans
-//!    and one of heaps.
+//! 2. It passes on to a step whose plan is its own: `let step = f(..)?; Ok(step)`, or `f(..)` alone, whose answer is
+//!    `if-ok` of `proofs/Passing`. Where its plan, its heap or its arguments are the callee's by equations alone, the
+//!    answer is `moved` of `proofs/Below`, with an equation of plans and one of heaps.
 //! 3. It makes a text, an environment or a function first, and passes on: `text_goes` of `proofs/Below`, and
 //!    `entering_goes`, `variable_goes` and `closing_goes` of `proofs/Making`.
 //! 4. It pushes a frame for what is behind a plan, and passes on to a step that does the plan alone: `library_below`,
@@ -24,6 +24,8 @@
 //!    and `returns` where it has one clause.
 //! 5. It chooses by a test that the plan makes too: `chosen` of `proofs/Below`, and for tables `absent_read`,
 //!    `absent_store`, `present_store`, `nil_stored` and `raw_stored` of `proofs/Reading`.
+//! 6. It begins a job behind its payment, with no step between: `begins`, and `lacks` where no unit is left, of
+//!    `proofs/Doing`; `job_below` where a frame waits for the job's end.
 //!
 //! Where a step calls another one twice, the answer needs no name of the call: `same_run` of `proofs/Below` is followed
 //! by what the callee ensures (`proofs/lists/item`).
@@ -44,6 +46,7 @@
 #![tactic(auto)]
 
 pub mod assignments;
+pub mod calling;
 pub mod calls;
 pub mod cells;
 pub mod code;
@@ -58,9 +61,13 @@ pub mod machine;
 pub mod operators;
 pub mod quick;
 pub mod raise;
+pub mod running;
 pub mod statements;
+pub mod storing;
 pub mod tables;
+pub mod turns;
 pub mod values;
+pub mod waiting;
 
 pub use frame::LuaFrame;
 pub use lua::Lua;

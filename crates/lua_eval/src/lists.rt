@@ -16,7 +16,7 @@ ghost use Rattle.lua_eval.specs.AtOnce.{Becomes};
 ghost use Rattle.lua_eval.specs.Steps.{Goes};
 
 use crate::assignments::stores;
-use crate::calls::call;
+use crate::calls::{call, enter_closure};
 use crate::cells::declare_all;
 use crate::frame::{AllFrame, ListFrame, LuaFrame, OneFrame, Then};
 use crate::loops::list_next;
@@ -61,10 +61,7 @@ pub fn list<'a>(
     let mut values = values;
     let rest = values_at_once(tree, slots, heap, budget, nodes, &scope, &mut values)?;
     match rest.split_first() {
-        None => {
-            let step = with_list(tree, slots, frames, heap, budget, scope, values, then)?;
-            Ok(step)
-        }
+        None => { with_list(tree, slots, frames, heap, budget, scope, values, then) }
         Some((first, behind)) => {
             let frame = ListFrame {
                 rest: behind,
@@ -72,15 +69,14 @@ pub fn list<'a>(
                 values,
                 then,
             };
-            let entered = item(frames, *first, frame)?;
-            Ok(entered)
+            item(frames, *first, frame)
         }
     }
 }
 
 /// Evaluates expressions in their order at once, behind values, and pays for them. It gives those that are left, of which
 /// the first isn't evaluated at once.
-fn values_at_once<'a>(
+pub fn values_at_once<'a>(
     tree: &'a Tree<'a>,
     slots: &Slots,
     heap: &mut Heap,
@@ -164,8 +160,11 @@ pub fn with_list<'a>(
     ensures kept { OnOk result (KeepsHeap heap.old heap.new) }
 {
     match then {
-        Then::Call(function, place) => {
-            let step = call(
+        Then::Call(function, place) => match function {
+            Value::Closure(closure) => enter_closure(
+                tree, slots, frames, heap, budget, closure, values, place,
+            ),
+            _ => call(
                 tree,
                 frames,
                 heap,
@@ -175,9 +174,8 @@ pub fn with_list<'a>(
                 values,
                 place,
                 scope.call,
-            )?;
-            Ok(step)
-        }
+            ),
+        },
         Then::Return => Ok(Step::Return(End::Returned(values, Values::new(heap.allocator())))),
         Then::Local(names) => {
             declare_all(heap, names.len(), scope.env, values.as_slice())?;
@@ -185,17 +183,15 @@ pub fn with_list<'a>(
         }
         Then::Assign(targets, held) => {
             let left = targets.len() as u64;
-            let step = stores(
+            stores(
                 tree, slots, frames, heap, budget, targets, scope, held, values, left,
-            )?;
-            Ok(step)
+            )
         }
         Then::Listed(node, names, place) => {
             let values = values.as_slice();
-            let step = first_listed(
+            first_listed(
                 tree, frames, heap, budget, node, names, place, scope, values,
-            )?;
-            Ok(step)
+            )
         }
     }
 }

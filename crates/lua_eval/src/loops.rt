@@ -13,19 +13,22 @@ ghost use Rattle.lua_model.specs.Plans.{within, value_of, statements};
 ghost use Rattle.lua_eval.specs.Numbers.{number_in, numbers_in};
 ghost use Rattle.lua_model.specs.Loops as plans;
 ghost use Rattle.lua_eval.specs.Frames.{first_count, next_turn, with_loop};
+ghost use Rattle.lua_eval.specs.Slots.{ArePaths};
 ghost use Rattle.lua_eval.specs.Steps.{Goes, Does};
 
-use crate::calls::{call, statements};
+use crate::calls::call;
 use crate::cells::{declare, declare_all};
 use crate::code::block_statements;
 use crate::frame::{AllFrame, LoopFrame, LuaFrame, OneFrame, TurnFrame};
 use crate::raise::{LuaStep, raise};
 use crate::values::{copy, split_values, two};
+use crate::waiting::proceed;
 use lua_model::{Caller, End, Job, Loop, Scope};
 use lua_ops::{Fault, operand};
 use lua_table::Heap;
 use lua_value::{Number, Value, Values};
 use tl_base::{Budget, EnvId, NoMemory, NodeId, Place, Step};
+use tl_rename::Slots;
 use tl_tree::{Node, Statement, Tree};
 
 /// A scope in another environment.
@@ -153,7 +156,7 @@ pub fn first_count(
 
 /// Holds where a numeric `for` has a turn with this number: a step above zero runs up to the limit, and any other one down
 /// to it.
-fn runs(at: Number, limit: Number, step: Number) -> bool
+pub fn runs(at: Number, limit: Number, step: Number) -> bool
     ensures { result ≡ plans.runs at limit step }
 {
     if step.get() > 0 {
@@ -341,31 +344,28 @@ pub fn next_turn<'a>(
     ensures kept { OnOk result (KeepsHeap heap.old heap.new) }
 {
     match frame {
-        TurnFrame::While(condition) => {
-            let step = while_test(frames, node, *condition, scope, out)?;
-            Ok(step)
-        }
+        TurnFrame::While(condition) => { while_test(frames, node, *condition, scope, out) }
         TurnFrame::Repeat(condition, inner) => {
-            let step = repeat_test(frames, node, *condition, scope, *inner, out)?;
-            Ok(step)
+            repeat_test(frames, node, *condition, scope, *inner, out)
         }
         TurnFrame::Counted(at, limit, step) => {
             let next = following(at, step);
             Ok(count_from(node, scope, next, *limit, *step, out))
         }
         TurnFrame::Listed(names, place, function, state, control) => {
-            let (function, state, control) = (copy(function), copy(state), copy(control));
-            let step = list_next(
+            let function = copy(function);
+            let state = copy(state);
+            let control = copy(control);
+            list_next(
                 tree, frames, heap, budget, node, names, *place, scope, function, state, control,
                 out,
-            )?;
-            Ok(step)
+            )
         }
     }
 }
 
 /// The next number of a `for`, or `None` where it is out of the profile.
-fn following(at: &Number, step: &Number) -> Option<Number>
+pub fn following(at: &Number, step: &Number) -> Option<Number>
     ensures { result ≡ number_from (at.now +ℤ step.now) }
 {
     Number::new(at.get() + step.get())
@@ -393,25 +393,27 @@ fn count_from(
 /// Does a turn of the loop that a statement is, and all later ones.
 pub fn turn<'a>(
     tree: &'a Tree<'a>,
+    slots: &Slots,
     frames: &mut Vec<LuaFrame<'a>>,
     heap: &mut Heap,
+    budget: &mut Budget,
     node: NodeId,
     scope: Scope,
     turn: Loop,
     out: Values,
 ) -> Result<LuaStep, NoMemory>
-    ensures means { IfOk result (λ step. (left : ℕ) →
+    requires { ArePaths (items_of tree.now) slots.now }
+    ensures means { IfOk result (λ step.
         Goes (items_of tree.now) frames.old.items
         (plans.turn_plan (items_of tree.now) (item_at (items_of tree.now) node) node scope turn out)
-        heap.old left frames.new.items step heap.new left) }
+        heap.old budget.old frames.new.items step heap.new budget.new) }
     ensures kept { OnOk result (KeepsHeap heap.old heap.new) }
 {
     match tree.node(node) {
         Node::Statement(place, statement) => {
-            let step = turn_of(
-                tree, frames, heap, statement, node, *place, scope, turn, out,
-            )?;
-            Ok(step)
+            turn_of(
+                tree, slots, frames, heap, budget, statement, node, *place, scope, turn, out,
+            )
         }
         _ => Ok(Step::Return(End::Fell(out))),
     }
@@ -420,8 +422,10 @@ pub fn turn<'a>(
 #[tactic(auto, using(tl_base::proofs::Steps::pushes))]
 fn turn_of<'a>(
     tree: &'a Tree<'a>,
+    slots: &Slots,
     frames: &mut Vec<LuaFrame<'a>>,
     heap: &mut Heap,
+    budget: &mut Budget,
     statement: &'a Statement,
     node: NodeId,
     place: Place,
@@ -429,32 +433,34 @@ fn turn_of<'a>(
     turn: Loop,
     out: Values,
 ) -> Result<LuaStep, NoMemory>
-    ensures means { IfOk result (λ step. (left : ℕ) →
+    requires { ArePaths (items_of tree.now) slots.now }
+    ensures means { IfOk result (λ step.
         Goes (items_of tree.now) frames.old.items
         (plans.turn_of (items_of tree.now) statement.now node place scope turn out)
-        heap.old left frames.new.items step heap.new left) }
+        heap.old budget.old frames.new.items step heap.new budget.new) }
     ensures kept { OnOk result (KeepsHeap heap.old heap.new) }
 {
     match turn {
         Loop::While => {
-            let step = while_turn(tree, frames, heap, statement, node, scope, out)?;
-            Ok(step)
+            while_turn(
+                tree, slots, frames, heap, budget, statement, node, scope, out,
+            )
         }
         Loop::Repeat => {
-            let step = repeat_turn(tree, frames, heap, statement, node, scope, out)?;
-            Ok(step)
+            repeat_turn(
+                tree, slots, frames, heap, budget, statement, node, scope, out,
+            )
         }
         Loop::Counted(at, limit, by) => {
-            let step = numeric_turn(
-                tree, frames, heap, statement, node, scope, at, limit, by, out,
-            )?;
-            Ok(step)
+            numeric_turn(
+                tree, slots, frames, heap, budget, statement, node, scope, at, limit, by, out,
+            )
         }
         Loop::Listed(env, function, state, control) => {
-            let step = generic_turn(
-                tree, frames, statement, node, place, scope, env, function, state, control, out,
-            )?;
-            Ok(step)
+            generic_turn(
+                tree, slots, frames, heap, budget, statement, node, place, scope, env, function,
+                state, control, out,
+            )
         }
     }
 }
@@ -462,7 +468,10 @@ fn turn_of<'a>(
 #[tactic(auto, using(tl_base::proofs::Steps::pushes))]
 fn generic_turn<'a>(
     tree: &'a Tree<'a>,
+    slots: &Slots,
     frames: &mut Vec<LuaFrame<'a>>,
+    heap: &mut Heap,
+    budget: &mut Budget,
     statement: &'a Statement,
     node: NodeId,
     place: Place,
@@ -473,17 +482,27 @@ fn generic_turn<'a>(
     control: Value,
     out: Values,
 ) -> Result<LuaStep, NoMemory>
-    ensures means { IfOk result (λ step. (s : LuaState) (left : ℕ) →
+    requires { ArePaths (items_of tree.now) slots.now }
+    ensures means { IfOk result (λ step.
         Goes (items_of tree.now) frames.old.items
         (plans.generic_turn (items_of tree.now) statement.now node place scope env function state control out)
-        s left frames.new.items step s left) }
+        heap.old budget.old frames.new.items step heap.new budget.new) }
+    ensures kept { OnOk result (KeepsHeap heap.old heap.new) }
 {
     match statement {
         Statement::GenericFor(names, _, block) => {
             let next = TurnFrame::Listed(names.as_slice(), place, function, state, control);
             frames.push(LuaFrame::Turn(node, scope, next))?;
-            let begun = turn_block(tree, frames, *block, within(scope, env), out)?;
-            Ok(begun)
+            turn_block(
+                tree,
+                slots,
+                frames,
+                heap,
+                budget,
+                *block,
+                within(scope, env),
+                out,
+            )
         }
         _ => Ok(Step::Return(End::Fell(out))),
     }
@@ -492,25 +511,36 @@ fn generic_turn<'a>(
 #[tactic(auto, using(tl_base::proofs::Steps::pushes))]
 fn while_turn<'a>(
     tree: &'a Tree<'a>,
+    slots: &Slots,
     frames: &mut Vec<LuaFrame<'a>>,
     heap: &mut Heap,
+    budget: &mut Budget,
     statement: &'a Statement,
     node: NodeId,
     scope: Scope,
     out: Values,
 ) -> Result<LuaStep, NoMemory>
-    ensures means { IfOk result (λ step. (left : ℕ) →
+    requires { ArePaths (items_of tree.now) slots.now }
+    ensures means { IfOk result (λ step.
         Goes (items_of tree.now) frames.old.items
         (plans.while_turn (items_of tree.now) statement.now node scope out)
-        heap.old left frames.new.items step heap.new left) }
+        heap.old budget.old frames.new.items step heap.new budget.new) }
     ensures kept { OnOk result (KeepsHeap heap.old heap.new) }
 {
     match statement {
         Statement::While(condition, block) => {
             let env = heap.new_env(*block, Some(scope.env))?;
             frames.push(LuaFrame::Turn(node, scope, TurnFrame::While(*condition)))?;
-            let begun = turn_block(tree, frames, *block, within(scope, env), out)?;
-            Ok(begun)
+            turn_block(
+                tree,
+                slots,
+                frames,
+                heap,
+                budget,
+                *block,
+                within(scope, env),
+                out,
+            )
         }
         _ => Ok(Step::Return(End::Fell(out))),
     }
@@ -519,17 +549,20 @@ fn while_turn<'a>(
 #[tactic(auto, using(tl_base::proofs::Steps::pushes))]
 fn repeat_turn<'a>(
     tree: &'a Tree<'a>,
+    slots: &Slots,
     frames: &mut Vec<LuaFrame<'a>>,
     heap: &mut Heap,
+    budget: &mut Budget,
     statement: &'a Statement,
     node: NodeId,
     scope: Scope,
     out: Values,
 ) -> Result<LuaStep, NoMemory>
-    ensures means { IfOk result (λ step. (left : ℕ) →
+    requires { ArePaths (items_of tree.now) slots.now }
+    ensures means { IfOk result (λ step.
         Goes (items_of tree.now) frames.old.items
         (plans.repeat_turn (items_of tree.now) statement.now node scope out)
-        heap.old left frames.new.items step heap.new left) }
+        heap.old budget.old frames.new.items step heap.new budget.new) }
     ensures kept { OnOk result (KeepsHeap heap.old heap.new) }
 {
     match statement {
@@ -537,8 +570,7 @@ fn repeat_turn<'a>(
             let env = heap.new_env(node, Some(scope.env))?;
             let inner = within(scope, env);
             frames.push(LuaFrame::Turn(node, scope, TurnFrame::Repeat(*condition, inner)))?;
-            let begun = turn_block(tree, frames, *block, inner, out)?;
-            Ok(begun)
+            turn_block(tree, slots, frames, heap, budget, *block, inner, out)
         }
         _ => Ok(Step::Return(End::Fell(out))),
     }
@@ -547,8 +579,10 @@ fn repeat_turn<'a>(
 #[tactic(auto, using(tl_base::proofs::Steps::pushes))]
 fn numeric_turn<'a>(
     tree: &'a Tree<'a>,
+    slots: &Slots,
     frames: &mut Vec<LuaFrame<'a>>,
     heap: &mut Heap,
+    budget: &mut Budget,
     statement: &'a Statement,
     node: NodeId,
     scope: Scope,
@@ -557,10 +591,11 @@ fn numeric_turn<'a>(
     by: Number,
     out: Values,
 ) -> Result<LuaStep, NoMemory>
-    ensures means { IfOk result (λ step. (left : ℕ) →
+    requires { ArePaths (items_of tree.now) slots.now }
+    ensures means { IfOk result (λ step.
         Goes (items_of tree.now) frames.old.items
         (plans.numeric_turn (items_of tree.now) statement.now node scope at limit by out)
-        heap.old left frames.new.items step heap.new left) }
+        heap.old budget.old frames.new.items step heap.new budget.new) }
     ensures kept { OnOk result (KeepsHeap heap.old heap.new) }
 {
     match statement {
@@ -568,8 +603,16 @@ fn numeric_turn<'a>(
             let env = heap.new_env(node, Some(scope.env))?;
             declare(heap, env, Value::Number(at))?;
             frames.push(LuaFrame::Turn(node, scope, TurnFrame::Counted(at, limit, by)))?;
-            let begun = turn_block(tree, frames, *block, within(scope, env), out)?;
-            Ok(begun)
+            turn_block(
+                tree,
+                slots,
+                frames,
+                heap,
+                budget,
+                *block,
+                within(scope, env),
+                out,
+            )
         }
         _ => Ok(Step::Return(End::Fell(out))),
     }
@@ -578,16 +621,21 @@ fn numeric_turn<'a>(
 /// Executes a block in a turn, of which so much was emitted before.
 fn turn_block<'a>(
     tree: &'a Tree<'a>,
+    slots: &Slots,
     frames: &mut Vec<LuaFrame<'a>>,
+    heap: &mut Heap,
+    budget: &mut Budget,
     block: NodeId,
     inner: Scope,
     out: Values,
 ) -> Result<LuaStep, NoMemory>
-    ensures means { IfOk result (λ step. (s : LuaState) (left : ℕ) →
+    requires { ArePaths (items_of tree.now) slots.now }
+    ensures means { IfOk result (λ step.
         Goes (items_of tree.now) frames.old.items
         (statements (statements_at (items_of tree.now) block) inner out Give)
-        s left frames.new.items step s left) }
+        heap.old budget.old frames.new.items step heap.new budget.new) }
+    ensures kept { OnOk result (KeepsHeap heap.old heap.new) }
 {
-    let step = statements(frames, block_statements(tree, block), inner, out)?;
-    Ok(step)
+    let list = block_statements(tree, block);
+    proceed(tree, slots, frames, heap, budget, list, inner, out)
 }

@@ -22,11 +22,13 @@ use crate::expressions::{node, with_call, with_value};
 use crate::fields::{read, store};
 use crate::frame::{AllFrame, LuaFrame, OneFrame, TurnFrame, ValueFrame};
 use crate::lists::{list, with_list};
-use crate::loops::{listed, next_turn, turn, with_loop};
+use crate::loops::{listed, next_turn, with_loop};
 use crate::raise::LuaStep;
 use crate::statements::{block, statement, target, with_statement};
 use crate::tables::{store_values, with_field};
+use crate::turns::begin_turn;
 use crate::values::{append, one, split_values};
+use crate::waiting::{proceed, take_all};
 use lua_model::{Caller, End, Job, LuaAnswer, LuaEnd, LuaJob, LuaQuestion, Scope};
 use lua_table::Heap;
 use lua_value::{Value, Values};
@@ -74,14 +76,11 @@ fn with_one<'a>(
     ensures kept { OnOk result (KeepsHeap heap.old heap.new) }
 {
     match frame {
-        OneFrame::Value(frame) => {
-            let step = with_value(tree, frames, heap, budget, frame, value)?;
-            Ok(step)
-        }
+        OneFrame::Value(frame) => { with_value(tree, slots, frames, heap, budget, frame, value) }
         OneFrame::Item(frame) => {
             let mut values = frame.values;
             values.push(value)?;
-            let step = list(
+            list(
                 tree,
                 slots,
                 frames,
@@ -91,29 +90,15 @@ fn with_one<'a>(
                 frame.scope,
                 values,
                 frame.then,
-            )?;
-            Ok(step)
+            )
         }
-        OneFrame::Call(frame) => {
-            let step = with_call(tree, slots, frames, heap, budget, &frame, value)?;
-            Ok(step)
-        }
+        OneFrame::Call(frame) => { with_call(tree, slots, frames, heap, budget, &frame, value) }
         OneFrame::Field(frame, wait) => {
-            let step = with_field(tree, frames, heap, budget, frame, wait, value)?;
-            Ok(step)
+            with_field(tree, frames, heap, budget, frame, wait, value)
         }
-        OneFrame::Target(frame) => {
-            let step = with_target(tree, frames, heap, budget, &frame, value)?;
-            Ok(step)
-        }
-        OneFrame::Loop(frame) => {
-            let step = with_loop(frames, heap, budget, frame, value)?;
-            Ok(step)
-        }
-        OneFrame::Statement(frame) => {
-            let step = with_statement(tree, frames, heap, frame, value)?;
-            Ok(step)
-        }
+        OneFrame::Target(frame) => { with_target(tree, frames, heap, budget, &frame, value) }
+        OneFrame::Loop(frame) => { with_loop(frames, heap, budget, frame, value) }
+        OneFrame::Statement(frame) => { with_statement(tree, frames, heap, frame, value) }
     }
 }
 
@@ -138,7 +123,7 @@ fn with_all<'a>(
         AllFrame::Last(frame) => {
             let mut values = frame.values;
             append(&mut values, more.as_slice())?;
-            let step = with_list(
+            with_list(
                 tree,
                 slots,
                 frames,
@@ -147,8 +132,7 @@ fn with_all<'a>(
                 frame.scope,
                 values,
                 frame.then,
-            )?;
-            Ok(step)
+            )
         }
         AllFrame::LastField(frame) => {
             store_values(heap, frame.table, frame.next, more.as_slice())?;
@@ -157,23 +141,20 @@ fn with_all<'a>(
         AllFrame::Target(rest, all, values, scope, before) => {
             let mut held = before;
             append(&mut held, more.as_slice())?;
-            let step = targets(
+            targets(
                 tree, slots, frames, heap, budget, rest, all, values, scope, held,
-            )?;
-            Ok(step)
+            )
         }
         AllFrame::Stores(all, scope, held, values, left) => {
-            let step = stores(
+            stores(
                 tree, slots, frames, heap, budget, all, scope, held, values, left,
-            )?;
-            Ok(step)
+            )
         }
         AllFrame::Name(name, function, scope) => {
-            let step = define_name(tree, slots, frames, heap, budget, name, function, scope)?;
-            Ok(step)
+            define_name(tree, slots, frames, heap, budget, name, function, scope)
         }
         AllFrame::Listed(node, names, scope, function, state, out) => {
-            let step = listed(
+            listed(
                 heap,
                 node,
                 names,
@@ -182,10 +163,10 @@ fn with_all<'a>(
                 state,
                 more.as_slice(),
                 out,
-            )?;
-            Ok(step)
+            )
         }
         AllFrame::Done => Ok(Step::Return(End::Fell(Values::new(heap.allocator())))),
+        AllFrame::Wait(wait, scope) => take_all(heap, &scope, wait, more.as_slice()),
     }
 }
 
@@ -207,20 +188,13 @@ fn after_one<'a>(
     ensures kept { OnOk result (KeepsHeap heap.old heap.new) }
 {
     match end {
-        End::One(value) => {
-            let step = with_one(tree, slots, frames, heap, budget, frame, value)?;
-            Ok(step)
-        }
+        End::One(value) => { with_one(tree, slots, frames, heap, budget, frame, value) }
         End::Many(values) => {
             let (value, _) = split_values(values.as_slice());
-            let step = with_one(tree, slots, frames, heap, budget, frame, value)?;
-            Ok(step)
-        }
-        End::Fell(_) | End::Broke(_) | End::Returned(_, _) => {
-            let step = with_one(tree, slots, frames, heap, budget, frame, Value::Nil)?;
-            Ok(step)
+            with_one(tree, slots, frames, heap, budget, frame, value)
         }
         End::Raised(value, place) => Ok(Step::Return(End::Raised(value, place))),
+        _ => { with_one(tree, slots, frames, heap, budget, frame, Value::Nil) }
     }
 }
 
@@ -244,19 +218,14 @@ fn after_all<'a>(
     match end {
         End::One(value) => {
             let values = one(heap.allocator(), value)?;
-            let step = with_all(tree, slots, frames, heap, budget, frame, values)?;
-            Ok(step)
+            with_all(tree, slots, frames, heap, budget, frame, values)
         }
-        End::Many(values) => {
-            let step = with_all(tree, slots, frames, heap, budget, frame, values)?;
-            Ok(step)
-        }
-        End::Fell(_) | End::Broke(_) | End::Returned(_, _) => {
-            let none = Values::new(heap.allocator());
-            let step = with_all(tree, slots, frames, heap, budget, frame, none)?;
-            Ok(step)
-        }
+        End::Many(values) => { with_all(tree, slots, frames, heap, budget, frame, values) }
         End::Raised(value, place) => Ok(Step::Return(End::Raised(value, place))),
+        _ => {
+            let none = Values::new(heap.allocator());
+            with_all(tree, slots, frames, heap, budget, frame, none)
+        }
     }
 }
 
@@ -279,17 +248,13 @@ fn after_turn<'a>(
     ensures kept { OnOk result (KeepsHeap heap.old heap.new) }
 {
     match end {
-        End::Fell(out) => {
-            let step = next_turn(tree, frames, heap, budget, node, scope, frame, out)?;
-            Ok(step)
-        }
+        End::Fell(out) => { next_turn(tree, frames, heap, budget, node, scope, frame, out) }
         End::Broke(out) => Ok(Step::Return(End::Fell(out))),
         End::Returned(values, out) => Ok(Step::Return(End::Returned(values, out))),
         End::Raised(value, place) => Ok(Step::Return(End::Raised(value, place))),
         End::One(_) | End::Many(_) => {
             let none = Values::new(heap.allocator());
-            let step = next_turn(tree, frames, heap, budget, node, scope, frame, none)?;
-            Ok(step)
+            next_turn(tree, frames, heap, budget, node, scope, frame, none)
         }
     }
 }
@@ -297,22 +262,27 @@ fn after_turn<'a>(
 #[tactic(auto, using(tl_base::proofs::Steps::pushes))]
 /// Goes on with a block, of which a statement ended so.
 fn after_statement<'a>(
+    tree: &'a Tree<'a>,
+    slots: &Slots,
     frames: &mut Vec<LuaFrame<'a>>,
+    heap: &mut Heap,
+    budget: &mut Budget,
     rest: &'a [NodeId],
     scope: Scope,
     before: Values,
     end: End,
 ) -> Result<LuaStep, NoMemory>
-    ensures means { IfOk result (λ step. (items : Items) (s : LuaState) (left : ℕ) →
-        Goes items frames.old.items (on_fell end before Give (λ all. statements rest.now scope all Give)) s left
-        frames.new.items step s left) }
+    requires { ArePaths (items_of tree.now) slots.now }
+    ensures means { IfOk result (λ step.
+        Goes (items_of tree.now) frames.old.items (on_fell end before Give (λ all. statements rest.now scope all Give))
+        heap.old budget.old frames.new.items step heap.new budget.new) }
+    ensures kept { OnOk result (KeepsHeap heap.old heap.new) }
 {
     let mut out = before;
     match end {
         End::Fell(more) => {
             append(&mut out, more.as_slice())?;
-            let step = statements(frames, rest, scope, out)?;
-            Ok(step)
+            proceed(tree, slots, frames, heap, budget, rest, scope, out)
         }
         End::Broke(more) => {
             append(&mut out, more.as_slice())?;
@@ -323,10 +293,7 @@ fn after_statement<'a>(
             Ok(Step::Return(End::Returned(values, out)))
         }
         End::Raised(value, place) => Ok(Step::Return(End::Raised(value, place))),
-        _ => {
-            let step = statements(frames, rest, scope, out)?;
-            Ok(step)
-        }
+        _ => { proceed(tree, slots, frames, heap, budget, rest, scope, out) }
     }
 }
 
@@ -428,13 +395,10 @@ impl<'a> Machine for Steps<'a> {
         task: LuaJob,
     ) -> Result<LuaStep, NoMemory> {
         match task {
-            LuaJob::Chunk => {
-                let step = chunk(self.tree, frames, heap)?;
-                Ok(step)
-            }
+            LuaJob::Chunk => { chunk(self.tree, frames, heap) }
             LuaJob::Call(function, args, place) => {
                 let by = Caller::ByOther;
-                let step = call(
+                call(
                     self.tree,
                     frames,
                     heap,
@@ -444,20 +408,15 @@ impl<'a> Machine for Steps<'a> {
                     args,
                     place,
                     Some(place),
-                )?;
-                Ok(step)
+                )
             }
             LuaJob::Expr(node, env) => {
                 frames.push(LuaFrame::One(OneFrame::Value(ValueFrame::Alone)))?;
                 Ok(Step::Enter(Job::Expression(node, scope_at(env))))
             }
-            LuaJob::Emitted(node, env) => {
-                let step = block(self.tree, frames, heap, node, scope_at(env))?;
-                Ok(step)
-            }
+            LuaJob::Emitted(node, env) => { block(self.tree, frames, heap, node, scope_at(env)) }
             LuaJob::Index(object, text, place) => {
-                let step = read_alone(frames, heap, budget, object, Value::Text(text), place)?;
-                Ok(step)
+                read_alone(frames, heap, budget, object, Value::Text(text), place)
             }
         }
     }
@@ -472,32 +431,25 @@ impl<'a> Machine for Steps<'a> {
     ) -> Result<LuaStep, NoMemory> {
         match job {
             Job::Expression(id, scope) => {
-                let step = node(self.tree, self.slots, frames, heap, budget, id, scope)?;
-                Ok(step)
+                node(self.tree, self.slots, frames, heap, budget, id, scope)
             }
             Job::Statement(id, scope) => {
-                let step = statement(self.tree, self.slots, frames, heap, budget, id, scope)?;
-                Ok(step)
+                statement(self.tree, self.slots, frames, heap, budget, id, scope)
             }
-            Job::Target(id, scope) => {
-                let step = target(self.tree, frames, heap, id, scope)?;
-                Ok(step)
-            }
+            Job::Target(id, scope) => { target(self.tree, frames, heap, id, scope) }
             Job::Turn(id, scope, kind, out) => {
-                let step = turn(self.tree, frames, heap, id, scope, kind, out)?;
-                Ok(step)
+                begin_turn(
+                    self.tree, self.slots, frames, heap, budget, id, scope, kind, out,
+                )
             }
             Job::Callback(closure, args, place) => {
-                let step = call_closure(self.tree, frames, heap, budget, closure, args, place)?;
-                Ok(step)
+                call_closure(self.tree, frames, heap, budget, closure, args, place)
             }
             Job::Read(object, key, place, outer) => {
-                let step = read(frames, heap, budget, object, key, place, outer)?;
-                Ok(step)
+                read(frames, heap, budget, object, key, place, outer)
             }
             Job::Store(object, key, value, place, outer) => {
-                let step = store(frames, heap, budget, object, key, value, place, outer)?;
-                Ok(step)
+                store(frames, heap, budget, object, key, value, place, outer)
             }
         }
     }
@@ -513,12 +465,10 @@ impl<'a> Machine for Steps<'a> {
     ) -> Result<LuaStep, NoMemory> {
         match frame {
             LuaFrame::One(frame) => {
-                let step = after_one(self.tree, self.slots, frames, heap, budget, frame, end)?;
-                Ok(step)
+                after_one(self.tree, self.slots, frames, heap, budget, frame, end)
             }
             LuaFrame::All(frame) => {
-                let step = after_all(self.tree, self.slots, frames, heap, budget, frame, end)?;
-                Ok(step)
+                after_all(self.tree, self.slots, frames, heap, budget, frame, end)
             }
             LuaFrame::Library => {
                 heap.end_call();
@@ -529,12 +479,12 @@ impl<'a> Machine for Steps<'a> {
                 Ok(Step::Return(returned(heap, end)))
             }
             LuaFrame::Turn(node, scope, kind) => {
-                let step = after_turn(self.tree, frames, heap, budget, node, scope, &kind, end)?;
-                Ok(step)
+                after_turn(self.tree, frames, heap, budget, node, scope, &kind, end)
             }
             LuaFrame::Block(rest, scope, out) => {
-                let step = after_statement(frames, rest, scope, out, end)?;
-                Ok(step)
+                after_statement(
+                    self.tree, self.slots, frames, heap, budget, rest, scope, out, end,
+                )
             }
         }
     }

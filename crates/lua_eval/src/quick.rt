@@ -1,10 +1,11 @@
 // Expressions that are evaluated at once: without a frame, and without a change of the heap. They call nothing and raise
 // nothing.
 
-ghost use Rattle.std.specs.Prelude.{◌≡◌, ◌≤◌, ℕ, [], IfSome, IfNone, Option};
+ghost use Rattle.std.specs.Prelude.{◌≡◌, ◌≤◌, ℕ, [], codes, IfSome, IfNone, Option};
 ghost use Rattle.tl_tree.specs.Arena.{items_of};
 ghost use Rattle.tl_tree.specs.Code.{Items, name_at};
 ghost use Rattle.tl_tree.specs.Nodes.{item_at};
+ghost use Rattle.tl_lex.specs.Values.{value_of as literal_value};
 ghost use Rattle.tl_base.specs.declared.machine.Step.TheVariants.{Return};
 ghost use Rattle.lua_model.specs.declared.end.End.TheVariants.{One};
 ghost use Rattle.lua_model.specs.declared.job.Job.TheVariants as jobs;
@@ -12,10 +13,11 @@ ghost use Rattle.lua_model.specs.declared.scope.Scope as scopes;
 ghost use Rattle.tl_base.specs.declared.place.Place as places;
 ghost use Rattle.tl_base.specs.declared.ids.NodeId as ids;
 ghost use Rattle.lua_model.specs.Plans.{value_of, with_text_of, give};
-ghost use Rattle.lua_model.specs.Fields.{read};
+ghost use Rattle.lua_model.specs.Fields.{read, read_by};
 ghost use Rattle.lua_model.specs.Operators as plans;
 ghost use Rattle.lua_model.specs.Expressions.{node_plan, expression_plan, index_plan, select_plan};
 ghost use Rattle.lua_table.specs.LuaState.{LuaState};
+ghost use Rattle.lua_table.specs.Metatables.{handler_at};
 ghost use Rattle.lua_eval.specs.Slots.{ArePaths};
 ghost use Rattle.lua_eval.specs.Steps.{Goes};
 ghost use Rattle.lua_eval.specs.AtOnce.{EndsAtOnce};
@@ -24,11 +26,13 @@ use crate::cells::local;
 use crate::code::name;
 use crate::expressions::numeral;
 use crate::operators::{Operation, operation_of, whole};
+use crate::values::copy;
 use lua_model::Scope;
-use lua_ops::{Arithmetic, Outcome};
+use lua_ops::{Arithmetic, Outcome, handler_of};
 use lua_table::Heap;
 use lua_value::Value;
-use tl_base::{Budget, NodeId, Text};
+use tl_base::{Budget, NodeId, TableId, Text};
+use tl_lex::literal_value;
 use tl_rename::Slots;
 use tl_tree::{BinaryOperator, Expression, Node, Tree, UnaryOperator};
 
@@ -56,10 +60,11 @@ pub trait Depth {
         ensures same { heap.new ≡ heap.old };
 }
 
-/// A local, a number, nil, `true` or `false`.
+/// A local, a number, a text that was made before, nil, `true` or `false`.
 pub struct Leaf;
 
 impl Depth for Leaf {
+    #[inline(always)]
     fn find<'a>(
         tree: &'a Tree<'a>,
         slots: &Slots,
@@ -82,6 +87,7 @@ impl Depth for Leaf {
 }
 
 /// The value of a leaf.
+#[inline(always)]
 fn leaf_value<'a>(
     tree: &'a Tree<'a>,
     slots: &Slots,
@@ -100,12 +106,39 @@ fn leaf_value<'a>(
             None => None,
         },
         Node::Numeral(_, text) => Some(numeral(text)),
+        Node::Literal(_, text) => literal(heap, text),
         Node::Expression(_, expression) => constant(expression),
         _ => None,
     }
 }
 
+/// The value of a literal, where its text was made before.
+fn literal(heap: &Heap, text: &str) -> Option<Value>
+    ensures { IfSome result (λ value. (items : Items) (left : ℕ) →
+        Goes items [] (with_text_of (literal_value text.now) give) heap.now left [] (Return (One value)) heap.now left) }
+{
+    match literal_value(heap.allocator(), text) {
+        Ok(bytes) => known_text(heap, &bytes),
+        Err(_) => None,
+    }
+}
+
+/// The text of bytes, where it was made before.
+fn known_text(heap: &Heap, bytes: &[u8]) -> Option<Value>
+    ensures { IfSome result (λ value. (items : Items) (left : ℕ) →
+        Goes items [] (with_text_of bytes.now give) heap.now left [] (Return (One value)) heap.now left) }
+{
+    if bytes.len() > Text::MAX_LEN {
+        return None;
+    }
+    match heap.find(bytes) {
+        Some(text) => Some(Value::Text(text)),
+        None => None,
+    }
+}
+
 /// The value of nil, `true` or `false`.
+#[inline]
 fn constant(expression: &Expression) -> Option<Value>
     ensures { IfSome result (λ value. (items : Items) (n : ids.NodeId) (place : places.Place) (scope : scopes.Scope)
         (s : LuaState) (left : ℕ) →
@@ -236,6 +269,7 @@ fn both<'a, D: Depth>(
 }
 
 /// The result of an operator between two values, where it is no handler's answer.
+#[inline(always)]
 fn calculate(heap: &mut Heap, op: BinaryOperator, a: Value, b: Value) -> Option<Value>
     ensures value { IfSome result (λ value. (items : Items) (place : places.Place) (outer : Option places.Place) (left : ℕ) →
         Goes items [] (plans.operate items op a b place outer) heap.old left [] (Return (One value)) heap.old left) }
@@ -342,13 +376,7 @@ fn index<'a, D: Depth>(
 {
     let object = D::find(tree, slots, heap, object, scope, left)?;
     let key = D::find(tree, slots, heap, key, scope, object.left)?;
-    match field(heap, object.value, key.value) {
-        Some(value) => Some(Found {
-            value,
-            left: key.left,
-        }),
-        None => None,
-    }
+    field(heap, object.value, key.value, key.left)
 }
 
 /// Evaluates an object, and gives what stands there under a name.
@@ -368,39 +396,66 @@ fn select<'a, D: Depth>(
     ensures same { heap.new ≡ heap.old }
 {
     let object = D::find(tree, slots, heap, object, scope, left)?;
-    match named_field(heap, object.value, name(tree, key).as_bytes()) {
-        Some(value) => Some(Found {
-            value,
-            left: object.left,
-        }),
-        None => None,
-    }
+    let name = name(tree, key).as_bytes();
+    named_field(heap, object.value, name, object.left)
 }
 
-/// What a table has under a name, where that isn't nil.
-fn named_field(heap: &Heap, object: Value, name: &[u8]) -> Option<Value>
-    ensures { IfSome result (λ value. (items : Items) (place : places.Place) (outer : Option places.Place) (left : ℕ) →
+/// What an object gives under a name at once with so many units.
+#[inline(always)]
+pub fn named_field(heap: &Heap, object: Value, name: &[u8], left: u64) -> Option<Found>
+    ensures { IfSome result (λ found. (items : Items) (place : places.Place) (outer : Option places.Place) →
         Goes items [] (with_text_of name.now (λ key. read object key place outer give))
-        heap.now left [] (Return (One value)) heap.now left) }
+        heap.now left [] (Return (One found.value)) heap.now found.left) }
 {
     if name.len() > Text::MAX_LEN {
         return None;
     }
     match heap.find(name) {
-        Some(text) => field(heap, object, Value::Text(text)),
+        Some(text) => field(heap, object, Value::Text(text), left),
         None => None,
     }
 }
 
-/// What a table has under a key, where that isn't nil.
-fn field(heap: &Heap, object: Value, key: Value) -> Option<Value>
-    ensures { IfSome result (λ value. (items : Items) (place : places.Place) (outer : Option places.Place) (left : ℕ) →
-        Goes items [] (read object key place outer give) heap.now left [] (Return (One value)) heap.now left) }
+/// What an object gives under a key at once with so many units: what a table has there, or else the one that it says to read.
+#[inline(always)]
+fn field(heap: &Heap, object: Value, key: Value, left: u64) -> Option<Found>
+    ensures { IfSome result (λ found. (items : Items) (place : places.Place) (outer : Option places.Place) →
+        Goes items [] (read object key place outer give) heap.now left [] (Return (One found.value)) heap.now found.left) }
 {
     match object {
         Value::Table(table) => {
-            let value = heap.get(table, key);
-            if value.is_nil() { None } else { Some(value) }
+            let value = heap.get(table, copy(&key));
+            if value.is_nil() {
+                inherited(heap, table, key, left)
+            } else {
+                Some(Found { value, left })
+            }
+        }
+        _ => None,
+    }
+}
+
+/// What the table that another one says to read has under a key that is absent there, where that isn't nil.
+#[inline(never)]
+fn inherited(heap: &Heap, table: TableId, key: Value, left: u64) -> Option<Found>
+    ensures { IfSome result (λ found. (items : Items) (place : places.Place) (outer : Option places.Place) →
+        Goes items [] (read_by (handler_at heap.now table (codes "__index")) table key place outer give)
+        heap.now left [] (Return (One found.value)) heap.now found.left) }
+{
+    if left == 0 {
+        return None;
+    }
+    match handler_of(heap, &Value::Table(table), "__index") {
+        Value::Table(parent) => {
+            let value = heap.get(parent, key);
+            if value.is_nil() {
+                None
+            } else {
+                Some(Found {
+                    value,
+                    left: left - 1,
+                })
+            }
         }
         _ => None,
     }
@@ -432,32 +487,6 @@ pub fn at_once<'a>(
     ensures same { heap.new ≡ heap.old }
 {
     match Quick::find(tree, slots, heap, node, scope, budget.left()) {
-        Some(found) => {
-            spend(budget, found.left);
-            Some(found.value)
-        }
-        None => None,
-    }
-}
-
-/// Evaluates an expression at once that is no name, number or text, whose unit is paid, and pays for what is in it, where
-/// that is possible.
-pub fn expression_at_once<'a>(
-    tree: &'a Tree<'a>,
-    slots: &Slots,
-    heap: &mut Heap,
-    budget: &mut Budget,
-    expression: &'a Expression,
-    scope: &Scope,
-) -> Option<Value>
-    requires { ArePaths (items_of tree.now) slots.now }
-    ensures found { IfSome result (λ value. (n : ids.NodeId) (place : places.Place) →
-        Goes (items_of tree.now) [] (expression_plan (items_of tree.now) expression.now n place scope.now)
-        heap.old budget.old [] (Return (One value)) heap.old budget.new) }
-    ensures none { IfNone result (budget.new ≡ budget.old) }
-    ensures same { heap.new ≡ heap.old }
-{
-    match compound::<Inner>(tree, slots, heap, expression, scope, budget.left()) {
         Some(found) => {
             spend(budget, found.left);
             Some(found.value)

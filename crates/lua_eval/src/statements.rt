@@ -23,8 +23,8 @@ use crate::assignments::{define, held, targets};
 use crate::calls::statements;
 use crate::cells::declare;
 use crate::code::{block_statements, path_method, path_names};
+use crate::expressions::begin_list;
 use crate::frame::{AllFrame, LoopFrame, LuaFrame, OneFrame, StatementFrame, TargetFrame, Then};
-use crate::lists::list;
 use crate::loops::{while_test, within};
 use crate::quick::at_once;
 use crate::raise::LuaStep;
@@ -113,7 +113,7 @@ fn otherwise_block<'a>(
 }
 
 /// The condition and the block of an arm.
-fn arm(tree: &Tree<'_>, node: NodeId) -> (NodeId, NodeId)
+pub fn arm(tree: &Tree<'_>, node: NodeId) -> (NodeId, NodeId)
     ensures condition { result.0 ≡ arm_condition (item_at (items_of tree.now) node) }
     ensures block { result.1 ≡ arm_block (item_at (items_of tree.now) node) }
 {
@@ -174,10 +174,9 @@ pub fn statement<'a>(
 {
     match tree.node(node) {
         Node::Statement(place, statement) => {
-            let step = execute(
+            execute(
                 tree, slots, frames, heap, budget, statement, node, *place, scope,
-            )?;
-            Ok(step)
+            )
         }
         _ => Ok(Step::Return(End::Fell(Values::new(heap.allocator())))),
     }
@@ -204,28 +203,20 @@ fn execute<'a>(
 {
     match statement {
         Statement::Assign(all, values) => {
-            let step = assign(tree, slots, frames, heap, budget, all, values, scope)?;
-            Ok(step)
+            assign(tree, slots, frames, heap, budget, all, values, scope)
         }
         Statement::Call(call) => {
             frames.push(LuaFrame::All(AllFrame::Done))?;
             Ok(Step::Enter(Job::Expression(*call, scope)))
         }
-        Statement::Do(inner) => {
-            let step = block(tree, frames, heap, *inner, scope)?;
-            Ok(step)
-        }
-        Statement::While(condition, _) => {
-            let step = while_first(frames, heap, node, *condition, scope)?;
-            Ok(step)
-        }
+        Statement::Do(inner) => { block(tree, frames, heap, *inner, scope) }
+        Statement::While(condition, _) => { while_first(frames, heap, node, *condition, scope) }
         Statement::Repeat(_, _) => {
             let none = Values::new(heap.allocator());
             Ok(Step::Enter(Job::Turn(node, scope, Loop::Repeat, none)))
         }
         Statement::If(list, otherwise) => {
-            let step = first_arm(tree, slots, frames, heap, budget, list, *otherwise, scope)?;
-            Ok(step)
+            first_arm(tree, slots, frames, heap, budget, list, *otherwise, scope)
         }
         Statement::NumericFor(_, first, limit, step, _) => {
             let frame = LoopFrame::Initial(node, *limit, *step, place, scope);
@@ -233,30 +224,21 @@ fn execute<'a>(
             Ok(Step::Enter(Job::Expression(*first, scope)))
         }
         Statement::GenericFor(names, values, _) => {
-            let step = generic_for(
+            generic_for(
                 tree, slots, frames, heap, budget, node, names, values, place, scope,
-            )?;
-            Ok(step)
+            )
         }
-        Statement::Function(path, _) => {
-            let step = define_at(tree, frames, heap, *path, node, scope)?;
-            Ok(step)
-        }
-        Statement::LocalFunction(_, body) => {
-            let step = local_function(heap, *body, scope)?;
-            Ok(step)
-        }
+        Statement::Function(path, _) => { define_at(tree, frames, heap, *path, node, scope) }
+        Statement::LocalFunction(_, body) => { local_function(heap, *body, scope) }
         Statement::Local(names, values) => {
-            let step = locals(tree, slots, frames, heap, budget, names, values, scope)?;
-            Ok(step)
+            locals(tree, slots, frames, heap, budget, names, values, scope)
         }
         Statement::Emit(value) => {
             frames.push(LuaFrame::One(OneFrame::Statement(StatementFrame::Emit)))?;
             Ok(Step::Enter(Job::Expression(*value, scope)))
         }
         Statement::Return(values) => {
-            let step = return_values(tree, slots, frames, heap, budget, values, scope)?;
-            Ok(step)
+            return_values(tree, slots, frames, heap, budget, values, scope)
         }
         Statement::Break => Ok(Step::Return(End::Broke(Values::new(heap.allocator())))),
         Statement::Terra(_, _)
@@ -352,14 +334,8 @@ fn first_arm<'a>(
 {
     let list = list.as_slice();
     match choose(tree, slots, heap, budget, list, otherwise, &scope) {
-        Choice::Block(node) => {
-            let step = block(tree, frames, heap, node, scope)?;
-            Ok(step)
-        }
-        Choice::Arms(rest) => {
-            let step = arms(tree, frames, heap, rest, otherwise, scope)?;
-            Ok(step)
-        }
+        Choice::Block(node) => { block(tree, frames, heap, node, scope) }
+        Choice::Arms(rest) => { arms(tree, frames, heap, rest, otherwise, scope) }
     }
 }
 
@@ -383,10 +359,9 @@ fn assign<'a>(
     let none = Values::new(heap.allocator());
     let all = all.as_slice();
     let values = values.as_slice();
-    let step = targets(
+    targets(
         tree, slots, frames, heap, budget, all, all, values, scope, none,
-    )?;
-    Ok(step)
+    )
 }
 
 /// A generic `for`: the values of its expressions, and then the first call of the iterator.
@@ -413,7 +388,7 @@ fn generic_for<'a>(
     let names = names.as_slice();
     let values = values.as_slice();
     let then = Then::Listed(node, names, place);
-    let step = list(tree, slots, frames, heap, budget, values, scope, none, then)?;
+    let step = begin_list(tree, slots, frames, heap, budget, values, scope, none, then)?;
     Ok(step)
 }
 
@@ -472,7 +447,7 @@ fn locals<'a>(
     let names = names.as_slice();
     let values = values.as_slice();
     let then = Then::Local(names);
-    let step = list(tree, slots, frames, heap, budget, values, scope, none, then)?;
+    let step = begin_list(tree, slots, frames, heap, budget, values, scope, none, then)?;
     Ok(step)
 }
 
@@ -496,8 +471,7 @@ fn return_values<'a>(
     let none = Values::new(heap.allocator());
     let values = values.as_slice();
     let then = Then::Return;
-    let step = list(tree, slots, frames, heap, budget, values, scope, none, then)?;
-    Ok(step)
+    begin_list(tree, slots, frames, heap, budget, values, scope, none, then)
 }
 
 #[tactic(auto, using(tl_base::proofs::Steps::pushes))]

@@ -1,27 +1,34 @@
 // Constructors of tables (Lua 5.1 manual, section 2.5.7).
 
-ghost use Rattle.std.specs.Prelude.{◌≡◌, ◌+◌, ℕ, IfOk, OnOk};
+ghost use Rattle.std.specs.Prelude.{◌≡◌, ◌+◌, ℕ, List, ◌∷◌, true, false, IfOk, IfSome, IfNone, OnOk};
+ghost use Rattle.tl_base.specs.declared.ids.NodeId as ids;
 ghost use Rattle.tl_tree.specs.Arena.{items_of};
 ghost use Rattle.lua_table.specs.LuaState.{LuaState};
 ghost use Rattle.lua_table.specs.Keeping.{KeepsHeap};
 ghost use Rattle.lua_model.specs.Fields.{store_raw};
+ghost use Rattle.lua_model.specs.Plans.{LuaPlan, value_of, with_text_of};
 ghost use Rattle.lua_model.specs.Tables as plans;
-ghost use Rattle.tl_tree.specs.Code.{Items};
+ghost use Rattle.tl_tree.specs.Code.{Items, name_at};
 ghost use Rattle.tl_tree.specs.Nodes.{item_of};
 ghost use Rattle.lua_eval.specs.Fields.{kind_of_field, field_by};
 ghost use Rattle.lua_eval.specs.Frames.{fields_from, with_field};
+ghost use Rattle.tl_base.specs.declared.place.Place as places;
+ghost use Rattle.lua_eval.specs.AtOnce.{Becomes};
+ghost use Rattle.lua_eval.specs.Slots.{ArePaths};
 ghost use Rattle.lua_eval.specs.Steps.{Goes};
 
 use crate::code::name;
 use crate::frame::{AllFrame, FieldFrame, LuaFrame, OneFrame, TableFrame};
 use crate::lists::enter_below;
 use crate::operators::whole;
+use crate::quick::at_once;
 use crate::raise::{LuaStep, raise, text_value};
 use lua_model::{End, Job, Scope};
 use lua_ops::Fault;
 use lua_table::Heap;
 use lua_value::Value;
-use tl_base::{Budget, NoMemory, NodeId, Place, Step, TableId};
+use tl_base::{Budget, NoMemory, NodeId, Place, Step, TableId, Text};
+use tl_rename::Slots;
 use tl_tree::{Node, Piece, Tree};
 
 #[tactic(auto, using(crate::proofs::Numbering::stored_next, crate::proofs::Numbering::full_is_within))]
@@ -70,8 +77,153 @@ fn field_kind(node: &Node<'_>) -> FieldKind
     }
 }
 
+/// Fields that are left, and the number of the next one without a key.
+#[derive(Clone, Copy, Debug)]
+struct Remaining<'a> {
+    rest: &'a [NodeId],
+    next: u64,
+}
+
 /// Evaluates and stores the fields that are left.
 pub fn fields<'a>(
+    tree: &'a Tree<'a>,
+    slots: &Slots,
+    frames: &mut Vec<LuaFrame<'a>>,
+    heap: &mut Heap,
+    budget: &mut Budget,
+    rest: &'a [NodeId],
+    table: TableId,
+    next: u64,
+    place: Place,
+    scope: Scope,
+) -> Result<LuaStep, NoMemory>
+    requires { ArePaths (items_of tree.now) slots.now }
+    ensures means { IfOk result (λ step.
+        Goes (items_of tree.now) frames.old.items
+        (plans.fields (items_of tree.now) rest.now table next place scope)
+        heap.old budget.old frames.new.items step heap.new budget.new) }
+    ensures kept { OnOk result (KeepsHeap heap.old heap.new) }
+{
+    let fields = Remaining { rest, next };
+    let left = fields_at_once(tree, slots, heap, budget, fields, table, &scope)?;
+    fields_left(tree, frames, left.rest, table, left.next, place, scope)
+}
+
+/// Evaluates and stores fields at once, as far as that is possible, and pays for them. It gives those that are left.
+fn fields_at_once<'a>(
+    tree: &'a Tree<'a>,
+    slots: &Slots,
+    heap: &mut Heap,
+    budget: &mut Budget,
+    fields: Remaining<'a>,
+    table: TableId,
+    scope: &Scope,
+) -> Result<Remaining<'a>, NoMemory>
+    requires { ArePaths (items_of tree.now) slots.now }
+    ensures passes { IfOk result (λ left. (place : places.Place) →
+        Becomes (items_of tree.now)
+        (plans.fields (items_of tree.now) fields.entry.rest.now table fields.entry.next place scope.now)
+        heap.old budget.old
+        (plans.fields (items_of tree.now) left.rest.now table left.next place scope.now) heap.new budget.new) }
+    ensures kept { OnOk result (KeepsHeap heap.old heap.new) }
+{
+    let mut rest = fields.rest;
+    let mut next = fields.next;
+    'fields: for _ in 0..fields.rest.len() {
+        match rest.split_first() {
+            None => return Ok(Remaining { rest, next }),
+            Some((first, more)) => {
+                let done = field_at_once(tree, slots, heap, budget, *first, table, next, scope)?;
+                match done {
+                    None => return Ok(Remaining { rest, next }),
+                    Some(behind) => {
+                        rest = more;
+                        next = behind;
+                    }
+                }
+            }
+        }
+    }
+    Ok(Remaining { rest, next })
+}
+
+/// Evaluates and stores a field at once, where that is possible, and pays for it. It gives the number of the next field without a
+/// key.
+fn field_at_once<'a>(
+    tree: &'a Tree<'a>,
+    slots: &Slots,
+    heap: &mut Heap,
+    budget: &mut Budget,
+    node: NodeId,
+    table: TableId,
+    next: u64,
+    scope: &Scope,
+) -> Result<Option<u64>, NoMemory>
+    requires { ArePaths (items_of tree.now) slots.now }
+    ensures passes { IfOk result (λ r. IfSome r (λ behind. (rest : List ids.NodeId) (place : places.Place) →
+        Becomes (items_of tree.now) (plans.fields (items_of tree.now) (node ∷ rest) table next place scope.now)
+        heap.old budget.old (plans.fields (items_of tree.now) rest table behind place scope.now) heap.new budget.new)) }
+    ensures heap { IfOk result (λ r. IfNone r (heap.new ≡ heap.old)) }
+    ensures budget { IfOk result (λ r. IfNone r (budget.new ≡ budget.old)) }
+    ensures kept { OnOk result (KeepsHeap heap.old heap.new) }
+{
+    match field_kind(tree.node(node)) {
+        FieldKind::Named(key, value) => {
+            if named_at_once(tree, slots, heap, budget, key, value, table, scope)? {
+                Ok(Some(next))
+            } else {
+                Ok(None)
+            }
+        }
+        FieldKind::Keyed(_, _) => Ok(None),
+        FieldKind::Listed => match at_once(tree, slots, heap, budget, node, scope) {
+            None => Ok(None),
+            Some(value) => {
+                store_values(heap, table, next, &[value])?;
+                let behind = following(next)?;
+                Ok(Some(behind))
+            }
+        },
+    }
+}
+
+/// Evaluates and stores a field with a name at once, and pays for it, where that is possible.
+fn named_at_once<'a>(
+    tree: &'a Tree<'a>,
+    slots: &Slots,
+    heap: &mut Heap,
+    budget: &mut Budget,
+    key: NodeId,
+    value: NodeId,
+    table: TableId,
+    scope: &Scope,
+) -> Result<bool, NoMemory>
+    requires { ArePaths (items_of tree.now) slots.now }
+    ensures passes { IfOk result (λ done. done ≡ true → (place : places.Place) (go : LuaPlan) →
+        Becomes (items_of tree.now) (value_of value scope.now (λ v.
+        with_text_of (name_at (items_of tree.now) key) (λ k. store_raw table k v place go)))
+        heap.old budget.old go heap.new budget.new) }
+    ensures heap { IfOk result (λ done. done ≡ false → heap.new ≡ heap.old) }
+    ensures budget { IfOk result (λ done. done ≡ false → budget.new ≡ budget.old) }
+    ensures kept { OnOk result (KeepsHeap heap.old heap.new) }
+{
+    let bytes = name(tree, key).as_bytes();
+    // A name that is too long is no key.
+    if bytes.len() > Text::MAX_LEN {
+        return Ok(false);
+    }
+    match at_once(tree, slots, heap, budget, value, scope) {
+        None => Ok(false),
+        Some(value) => {
+            let text = heap.intern(bytes)?;
+            heap.store(table, Value::Text(text), value)?;
+            Ok(true)
+        }
+    }
+}
+
+/// Evaluates and stores the fields that are left, of which the first isn't evaluated at once.
+pub fn fields_left<'a>(
     tree: &'a Tree<'a>,
     frames: &mut Vec<LuaFrame<'a>>,
     rest: &'a [NodeId],
@@ -95,8 +247,7 @@ pub fn fields<'a>(
                 scope,
             };
             let kind = field_kind(tree.node(*first));
-            let step = field(frames, *first, frame, kind)?;
-            Ok(step)
+            field(frames, *first, frame, kind)
         }
     }
 }
@@ -121,10 +272,7 @@ fn field<'a>(
             frames.push(LuaFrame::One(OneFrame::Field(frame, FieldFrame::Key(value))))?;
             Ok(Step::Enter(Job::Expression(key, frame.scope)))
         }
-        FieldKind::Listed => {
-            let step = listed_field(frames, node, frame)?;
-            Ok(step)
-        }
+        FieldKind::Listed => { listed_field(frames, node, frame) }
     }
 }
 
@@ -172,7 +320,7 @@ fn store_field<'a>(
         return Ok(raised);
     }
     heap.store(frame.table, key, value)?;
-    let step = fields(
+    fields_left(
         tree,
         frames,
         frame.rest,
@@ -180,8 +328,7 @@ fn store_field<'a>(
         frame.next,
         frame.place,
         frame.scope,
-    )?;
-    Ok(step)
+    )
 }
 
 /// Stores the value of a field with a name, and goes on with the fields behind it.
@@ -201,8 +348,7 @@ fn named_field<'a>(
     ensures kept { OnOk result (KeepsHeap heap.old heap.new) }
 {
     let key = text_value(heap, name(tree, node).as_bytes())?;
-    let step = store_field(tree, frames, heap, budget, frame, key, value)?;
-    Ok(step)
+    store_field(tree, frames, heap, budget, frame, key, value)
 }
 
 /// The number behind another. No tree has so many fields that there is none.
@@ -232,7 +378,7 @@ fn numbered_field<'a>(
 {
     store_values(heap, frame.table, frame.next, &[value])?;
     let next = following(frame.next)?;
-    let step = fields(
+    fields_left(
         tree,
         frames,
         frame.rest,
@@ -240,8 +386,7 @@ fn numbered_field<'a>(
         next,
         frame.place,
         frame.scope,
-    )?;
-    Ok(step)
+    )
 }
 
 #[tactic(auto, using(tl_base::proofs::Steps::pushes))]
@@ -261,21 +406,12 @@ pub fn with_field<'a>(
     ensures kept { OnOk result (KeepsHeap heap.old heap.new) }
 {
     match wait {
-        FieldFrame::Next => {
-            let step = numbered_field(tree, frames, heap, budget, frame, value)?;
-            Ok(step)
-        }
-        FieldFrame::Named(node) => {
-            let step = named_field(tree, frames, heap, budget, frame, node, value)?;
-            Ok(step)
-        }
+        FieldFrame::Next => { numbered_field(tree, frames, heap, budget, frame, value) }
+        FieldFrame::Named(node) => { named_field(tree, frames, heap, budget, frame, node, value) }
         FieldFrame::Key(node) => {
             frames.push(LuaFrame::One(OneFrame::Field(frame, FieldFrame::Under(value))))?;
             Ok(Step::Enter(Job::Expression(node, frame.scope)))
         }
-        FieldFrame::Under(key) => {
-            let step = store_field(tree, frames, heap, budget, frame, key, value)?;
-            Ok(step)
-        }
+        FieldFrame::Under(key) => { store_field(tree, frames, heap, budget, frame, key, value) }
     }
 }

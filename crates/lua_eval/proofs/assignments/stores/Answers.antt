@@ -3,7 +3,6 @@ use Rattle.lua_value.specs.declared.value.Value.{Value}
 use Rattle.lua_table.specs.Cells.{nth_value}
 use Rattle.tl_tree.specs.Arena.{items_of}
 use Rattle.tl_tree.specs.Nodes.{item_at}
-use Rattle.lua_model.specs.Plans.{fell}
 use Rattle.lua_model.specs.Assignments.{store_target, stores}
 use Rattle.lua_eval.specs.declared.frame.LuaFrame.TheVariants as frames
 use Rattle.lua_eval.specs.declared.frame.AllFrame.TheVariants as alls

@@ -1,4 +1,4 @@
-use Rattle.std.proofs.Common.{sym, ap, refl, ◌∙◌, List, [], ◌∷◌, length}
+use Rattle.std.proofs.Common.{sym, ap, ◌∙◌, List, [], ◌∷◌, length}
 use Rattle.tl_base.specs.declared.ids.NodeId.{NodeId}
 use Rattle.tl_tree.specs.Arena.{items_of}
 use Rattle.lua_value.specs.declared.value.Value.{Value}
@@ -16,7 +16,7 @@ returns-in_ok-step-in-None-clause-means c =
     let a = c.args in
     let items = items_of a.tree.now in
     let fs = a.frames.now.items in
-    let fs2 = c.list.new.frames.items in
+    let fs2 = c.begin_list.new.frames.items in
     let ns = a.all.now in
     let es = a.values.now in
     let s = a.heap.now in
@@ -27,10 +27,10 @@ returns-in_ok-step-in-None-clause-means c =
     let go : List Value → LuaPlan = λ vs. stores items ns a.scope held vs (length ns) in
     let step = c.in_ok-step-in-None.step in
     passed items fs fs2 (targets_plan items a.rest.now ns es a.scope a.held) (targets_plan items rest ns es a.scope held)
-    s s c.list.new.heap a.budget.now mid c.list.new.budget step
+    s s c.begin_list.new.heap a.budget.now mid c.begin_list.new.budget step
     (c.in_ok-rest.ensures.passes (λ us. values_of es a.scope [] (λ vs. stores items ns a.scope us vs (length ns))))
     (moved items fs fs2 (targets_plan items rest ns es a.scope held) (values_of es a.scope none go)
-    s c.targets_at_once.new.heap c.list.new.heap mid c.list.new.budget step
+    s c.targets_at_once.new.heap c.begin_list.new.heap mid c.begin_list.new.budget step
     (ap (λ (l : List NodeId). targets_plan items l ns es a.scope held) (none_is rest c.in-None.ensures.cases)
     ∙ ap (λ (us : List Value). values_of es a.scope us go) (sym c.new-none.ensures)) (sym c.in_ok-rest.ensures.same)
     c.in_ok-step-in-None.ensures.means)

@@ -11,7 +11,7 @@ use Rattle.lua_model.specs.Plans.{LuaPlan, raise}
 use Rattle.lua_model.specs.Calls.{call, call_handler}
 use Rattle.lua_eval.specs.Calls.{call_fault}
 use Rattle.lua_eval.proofs.Below.{moved}
-use Rattle.lua_eval.proofs.Calling.{not_called}
+use Rattle.lua_eval.proofs.Invoking.{not_called}
 use Rattle.lua_eval.proofs.calls.call.Goals as goal
 
 pub returns-in_ok-step-in-Library-clause-means : goal.returns-in_ok-step-in-Library-clause-means

@@ -5,7 +5,7 @@ use Rattle.std.proofs.Common.{sym, ap, ◌∙◌}
 use Rattle.tl_base.specs.declared.ids.NodeId.{NodeId}
 use Rattle.tl_tree.specs.Arena.{items_of}
 use Rattle.tl_tree.specs.Code.{statements_at}
-use Rattle.lua_eval.proofs.Calling.{closure_called, closure_refused}
+use Rattle.lua_eval.proofs.Invoking.{closure_called, closure_refused}
 use Rattle.lua_eval.proofs.calls.call_closure.Goals as goal
 
 pub returns-then-may_call-clause-means : goal.returns-then-may_call-clause-means

@@ -5,7 +5,7 @@ use Rattle.lua_ops.specs.declared.fault.Fault.TheVariants.{Call}
 use Rattle.lua_model.specs.Plans.{LuaPlan, raise}
 use Rattle.lua_model.specs.Calls.{call_handler}
 use Rattle.lua_eval.proofs.Below.{moved}
-use Rattle.lua_eval.proofs.Calling.{not_handled}
+use Rattle.lua_eval.proofs.Invoking.{not_handled}
 use Rattle.lua_eval.proofs.calls.call_handler.Goals as goal
 
 pub returns-in_ok-step-in-Library-clause-means : goal.returns-in_ok-step-in-Library-clause-means

@@ -1,5 +1,5 @@
 use Rattle.std.proofs.Common.{sym, ◌∙◌}
-use Rattle.lua_eval.proofs.Calling.{library_refused}
+use Rattle.lua_eval.proofs.Invoking.{library_refused}
 use Rattle.lua_eval.proofs.calls.call_library.Goals as goal
 
 pub returns-in_ok-step-clause-means : goal.returns-in_ok-step-clause-means

@@ -1,4 +1,4 @@
-use Rattle.std.proofs.Common.{List, [], ◌∷◌, refl, sym, ap, ◌∙◌}
+use Rattle.std.proofs.Common.{List, [], refl, sym, ap}
 use Rattle.tl_base.specs.declared.machine.Step.TheVariants.{Return}
 use Rattle.tl_base.specs.Plan.{Give}
 use Rattle.tl_tree.specs.Arena.{items_of}
@@ -26,4 +26,4 @@ returns-in-Some-clause-found c =
     (behind_value items [] [] a.key scope key.value (λ k. held object.value k)
     s c.find.new.heap s object.left key.left key.left (Return (Many all)) c.in_ok-object.ensures.same c.in_ok-key.ensures.found
     (moved items [] [] (held object.value key.value) (Give (Many all)) s s s key.left key.left (Return (Many all))
-    (ap (λ (vs : List Value). Give (Many vs)) (sym c.in-Some.ensures)) refl (returned items [] (Many all) s key.left)))
+    (ap (λ (vs : List Value). Give (Many vs)) (sym c.in-Some.ensures.held)) refl (returned items [] (Many all) s key.left)))

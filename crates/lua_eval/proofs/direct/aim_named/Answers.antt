@@ -25,4 +25,4 @@ returns-in-Some-clause-found c =
     (moved items [] [] (named (name_at items a.key)) (named c.as_bytes.result.now) s s s object.left object.left (Return end)
     (ap named (sym (c.as_bytes.ensures.value ∙ c.name.ensures))) refl
     (in_heap items (named c.as_bytes.result.now) end s c.find.new.heap object.left object.left
-    c.in_ok-object.ensures.same (c.in-Some.ensures items object.left)))
+    c.in_ok-object.ensures.same (c.in-Some.ensures.found items object.left)))

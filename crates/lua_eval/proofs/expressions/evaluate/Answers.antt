@@ -18,6 +18,7 @@ use Rattle.lua_eval.specs.declared.frame.CallFrame.TheVariants as of_call
 use Rattle.lua_eval.proofs.Below.{moved}
 use Rattle.lua_eval.proofs.Doing.{enters}
 use Rattle.lua_eval.proofs.Evaluating.{binary_enters}
+use Rattle.lua_eval.proofs.Passing.{if-ok}
 use Rattle.lua_eval.proofs.expressions.evaluate.Goals as goal
 
 pub returns-in_ok-push-in-Binary-clause-means : goal.returns-in_ok-push-in-Binary-clause-means
@@ -62,16 +63,17 @@ returns-in_ok-push-in-Method-clause-means c = λ left.
     (enters items fs pushed (frames.One (ones.Call (of_call.Method m.name arguments a.place a.scope))) job s left
     c.in_ok-push-in-Method.ensures.items))
 
-pub returns-in_ok-step-in-Table-clause-means : goal.returns-in_ok-step-in-Table-clause-means
-returns-in_ok-step-in-Table-clause-means c = λ left.
+pub returns-in_ok-table-in-Table-clause-means : goal.returns-in_ok-table-in-Table-clause-means
+returns-in_ok-table-in-Table-clause-means c =
     let a = c.args in
     let m = c.in-Table in
     let items = items_of a.tree.now in
     let s = a.heap.now in
     let t = c.new_table.new.self in
     let table = c.in_ok-table-in-Table.table in
-    rw m.is (moved items a.frames.now.items c.fields.new.frames.items (fields items m.list (next_table s) 1 a.place a.scope)
-    (fields items c.as_slice.result.now table 1 a.place a.scope) (with_table s) t t left left c.in_ok-step-in-Table.step
+    rw m.is (if-ok c.fields_left.result c.fields_left.ensures.means (λ step it. λ left.
+    moved items a.frames.now.items c.fields_left.new.frames.items (fields items m.list (next_table s) 1 a.place a.scope)
+    (fields items c.as_slice.result.now table 1 a.place a.scope) (with_table s) t t left left step
     (ap (λ (ns : List NodeId). fields items ns (next_table s) 1 a.place a.scope) (sym c.as_slice.ensures)
     ∙ ap (λ (id : TableId). fields items c.as_slice.result.now id 1 a.place a.scope) (sym c.in_ok-table-in-Table.ensures.id))
-    (sym c.in_ok-table-in-Table.ensures.ok) (c.in_ok-step-in-Table.ensures.means t left))
+    (sym c.in_ok-table-in-Table.ensures.ok) (it t left)))

@@ -1,11 +1,8 @@
 use Rattle.std.proofs.Common.{List, [], refl, sym, ap}
-use Rattle.tl_base.specs.declared.machine.Step.TheVariants.{Enter}
 use Rattle.tl_tree.specs.Arena.{items_of}
 use Rattle.lua_value.specs.declared.value.Value.{Value}
 use Rattle.lua_model.specs.declared.job.Job.TheVariants as jobs
-use Rattle.lua_model.specs.declared.end.End.TheVariants.{One}
 use Rattle.lua_model.specs.Plans.{LuaPlan}
-use Rattle.lua_eval.specs.CallPlans.{call_plan}
 use Rattle.lua_eval.specs.Frames.{list_plan}
 use Rattle.lua_eval.specs.declared.frame.LuaFrame.TheVariants as frames
 use Rattle.lua_eval.specs.declared.frame.OneFrame.TheVariants as ones
@@ -14,10 +11,11 @@ use Rattle.lua_eval.specs.declared.frame.Then.TheVariants as thens
 use Rattle.lua_eval.proofs.AtOnce.{behind_value}
 use Rattle.lua_eval.proofs.Below.{moved}
 use Rattle.lua_eval.proofs.Doing.{enters}
+use Rattle.lua_eval.proofs.Passing.{if-ok}
 use Rattle.lua_eval.proofs.expressions.evaluate_call.Goals as goal
 
-pub returns-in_ok-step-in-Some-clause-means : goal.returns-in_ok-step-in-Some-clause-means
-returns-in_ok-step-in-Some-clause-means c =
+pub returns-in-Some-clause-means : goal.returns-in-Some-clause-means
+returns-in-Some-clause-means c =
     let a = c.args in
     let items = items_of a.tree.now in
     let fs = a.frames.now.items in
@@ -28,11 +26,10 @@ returns-in_ok-step-in-Some-clause-means c =
     let f = c.in-Some.value in
     let none = c.new-none.result in
     let plan : List Value → LuaPlan = λ vs. list_plan items a.arguments.now a.scope vs (thens.Call f a.place) in
-    let step = c.in_ok-step-in-Some.step in
-    behind_value items fs fs2 a.function a.scope f (λ v. list_plan items a.arguments.now a.scope [] (thens.Call v a.place))
+    if-ok c.list.result c.list.ensures.means (λ step it. behind_value items fs fs2 a.function a.scope f (λ v. list_plan items a.arguments.now a.scope [] (thens.Call v a.place))
     s s c.list.new.heap a.budget.now mid c.list.new.budget step refl c.in-Some.ensures.found
     (moved items fs fs2 (plan []) (plan none) s t c.list.new.heap mid c.list.new.budget step
-    (ap plan (sym c.new-none.ensures)) (sym c.in-Some.ensures.same) c.in_ok-step-in-Some.ensures.means)
+    (ap plan (sym c.new-none.ensures)) (sym c.in-Some.ensures.same) it))
 
 pub returns-in_ok-push-in-None-clause-means : goal.returns-in_ok-push-in-None-clause-means
 returns-in_ok-push-in-None-clause-means c =

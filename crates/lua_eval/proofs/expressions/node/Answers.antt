@@ -1,4 +1,4 @@
-use Rattle.std.proofs.Common.{◌≡◌, refl, sym, ap, ◌∙◌, rules, Some, None}
+use Rattle.std.proofs.Common.{◌≡◌, refl, ap, ◌∙◌, rules, Some, None}
 use Rattle.tl_tree.specs.Arena.{items_of}
 use Rattle.tl_tree.specs.Item as kept
 use Rattle.tl_tree.specs.Nodes.{item_at}
@@ -12,6 +12,7 @@ use Rattle.lua_model.specs.Expressions.{expression_plan}
 use Rattle.lua_eval.specs.Slots.{path_of}
 use Rattle.lua_eval.proofs.Doing.{returns as returned}
 use Rattle.lua_eval.proofs.Evaluating.{node_goes, returns_known, local_goes, global_goes, literal_goes}
+use Rattle.lua_eval.proofs.Passing.{if-ok}
 use Rattle.lua_eval.proofs.expressions.node.Goals as goal
 
 pub returns-in-Some-clause-means : goal.returns-in-Some-clause-means
@@ -25,16 +26,16 @@ returns-in-Some-clause-means c =
     local_goes items a.frames.now.items m.place m.field-1 m.text.now a.node a.scope a.heap.now a.budget.now
     c.local-value.result c.in-Some.depth c.in-Some.position e p c.local-value.ensures
 
-pub returns-in_ok-step-in-None-clause-means : goal.returns-in_ok-step-in-None-clause-means
-returns-in_ok-step-in-None-clause-means c =
+pub returns-in-None-clause-means : goal.returns-in-None-clause-means
+returns-in-None-clause-means c =
     let a = c.args in
     let m = c.in-Name in
     let items = items_of a.tree.now in
     let e : item_at items a.node ≡ kept.Name m.place m.field-1 m.text.now = search rules in
     let p : None ≡ path_of (binder items a.node) = c.in-None.ensures ∙ ap path_of (c.requires a.node) in
-    global_goes items a.frames.now.items c.read_named.new.frames.items m.place m.field-1 m.text.now c.as_bytes.result.now
-    a.node a.scope a.heap.now c.read_named.new.heap a.budget.now c.read_named.new.budget c.in_ok-step-in-None.step
-    e p c.as_bytes.ensures.value (c.in_ok-step-in-None.ensures.means items)
+    if-ok c.read_named.result c.read_named.ensures.means (λ v it. global_goes items a.frames.now.items c.read_named.new.frames.items m.place m.field-1 m.text.now c.as_bytes.result.now
+    a.node a.scope a.heap.now c.read_named.new.heap a.budget.now c.read_named.new.budget v
+    e p c.as_bytes.ensures.value (it items))
 
 pub returns-in-Numeral-clause-means : goal.returns-in-Numeral-clause-means
 returns-in-Numeral-clause-means c =
@@ -57,15 +58,15 @@ returns-in_ok-value-in-Literal-clause-means c =
     a.heap.now c.text_value.new.heap a.budget.now c.in_ok-value-in-Literal.value e c.in_ok-bytes-in-Literal.ensures
     (rw c.deref.ensures.value at c.in_ok-value-in-Literal.ensures.value) (rw c.deref.ensures.value at c.in_ok-value-in-Literal.ensures.heap)
 
-pub returns-in_ok-step-in-Expression-clause-means : goal.returns-in_ok-step-in-Expression-clause-means
-returns-in_ok-step-in-Expression-clause-means c =
+pub returns-in-Expression-clause-means : goal.returns-in-Expression-clause-means
+returns-in-Expression-clause-means c =
     let a = c.args in
     let m = c.in-Expression in
     let items = items_of a.tree.now in
     let e : item_at items a.node ≡ kept.Expression m.place m.expression = search rules in
-    node_goes items a.frames.now.items c.evaluate_quickly.new.frames.items (kept.Expression m.place m.expression) a.node a.scope
-    (expression_plan items m.expression a.node m.place a.scope) a.heap.now a.heap.now c.evaluate_quickly.new.heap
-    a.budget.now c.evaluate_quickly.new.budget c.in_ok-step-in-Expression.step e refl refl c.in_ok-step-in-Expression.ensures.means
+    if-ok c.evaluate_further.result c.evaluate_further.ensures.means (λ v it. node_goes items a.frames.now.items c.evaluate_further.new.frames.items (kept.Expression m.place m.expression) a.node a.scope
+    (expression_plan items m.expression a.node m.place a.scope) a.heap.now a.heap.now c.evaluate_further.new.heap
+    a.budget.now c.evaluate_further.new.budget v e refl refl it)
 
 pub returns-in-Statement-clause-means : goal.returns-in-Statement-clause-means
 returns-in-Statement-clause-means c =

@@ -1,7 +1,6 @@
 use Rattle.std.proofs.Common.{◌≡◌, [], ◌∷◌, sym, ap, ◌∙◌}
 use Rattle.tl_tree.specs.Arena.{items_of}
 use Rattle.lua_value.specs.declared.value.Value.{Value}
-use Rattle.lua_table.specs.LuaState.{LuaState}
 use Rattle.lua_ops.specs.declared.outcome.Outcome.{Outcome}
 use Rattle.lua_ops.specs.Outcomes.{concat_outcome, concat_store}
 use Rattle.lua_model.specs.Operators.{joined}

@@ -1,4 +1,4 @@
-use Rattle.std.proofs.Common.{[], refl}
+use Rattle.std.proofs.Common.{[]}
 use Rattle.tl_base.specs.declared.machine.Step.TheVariants.{Return}
 use Rattle.lua_value.specs.declared.value.Value.TheVariants as values
 use Rattle.lua_model.specs.declared.end.End.TheVariants.{One}
@@ -14,7 +14,7 @@ returns-in-Some c =
     let s = a.heap.now in
     let bytes = a.name.now in
     let text = c.in-Some.text in
-    if-some c.field.result c.field.ensures (λ v h. λ items place outer left.
-    text_goes items [] [] bytes (λ key. read a.object key place outer give) s s s left left (Return (One v)) (values.Text text)
+    if-some c.field.result c.field.ensures (λ found h. λ items place outer.
+    text_goes items [] [] bytes (λ key. read a.object key place outer give) s s s a.left found.left (Return (One found.value)) (values.Text text)
     (found_value s bytes text c.if-name-gt-MAX_LEN.false c.in-Some.ensures) (found_state s bytes text c.if-name-gt-MAX_LEN.false c.in-Some.ensures)
-    (h items place outer left))
+    (h items place outer))

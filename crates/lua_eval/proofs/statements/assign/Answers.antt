@@ -5,6 +5,7 @@ use Rattle.lua_value.specs.declared.value.Value.{Value}
 use Rattle.lua_model.specs.Assignments.{assign_plan}
 use Rattle.lua_eval.specs.Frames.{targets_plan}
 use Rattle.lua_eval.proofs.Below.{moved}
+use Rattle.lua_eval.proofs.Passing.{if-ok}
 use Rattle.lua_eval.proofs.statements.assign.Goals as goal
 
 pub returns-clause-means : goal.returns-clause-means
@@ -14,10 +15,10 @@ returns-clause-means c =
     let ns = c.as_slice-all.result.now in
     let es = c.as_slice-values.result.now in
     let none = c.new-none.result in
-    moved items a.frames.now.items c.targets.new.frames.items (assign_plan items a.all.now a.values.now a.scope)
+    if-ok c.targets.result c.targets.ensures.means (λ v it. moved items a.frames.now.items c.targets.new.frames.items (assign_plan items a.all.now a.values.now a.scope)
     (targets_plan items ns ns es a.scope none) a.heap.now a.heap.now c.targets.new.heap a.budget.now c.targets.new.budget
-    c.in_ok-step.step
+    v
     (ap (λ (l : List NodeId). assign_plan items l a.values.now a.scope) (sym c.as_slice-all.ensures)
     ∙ ap (λ (l : List NodeId). assign_plan items ns l a.scope) (sym c.as_slice-values.ensures)
     ∙ ap (λ (us : List Value). targets_plan items ns ns es a.scope us) (sym c.new-none.ensures))
-    refl c.in_ok-step.ensures.means
+    refl it)

@@ -1,4 +1,4 @@
-use Rattle.std.proofs.Common.{◌≡◌, List, true, false, sym, ap, ◌∙◌}
+use Rattle.std.proofs.Common.{List, true, false, sym, ap, ◌∙◌}
 use Rattle.tl_base.specs.declared.ids.NodeId.{NodeId}
 use Rattle.tl_base.specs.Layer.{state}
 use Rattle.tl_base.specs.Plan.{run}

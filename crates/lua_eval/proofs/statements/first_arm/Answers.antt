@@ -1,4 +1,4 @@
-use Rattle.std.proofs.Common.{sym, ap, refl, ◌∙◌, List}
+use Rattle.std.proofs.Common.{sym, ap, ◌∙◌, List}
 use Rattle.tl_base.specs.declared.ids.NodeId.{NodeId}
 use Rattle.tl_base.specs.Layer.{state}
 use Rattle.tl_base.specs.Plan.{Give, run}
@@ -11,10 +11,11 @@ use Rattle.lua_eval.specs.declared.statements.Choice.{Choice}
 use Rattle.lua_eval.proofs.AtOnce.{passed}
 use Rattle.lua_eval.proofs.Below.{jobs_of, moved}
 use Rattle.lua_eval.proofs.Keeping.{keeps_by}
+use Rattle.lua_eval.proofs.Passing.{if-ok, on-ok}
 use Rattle.lua_eval.proofs.statements.first_arm.Goals as goal
 
-pub returns-in_ok-step-in-Block-clause-means : goal.returns-in_ok-step-in-Block-clause-means
-returns-in_ok-step-in-Block-clause-means c =
+pub returns-in-Block-clause-means : goal.returns-in-Block-clause-means
+returns-in-Block-clause-means c =
     let a = c.args in
     let items = items_of a.tree.now in
     let fs = a.frames.now.items in
@@ -23,26 +24,26 @@ returns-in_ok-step-in-Block-clause-means c =
     let t = c.choose.new.heap in
     let s2 = c.block.new.heap in
     let mid = c.choose.new.budget in
-    let step = c.in_ok-step-in-Block.step in
     let choice = c.choose.result in
     let part : Becomes items (arms_plan items a.list.now a.otherwise a.scope) s a.budget.now
     (choice_plan items choice a.otherwise a.scope) s mid =
     λ later. ap (λ (l : List NodeId). run (jobs_of items) (arms_plan items l a.otherwise a.scope) (state s a.budget.now) later)
     (sym c.as_slice-list.ensures)
     ∙ c.choose.ensures.passes later in
-    passed items fs fs2 (arms_plan items a.list.now a.otherwise a.scope) (choice_plan items choice a.otherwise a.scope)
+    if-ok c.block.result c.block.ensures.means (λ step it. passed items fs fs2 (arms_plan items a.list.now a.otherwise a.scope) (choice_plan items choice a.otherwise a.scope)
     s s s2 a.budget.now mid mid step part
     (moved items fs fs2 (choice_plan items choice a.otherwise a.scope) (block_plan items c.in-Block.node a.scope Give) s t s2 mid mid step
     (ap (λ (x : Choice). choice_plan items x a.otherwise a.scope) c.in-Block.is) (sym c.choose.ensures.same)
-    (c.in_ok-step-in-Block.ensures.means mid))
+    (it mid)))
 
-pub returns-in_ok-step-in-Block-clause-kept : goal.returns-in_ok-step-in-Block-clause-kept
-returns-in_ok-step-in-Block-clause-kept c =
+pub returns-in-Block-clause-kept : goal.returns-in-Block-clause-kept
+returns-in-Block-clause-kept c =
     let s = c.args.heap.now in
-    keeps_by s c.choose.new.heap s c.block.new.heap c.choose.ensures.same (keeps_itself s) c.in_ok-step-in-Block.ensures.kept
+    on-ok c.block.result c.block.ensures.kept (λ kept.
+    keeps_by s c.choose.new.heap s c.block.new.heap c.choose.ensures.same (keeps_itself s) kept)
 
-pub returns-in_ok-step-in-Arms-clause-means : goal.returns-in_ok-step-in-Arms-clause-means
-returns-in_ok-step-in-Arms-clause-means c =
+pub returns-in-Arms-clause-means : goal.returns-in-Arms-clause-means
+returns-in-Arms-clause-means c =
     let a = c.args in
     let items = items_of a.tree.now in
     let fs = a.frames.now.items in
@@ -51,21 +52,21 @@ returns-in_ok-step-in-Arms-clause-means c =
     let t = c.choose.new.heap in
     let s2 = c.arms.new.heap in
     let mid = c.choose.new.budget in
-    let step = c.in_ok-step-in-Arms.step in
     let choice = c.choose.result in
     let part : Becomes items (arms_plan items a.list.now a.otherwise a.scope) s a.budget.now
     (choice_plan items choice a.otherwise a.scope) s mid =
     λ later. ap (λ (l : List NodeId). run (jobs_of items) (arms_plan items l a.otherwise a.scope) (state s a.budget.now) later)
     (sym c.as_slice-list.ensures)
     ∙ c.choose.ensures.passes later in
-    passed items fs fs2 (arms_plan items a.list.now a.otherwise a.scope) (choice_plan items choice a.otherwise a.scope)
+    if-ok c.arms.result c.arms.ensures.means (λ step it. passed items fs fs2 (arms_plan items a.list.now a.otherwise a.scope) (choice_plan items choice a.otherwise a.scope)
     s s s2 a.budget.now mid mid step part
     (moved items fs fs2 (choice_plan items choice a.otherwise a.scope) (arms_plan items c.in-Arms.rest.now a.otherwise a.scope)
     s t s2 mid mid step
     (ap (λ (x : Choice). choice_plan items x a.otherwise a.scope) c.in-Arms.is) (sym c.choose.ensures.same)
-    (c.in_ok-step-in-Arms.ensures.means mid))
+    (it mid)))
 
-pub returns-in_ok-step-in-Arms-clause-kept : goal.returns-in_ok-step-in-Arms-clause-kept
-returns-in_ok-step-in-Arms-clause-kept c =
+pub returns-in-Arms-clause-kept : goal.returns-in-Arms-clause-kept
+returns-in-Arms-clause-kept c =
     let s = c.args.heap.now in
-    keeps_by s c.choose.new.heap s c.arms.new.heap c.choose.ensures.same (keeps_itself s) c.in_ok-step-in-Arms.ensures.kept
+    on-ok c.arms.result c.arms.ensures.kept (λ kept.
+    keeps_by s c.choose.new.heap s c.arms.new.heap c.choose.ensures.same (keeps_itself s) kept)

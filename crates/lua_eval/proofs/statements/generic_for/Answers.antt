@@ -17,8 +17,8 @@ returns-clause-means c =
     let none = c.new-none.result in
     let go : List Value → LuaPlan = λ vs.
     list_next items a.node names a.place a.scope (nth_value vs 0) (nth_value vs 1) (nth_value vs 2) [] in
-    moved items a.frames.now.items c.list.new.frames.items (generic_plan items a.node a.names.now a.values.now a.place a.scope)
-    (values_of es a.scope none go) a.heap.now a.heap.now c.list.new.heap a.budget.now c.list.new.budget c.in_ok-step.step
+    moved items a.frames.now.items c.begin_list.new.frames.items (generic_plan items a.node a.names.now a.values.now a.place a.scope)
+    (values_of es a.scope none go) a.heap.now a.heap.now c.begin_list.new.heap a.budget.now c.begin_list.new.budget c.in_ok-step.step
     (ap (λ (l : List NodeId). generic_plan items a.node l a.values.now a.place a.scope) (sym c.as_slice-names.ensures)
     ∙ ap (λ (l : List NodeId). generic_plan items a.node names l a.place a.scope) (sym c.as_slice-values.ensures)
     ∙ ap (λ (us : List Value). values_of es a.scope us go) (sym c.new-none.ensures))

@@ -15,9 +15,9 @@ returns-clause-means c =
     let names = c.as_slice-names.result.now in
     let es = c.as_slice-values.result.now in
     let none = c.new-none.result in
-    moved items a.frames.now.items c.list.new.frames.items (local_plan a.names.now a.values.now a.scope)
-    (list_plan items es a.scope none (thens.Local c.as_slice-names.result)) a.heap.now a.heap.now c.list.new.heap
-    a.budget.now c.list.new.budget c.in_ok-step.step
+    moved items a.frames.now.items c.begin_list.new.frames.items (local_plan a.names.now a.values.now a.scope)
+    (list_plan items es a.scope none (thens.Local c.as_slice-names.result)) a.heap.now a.heap.now c.begin_list.new.heap
+    a.budget.now c.begin_list.new.budget c.in_ok-step.step
     (ap (λ (l : List NodeId). local_plan l a.values.now a.scope) (sym c.as_slice-names.ensures)
     ∙ ap (λ (l : List NodeId). local_plan names l a.scope) (sym c.as_slice-values.ensures)
     ∙ ap (λ (us : List Value). list_plan items es a.scope us (thens.Local c.as_slice-names.result)) (sym c.new-none.ensures))

@@ -1,6 +1,7 @@
 use Rattle.std.proofs.Common.{sym, ◌∙◌}
 use Rattle.tl_tree.specs.Arena.{items_of}
 use Rattle.lua_eval.specs.Frames.{fields_from}
+use Rattle.lua_eval.proofs.Passing.{if-ok}
 use Rattle.lua_eval.proofs.Reading.{nil_stored, raw_stored}
 use Rattle.lua_eval.proofs.tables.store_field.Goals as goal
 
@@ -20,6 +21,7 @@ returns-clause-means c =
     let f = a.frame in
     let items = items_of a.tree.now in
     let t = c.store.new.self in
-    raw_stored items a.frames.now.items c.fields.new.frames.items f.table a.key a.value f.place (fields_from items f f.next)
-    a.heap.now t t a.budget.now a.budget.now c.in_ok-step.step
-    (sym c.is_nil.ensures.value ∙ c.if-is_nil.false) c.in_ok-store.ensures.ok (c.in_ok-step.ensures.means t a.budget.now)
+    if-ok c.fields_left.result c.fields_left.ensures.means (λ step it.
+    raw_stored items a.frames.now.items c.fields_left.new.frames.items f.table a.key a.value f.place (fields_from items f f.next)
+    a.heap.now t t a.budget.now a.budget.now step
+    (sym c.is_nil.ensures.value ∙ c.if-is_nil.false) c.in_ok-store.ensures.ok (it t a.budget.now))

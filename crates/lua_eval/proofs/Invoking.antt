@@ -1,11 +1,12 @@
 -- Calls, where one more may be in progress and where not.
 use Rattle.std.proofs.Common.{◌≡◌, ℕ, Bool, true, false, List, [], ◌∷◌, ◌++◌, refl, sym, ap, ◌∙◌, Option}
-use Rattle.std.specs.Prelude.{nat_lt}
+use Rattle.std.specs.Prelude.{nat_lt, if◌then◌else◌}
 use Rattle.tl_base.specs.declared.ids.ClosureId.{ClosureId}
 use Rattle.tl_base.specs.declared.ids.NodeId.{NodeId}
 use Rattle.tl_base.specs.declared.ids.TableId.{TableId}
 use Rattle.tl_base.specs.declared.place.Place.{Place}
-use Rattle.tl_base.specs.Plan.{Give, Write}
+use Rattle.tl_base.specs.Layer.{state}
+use Rattle.tl_base.specs.Plan.{Run, Give, Write, then_do, run}
 use Rattle.tl_base.specs.declared.machine.Step.TheVariants.{Stop}
 use Rattle.tl_tree.specs.Code.{Items, function_at, statements_at}
 use Rattle.lua_value.specs.declared.library.LibFn.{LibFn}
@@ -16,18 +17,24 @@ use Rattle.lua_table.specs.LuaState.{LuaState}
 use Rattle.lua_table.specs.Heap.{closure_at, deeper}
 use Rattle.lua_ops.specs.declared.fault.Fault.TheVariants.{StackOverflow}
 use Rattle.lua_model.specs.declared.end.End.{End}
+use Rattle.lua_model.specs.declared.end.End.TheVariants.{One}
 use Rattle.lua_model.specs.declared.question.LuaQuestion.{LuaQuestion}
 use Rattle.lua_model.specs.declared.question.LuaQuestion.TheVariants.{Library}
+use Rattle.lua_model.specs.declared.question.LuaAnswer.{LuaAnswer}
+use Rattle.lua_model.specs.declared.job.Job.TheVariants as jobs
 use Rattle.lua_model.specs.declared.job.Caller.{Caller}
+use Rattle.lua_model.specs.declared.job.Caller.TheVariants.{ByNode}
 use Rattle.lua_model.specs.declared.scope.Scope.{Scope}
-use Rattle.lua_model.specs.Plans.{LuaPlan, statements, raise}
+use Rattle.lua_model.specs.Expressions.{call_plan}
+use Rattle.lua_model.specs.Plans.{LuaPlan, on_one, statements, values_of, raise}
 use Rattle.lua_model.specs.Calls.{most_calls, leave, returned, called_state, called_scope, ask_library, call_library, call_closure}
 use Rattle.lua_model.specs.Calls.{call_handler, call}
 use Rattle.lua_eval.specs.declared.frame.LuaFrame.{LuaFrame}
 use Rattle.lua_eval.specs.declared.frame.LuaFrame.TheVariants as frames
 use Rattle.lua_eval.specs.Calls.{entered_state, entered_scope, call_fault}
+use Rattle.lua_eval.specs.AtOnce.{EndsAtOnce, Becomes}
 use Rattle.lua_eval.specs.Steps.{LuaStep, Goes, Does}
-use Rattle.lua_eval.proofs.Below.{moved, chosen, statements_below}
+use Rattle.lua_eval.proofs.Below.{jobs_of, moved, chosen, statements_below}
 use Rattle.lua_eval.proofs.Doing.{asks}
 
 -- a call of the library is refused
@@ -125,6 +132,54 @@ closure_called items fs pushed fs2 s t s2 left left2 step id c vs place scope me
     s s2 left left2 step few
     (moved items fs fs2 (begun items (closure_at s id) vs place s) (begun items c vs place s) s s s2 left left2 step
     (ap (λ (d : Closure). begun items d vs place s) (sym is)) refl at)
+
+-- what a call of a function of Lua code does, where it may begin, with what is behind it
+abbrev begun_with : Items → Closure → List Value → Place → (End → LuaPlan) → LuaState → LuaPlan
+begun_with items c vs place go s =
+    let function = function_at items c.function in
+    Write (called_state function c vs s)
+    (statements (statements_at items function.block) (called_scope function c vs place s) [] (λ r. leave (returned r) go))
+
+-- a call, some of whose statements were executed
+pub call_passes : (items : Items) (q : LuaPlan) (s t u : LuaState) (left left2 : ℕ)
+    (id : ClosureId) (c : Closure) (vs : List Value) (place : Place) (scope : Scope) (method variadic : Bool) (names ns : List NodeId)
+    (go : End → LuaPlan)
+    → nat_lt s.calls most_calls ≡ true → c ≡ closure_at s id
+    → method ≡ (function_at items c.function).method
+    → names ≡ (function_at items c.function).names
+    → variadic ≡ (function_at items c.function).variadic
+    → ns ≡ statements_at items (function_at items c.function).block
+    → scope ≡ entered_scope method names variadic c vs place (deeper s)
+    → t ≡ entered_state method names variadic c vs (deeper s)
+    → Becomes items (statements ns scope [] (λ r. leave (returned r) go)) t left q u left2
+    → Becomes items (call_closure items id vs place go) s left q u left2
+call_passes items q s t u left left2 id c vs place scope method variadic names ns go few is m n v b scope_is heap_is inner = λ later.
+    let function = function_at items c.function in
+    let parts : ArePartsOf items c.function method variadic names ns =
+    record { method_is = m; names_are = n; variadic_is = v; block_is = b } in
+    let goes_on : End → LuaPlan = λ r. leave (returned r) go in
+    let called = called_state function c vs s in
+    ap (λ (yes : Bool). run (jobs_of items) (if yes then begun_with items (closure_at s id) vs place go s else raise place StackOverflow)
+    (state s left) later) few
+    ∙ ap (λ (d : Closure). run (jobs_of items) (begun_with items d vs place go s) (state s left) later) (sym is)
+    ∙ ap (λ (l : List NodeId). run (jobs_of items) (statements l (called_scope function c vs place s) [] goes_on) (state called left) later) (sym b)
+    ∙ ap (λ (sc : Scope). run (jobs_of items) (statements ns sc [] goes_on) (state called left) later)
+    (sym (scope_is ∙ scope_of_parts items c vs place s method variadic names ns parts))
+    ∙ ap (λ (w : LuaState). run (jobs_of items) (statements ns scope [] goes_on) (state w left) later)
+    (sym (heap_is ∙ state_of_parts items c vs s method variadic names ns parts))
+    ∙ inner later
+
+-- a call whose function and arguments are evaluated
+pub call_prepared : (items : Items) (function : NodeId) (arguments : List NodeId) (place : Place) (scope : Scope) (f : Value) (c : ClosureId)
+    (vs : List Value) (s : LuaState) (left mid left2 : ℕ)
+    → EndsAtOnce items (jobs.Expression function scope) (One f) s left s mid → f ≡ values.Closure c
+    → ((go : List Value → LuaPlan) → Becomes items (values_of arguments scope [] go) s mid (go vs) s left2)
+    → Becomes items (call_plan items function arguments place scope) s left (call_closure items c vs place Give) s left2
+call_prepared items function arguments place scope f c vs s left mid left2 found is args = λ later.
+    let plan : Value → LuaPlan = λ v. values_of arguments scope [] (λ us. call items ByNode v us place scope.call Give) in
+    ap (λ (o : Run LuaState LuaQuestion LuaAnswer End). then_do o (λ r. run (jobs_of items) (on_one r plan))) (found later)
+    ∙ ap (λ (v : Value). run (jobs_of items) (plan v) (state s mid) later) is
+    ∙ args (λ us. call items ByNode (values.Closure c) us place scope.call Give) later
 
 -- what no function is called by: the value itself, and a table's handler
 pub not_called : (items : Items) (by : Caller) (v : Value) (vs : List Value) (place : Place) (outer : Option Place) (go : End → LuaPlan)
