@@ -1,4 +1,4 @@
--- Loops, calls, closures, tables and texts, as many turns of each as TURNS says.
+-- Loops, calls, closures, tables, metatables and texts, as many turns of each as TURNS says.
 local turns = TURNS
 
 -- loops and arithmetic
@@ -40,6 +40,18 @@ for i = 1, turns do point.x, point.y = point.y, (point.x + i) % 1000 end
 function point:sum(k) return self.x + self.y + k end
 for i = 1, turns / 10 do total = total + point:sum(i) + #{i, i, n = i} end
 print(total)
+
+-- metatables
+local meta = {}
+meta.__index = meta
+function meta:length() return self.x * self.x + self.y * self.y end
+meta.__add = function(a, b) return setmetatable({x = a.x + b.x, y = a.y + b.y}, meta) end
+local v, step = setmetatable({x = 0, y = 0}, meta), setmetatable({x = 1, y = 2}, meta)
+for i = 1, turns / 10 do
+  v = v + step
+  total = total + v:length() % 7
+end
+print(total, v.x)
 
 -- texts
 local text, length = "", 0
