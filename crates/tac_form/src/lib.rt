@@ -8,6 +8,7 @@
 
 pub mod graph;
 pub mod laws;
+pub mod reads;
 pub mod tac;
 
 pub use graph::{FlowBlock, Step, StepList, TempList};

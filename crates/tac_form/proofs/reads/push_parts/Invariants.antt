@@ -1,6 +1,6 @@
 use Rattle.std.proofs.Common.{◌≡◌, ◌++◌, drop}
 use Rattle.tac_form.specs.Graph.{parts_reads}
-use Rattle.reg_alloc.proofs.uses.push_parts.Given as goal
+use Rattle.tac_form.proofs.reads.push_parts.Given as goal
 
 -- with those of the parts that are left, all are there
 abbrev pub invariant-loop-part : goal.invariant-loop-part
