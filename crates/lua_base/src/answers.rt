@@ -4,19 +4,12 @@ ghost use Rattle.std.specs.Prelude.{◌≡◌, [], ◌∷◌, ◌++◌, ◌≤�
 ghost use Rattle.std.specs.String.{string_bytes};
 ghost use Rattle.tl_base.specs.Layer.{state};
 ghost use Rattle.lua_table.specs.Keeping.{KeepsHeap};
-ghost use Rattle.lua_base.specs.Calls.{turned, text_units, gives, making, placed, raised, with_made, bad_argument, bad_argument_text};
+ghost use Rattle.lua_base.specs.Calls.{turned, gives, making, placed, raised, with_made, bad_argument, bad_argument_text};
 
-use lua_table::{Heap, LibTurn};
+use lua_table::{Heap, LibTurn, text_units};
 use lua_value::{LibFn, Value, Values};
 use std::alloc::Global;
 use tl_base::{Budget, NoMemory, Place, Text, Text2};
-
-/// The units that a text of so many bytes costs.
-pub fn text_units(length: usize) -> u64
-    ensures { result ≡ text_units length }
-{
-    (length as u64).div_ceil(64)
-}
 
 /// Puts values behind others.
 pub fn append(values: &mut Values, more: &[Value]) -> Result<(), NoMemory>

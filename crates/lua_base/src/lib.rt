@@ -19,7 +19,7 @@ pub mod printing;
 pub mod tables;
 pub mod texts;
 
-pub use answers::{bad_argument, give, give_text, raise, raise_text, text_units};
+pub use answers::{bad_argument, give, give_text, raise, raise_text};
 pub use arguments::{argument, has_argument, number_in, number_or, table_in};
 pub use calls::{back, call};
 pub use globals::opening;

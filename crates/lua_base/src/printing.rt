@@ -9,11 +9,11 @@ ghost use Rattle.lua_base.specs.Printing.{type_in, bytes_of, type_turned, printe
 ghost use Rattle.lua_base.specs.Printing.{print_turned, print_back, text_made, tostring_turned, given_paid, tostring_back, read_number};
 ghost use Rattle.lua_base.specs.Printing.{number_of, tonumber_turned, count_of, selected, is_count, select_turned};
 
-use crate::answers::{bad_argument, copied, give, give_text, raise, text_units};
+use crate::answers::{bad_argument, copied, give, give_text, raise};
 use crate::arguments::{argument, number_in};
 use crate::texts::push_text;
 use lua_ops::{Numeral, read_numeral};
-use lua_table::{Back, Heap, LibNext, LibTurn};
+use lua_table::{Back, Heap, LibNext, LibTurn, text_units};
 use lua_value::{LibFn, Number, Value, Values};
 use tl_base::{Budget, NoMemory, Place, Text2, TypeId};
 

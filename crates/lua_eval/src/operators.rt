@@ -14,11 +14,11 @@ ghost use Rattle.lua_eval.specs.Operands.{operands_in, operation_of, operate_by}
 
 use crate::calls::call;
 use crate::frame::{LuaFrame, OneFrame, ValueFrame};
-use crate::raise::{LuaStep, raise, text_units};
+use crate::raise::{LuaStep, raise};
 use crate::values::{copy, one, two};
 use lua_model::{Caller, End, LuaQuestion};
 use lua_ops::{Arithmetic, Comparison, Fault, Handler, Outcome};
-use lua_table::{Heap, LibCall};
+use lua_table::{Heap, LibCall, text_units};
 use lua_value::{LibFn, Number, Value, Values};
 use tl_base::limits::LARGEST_NUMBER;
 use tl_base::{Budget, NoMemory, Place, Step};

@@ -1,27 +1,20 @@
 // Texts and errors.
 
-ghost use Rattle.std.specs.Prelude.{◌≡◌, ◌≤◌, length, IfOk, OnOk};
+ghost use Rattle.std.specs.Prelude.{◌≡◌, ◌≤◌, IfOk, OnOk};
 ghost use Rattle.tl_tree.specs.Code.{Items};
 ghost use Rattle.lua_table.specs.Keeping.{KeepsHeap};
-ghost use Rattle.lua_model.specs.Plans.{error_text, text_units, raise};
+ghost use Rattle.lua_model.specs.Plans.{error_text, raise};
 ghost use Rattle.lua_eval.specs.Steps.{Does};
 ghost use Rattle.lua_eval.specs.Texts.{text_value, text_state};
 
 use lua_model::{End, Job, LuaQuestion};
 use lua_ops::Fault;
-use lua_table::Heap;
+use lua_table::{Heap, text_units};
 use lua_value::Value;
 use tl_base::{Budget, NoMemory, Place, Step, Text, Text2};
 
 /// What the machine does next.
 pub type LuaStep = Step<Job, End, LuaQuestion>;
-
-/// The units that a text of so many bytes costs.
-pub fn text_units(length: usize) -> u64
-    ensures { result ≡ text_units length }
-{
-    (length as u64).div_ceil(64)
-}
 
 /// The text of an error: the place of what raises it, and what it is.
 fn error_text(heap: &Heap, place: Place, fault: Fault) -> Result<Text2, NoMemory>

@@ -10,8 +10,8 @@ ghost use Rattle.lua_base.specs.Calls.{turned, bad_argument};
 ghost use Rattle.lua_textlib.specs.Answers.{one_value, too_long, making, making_or};
 
 use crate::refusal::Refusal;
-use lua_base::{bad_argument, raise, text_units};
-use lua_table::{Heap, LibTurn};
+use lua_base::{bad_argument, raise};
+use lua_table::{Heap, LibTurn, text_units};
 use lua_value::{LibFn, Value, Values};
 use std::alloc::Global;
 use tl_base::{Budget, NoMemory, Place, Text, Text2};

@@ -1,25 +1,18 @@
 // Texts and errors.
 
-ghost use Rattle.std.specs.Prelude.{◌≡◌, ◌≤◌, length, IfOk, OnOk};
+ghost use Rattle.std.specs.Prelude.{◌≡◌, ◌≤◌, IfOk, OnOk};
 ghost use Rattle.tl_tree.specs.Code.{Items};
-ghost use Rattle.lua_model.specs.Plans.{text_units};
 ghost use Rattle.spec_model.specs.Plans.{error_text, with_text_of, raise};
 ghost use Rattle.spec_machine.specs.Keeping.{KeepsStage};
 ghost use Rattle.spec_machine.specs.Steps.{Gets, Does};
 
 use crate::reached::SpecStep;
 use exotype::{Fault, World};
+use lua_table::text_units;
 use lua_value::Value;
 use spec_model::End;
 use std::alloc::Global;
 use tl_base::{Budget, NoMemory, Place, Step, Text, Text2, TextId};
-
-/// The units that a text of so many bytes costs.
-fn text_units(length: usize) -> u64
-    ensures { result ≡ text_units length }
-{
-    (length as u64).div_ceil(64)
-}
 
 /// The text of an error: the place of what raises it, and what it is.
 fn error_text(alloc: Global, place: Place, fault: Fault) -> Result<Text2, NoMemory>
