@@ -3,49 +3,13 @@
 ghost use Rattle.std.specs.Prelude.{◌≡◌, ◌+◌, IfOk, OnOk};
 ghost use Rattle.lua_table.specs.Heap.{cell_at};
 ghost use Rattle.lua_table.specs.Keeping.{KeepsHeap};
-ghost use Rattle.lua_table.specs.Cells.{env_out, local_cell, local_value, with_local};
-ghost use Rattle.lua_table.specs.Cells.{declare, declare_all, with_cells, values_from};
+ghost use Rattle.lua_table.specs.Cells.{declare, declare_all, values_from, with_cells, with_local};
 
 use crate::values::split_values;
 use lua_table::Heap;
+use lua_table::cells::local_cell;
 use lua_value::{Value, Values};
 use tl_base::{CellId, EnvId, NoMemory};
-
-/// The environment so many steps outwards.
-#[tactic(auto, using(crate::proofs::Declaring::out_next))]
-fn env_out(heap: &Heap, env: EnvId, depth: u32) -> EnvId
-    ensures { result ≡ env_out heap.now env depth }
-{
-    let mut env = env;
-    let mut left = depth;
-    'steps: while left > 0 {
-        if let Some(outer) = heap.outer(env) {
-            env = outer;
-        }
-        left -= 1;
-    }
-    env
-}
-
-/// The cell at a position of the environment so many steps outwards. Where there is none it is the next one.
-#[inline(always)]
-fn local_cell(heap: &Heap, env: EnvId, depth: u32, position: u32) -> CellId
-    ensures { result ≡ local_cell heap.now env depth position }
-{
-    let env = env_out(heap, env, depth);
-    match heap.declared(env).get(position as usize) {
-        Some(cell) => *cell,
-        None => heap.next_cell(),
-    }
-}
-
-/// The value of a local.
-#[inline(always)]
-pub fn local(heap: &Heap, env: EnvId, depth: u32, position: u32) -> Value
-    ensures { result ≡ local_value heap.now env depth position }
-{
-    heap.cell(local_cell(heap, env, depth, position))
-}
 
 /// Sets a local.
 pub fn set_local(heap: &mut Heap, env: EnvId, depth: u32, position: u32, value: Value)

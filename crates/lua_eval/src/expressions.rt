@@ -23,7 +23,7 @@ ghost use Rattle.lua_model.specs.declared.end.End.{End};
 ghost use Rattle.lua_eval.specs.declared.frame.LuaFrame.{LuaFrame};
 
 use crate::calling::{Called, call_of, inside_on};
-use crate::cells::{local, values_from};
+use crate::cells::values_from;
 use crate::code::name;
 use crate::fields::{GLOBALS, read, read_named};
 use crate::frame::{AllFrame, CallFrame, ListFrame, LuaFrame, OneFrame, Then, ValueFrame};
@@ -34,6 +34,7 @@ use crate::raise::{LuaStep, text_value};
 use crate::tables::{fields, fields_left};
 use crate::values::{copy, one};
 use lua_model::{End, Job, LuaQuestion, Scope};
+use lua_table::cells::local;
 use lua_table::{Closure, Heap};
 use lua_value::{Value, Values};
 use tl_base::{Budget, NoMemory, NodeId, Place, Step};

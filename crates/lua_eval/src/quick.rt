@@ -22,7 +22,6 @@ ghost use Rattle.lua_eval.specs.Slots.{ArePaths};
 ghost use Rattle.lua_eval.specs.Steps.{Goes};
 ghost use Rattle.lua_eval.specs.AtOnce.{EndsAtOnce};
 
-use crate::cells::local;
 use crate::code::name;
 use crate::expressions::numeral;
 use crate::operators::{Operation, operation_of, whole};
@@ -30,6 +29,7 @@ use crate::values::copy;
 use lua_model::Scope;
 use lua_ops::{Arithmetic, Outcome, handler_of};
 use lua_table::Heap;
+use lua_table::cells::local;
 use lua_value::Value;
 use tl_base::{Budget, NodeId, TableId, Text};
 use tl_lex::literal_value;

@@ -1,16 +1,12 @@
 -- Loops over values, symbols, environments and terms: one turn more, and the end.
-use Rattle.std.proofs.Common.{◌≡◌, ℕ, zero, suc, ◌+◌, ◌-◌, ◌<◌, ◌≤◌, List, [], ◌∷◌, ◌++◌, length, drop, get_or, refl, sym, ap, ◌∙◌, arith}
+use Rattle.std.proofs.Common.{◌≡◌, ℕ, zero, suc, ◌+◌, ◌-◌, ◌<◌, ◌≤◌, List, [], ◌∷◌, ◌++◌, length, drop, get_or, sym, ap, ◌∙◌, arith}
 use Rattle.std.proofs.lemmas.List.{at_drop_more, at_drop_all}
-use Rattle.tl_base.specs.declared.ids.EnvId.{EnvId}
 use Rattle.tl_base.specs.declared.ids.SymId.{SymId}
 use Rattle.tl_base.specs.declared.ids.TermId.{TermId}
 use Rattle.tl_base.specs.declared.place.Place.{Place}
 use Rattle.lua_value.specs.declared.value.Value.{Value}
 use Rattle.lua_value.specs.declared.value.Value.TheVariants as values
-use Rattle.lua_table.specs.LuaState.{LuaState}
-use Rattle.lua_table.specs.Heap.{outer_at}
 use Rattle.lua_table.specs.Pairs.{Pairs, value_at}
-use Rattle.lua_table.specs.Cells.{or_self, env_out}
 use Rattle.terra_term.specs.declared.size.Size.{Size}
 use Rattle.terra_term.specs.Sizes.{joined, capped}
 use Rattle.exotype.specs.World.{StageState}
@@ -23,13 +19,6 @@ pub values_more : (n : ℕ) (pairs : Pairs) → values_below (n + 1) pairs ≡ v
 values_more n pairs =
     let e : n + 1 ≡ suc n = omega arith in
     ap (λ (m : ℕ). values_below m pairs) e
-
-out_suc : (k m : ℕ) (env : EnvId) (s : LuaState) → k ≡ suc m → env_out s env k ≡ env_out s (or_self (outer_at s env) env) m
-out_suc k m env s e = rw e refl
-
--- one step outwards
-pub out_next : (left : ℕ) (env : EnvId) (s : LuaState) → 0 < left → env_out s env left ≡ env_out s (or_self (outer_at s env) env) (left - 1)
-out_next left env s h = out_suc left (left - 1) env s (omega arith)
 
 -- values that each become a term
 pub each_next : (vs : List Value) (i : ℕ) (v : Value) (at : Place) (ts : List TermId) (go : List TermId → SpecPlan)

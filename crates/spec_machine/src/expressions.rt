@@ -25,7 +25,7 @@ use crate::frame::{
     ValueFrame,
 };
 use crate::lists::terms;
-use crate::names::{local, member, naming};
+use crate::names::{member, naming};
 use crate::operators::{numeral, numeral_type};
 use crate::raise::text;
 use crate::reached::{Reached, SpecStep};
@@ -33,6 +33,7 @@ use crate::row::{Row, term_list};
 use crate::terms::{literal, make, one};
 use crate::types::{type_from, type_of_term};
 use exotype::World;
+use lua_table::cells::local;
 use lua_value::Value;
 use spec_model::{End, Job, SpecQuestion};
 use terra_term::{Expression, FieldList, Initialiser};

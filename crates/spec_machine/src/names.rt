@@ -3,9 +3,7 @@
 ghost use Rattle.std.specs.Prelude.{◌≡◌, ℕ, [], IfOk, OnOk};
 ghost use Rattle.tl_tree.specs.Arena.{items_of};
 ghost use Rattle.tl_tree.specs.Code.{Items};
-ghost use Rattle.lua_table.specs.Cells.{local_value, local_cell};
 ghost use Rattle.lua_table.specs.Cells.{declare as with_declared};
-ghost use Rattle.lua_table.specs.Cells.{env_out};
 ghost use Rattle.lua_table.specs.Keeping.{KeepsHeap};
 ghost use Rattle.exotype.specs.World.{with_heap};
 ghost use Rattle.spec_model.specs.Making.{with_name};
@@ -26,42 +24,8 @@ use lua_table::Heap;
 use lua_value::Value;
 use spec_model::SpecQuestion;
 use terra_term::Expression;
-use tl_base::{Budget, CellId, EnvId, NoMemory, NodeId, Place, Step, SymId, Text, TextId};
+use tl_base::{Budget, EnvId, NoMemory, NodeId, Place, Step, SymId, Text, TextId};
 use tl_tree::Tree;
-
-/// The environment so many steps outwards.
-#[tactic(auto, using(crate::proofs::Looping::out_next))]
-fn env_out(heap: &Heap, env: EnvId, depth: u32) -> EnvId
-    ensures { result ≡ env_out heap.now env depth }
-{
-    let mut env = env;
-    let mut left = depth;
-    'steps: while left > 0 {
-        if let Some(outer) = heap.outer(env) {
-            env = outer;
-        }
-        left -= 1;
-    }
-    env
-}
-
-/// The cell of a local.
-pub fn local_cell(heap: &Heap, env: EnvId, depth: u32, position: u32) -> CellId
-    ensures { result ≡ local_cell heap.now env depth position }
-{
-    let env = env_out(heap, env, depth);
-    match heap.declared(env).get(position as usize) {
-        Some(cell) => *cell,
-        None => heap.next_cell(),
-    }
-}
-
-/// The value of a local.
-pub fn local(heap: &Heap, env: EnvId, depth: u32, position: u32) -> Value
-    ensures { result ≡ local_value heap.now env depth position }
-{
-    heap.cell(local_cell(heap, env, depth, position))
-}
 
 /// Declares a local with a value.
 pub fn declare(world: &mut World, env: EnvId, value: Value) -> Result<(), NoMemory>
