@@ -1,6 +1,6 @@
 // Method calls.
 
-ghost use Rattle.std.specs.Prelude.{◌≡◌, ℕ, List, ◌∷◌, true, codes, IfOk, OnOk};
+ghost use Rattle.std.specs.Prelude.{ℕ, List, ◌∷◌, true, codes, IfOk, OnOk};
 ghost use Rattle.check_model.specs.Calls as calls;
 ghost use Rattle.check_model.specs.Expressions as models;
 ghost use Rattle.check_model.specs.Plans as plans;
@@ -14,7 +14,7 @@ use crate::frame::BodyFrame;
 use crate::nodes::{refuse, term_of, without_lua};
 use crate::reading::{metamethod, method, struct_of};
 use crate::step::{BodyStep, Node};
-use check_model::row::Rest;
+use check_model::rest::Rest;
 use check_model::{Made, Typing};
 use exotype::Became;
 use lua_value::Value;
@@ -81,7 +81,7 @@ fn with_method(
         typing.old budget.old frames.new.items step typing.new budget.new) }
     ensures kept { OnOk result (KeepsTyping typing.old typing.new) }
 {
-    let nodes = typing.world.spliced_nodes(copy(&value));
+    let nodes = typing.world.spliced_nodes(value.copy());
     if !budget.pay(nodes) {
         return Ok(Step::Spent);
     }
@@ -94,11 +94,4 @@ fn with_method(
         }
         Became::Refused(_) => Ok(refuse(RefusalKind::NotConstant, node.at, node.site)),
     }
-}
-
-/// The same value, for what goes on with it behind a call that takes it.
-fn copy(value: &Value) -> Value
-    ensures { result ≡ value.now }
-{
-    *value
 }

@@ -191,7 +191,7 @@ fn by_entries(
         LaysOn frames.old.items (models.by_entries of value at) world.old left frames.new.items step world.new left) }
     ensures kept { OnOk result (KeepsLayouts world.old world.new) }
 {
-    match entries_from(&world.heap, copied(&value))? {
+    match entries_from(&world.heap, value.copy())? {
         None => Ok(keep(world, of, RefusalKind::BadEntries)),
         Some(entries) => {
             let rest = Rest::copy(world.store.allocator(), entries.as_slice())?;
@@ -199,13 +199,6 @@ fn by_entries(
             Ok(step)
         }
     }
-}
-
-/// The same value, for what goes on with it behind a call that takes it.
-fn copied(value: &Value) -> Value
-    ensures { result ≡ value.now }
-{
-    *value
 }
 
 /// Lays a struct out, by what is known of its entries.

@@ -24,7 +24,7 @@ use crate::fields::{GLOBALS, read_named, store, store_named};
 use crate::frame::{AllFrame, LuaFrame, OneFrame, TargetFrame, Then};
 use crate::lists::nth;
 use crate::raise::{LuaStep, text_value};
-use crate::values::{copy, two};
+use crate::values::two;
 use lua_model::{End, Job, Scope};
 use lua_table::{Closure, Heap};
 use lua_value::{Value, Values};
@@ -591,7 +591,7 @@ pub fn with_target<'a>(
             Ok(Step::Enter(Job::Expression(*key, *scope)))
         }
         TargetFrame::Key(object) => {
-            let step = held(heap, copy(object), value)?;
+            let step = held(heap, object.copy(), value)?;
             Ok(step)
         }
         TargetFrame::Select(node) => {

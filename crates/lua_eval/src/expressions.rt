@@ -32,7 +32,7 @@ use crate::operators::{operate, operate_one, whole};
 use crate::quick::{at_once, named_field, spend};
 use crate::raise::{LuaStep, text_value};
 use crate::tables::{fields, fields_left};
-use crate::values::{copy, one};
+use crate::values::one;
 use lua_model::{End, Job, LuaQuestion, Scope};
 use lua_table::cells::local;
 use lua_table::{Closure, Heap};
@@ -437,7 +437,7 @@ fn with_object<'a>(
     ensures kept { OnOk result (KeepsHeap heap.old heap.new) }
 {
     let text = name(tree, method).as_bytes();
-    match named_field(heap, copy(&object), text, budget.left()) {
+    match named_field(heap, object.copy(), text, budget.left()) {
         Some(found) => {
             spend(budget, found.left);
             let function = found.value;
@@ -471,7 +471,7 @@ fn find_method<'a>(
         heap.old budget.old frames.new.items step heap.new budget.new) }
     ensures kept { OnOk result (KeepsHeap heap.old heap.new) }
 {
-    let frame = CallFrame::MethodOf(copy(&object), arguments, place, scope);
+    let frame = CallFrame::MethodOf(object.copy(), arguments, place, scope);
     frames.push(LuaFrame::One(OneFrame::Call(frame)))?;
     read_named(
         frames,
@@ -864,7 +864,7 @@ pub fn with_call<'a>(
             )
         }
         CallFrame::MethodOf(object, arguments, place, scope) => {
-            let first = one(heap.allocator(), copy(object))?;
+            let first = one(heap.allocator(), object.copy())?;
             let then = Then::Call(value, *place);
             list(
                 tree, slots, frames, heap, budget, *arguments, *scope, first, then,

@@ -14,7 +14,7 @@ ghost use Rattle.lua_eval.specs.Steps.{Goes, Does};
 use crate::calls::call_library;
 use crate::frame::{AllFrame, LuaFrame, OneFrame, ValueFrame};
 use crate::raise::{LuaStep, raise, text_value};
-use crate::values::{copy, three, two};
+use crate::values::{three, two};
 use lua_model::{End, Job, LuaQuestion};
 use lua_ops::{Fault, handler_of};
 use lua_table::{Heap, LibCall};
@@ -120,7 +120,7 @@ fn read_table<'a>(
         heap.old budget.old frames.new.items step heap.new budget.new) }
     ensures kept { OnOk result (KeepsHeap heap.old heap.new) }
 {
-    let value = heap.get(table, copy(&key));
+    let value = heap.get(table, key.copy());
     if !value.is_nil() {
         return Ok(Step::Return(End::One(value)));
     }
@@ -311,7 +311,7 @@ fn store_table<'a>(
         heap.old budget.old frames.new.items step heap.new budget.new) }
     ensures kept { OnOk result (KeepsHeap heap.old heap.new) }
 {
-    if heap.get(table, copy(&key)).is_nil() {
+    if heap.get(table, key.copy()).is_nil() {
         let handler = handler_of(heap, &Value::Table(table), "__newindex");
         let step = store_by(
             frames, heap, budget, handler, table, key, value, place, outer,

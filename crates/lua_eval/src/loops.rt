@@ -21,7 +21,7 @@ use crate::cells::{declare, declare_all};
 use crate::code::block_statements;
 use crate::frame::{AllFrame, LoopFrame, LuaFrame, OneFrame, TurnFrame};
 use crate::raise::{LuaStep, raise};
-use crate::values::{copy, split_values, two};
+use crate::values::{split_values, two};
 use crate::waiting::proceed;
 use lua_model::{Caller, End, Job, Loop, Scope};
 use lua_ops::{Fault, operand};
@@ -59,8 +59,8 @@ pub fn list_next<'a>(
         heap.old budget.old frames.new.items step heap.new budget.new) }
     ensures kept { OnOk result (KeepsHeap heap.old heap.new) }
 {
-    let args = two(heap.allocator(), copy(&state), control)?;
-    let callee = copy(&function);
+    let args = two(heap.allocator(), state.copy(), control)?;
+    let callee = function.copy();
     frames.push(LuaFrame::All(AllFrame::Listed(node, names, scope, function, state, out)))?;
     let step = call(
         tree,
@@ -353,9 +353,9 @@ pub fn next_turn<'a>(
             Ok(count_from(node, scope, next, *limit, *step, out))
         }
         TurnFrame::Listed(names, place, function, state, control) => {
-            let function = copy(function);
-            let state = copy(state);
-            let control = copy(control);
+            let function = function.copy();
+            let state = state.copy();
+            let control = control.copy();
             list_next(
                 tree, frames, heap, budget, node, names, *place, scope, function, state, control,
                 out,

@@ -15,7 +15,7 @@ ghost use Rattle.lua_eval.specs.Operands.{operands_in, operation_of, operate_by}
 use crate::calls::call;
 use crate::frame::{LuaFrame, OneFrame, ValueFrame};
 use crate::raise::{LuaStep, raise};
-use crate::values::{copy, one, two};
+use crate::values::{one, two};
 use lua_model::{Caller, End, LuaQuestion};
 use lua_ops::{Arithmetic, Comparison, Fault, Handler, Outcome};
 use lua_table::{Heap, LibCall, text_units};
@@ -152,8 +152,8 @@ fn arith<'a>(
         heap.old budget.old frames.new.items step heap.new budget.new) }
     ensures kept { OnOk result (KeepsHeap heap.old heap.new) }
 {
-    let first = copy(&a);
-    let second = copy(&b);
+    let first = a.copy();
+    let second = b.copy();
     // A `?` gets no proof where the value holds a handler, here and below.
     match lua_ops::arith::arith(heap, op, first, second) {
         Ok(outcome) => {
@@ -189,7 +189,7 @@ fn minus<'a>(
         heap.old budget.old frames.new.items step heap.new budget.new) }
     ensures kept { OnOk result (KeepsHeap heap.old heap.new) }
 {
-    let first = copy(&a);
+    let first = a.copy();
     match lua_ops::arith::arith(heap, Arithmetic::Minus, first, Value::Nil) {
         Ok(outcome) => {
             let step = settle(tree, frames, heap, budget, outcome, a, None, place, outer)?;
@@ -226,8 +226,8 @@ fn concat<'a>(
         heap.old budget.old frames.new.items step heap.new budget.new) }
     ensures kept { OnOk result (KeepsHeap heap.old heap.new) }
 {
-    let first = copy(&a);
-    let second = copy(&b);
+    let first = a.copy();
+    let second = b.copy();
     match lua_ops::concat::concat(heap, first, second) {
         Ok(outcome) => {
             let step = joined(tree, frames, heap, budget, outcome, a, b, place, outer)?;
@@ -296,8 +296,8 @@ fn compare<'a>(
         heap.old budget.old frames.new.items step heap.new budget.new) }
     ensures kept { OnOk result (KeepsHeap heap.old heap.new) }
 {
-    let first = copy(&a);
-    let second = copy(&b);
+    let first = a.copy();
+    let second = b.copy();
     match lua_ops::compare::compare(heap, op, first, second) {
         Ok(outcome) => {
             let step = compared(tree, frames, heap, budget, outcome, a, b, place, outer)?;
@@ -342,7 +342,7 @@ fn compared<'a>(
         }
         Outcome::Meta(handler) => {
             let args = operands(heap, &handler, a, Some(b))?;
-            let function = copy(&handler.function);
+            let function = handler.function.copy();
             let frame = ValueFrame::Answer(handler);
             let called = handle(
                 tree, frames, heap, budget, frame, function, args, place, outer,

@@ -25,7 +25,6 @@ ghost use Rattle.lua_eval.specs.AtOnce.{EndsAtOnce};
 use crate::code::name;
 use crate::expressions::numeral;
 use crate::operators::{Operation, operation_of, whole};
-use crate::values::copy;
 use lua_model::Scope;
 use lua_ops::{Arithmetic, Outcome, handler_of};
 use lua_table::Heap;
@@ -424,7 +423,7 @@ fn field(heap: &Heap, object: Value, key: Value, left: u64) -> Option<Found>
 {
     match object {
         Value::Table(table) => {
-            let value = heap.get(table, copy(&key));
+            let value = heap.get(table, key.copy());
             if value.is_nil() {
                 inherited(heap, table, key, left)
             } else {

@@ -7,13 +7,6 @@ use lua_value::{Value, Values};
 use std::alloc::Global;
 use tl_base::NoMemory;
 
-/// The same value, for what goes on with it behind a call that takes it.
-pub fn copy(value: &Value) -> Value
-    ensures { result ≡ value.now }
-{
-    *value
-}
-
 /// The first value, or nil, and those behind it.
 pub fn split_values(values: &[Value]) -> (Value, &[Value])
     ensures first { result.0 ≡ first_value values.now }

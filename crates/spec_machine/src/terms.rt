@@ -21,13 +21,6 @@ use spec_model::End;
 use terra_term::{Expression, Statement, Term};
 use tl_base::{Budget, NoMemory, Place, Step, TableId, TermId};
 
-/// The same value, for what goes on with it behind a call that takes it.
-pub fn copy(value: &Value) -> Value
-    ensures { result ≡ value.now }
-{
-    *value
-}
-
 /// The value under a number of a table. No memory has a table with so many values that its last number isn't one of
 /// Lua's.
 fn numbered(heap: &Heap, table: TableId, number: u64) -> Result<Value, NoMemory>
@@ -65,7 +58,7 @@ pub fn one(
         Comes (λ go. plans.one value at go) world.old budget.old reached world.new budget.new) }
     ensures kept { OnOk result (KeepsStage world.old world.new) }
 {
-    let nodes = world.spliced_nodes(copy(&value));
+    let nodes = world.spliced_nodes(value.copy());
     if !budget.pay(nodes) {
         return Ok(Reached::Left(Step::Spent));
     }
