@@ -7,13 +7,13 @@ ghost use Rattle.back_end.specs.Compiled.{AreExports, AreFew, AreNamed, AreReady
 
 use crate::function::compile_functions;
 use crate::symbols::push_symbols;
-use elf_image::{Bytes, Image, Symbols, Words};
+use elf_image::{Image, Symbols, Words};
 use rv_link::link;
 use std::alloc::Global;
 use terra_eval::static_bytes;
 use terra_term::{Export, Store};
 use tl_base::limits::{MAX_CALLS, REGION_ADDRESS};
-use tl_base::{Limits, NoMemory};
+use tl_base::{Bytes, Limits, NoMemory};
 
 /// The words of a text have 32 bits.
 fn are_words(words: &[u32])
@@ -59,11 +59,11 @@ pub fn compile(
     are_words(&linked.words);
     are_bytes(&statics);
     Ok(Image {
-        text: Words::from(linked.words),
-        statics: Bytes::from(statics),
+        text: Words::from_vec(linked.words),
+        statics: Bytes::from_vec(statics),
         memory: limits.memory,
         heap: (end + 15) / 16 * 16,
         private: MAX_CALLS * linked.frame,
-        exports: Symbols::from(symbols),
+        exports: Symbols::from_vec(symbols),
     })
 }

@@ -6,13 +6,13 @@ ghost use Rattle.terra_term.specs.Stores.{contents_of};
 ghost use Rattle.back_end.specs.Compiled.{AreExports, IsOutward, codes_of, integer_code, type_code};
 ghost use Rattle.back_end.specs.Symbols.{start_among, symbol_of, symbols_of};
 
-use elf_image::{Bytes, Symbol};
+use elf_image::Symbol;
 use indexmap::IndexSet;
 use std::alloc::Global;
 use terra_eval::nodes::callable_of;
 use terra_term::{Export, Store, TypedName};
 use terra_types::{Integer, TypeForm, Types};
-use tl_base::{FnId, NoMemory, TypeId};
+use tl_base::{Bytes, FnId, NoMemory, TypeId};
 
 /// The type code of an integer type.
 fn integer_code(integer: Integer) -> u8
@@ -82,9 +82,9 @@ fn symbol_of(alloc: Global, store: &Store, at: u64, export: &Export) -> Result<S
     let mut params = Vec::new(alloc);
     push_codes(&mut params, store.types(), function.parameters)?;
     Ok(Symbol {
-        name: Bytes::from(name),
+        name: Bytes::from_vec(name),
         address: at,
-        params: Bytes::from(params),
+        params: Bytes::from_vec(params),
         result: type_code(store.types(), function.result),
     })
 }

@@ -11,11 +11,11 @@ use crate::converting::convert;
 use crate::frame::{AssignedFrame, BodyFrame, DoingFrame, TargetFrame, ValueFrame};
 use crate::nodes::{refuse, states};
 use crate::step::BodyStep;
-use check_model::row::{Rest, Row, term_list};
+use check_model::rest::Rest;
 use check_model::{BodyJob, Made, Mode, Site, Typing};
 use std::alloc::Global;
 use terra_term::{RefusalKind, TermList, TypedStatement};
-use tl_base::{NoMemory, Place, Step, TermId};
+use tl_base::{List, NoMemory, Place, Step, TermId};
 
 /// An assignment of values to targets.
 pub fn assign(
@@ -38,7 +38,7 @@ pub fn assign(
     }
     let frame = ValueFrame {
         values,
-        made: Row::new(typing.world.store.allocator()),
+        made: List::new(typing.world.store.allocator()),
         targets,
         at,
         site,
@@ -75,7 +75,7 @@ fn values_left(
             } = frame;
             let frame = TargetFrame {
                 targets,
-                places: Row::new(typing.world.store.allocator()),
+                places: List::new(typing.world.store.allocator()),
                 made,
                 at,
                 site,
@@ -132,13 +132,13 @@ fn targets_left(
             } = frame;
             let alloc = typing.world.store.allocator();
             let nodes = ids_of(alloc, places.as_slice())?;
-            let values = made.into_rest();
-            let kept = places.into_rest();
+            let values = Rest::from_list(made);
+            let kept = Rest::from_list(places);
             let frame = AssignedFrame {
                 made: values,
                 places: kept,
                 targets: nodes,
-                ids: Row::new(alloc),
+                ids: List::new(alloc),
                 at,
                 site,
             };
@@ -152,11 +152,11 @@ fn targets_left(
 fn ids_of(alloc: Global, made: &[Made]) -> Result<TermList, NoMemory>
     ensures { IfOk result (λ list. list ≡ plans.ids_of made.now) }
 {
-    let mut ids = Row::new(alloc);
+    let mut ids = List::new(alloc);
     'made: for one in made {
         ids.push(one.id)?;
     }
-    term_list(ids)
+    TermList::from_list(ids)
 }
 
 /// Goes on with the targets behind one that is typed, which is a place.
@@ -265,7 +265,7 @@ fn assigned(typing: &mut Typing, frame: AssignedFrame) -> Result<BodyStep, NoMem
         site,
         ..
     } = frame;
-    let list = term_list(ids)?;
+    let list = TermList::from_list(ids)?;
     let form = TypedStatement::Assign(targets, list);
     let step = states(typing, at, form, site.result)?;
     Ok(step)

@@ -12,10 +12,10 @@ use crate::frame::{BlockFrame, BlockThen, BodyFrame, DoingFrame, MadeFrame};
 use crate::functions::function;
 use crate::nodes::states;
 use crate::step::BodyStep;
-use check_model::row::{Rest, Row, term_list};
+use check_model::rest::Rest;
 use check_model::{BodyJob, Made, PartEnd, Site, Typing};
 use terra_term::{TermList, TypedStatement};
-use tl_base::{NoMemory, Place, Step, TermId, TypeId};
+use tl_base::{List, NoMemory, Place, Step, TermId, TypeId};
 
 /// Types the statements of a block, and does that with them.
 pub fn block(
@@ -31,7 +31,7 @@ pub fn block(
         typing.old left frames.new.items step typing.new left) }
     ensures kept { OnOk result (KeepsTyping typing.old typing.new) }
 {
-    let ids = Row::new(typing.world.store.allocator());
+    let ids = List::new(typing.world.store.allocator());
     let frame = BlockFrame {
         rest: statements,
         ids,
@@ -103,7 +103,7 @@ fn with_statements(
     frames: &mut Vec<BodyFrame>,
     typing: &mut Typing,
     then: BlockThen,
-    ids: Row<TermId>,
+    ids: List<TermId>,
     found: Option<TypeId>,
 ) -> Result<BodyStep, NoMemory>
     ensures means { IfOk result (λ step. (left : ℕ) →
@@ -114,7 +114,7 @@ fn with_statements(
     match then {
         BlockThen::Do(count, at) => {
             typing.leave(count);
-            let list = term_list(ids)?;
+            let list = TermList::from_list(ids)?;
             let step = states(typing, at, TypedStatement::Do(list), found)?;
             Ok(step)
         }
@@ -125,15 +125,15 @@ fn with_statements(
         }
         BlockThen::Else(count, test, before, at) => {
             typing.leave(count);
-            let first = term_list(before)?;
-            let others = term_list(ids)?;
+            let first = TermList::from_list(before)?;
+            let others = TermList::from_list(ids)?;
             let form = TypedStatement::If(test.id, first, Some(others));
             let step = states(typing, at, form, found)?;
             Ok(step)
         }
         BlockThen::While(count, test, at) => {
             typing.leave(count);
-            let list = term_list(ids)?;
+            let list = TermList::from_list(ids)?;
             let form = TypedStatement::While(test.id, list);
             let step = states(typing, at, form, found)?;
             Ok(step)
@@ -145,8 +145,8 @@ fn with_statements(
         }
         BlockThen::For(count, name, bounds, at) => {
             typing.leave(count);
-            let limits = term_list(bounds)?;
-            let list = term_list(ids)?;
+            let limits = TermList::from_list(bounds)?;
+            let list = TermList::from_list(ids)?;
             let form = TypedStatement::For(name, limits, list);
             let step = states(typing, at, form, found)?;
             Ok(step)
@@ -167,7 +167,7 @@ fn with_else(
     frames: &mut Vec<BodyFrame>,
     typing: &mut Typing,
     test: Made,
-    ids: Row<TermId>,
+    ids: List<TermId>,
     more: Option<Rest<TermId>>,
     at: Place,
     site: Site,
@@ -180,7 +180,7 @@ fn with_else(
 {
     match more {
         None => {
-            let first = term_list(ids)?;
+            let first = TermList::from_list(ids)?;
             let none: Option<TermList> = None;
             let form = TypedStatement::If(test.id, first, none);
             let step = states(typing, at, form, found)?;
@@ -202,7 +202,7 @@ fn else_block(
     frames: &mut Vec<BodyFrame>,
     typing: &mut Typing,
     test: Made,
-    ids: Row<TermId>,
+    ids: List<TermId>,
     statements: Rest<TermId>,
     at: Place,
     site: Site,
@@ -214,7 +214,7 @@ fn else_block(
 {
     let count = typing.count();
     let mut rest = statements;
-    let others = Row::new(typing.world.store.allocator());
+    let others = List::new(typing.world.store.allocator());
     match rest.take() {
         Some(statement) => {
             let frame = BlockFrame {
@@ -228,8 +228,8 @@ fn else_block(
         }
         None => {
             typing.leave(count);
-            let first = term_list(ids)?;
-            let list = term_list(others)?;
+            let first = TermList::from_list(ids)?;
+            let list = TermList::from_list(others)?;
             let form = TypedStatement::If(test.id, first, Some(list));
             let step = states(typing, at, form, site.result)?;
             Ok(step)

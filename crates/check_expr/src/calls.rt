@@ -18,15 +18,15 @@ use crate::loops::UNIT;
 use crate::nodes::{gives, pointer_to, refuse, without_lua};
 use crate::reading::{metamethod, place_of};
 use crate::step::{BodyStep, Node};
-use check_model::row::{Rest, Row, term_list};
+use check_model::rest::Rest;
 use check_model::{
     BodyJob, BodyQuestion, CheckAnswer, KnownResult, Made, Mode, Operand, OperandList, PartEnd,
     Site, Typing,
 };
 use exotype::World;
 use lua_value::Primitive;
-use terra_term::{Expression, Operation, RefusalKind, Term, TypedExpression};
-use tl_base::{Budget, FnId, NoMemory, Place, Step, TermId, TypeId};
+use terra_term::{Expression, Operation, RefusalKind, Term, TermList, TypedExpression};
+use tl_base::{Budget, FnId, List, NoMemory, Place, Step, TermId, TypeId};
 
 /// The types that primitives name, which are there from the begin.
 const INT64: TypeId = TypeId(3);
@@ -130,7 +130,7 @@ fn call_function(
                 target: Target::Function(f),
                 operands,
                 types,
-                ids: Row::new(typing.world.store.allocator()),
+                ids: List::new(typing.world.store.allocator()),
                 fitting,
                 node,
             };
@@ -346,7 +346,7 @@ fn call(typing: &mut Typing, frame: CallFrame, of: TypeId) -> Result<BodyStep, N
         node,
         ..
     } = frame;
-    let form = TypedExpression::Operate(operation_of(target), term_list(ids)?);
+    let form = TypedExpression::Operate(operation_of(target), TermList::from_list(ids)?);
     let step = gives(typing, node.source, node.at, of, form)?;
     Ok(step)
 }
@@ -396,19 +396,19 @@ fn call_primitive(
 fn one_type(typing: &Typing, of: TypeId) -> Result<Rest<TypeId>, NoMemory>
     ensures { IfOk result (λ types. types ≡ of ∷ []) }
 {
-    let mut types = Row::new(typing.world.store.allocator());
+    let mut types = List::new(typing.world.store.allocator());
     types.push(of)?;
-    Ok(types.into_rest())
+    Ok(Rest::from_list(types))
 }
 
 /// A list of two types.
 fn two_types(typing: &Typing, first: TypeId, second: TypeId) -> Result<Rest<TypeId>, NoMemory>
     ensures { IfOk result (λ types. types ≡ first ∷ second ∷ []) }
 {
-    let mut types = Row::new(typing.world.store.allocator());
+    let mut types = List::new(typing.world.store.allocator());
     types.push(first)?;
     types.push(second)?;
-    Ok(types.into_rest())
+    Ok(Rest::from_list(types))
 }
 
 /// Calls a primitive whose parameters have these types.
@@ -436,7 +436,7 @@ fn call_by(
         target: Target::Primitive(primitive),
         operands,
         types,
-        ids: Row::new(typing.world.store.allocator()),
+        ids: List::new(typing.world.store.allocator()),
         fitting,
         node,
     };

@@ -15,13 +15,13 @@ use crate::layouts::lay_out;
 use crate::nodes::{gives, refuse};
 use crate::reading::{bytes, is_struct};
 use crate::step::{BodyStep, Node};
-use check_model::row::{Rest, Row, term_list};
+use check_model::rest::Rest;
 use check_model::{BodyJob, Made, Mode, Typing};
 use exotype::World;
-use terra_term::{OffsetList, Operation, RefusalKind, TypedExpression};
+use terra_term::{OffsetList, Operation, RefusalKind, TermList, TypedExpression};
 use terra_types::{Laid, TypeForm};
 use tl_base::limits::MAX_VALUE_BYTES;
-use tl_base::{NoMemory, Step, TermId, TextId, TypeId};
+use tl_base::{List, NoMemory, Step, TermId, TextId, TypeId};
 
 /// Makes a struct of these values.
 pub fn new_struct(
@@ -95,8 +95,8 @@ fn with_entries(
     ensures kept { OnOk result (KeepsTyping typing.old typing.new) }
 {
     let alloc = typing.world.store.allocator();
-    let offsets = Row::new(alloc);
-    let ids = Row::new(alloc);
+    let offsets = List::new(alloc);
+    let ids = List::new(alloc);
     let frame = InitialFrame {
         of,
         entries,
@@ -137,14 +137,14 @@ fn entries_in_order(
 ) -> Result<Rest<Option<Laid>>, NoMemory>
     ensures { IfOk result (λ entries. entries ≡ models.in_order (entries_of world.now.store.types of) values.now) }
 {
-    let mut entries = Row::new(world.store.allocator());
+    let mut entries = List::new(world.store.allocator());
     'entries: for place in 0..values.len() {
         match entry_at(world, of, place as u64) {
             Some(laid) => entries.push(Some(laid))?,
-            None => return Ok(entries.into_rest()),
+            None => return Ok(Rest::from_list(entries)),
         }
     }
-    Ok(entries.into_rest())
+    Ok(Rest::from_list(entries))
 }
 
 /// The entries of a struct under these names.
@@ -155,11 +155,11 @@ fn entries_by_name(
 ) -> Result<Rest<Option<Laid>>, NoMemory>
     ensures { IfOk result (λ entries. entries ≡ models.by_name (entries_of world.now.store.types of) names.now) }
 {
-    let mut entries = Row::new(world.store.allocator());
+    let mut entries = List::new(world.store.allocator());
     'names: for name in names {
         entries.push(entry_of(world, of, *name))?;
     }
-    Ok(entries.into_rest())
+    Ok(Rest::from_list(entries))
 }
 
 /// Types and converts the values that are left, and makes the struct.
@@ -292,8 +292,8 @@ fn constructed(typing: &mut Typing, frame: InitialFrame) -> Result<BodyStep, NoM
         node,
         ..
     } = frame;
-    let offsets = OffsetList::from_vec(offsets.into_vec())?;
-    let list = term_list(ids)?;
+    let offsets = OffsetList::from_list(offsets)?;
+    let list = TermList::from_list(ids)?;
     let form = TypedExpression::Operate(Operation::Construct(offsets), list);
     let step = gives(typing, node.source, node.at, of, form)?;
     Ok(step)

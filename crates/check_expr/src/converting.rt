@@ -14,28 +14,27 @@ use crate::nodes::{gives, make, refuse, without_lua};
 use crate::reading::{is_nil, is_pointer, metamethod_of_either, points_to};
 use crate::step::BodyStep;
 use check_cast::{Conv, explicit, implicit};
-use check_model::row::{Row, term_list};
 use check_model::{Made, Mode, Site, Typing};
 use terra_term::{Constant, Operation, RefusalKind, TermList, TypedExpression};
-use tl_base::{NoMemory, Place, TermId, TypeId};
+use tl_base::{List, NoMemory, Place, TermId, TypeId};
 
 /// A list of one node.
 pub fn one(typing: &Typing, id: TermId) -> Result<TermList, NoMemory>
     ensures { IfOk result (λ list. list ≡ id ∷ []) }
 {
-    let mut ids = Row::new(typing.world.store.allocator());
+    let mut ids = List::new(typing.world.store.allocator());
     ids.push(id)?;
-    term_list(ids)
+    TermList::from_list(ids)
 }
 
 /// A list of two nodes.
 pub fn two(typing: &Typing, first: TermId, second: TermId) -> Result<TermList, NoMemory>
     ensures { IfOk result (λ list. list ≡ first ∷ second ∷ []) }
 {
-    let mut ids = Row::new(typing.world.store.allocator());
+    let mut ids = List::new(typing.world.store.allocator());
     ids.push(first)?;
     ids.push(second)?;
-    term_list(ids)
+    TermList::from_list(ids)
 }
 
 /// How a value of a type becomes one of another.

@@ -17,11 +17,11 @@ use crate::layouts::as_value;
 use crate::nodes::{gives, refuse};
 use crate::operators::BOOL;
 use crate::step::{BodyStep, Node};
-use check_model::row::{Rest, Row, term_list};
+use check_model::rest::Rest;
 use check_model::{BodyJob, Made, OperandList, Site, Typing};
 use std::alloc::Global;
-use terra_term::{Constant, Expression, Initialiser, RefusalKind, Term, TypedExpression};
-use tl_base::{Budget, GlobalId, NoMemory, Place, Step, SymId, TermId, TypeId};
+use terra_term::{Constant, Expression, Initialiser, RefusalKind, Term, TermList, TypedExpression};
+use tl_base::{Budget, GlobalId, List, NoMemory, Place, Step, SymId, TermId, TypeId};
 
 /// The type of texts and of `nil`, which is there from the begin.
 const RAWSTRING: TypeId = TypeId(10);
@@ -251,7 +251,7 @@ pub fn let_value(
     frames: &mut Vec<BodyFrame>,
     typing: &mut Typing,
     count: u64,
-    ids: Row<TermId>,
+    ids: List<TermId>,
     node: Node,
     made: Made,
 ) -> Result<BodyStep, NoMemory>
@@ -269,7 +269,7 @@ pub fn let_value(
 pub fn let_end(
     typing: &mut Typing,
     count: u64,
-    ids: Row<TermId>,
+    ids: List<TermId>,
     node: Node,
     made: Made,
 ) -> Result<BodyStep, NoMemory>
@@ -278,7 +278,7 @@ pub fn let_end(
     ensures kept { OnOk result (KeepsTyping typing.old typing.new) }
 {
     typing.leave(count);
-    let list = term_list(ids)?;
+    let list = TermList::from_list(ids)?;
     let form = TypedExpression::Let(list, made.id);
     let step = gives(typing, node.source, node.at, made.of, form)?;
     Ok(step)

@@ -1,13 +1,13 @@
 // What waits for the end of what is done above it: a frame for each place at which a plan waits.
 
 use crate::step::Node;
-use check_model::row::{Rest, Row};
+use check_model::rest::Rest;
 use check_model::{Made, Operand, OperandList, Site};
 use lua_value::Primitive;
 use terra_term::{TermList, TypedExpression, TypedName, UnaryOperator, VarName};
 use terra_types::Laid;
 use terra_words::BinaryOperator;
-use tl_base::{FnId, Place, TermId, TextId, TypeId};
+use tl_base::{FnId, List, Place, TermId, TextId, TypeId};
 
 /// A frame. How it goes on with an end is `after`, of `specs/Frames`.
 #[derive(Debug, Drop)]
@@ -66,9 +66,9 @@ pub enum MadeFrame {
     /// The same, converted to the entry's type.
     Initialised(Laid, InitialFrame),
     /// The expression of a `let` with these statements, before which there were so many variables.
-    Let(u64, Row<TermId>, Node),
+    Let(u64, List<TermId>, Node),
     /// The same, as a value.
-    LetValue(u64, Row<TermId>, Node),
+    LetValue(u64, List<TermId>, Node),
 }
 
 /// What waits for a typed expression of a statement.
@@ -89,7 +89,7 @@ pub enum DoingFrame {
     /// The condition of a `while`, with its block.
     While(Rest<TermId>, Place, Site),
     /// The condition of a `repeat`, before which there were so many variables, with its statements.
-    Repeat(u64, Row<TermId>, Option<TypeId>, Place, Site),
+    Repeat(u64, List<TermId>, Option<TypeId>, Place, Site),
     /// A bound of a `for`.
     Bound(BoundFrame),
     /// A bound, converted to the type of the variable.
@@ -127,7 +127,7 @@ pub struct CallFrame {
     pub target: Target,
     pub operands: Rest<Operand>,
     pub types: Rest<TypeId>,
-    pub ids: Row<TermId>,
+    pub ids: List<TermId>,
     pub fitting: bool,
     pub node: Node,
 }
@@ -138,8 +138,8 @@ pub struct InitialFrame {
     pub of: TypeId,
     pub entries: Rest<Option<Laid>>,
     pub values: Rest<TermId>,
-    pub offsets: Row<u64>,
-    pub ids: Row<TermId>,
+    pub offsets: List<u64>,
+    pub ids: List<TermId>,
     pub node: Node,
 }
 
@@ -155,8 +155,8 @@ pub struct Initials {
 pub struct VarFrame {
     pub names: Rest<VarName>,
     pub values: Rest<TermId>,
-    pub typed: Row<VarName>,
-    pub ids: Row<TermId>,
+    pub typed: List<VarName>,
+    pub ids: List<TermId>,
     pub at: Place,
     pub site: Site,
 }
@@ -165,8 +165,8 @@ pub struct VarFrame {
 #[derive(Debug, Drop)]
 pub struct NamesFrame {
     pub names: Rest<VarName>,
-    pub named: Row<TypedName>,
-    pub ids: Row<TermId>,
+    pub named: List<TypedName>,
+    pub ids: List<TermId>,
     pub at: Place,
     pub site: Site,
 }
@@ -175,7 +175,7 @@ pub struct NamesFrame {
 #[derive(Debug, Drop)]
 pub struct ValueFrame {
     pub values: Rest<TermId>,
-    pub made: Row<Made>,
+    pub made: List<Made>,
     pub targets: Rest<TermId>,
     pub at: Place,
     pub site: Site,
@@ -185,8 +185,8 @@ pub struct ValueFrame {
 #[derive(Debug, Drop)]
 pub struct TargetFrame {
     pub targets: Rest<TermId>,
-    pub places: Row<Made>,
-    pub made: Row<Made>,
+    pub places: List<Made>,
+    pub made: List<Made>,
     pub at: Place,
     pub site: Site,
 }
@@ -197,7 +197,7 @@ pub struct AssignedFrame {
     pub made: Rest<Made>,
     pub places: Rest<Made>,
     pub targets: TermList,
-    pub ids: Row<TermId>,
+    pub ids: List<TermId>,
     pub at: Place,
     pub site: Site,
 }
@@ -206,7 +206,7 @@ pub struct AssignedFrame {
 #[derive(Debug, Drop)]
 pub struct BoundFrame {
     pub bounds: Rest<TermId>,
-    pub made: Row<Made>,
+    pub made: List<Made>,
     pub name: VarName,
     pub body: Rest<TermId>,
     pub at: Place,
@@ -218,7 +218,7 @@ pub struct BoundFrame {
 pub struct CountedFrame {
     pub of: TypeId,
     pub made: Rest<Made>,
-    pub ids: Row<TermId>,
+    pub ids: List<TermId>,
     pub name: VarName,
     pub body: Rest<TermId>,
     pub at: Place,
@@ -229,7 +229,7 @@ pub struct CountedFrame {
 #[derive(Debug, Drop)]
 pub struct BlockFrame {
     pub rest: Rest<TermId>,
-    pub ids: Row<TermId>,
+    pub ids: List<TermId>,
     pub then: BlockThen,
     pub site: Site,
 }
@@ -241,17 +241,17 @@ pub enum BlockThen {
     /// They are the first block of an `if`, with its condition and the block behind `else`.
     Then(u64, Made, Option<Rest<TermId>>, Place, Site),
     /// They stand behind `else`: the condition and the first block.
-    Else(u64, Made, Row<TermId>, Place),
+    Else(u64, Made, List<TermId>, Place),
     /// They are a `while`'s, with its condition.
     While(u64, Made, Place),
     /// They are a `repeat`'s, whose condition this term is.
     Repeat(u64, TermId, Place, Site),
     /// They are a `for`'s: its variable and its bounds.
-    For(u64, TypedName, Row<TermId>, Place),
+    For(u64, TypedName, List<TermId>, Place),
     /// They are a `let`'s, whose expression this term is.
     Let(u64, TermId, Node),
     /// They are the body of a function with these parameters.
-    Function(Row<TypedName>, Place, Site),
+    Function(List<TypedName>, Place, Site),
 }
 
 /// What is done once a layout is settled.
@@ -279,7 +279,7 @@ pub enum LaidThen {
 #[derive(Debug, Drop)]
 pub struct ParametersFrame {
     pub parameters: Rest<terra_term::Parameter>,
-    pub named: Row<TypedName>,
+    pub named: List<TypedName>,
     pub body: Rest<TermId>,
     pub at: Place,
     pub site: Site,

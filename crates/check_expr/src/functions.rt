@@ -17,28 +17,30 @@ use crate::loops::UNIT;
 use crate::nodes::{new_node, refuse};
 use crate::step::BodyStep;
 use crate::variables::is_function;
-use check_model::row::{Rest, Row, term_list};
+use check_model::rest::Rest;
 use check_model::{PartEnd, Site, Typing};
 use exotype::World;
 use std::alloc::Global;
-use terra_term::{Parameter, RefusalKind, Size, Standing, Term, Typed, TypedName, TypedNameList};
+use terra_term::{
+    Parameter, RefusalKind, Size, Standing, Term, TermList, Typed, TypedName, TypedNameList,
+};
 use tl_base::limits::{MAX_TERM_LEVELS, MAX_TERM_NODES};
-use tl_base::{Budget, FnId, NoMemory, Place, Step, TermId, TypeId};
+use tl_base::{Budget, FnId, List, NoMemory, Place, Step, TermId, TypeId};
 
 /// What stands in the definition of a function.
 #[derive(Debug, Drop)]
 pub struct Definition {
     pub parameters: Rest<Parameter>,
-    pub named: Row<TypedName>,
+    pub named: List<TypedName>,
     pub written: Option<TypeId>,
     pub body: Rest<TermId>,
 }
 
 /// The names of parameters, with their types.
-fn names_of(alloc: Global, parameters: &[Parameter]) -> Result<Row<TypedName>, NoMemory>
+fn names_of(alloc: Global, parameters: &[Parameter]) -> Result<List<TypedName>, NoMemory>
     ensures { IfOk result (λ names. names ≡ models.names_of parameters.now) }
 {
-    let mut named = Row::new(alloc);
+    let mut named = List::new(alloc);
     'parameters: for parameter in parameters {
         named.push(TypedName {
             symbol: parameter.symbol,
@@ -258,9 +260,9 @@ fn is_too_large(size: Size) -> bool
 /// Makes the node of a function; a body that returns nothing has the unit type.
 pub fn function(
     typing: &mut Typing,
-    names: Row<TypedName>,
+    names: List<TypedName>,
     found: Option<TypeId>,
-    ids: Row<TermId>,
+    ids: List<TermId>,
     at: Place,
     site: Site,
 ) -> Result<BodyStep, NoMemory>
@@ -269,8 +271,8 @@ pub fn function(
     ensures kept { OnOk result (KeepsTyping typing.old typing.new) }
 {
     let of = found.unwrap_or(UNIT);
-    let names = TypedNameList::from_vec(names.into_vec())?;
-    let list = term_list(ids)?;
+    let names = TypedNameList::from_list(names)?;
+    let list = TermList::from_list(ids)?;
     let id = new_node(typing, Typed::Function(names, of, list))?;
     Ok(if_small(typing, id, of, at, site))
 }

@@ -4,22 +4,22 @@ ghost use Rattle.std.specs.Prelude.{◌≡◌, IfOk, slice_get};
 ghost use Rattle.check_model.specs.Calls as models;
 
 use check_model::KnownResult;
-use check_model::row::{Rest, Row};
+use check_model::rest::Rest;
 use exotype::World;
 use std::alloc::Global;
 use terra_term::{FunctionState, Parameter, Term, Typed};
 use terra_types::TypeForm;
-use tl_base::{FnId, NoMemory, TermId, TypeId};
+use tl_base::{FnId, List, NoMemory, TermId, TypeId};
 
 /// The types of parameters.
 fn types_of(alloc: Global, parameters: &[Parameter]) -> Result<Rest<TypeId>, NoMemory>
     ensures { IfOk result (λ types. types ≡ models.types_of parameters.now) }
 {
-    let mut types = Row::new(alloc);
+    let mut types = List::new(alloc);
     'parameters: for parameter in parameters {
         types.push(parameter.of)?;
     }
-    Ok(types.into_rest())
+    Ok(Rest::from_list(types))
 }
 
 /// The types of the parameters of a definition.

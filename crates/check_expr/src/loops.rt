@@ -17,11 +17,11 @@ use crate::operators::BOOL;
 use crate::reading::is_integer;
 use crate::step::BodyStep;
 use check_cast::meet;
-use check_model::row::{Rest, Row, term_list};
+use check_model::rest::Rest;
 use check_model::{BodyJob, Made, Mode, Site, Typing};
 use exotype::World;
-use terra_term::{RefusalKind, TypedName, TypedStatement, VarName};
-use tl_base::{NoMemory, Place, Step, TermId, TypeId};
+use terra_term::{RefusalKind, TermList, TypedName, TypedStatement, VarName};
+use tl_base::{List, NoMemory, Place, Step, TermId, TypeId};
 
 /// The type of no bytes, which is there from the begin.
 pub const UNIT: TypeId = TypeId(9);
@@ -92,7 +92,7 @@ pub fn while_block(
 pub fn repeat_end(
     typing: &mut Typing,
     count: u64,
-    ids: Row<TermId>,
+    ids: List<TermId>,
     found: Option<TypeId>,
     at: Place,
     site: Site,
@@ -106,7 +106,7 @@ pub fn repeat_end(
         return Ok(no_condition(made, site));
     }
     typing.leave(count);
-    let list = term_list(ids)?;
+    let list = TermList::from_list(ids)?;
     let form = TypedStatement::Repeat(list, made.id);
     let step = states(typing, at, form, found)?;
     Ok(step)
@@ -148,7 +148,7 @@ pub fn for_loop(
 {
     let frame = BoundFrame {
         bounds,
-        made: Row::new(typing.world.store.allocator()),
+        made: List::new(typing.world.store.allocator()),
         name,
         body,
         at,
@@ -188,8 +188,8 @@ fn bounds_left(
             let of = meet_of(&typing.world, made.as_slice());
             let frame = CountedFrame {
                 of,
-                made: made.into_rest(),
-                ids: Row::new(typing.world.store.allocator()),
+                made: Rest::from_list(made),
+                ids: List::new(typing.world.store.allocator()),
                 name,
                 body,
                 at,

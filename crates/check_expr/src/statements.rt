@@ -16,7 +16,7 @@ use crate::loops::{UNIT, for_loop, repeat_loop};
 use crate::nodes::{refuse, states};
 use crate::step::BodyStep;
 use crate::variables::var;
-use check_model::row::Rest;
+use check_model::rest::Rest;
 use check_model::{BodyJob, Made, Mode, Site, Typing};
 use std::alloc::Global;
 use terra_term::{RefusalKind, Statement, Term, TermList, TypedStatement};

@@ -14,12 +14,12 @@ use crate::layouts::{as_value, lay_out};
 use crate::nodes::{refuse, states};
 use crate::reading::is_nil;
 use crate::step::BodyStep;
-use check_model::row::{Rest, Row, term_list};
+use check_model::rest::Rest;
 use check_model::{BodyJob, Made, Mode, Site, Typing};
 use exotype::World;
-use terra_term::{RefusalKind, TypedName, TypedNameList, TypedStatement, VarName};
+use terra_term::{RefusalKind, TermList, TypedName, TypedNameList, TypedStatement, VarName};
 use terra_types::TypeForm;
-use tl_base::{Budget, NoMemory, Place, Step, TermId, TypeId};
+use tl_base::{Budget, List, NoMemory, Place, Step, TermId, TypeId};
 
 /// A `var`, with values or without.
 pub fn var(
@@ -39,8 +39,8 @@ pub fn var(
     let alloc = typing.world.store.allocator();
     match values {
         None => {
-            let named = Row::new(alloc);
-            let ids = Row::new(alloc);
+            let named = List::new(alloc);
+            let ids = List::new(alloc);
             let frame = NamesFrame {
                 names,
                 named,
@@ -57,8 +57,8 @@ pub fn var(
             if given != wanted {
                 return Ok(refuse(RefusalKind::WrongCount, at, site));
             }
-            let typed = Row::new(alloc);
-            let none = Row::new(alloc);
+            let typed = List::new(alloc);
+            let none = List::new(alloc);
             let frame = VarFrame {
                 names,
                 values,
@@ -206,8 +206,8 @@ fn declare(
         ..
     } = frame;
     let frame = NamesFrame {
-        names: typed.into_rest(),
-        named: Row::new(typing.world.store.allocator()),
+        names: Rest::from_list(typed),
+        named: List::new(typing.world.store.allocator()),
         ids,
         at,
         site,
@@ -334,8 +334,8 @@ fn named(typing: &mut Typing, frame: NamesFrame) -> Result<BodyStep, NoMemory>
         ..
     } = frame;
     declare_all(typing, named.as_slice())?;
-    let names = TypedNameList::from_vec(named.into_vec())?;
-    let list = term_list(ids)?;
+    let names = TypedNameList::from_list(named)?;
+    let list = TermList::from_list(ids)?;
     let form = TypedStatement::Var(names, list);
     let step = states(typing, at, form, site.result)?;
     Ok(step)

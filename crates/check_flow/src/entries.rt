@@ -6,11 +6,10 @@ ghost use Rattle.lua_table.specs.Metatables.{value_under};
 ghost use Rattle.lua_table.specs.Pairs.{value_at};
 ghost use Rattle.check_model.specs.Layouts as models;
 
-use check_model::Row;
 use lua_table::Heap;
 use lua_value::{Number, Value};
 use terra_types::Entry;
-use tl_base::{NoMemory, TableId};
+use tl_base::{List, NoMemory, TableId};
 
 /// What stands under a text of a table.
 fn under(heap: &Heap, table: TableId, name: &[u8]) -> Value
@@ -69,12 +68,12 @@ fn entry_in(heap: &Heap, value: Value) -> Result<Option<Entry>, NoMemory>
 }
 
 /// The entries that a value lists; none where it isn't a list of entries.
-pub fn entries_from(heap: &Heap, value: Value) -> Result<Option<Row<Entry>>, NoMemory>
+pub fn entries_from(heap: &Heap, value: Value) -> Result<Option<List<Entry>>, NoMemory>
     ensures { IfOk result (λ entries. entries ≡ models.entries_from heap.now value) }
 {
     match value {
         Value::Table(table) => {
-            let mut entries = Row::new(heap.allocator());
+            let mut entries = List::new(heap.allocator());
             'entries: for place in 0..heap.border(table) {
                 match entry_in(heap, numbered(heap, table, place + 1)?)? {
                     Some(entry) => entries.push(entry)?,

@@ -1,15 +1,15 @@
 // What waits in a layout.
 
-use check_model::{Rest, Row};
+use check_model::Rest;
 use lua_value::Value;
 use terra_types::Entry;
-use tl_base::{Place, TypeId};
+use tl_base::{List, Place, TypeId};
 
 /// What waits for the layout of another type.
 #[derive(Debug, Drop)]
 pub enum LayoutFrame {
     /// A struct, at one of its entries: its type, the value that has the entries, those behind the one, all of them, and who asked.
-    Part(TypeId, Value, Rest<Entry>, Row<Entry>, Place),
+    Part(TypeId, Value, Rest<Entry>, List<Entry>, Place),
     /// An array.
     Elements(TypeId),
 }

@@ -18,13 +18,13 @@ ghost use Rattle.check_flow.specs.Steps.{LaysOn};
 
 use crate::entries::entries_from;
 use crate::layout_frame::LayoutFrame;
-use check_model::{CheckAnswer, LayoutEnd, LayoutQuestion, LayoutTask, Rest, Row};
+use check_model::{CheckAnswer, LayoutEnd, LayoutQuestion, LayoutTask, Rest};
 use exotype::{Known, Property, World, what_is_kept_is_known};
 use lua_value::Value;
 use std::alloc::Global;
 use terra_term::RefusalKind;
 use terra_types::{Entry, Settled, TypeForm};
-use tl_base::{Budget, Machine, NoMemory, Place, Step, TypeId};
+use tl_base::{Budget, List, Machine, NoMemory, Place, Step, TypeId};
 
 /// What a layout does next.
 pub type LayoutStep = Step<(), LayoutEnd, LayoutQuestion>;
@@ -111,7 +111,7 @@ fn parts_left(
     of: TypeId,
     value: Value,
     rest: Rest<Entry>,
-    entries: Row<Entry>,
+    entries: List<Entry>,
     at: Place,
 ) -> Result<LayoutStep, NoMemory>
     ensures means { IfOk result (λ step. (left : ℕ) →
@@ -136,7 +136,7 @@ fn settle(
     world: &mut World,
     of: TypeId,
     value: Value,
-    entries: Row<Entry>,
+    entries: List<Entry>,
 ) -> Result<LayoutStep, NoMemory>
     ensures means { IfOk result (λ step. (left : ℕ) → (fs : List LayoutFrame) →
         LaysOn fs (models.unless_settled world.old of value (layout_of world.old.store.types entries))
@@ -156,7 +156,7 @@ fn settle_now(
     world: &mut World,
     of: TypeId,
     value: Value,
-    entries: Row<Entry>,
+    entries: List<Entry>,
 ) -> Result<LayoutStep, NoMemory>
     requires { IsTrue (is_unsettled world.old.store.types of) }
     ensures means { IfOk result (λ step. (left : ℕ) → (fs : List LayoutFrame) →
@@ -170,7 +170,7 @@ fn settle_now(
 }
 
 /// Gives a struct the layout that its entries have, unless they are bad.
-fn put_layout(world: &mut World, of: TypeId, entries: Row<Entry>) -> Result<Settled, NoMemory>
+fn put_layout(world: &mut World, of: TypeId, entries: List<Entry>) -> Result<Settled, NoMemory>
     requires { IsTrue (is_unsettled world.old.store.types of) }
     ensures answer { IfOk result (λ settled. settled ≡ settled_answer (layout_of world.old.store.types entries)) }
     ensures ok { OnOk result (world.new ≡ with_store world.old

@@ -17,7 +17,7 @@ use crate::answers::{bad_argument, give_nothing, raise, refuse};
 use crate::ask::{AskNext, AskTurn, ExportNext};
 use crate::counting::Counted;
 use check_expr::known::result_type;
-use check_model::{CheckAnswer, KnownResult, Rest, Row};
+use check_model::{CheckAnswer, KnownResult, Rest};
 use exotype::{Fault, World};
 use lua_base::{argument, table_in};
 use lua_value::{LibFn, Value};
@@ -26,7 +26,7 @@ use terra_lib::exports::{
 };
 use terra_lib::symbols::is_scalar;
 use terra_term::RefusalKind;
-use tl_base::{Budget, FnId, NoMemory, Place, TableId, TextId};
+use tl_base::{Budget, FnId, List, NoMemory, Place, TableId, TextId};
 
 /// The table of globals, which is made first.
 const GLOBALS: TableId = TableId(0);
@@ -259,18 +259,18 @@ fn refuse_too_large(
 fn entries_of(world: &World, at_end: bool, table: TableId) -> Result<Rest<(Value, Value)>, NoMemory>
     ensures { IfOk result (λ entries. entries ≡ taken world.now at_end (table_at world.now.heap table)) }
 {
-    let mut entries = Row::new(world.heap.allocator());
+    let mut entries = List::new(world.heap.allocator());
     'each: for place in 0..world.heap.entry_count(table) {
         take_entry(world, at_end, &mut entries, table, place)?;
     }
-    Ok(entries.into_rest())
+    Ok(Rest::from_list(entries))
 }
 
 /// Puts the entry of a table at a place behind others, if it is taken.
 fn take_entry(
     world: &World,
     at_end: bool,
-    entries: &mut Row<(Value, Value)>,
+    entries: &mut List<(Value, Value)>,
     table: TableId,
     place: usize,
 ) -> Result<(), NoMemory>

@@ -25,7 +25,7 @@ use terra_lib::symbols::scalar_bits;
 use terra_term::Static;
 use terra_types::{TypeForm, Types};
 use tl_base::limits::REGION_ADDRESS;
-use tl_base::{Budget, GlobalId, NoMemory, Place, Text2, TextId, TypeId};
+use tl_base::{Budget, Bytes, GlobalId, NoMemory, Place, TextId, TypeId};
 
 /// The place of what has none in the text.
 const NOWHERE: Place = Place { line: 0, word: 0 };
@@ -294,7 +294,7 @@ fn statics_end(statics: &[Static]) -> u128
     ensures within { result < 2 ^ 65 }
 {
     match statics.last() {
-        Some(last) => sum(last.address, last.bytes.bytes().len() as u64),
+        Some(last) => sum(last.address, last.bytes.as_slice().len() as u64),
         None => u128::from(REGION_ADDRESS),
     }
 }
@@ -309,7 +309,7 @@ fn sum(a: u64, b: u64) -> u128
 
 /// So many bytes of a number, the lowest first.
 #[tactic(auto, using(crate::proofs::Walking::bytes_next, crate::proofs::Walking::bytes_end))]
-fn first_bytes(alloc: Global, count: u64, number: u64) -> Result<Text2, NoMemory>
+fn first_bytes(alloc: Global, count: u64, number: u64) -> Result<Bytes, NoMemory>
     ensures { IfOk result (λ bytes. bytes ≡ first_bytes count number) }
 {
     let mut bytes = Vec::new(alloc);
@@ -318,7 +318,7 @@ fn first_bytes(alloc: Global, count: u64, number: u64) -> Result<Text2, NoMemory
         bytes.push((left % 256) as u8)?;
         left /= 256;
     }
-    Ok(Text2::from_vec(bytes))
+    Ok(Bytes::from_vec(bytes))
 }
 
 /// Gives a new global that begins with these bytes, or raises that statics are full.
@@ -326,7 +326,7 @@ fn give_global(
     world: &mut World,
     budget: &mut Budget,
     of: TypeId,
-    bytes: Text2,
+    bytes: Bytes,
     place: Place,
 ) -> Result<AskTurn, NoMemory>
     ensures does { IfOk result (λ turn. asked turn (state world.new budget.new)
@@ -341,7 +341,7 @@ fn give_global(
 }
 
 /// Makes a global that begins with these bytes, where there is room for them.
-fn new_global(world: &mut World, of: TypeId, bytes: Text2) -> Result<Option<GlobalId>, NoMemory>
+fn new_global(world: &mut World, of: TypeId, bytes: Bytes) -> Result<Option<GlobalId>, NoMemory>
     ensures id { IfOk result (λ id. id ≡ placed_global world.old.store world.old.memory bytes) }
     ensures ok { OnOk result (world.new ≡ with_global_in world.old of bytes) }
 {

@@ -8,7 +8,7 @@ use crate::site::Site;
 use indexmap::IndexMap;
 use std::alloc::Global;
 use std::marker::Model;
-use tl_base::{FnId, NoMemory, Place, TermId, TypeId};
+use tl_base::{FnId, List, NoMemory, Place, TermId, TypeId};
 
 /// What a call is given: a term that is typed in its turn, or what was typed before.
 #[derive(Clone, Copy, Debug, PartialEq, Eq)]
@@ -17,29 +17,8 @@ pub enum Operand {
     Typed(Made),
 }
 
-/// What a call is given, in order. Contracts see the list.
-#[derive(Debug, Drop)]
-pub struct OperandList {
-    items: Vec<Operand>,
-}
-
-impl Model for OperandList {
-    ghost use Rattle.std.specs.Prelude.{List};
-    ghost use Rattle.check_model.specs.declared.job.Operand.{Operand};
-
-    ghost Value = { List Operand };
-
-    ghost view = { λ l. l.items.items };
-}
-
-impl OperandList {
-    /// The list that takes over these operands.
-    pub fn from_vec(items: Vec<Operand>) -> OperandList
-        ensures { result ≡ items.items }
-    {
-        OperandList { items }
-    }
-}
+/// What a call is given, in order.
+pub type OperandList = List<Operand>;
 
 /// A node of a body is typed.
 #[derive(Debug, Drop)]

@@ -11,7 +11,7 @@ pub mod job;
 pub mod known;
 pub mod made;
 pub mod question;
-pub mod row;
+pub mod rest;
 pub mod rule;
 pub mod site;
 pub mod typing;
@@ -21,7 +21,7 @@ pub use job::{BodyJob, CheckJob, LayoutTask, Operand, OperandList, Reached, Reac
 pub use known::KnownResult;
 pub use made::Made;
 pub use question::{BodyQuestion, CheckAnswer, CheckQuestion, LayoutQuestion};
-pub use row::{Rest, Row};
+pub use rest::Rest;
 pub use rule::{Mode, Rule};
 pub use site::Site;
 pub use typing::Typing;

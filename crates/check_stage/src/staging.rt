@@ -26,7 +26,7 @@ use std::alloc::Global;
 use terra_stage::raised_text;
 use terra_term::{FunctionState, Refusal};
 use terra_types::Types;
-use tl_base::{Budget, FnId, NoMemory, Place, Text2};
+use tl_base::{Budget, Bytes, FnId, NoMemory, Place};
 use tl_rename::resolve;
 use tl_tree::Tree;
 
@@ -52,7 +52,7 @@ pub struct CheckLine {
 pub enum End {
     Done,
     /// By an error: its text, and the place of what raised it.
-    Raised { text: Text2, place: Place },
+    Raised { text: Bytes, place: Place },
     /// Before a payment above what was left of the budget.
     Spent,
 }

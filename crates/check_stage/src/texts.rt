@@ -17,25 +17,25 @@ use exotype::World;
 use stage_text::{push_function_type, terms_text};
 use std::alloc::Global;
 use terra_term::Refusal;
-use tl_base::{FnId, NoMemory, Place, Text2, TypeId};
+use tl_base::{Bytes, FnId, NoMemory, Place, TypeId};
 use tl_tree::Tree;
 
 /// What is written of a staging that checks each function: what was printed, how it ended, and a line for each check that was
 /// made: `function N at L:W: ok TYPE` or `function N at L:W: refused KIND at L:W in function M`.
 #[derive(Debug, Drop)]
 pub struct Checks {
-    pub printed: Text2,
+    pub printed: Bytes,
     pub end: End,
-    pub lines: Text2,
+    pub lines: Bytes,
 }
 
 /// What is written of a staging that makes exports: what was printed, how it ended, and a line for each export with the lines
 /// of the exported terms, as they were at that end.
 #[derive(Debug, Drop)]
 pub struct Terms {
-    pub printed: Text2,
+    pub printed: Bytes,
     pub end: End,
-    pub lines: Text2,
+    pub lines: Bytes,
 }
 
 /// Stages a source as [`stage`] does, checks each function that is defined, and writes the lines of the checks. No check is told
@@ -102,7 +102,7 @@ fn terms_of(outcome: Outcome) -> Result<Terms, NoMemory>
 }
 
 /// The lines of the exports, and of their terms.
-fn export_lines(world: &World) -> Result<Text2, NoMemory>
+fn export_lines(world: &World) -> Result<Bytes, NoMemory>
     ensures { IfOk result (λ text. text ≡ terms_text world.now.store world.now.exports.list) }
 {
     let lines = terms_text(&world.store, world.exports.as_slice())?;
@@ -110,10 +110,10 @@ fn export_lines(world: &World) -> Result<Text2, NoMemory>
 }
 
 /// The lines of checks.
-fn check_lines(world: &World, checks: &[CheckLine]) -> Result<Text2, NoMemory>
+fn check_lines(world: &World, checks: &[CheckLine]) -> Result<Bytes, NoMemory>
     ensures { IfOk result (λ text. text ≡ checks_text world.now checks.now) }
 {
-    let mut out = Text2::new(world.heap.allocator());
+    let mut out = Bytes::new(world.heap.allocator());
     for check in checks {
         push_check(world, &mut out, *check)?;
     }
@@ -121,45 +121,45 @@ fn check_lines(world: &World, checks: &[CheckLine]) -> Result<Text2, NoMemory>
 }
 
 /// Writes the line of a check.
-fn push_check(world: &World, out: &mut Text2, check: CheckLine) -> Result<(), NoMemory>
+fn push_check(world: &World, out: &mut Bytes, check: CheckLine) -> Result<(), NoMemory>
     ensures { OnOk result (out.new ≡ out.old ++ check_text world.now check) }
 {
     let alloc = world.heap.allocator();
-    out.push_bytes(b"function ")?;
+    out.push_all(b"function ")?;
     push_number(alloc, out, check.function)?;
     push_placed(world, out, check.function)?;
-    out.push_bytes(b": ")?;
+    out.push_all(b": ")?;
     push_verdict(world, out, check.function, check.refusal)?;
-    out.push_bytes(b"\n")
+    out.push_all(b"\n")
 }
 
 /// Writes the number of a function.
-fn push_number(alloc: Global, out: &mut Text2, f: FnId) -> Result<(), NoMemory>
+fn push_number(alloc: Global, out: &mut Bytes, f: FnId) -> Result<(), NoMemory>
     ensures { OnOk result (out.new ≡ out.old ++ number_text f) }
 {
     let number = u128::from(f.0) + 1;
     let text = format!(in alloc; "{number}")?;
-    out.push_bytes(text.as_bytes())
+    out.push_all(text.as_bytes())
 }
 
 /// Writes a place.
-fn push_place(alloc: Global, out: &mut Text2, place: Place) -> Result<(), NoMemory>
+fn push_place(alloc: Global, out: &mut Bytes, place: Place) -> Result<(), NoMemory>
     ensures { OnOk result (out.new ≡ out.old ++ place_text place) }
 {
     let line = place.line;
     let word = place.word;
     let text = format!(in alloc; "{line}:{word}")?;
-    out.push_bytes(text.as_bytes())
+    out.push_all(text.as_bytes())
 }
 
 /// Writes where a function is.
-fn push_placed(world: &World, out: &mut Text2, f: FnId) -> Result<(), NoMemory>
+fn push_placed(world: &World, out: &mut Bytes, f: FnId) -> Result<(), NoMemory>
     ensures { OnOk result (out.new ≡ out.old ++ placed (function_at world.now f)) }
 {
     match world.store.function(f) {
         None => Ok(()),
         Some(function) => {
-            out.push_bytes(b" at ")?;
+            out.push_all(b" at ")?;
             push_place(world.heap.allocator(), out, function.place)
         }
     }
@@ -168,7 +168,7 @@ fn push_placed(world: &World, out: &mut Text2, f: FnId) -> Result<(), NoMemory>
 /// Writes what a check came to.
 fn push_verdict(
     world: &World,
-    out: &mut Text2,
+    out: &mut Bytes,
     f: FnId,
     refusal: Option<Refusal>,
 ) -> Result<(), NoMemory>
@@ -176,7 +176,7 @@ fn push_verdict(
 {
     match refusal {
         None => {
-            out.push_bytes(b"ok ")?;
+            out.push_all(b"ok ")?;
             push_type(world, out, f)
         }
         Some(refusal) => push_refusal(world.heap.allocator(), out, refusal),
@@ -184,19 +184,19 @@ fn push_verdict(
 }
 
 /// Writes a refusal.
-fn push_refusal(alloc: Global, out: &mut Text2, refusal: Refusal) -> Result<(), NoMemory>
+fn push_refusal(alloc: Global, out: &mut Bytes, refusal: Refusal) -> Result<(), NoMemory>
     ensures { OnOk result (out.new ≡ out.old ++ refusal_text refusal) }
 {
-    out.push_bytes(b"refused ")?;
-    out.push_bytes(kind_name(refusal.kind).as_bytes())?;
-    out.push_bytes(b" at ")?;
+    out.push_all(b"refused ")?;
+    out.push_all(kind_name(refusal.kind).as_bytes())?;
+    out.push_all(b" at ")?;
     push_place(alloc, out, refusal.place)?;
-    out.push_bytes(b" in function ")?;
+    out.push_all(b" in function ")?;
     push_number(alloc, out, refusal.function)
 }
 
 /// Writes the type of a function, where it is known.
-fn push_type(world: &World, out: &mut Text2, f: FnId) -> Result<(), NoMemory>
+fn push_type(world: &World, out: &mut Bytes, f: FnId) -> Result<(), NoMemory>
     ensures { OnOk result (out.new ≡ out.old ++ function_type world.now f) }
 {
     match parameter_types(world, f)? {
@@ -208,7 +208,7 @@ fn push_type(world: &World, out: &mut Text2, f: FnId) -> Result<(), NoMemory>
 /// Writes the type of a function of these parameters, where its result is known.
 fn push_type_with(
     world: &World,
-    out: &mut Text2,
+    out: &mut Bytes,
     parameters: &[TypeId],
     f: FnId,
 ) -> Result<(), NoMemory>

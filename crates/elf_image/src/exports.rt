@@ -12,11 +12,12 @@ ghost use Rattle.elf_image.specs.Answers.{Says, Gives};
 
 use crate::error::ImageError;
 use crate::fields::{check_u8, check_u16, check_u32, check_u64, u8_at, u32_at, u64_at};
-use crate::image::{Bytes, Symbol};
+use crate::image::Symbol;
 use crate::layout::Layout;
 use crate::names::names_differ;
 use crate::rule::Rule;
 use std::alloc::Global;
+use tl_base::Bytes;
 use tl_base::limits::TEXT_ADDRESS;
 
 // The longest name, with the zero byte behind it.
@@ -63,7 +64,7 @@ fn read_name(alloc: Global, names: &[u8]) -> Result<Bytes, ImageError>
     if len == 0 || len == front.len() {
         return Err(ImageError::BadSymbol);
     }
-    Ok(Bytes::from(Vec::from_slice(alloc, &front[..len])?))
+    Ok(Bytes::from_vec(Vec::from_slice(alloc, &front[..len])?))
 }
 
 // The export whose record is at `entry` and whose symbol is at `symbol`.
@@ -98,7 +99,7 @@ fn read_export(
     Ok(Symbol {
         name,
         address,
-        params: Bytes::from(Vec::from_slice(alloc, &bytes[params..params + count])?),
+        params: Bytes::from_vec(Vec::from_slice(alloc, &bytes[params..params + count])?),
         result: u8_at(bytes, entry + 17),
     })
 }

@@ -1,109 +1,12 @@
 // What an image holds.
 
-ghost use Rattle.std.specs.Prelude.{◌≡◌, [], ◌∷◌, ◌++◌, OnOk, OnErr};
+ghost use Rattle.std.specs.Prelude.{◌≡◌};
 
 use crate::calls::find_symbol;
-use std::alloc::Global;
-use std::marker::Model;
-use tl_base::NoMemory;
+use tl_base::{Bytes, List};
 
 /// The instruction words of the text, in order of their addresses.
-#[derive(Debug, Drop)]
-pub struct Words {
-    words: Vec<u32>,
-}
-
-impl Model for Words {
-    ghost use Rattle.std.specs.Prelude.{List, ℕ};
-
-    ghost Value = { List ℕ };
-
-    ghost view = { λ w. w.words.items };
-}
-
-impl Words {
-    /// No words.
-    pub fn new(alloc: Global) -> Words
-        ensures { result ≡ [] }
-    {
-        Words {
-            words: Vec::new(alloc),
-        }
-    }
-
-    /// Adds a word at the end.
-    pub fn push(&mut self, word: u32) -> Result<(), NoMemory>
-        ensures ok { OnOk result (self.new ≡ self.old ++ word ∷ []) }
-        ensures err { OnErr result (self.new ≡ self.old) }
-    {
-        self.words.push(word)?;
-        Ok(())
-    }
-
-    /// The words.
-    pub fn as_slice(&self) -> &[u32]
-        ensures { result.now ≡ self.now }
-    {
-        self.words.as_slice()
-    }
-}
-
-impl From<Vec<u32>> for Words {
-    ghost from_gives = { λ v w. w ≡ v.items };
-
-    fn from(words: Vec<u32>) -> Words {
-        Words { words }
-    }
-}
-
-/// Bytes: static bytes, a name, or type codes.
-#[derive(Debug, Drop)]
-pub struct Bytes {
-    bytes: Vec<u8>,
-}
-
-impl Model for Bytes {
-    ghost use Rattle.std.specs.Prelude.{List, ℕ};
-
-    ghost Value = { List ℕ };
-
-    ghost view = { λ b. b.bytes.items };
-}
-
-impl Bytes {
-    /// No bytes.
-    pub fn new(alloc: Global) -> Bytes
-        ensures { result ≡ [] }
-    {
-        Bytes {
-            bytes: Vec::new(alloc),
-        }
-    }
-
-    /// Adds a byte at the end.
-    pub fn push(&mut self, byte: u8) -> Result<(), NoMemory>
-        ensures ok { OnOk result (self.new ≡ self.old ++ byte ∷ []) }
-        ensures err { OnErr result (self.new ≡ self.old) }
-    {
-        self.bytes.push(byte)?;
-        Ok(())
-    }
-
-    /// The bytes.
-    pub fn as_slice(&self) -> &[u8]
-        ensures { result.now ≡ self.now }
-    {
-        self.bytes.as_slice()
-    }
-}
-
-impl From<Vec<u8>> for Bytes {
-    ghost from_gives = { λ v b. b ≡ v.items };
-
-    fn from(bytes: Vec<u8>) -> Bytes {
-        Bytes { bytes }
-    }
-}
+pub type Words = List<u32>;
 
 /// A function that can be called from outside.
 #[derive(Debug, Drop)]
@@ -120,54 +23,7 @@ pub struct Symbol {
 }
 
 /// The exports of an image, in order.
-#[derive(Debug, Drop)]
-pub struct Symbols {
-    symbols: Vec<Symbol>,
-}
-
-impl Model for Symbols {
-    ghost use Rattle.std.specs.Prelude.{List};
-    ghost use Rattle.elf_image.specs.declared.image.Symbol.{Symbol};
-
-    ghost Value = { List Symbol };
-
-    ghost view = { λ s. s.symbols.items };
-}
-
-impl Symbols {
-    /// No symbols.
-    pub fn new(alloc: Global) -> Symbols
-        ensures { result ≡ [] }
-    {
-        Symbols {
-            symbols: Vec::new(alloc),
-        }
-    }
-
-    /// Adds a symbol at the end.
-    pub fn push(&mut self, symbol: Symbol) -> Result<(), NoMemory>
-        ensures ok { OnOk result (self.new ≡ self.old ++ symbol ∷ []) }
-        ensures err { OnErr result (self.new ≡ self.old) }
-    {
-        self.symbols.push(symbol)?;
-        Ok(())
-    }
-
-    /// The symbols.
-    pub fn as_slice(&self) -> &[Symbol]
-        ensures { result.now ≡ self.now }
-    {
-        self.symbols.as_slice()
-    }
-}
-
-impl From<Vec<Symbol>> for Symbols {
-    ghost from_gives = { λ v s. s ≡ v.items };
-
-    fn from(symbols: Vec<Symbol>) -> Symbols {
-        Symbols { symbols }
-    }
-}
+pub type Symbols = List<Symbol>;
 
 /// A linked program: what is loaded into a machine's memories, and the functions that can be called.
 #[derive(Debug, Drop)]

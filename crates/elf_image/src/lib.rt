@@ -41,7 +41,7 @@ mod writing;
 
 pub use calls::{result_text, word_above, word_below};
 pub use error::ImageError;
-pub use image::{Bytes, Image, Symbol, Symbols, Words};
+pub use image::{Image, Symbol, Symbols, Words};
 pub use lawful::is_lawful;
 pub use laws::{
     a_name_is_one_symbols, apart_shares_no_byte, memory_is_no_fault, one_answer, written_is_tight,

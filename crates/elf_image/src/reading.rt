@@ -15,13 +15,14 @@ use crate::error::ImageError;
 use crate::exports::read_exports;
 use crate::fields::{u32_at, u64_at};
 use crate::headers::read_layout;
-use crate::image::{Bytes, Image, Symbols, Words};
+use crate::image::{Image, Symbols, Words};
 use crate::layout::{Layout, Part};
 use crate::parts::{check_ends, check_overlap};
 use crate::tables::{
     check_counts, check_first_symbol, check_records, check_section_names, check_tables, check_terra,
 };
 use std::alloc::{AllocError, Global};
+use tl_base::Bytes;
 
 #[tactic(auto, using(crate::proofs::Steps::words_at_step, crate::proofs::Steps::words_at_none))]
 fn read_words(
@@ -46,7 +47,7 @@ fn copy_part(alloc: Global, bytes: &[u8], part: Part) -> Result<Bytes, AllocErro
 {
     let begin = part.offset as usize;
     let slice = &bytes[begin..begin + part.size as usize];
-    Ok(Bytes::from(Vec::from_slice(alloc, slice)?))
+    Ok(Bytes::from_vec(Vec::from_slice(alloc, slice)?))
 }
 
 // Tests what lies behind the headers, but for the symbols and names of exports, and gives how many exports there are.
@@ -80,12 +81,12 @@ fn read_image(alloc: Global, bytes: &[u8]) -> Result<Image, ImageError>
     let text = layout.text.offset as usize;
     let words = read_words(alloc, bytes, text, layout.text.size as usize / 4)?;
     Ok(Image {
-        text: Words::from(words),
+        text: Words::from_vec(words),
         statics: copy_part(alloc, bytes, layout.statics)?,
         memory: layout.memory,
         heap: u64_at(bytes, layout.terra.offset as usize + 16),
         private: layout.private,
-        exports: Symbols::from(exports),
+        exports: Symbols::from_vec(exports),
     })
 }
 

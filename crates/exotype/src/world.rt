@@ -11,7 +11,7 @@ use std::alloc::Global;
 use std::marker::Model;
 use terra_term::Store;
 use terra_types::Types;
-use tl_base::{NoMemory, Text2};
+use tl_base::{Bytes, NoMemory};
 
 /// What a staging has made so far: Lua's heap, Terra's store, what is kept of types, and the exports; with the bytes of memory
 /// that a run of its program has, which are at most 67,108,864.
@@ -63,11 +63,9 @@ impl World {
     }
 
     /// What the staging printed.
-    pub fn printed(&self) -> Result<Text2, NoMemory>
+    pub fn printed(&self) -> Result<Bytes, NoMemory>
         ensures { IfOk result (λ text. text ≡ self.now.heap.printed) }
     {
-        let mut text = Text2::new(self.heap.allocator());
-        text.push_bytes(self.heap.printed())?;
-        Ok(text)
+        Bytes::from_slice(self.heap.allocator(), self.heap.printed())
     }
 }

@@ -1,9 +1,9 @@
 // Rows that make images, and images as rows show them.
 
 use crate::words::{byte_of, bytes_of, number_of, text_of, word_at};
-use elf_image::{Bytes, Image, Symbol, Symbols, Words, is_lawful, write};
+use elf_image::{Image, Symbol, Symbols, Words, is_lawful, write};
 use std::alloc::Global;
-use tl_base::NoMemory;
+use tl_base::{Bytes, NoMemory};
 
 /// The image that stands.
 #[derive(Drop)]
@@ -32,8 +32,8 @@ impl ImageRows {
     pub fn begin(&mut self, words: &[&str]) -> Result<String, NoMemory> {
         let alloc = self.alloc;
         self.image = Image {
-            text: Words::from(text_of(alloc, word_at(words, 1))?),
-            statics: Bytes::from(bytes_of(alloc, word_at(words, 2))?),
+            text: Words::from_vec(text_of(alloc, word_at(words, 1))?),
+            statics: Bytes::from_vec(bytes_of(alloc, word_at(words, 2))?),
             memory: number_of(word_at(words, 3)),
             heap: number_of(word_at(words, 4)),
             private: number_of(word_at(words, 5)),
@@ -46,9 +46,9 @@ impl ImageRows {
     pub fn export(&mut self, words: &[&str]) -> Result<String, NoMemory> {
         let alloc = self.alloc;
         self.image.exports.push(Symbol {
-            name: Bytes::from(word_at(words, 1).as_bytes().to_vec(alloc)?),
+            name: Bytes::from_vec(word_at(words, 1).as_bytes().to_vec(alloc)?),
             address: number_of(word_at(words, 2)),
-            params: Bytes::from(bytes_of(alloc, word_at(words, 3))?),
+            params: Bytes::from_vec(bytes_of(alloc, word_at(words, 3))?),
             result: byte_of(word_at(words, 4)),
         })?;
         shown(alloc, &self.image)

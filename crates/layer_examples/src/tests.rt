@@ -7,7 +7,7 @@ use crate::total::Table;
 use crate::world::World;
 use stage_form::{Outcome, run};
 use std::test::Fail;
-use tl_base::{Budget, MemSink, Sink, Text, Text2};
+use tl_base::{Budget, Bytes, MemSink, Sink, Text};
 
 // Each number but zero is nested so deep, and comes to itself. To begin a total, to ask, and to nest are free: only the
 // loop of the innermost task and its one turn pay, two units for each number. A number above 250 is asked for as 250. A
@@ -87,10 +87,10 @@ fn memory_for_texts_is_found(rt: HostRuntime) -> Result<(), Fail> {
         let bytes = vec![in rt.alloc(); b'a'; count]?;
         assert_eq!(rt; Text::new(rt.alloc(), &bytes)?.is_some(), fits);
     }
-    let mut text = Text2::new(rt.alloc());
-    text.push_bytes(b"ab")?;
-    text.push_bytes(b"c")?;
-    assert!(rt; text.bytes() == b"abc".as_slice());
+    let mut text = Bytes::new(rt.alloc());
+    text.push_all(b"ab")?;
+    text.push_all(b"c")?;
+    assert!(rt; text.as_slice() == b"abc".as_slice());
     Ok(())
 }
 

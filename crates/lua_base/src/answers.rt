@@ -1,6 +1,6 @@
 // What functions of the library answer, and what they pay.
 
-ghost use Rattle.std.specs.Prelude.{◌≡◌, [], ◌∷◌, ◌++◌, ◌≤◌, ◌+◌, IfOk, OnOk, length};
+ghost use Rattle.std.specs.Prelude.{◌≡◌, [], ◌∷◌, ◌≤◌, ◌+◌, IfOk, OnOk, length};
 ghost use Rattle.std.specs.String.{string_bytes};
 ghost use Rattle.tl_base.specs.Layer.{state};
 ghost use Rattle.lua_table.specs.Keeping.{KeepsHeap};
@@ -9,32 +9,13 @@ ghost use Rattle.lua_base.specs.Calls.{turned, gives, making, placed, raised, wi
 use lua_table::{Heap, LibTurn, text_units};
 use lua_value::{LibFn, Value, Values};
 use std::alloc::Global;
-use tl_base::{Budget, NoMemory, Place, Text, Text2};
-
-/// Puts values behind others.
-pub fn append(values: &mut Values, more: &[Value]) -> Result<(), NoMemory>
-    ensures { OnOk result (values.new ≡ values.old ++ more.now) }
-{
-    for value in more {
-        values.push(*value)?;
-    }
-    Ok(())
-}
-
-/// The same values, in a list of their own.
-pub fn copied(alloc: Global, values: &[Value]) -> Result<Values, NoMemory>
-    ensures { IfOk result (λ copy. copy ≡ values.now) }
-{
-    let mut copy = Values::new(alloc);
-    append(&mut copy, values)?;
-    Ok(copy)
-}
+use tl_base::{Budget, Bytes, NoMemory, Place, Text};
 
 /// Gives values, for nothing.
 pub fn give(heap: &Heap, values: &[Value]) -> Result<LibTurn, NoMemory>
     ensures { IfOk result (λ turn. turn ≡ LibTurn.Values values.now) }
 {
-    Ok(LibTurn::Values(copied(heap.allocator(), values)?))
+    Ok(LibTurn::Values(Values::from_slice(heap.allocator(), values)?))
 }
 
 #[tactic(auto, using(crate::proofs::Making::too_long, crate::proofs::Making::short_enough))]
@@ -94,7 +75,7 @@ pub fn raise(
     ensures paid { OnOk result (budget.new ≤ budget.old) }
 {
     let whole = placed(heap, place, text)?;
-    raise_short(heap, budget, place, whole.bytes())
+    raise_short(heap, budget, place, whole.as_slice())
 }
 
 /// Raises that an argument isn't of its form, with the place of the call before the text, which is paid for.
@@ -135,23 +116,23 @@ fn raise_short(
 }
 
 /// A text with a place before it.
-pub fn placed(heap: &Heap, place: Place, text: &[u8]) -> Result<Text2, NoMemory>
+pub fn placed(heap: &Heap, place: Place, text: &[u8]) -> Result<Bytes, NoMemory>
     ensures whole { IfOk result (λ whole. whole ≡ placed place.line place.word text.now) }
     ensures longer { IfOk result (λ whole. length whole ≤ length text.now + 30) }
 {
     let mut whole = front(heap.allocator(), place.line, place.word)?;
-    whole.push_bytes(text)?;
+    whole.push_all(text)?;
     Ok(whole)
 }
 
 /// A place, as it stands before a text.
-fn front(alloc: Global, line: u32, word: u32) -> Result<Text2, NoMemory>
+fn front(alloc: Global, line: u32, word: u32) -> Result<Bytes, NoMemory>
     ensures front { IfOk result (λ front. front ≡ placed line word []) }
     ensures short { IfOk result (λ front. length front ≤ 30) }
 {
     let written = format!(in alloc; "{line}:{word}: ")?;
-    let mut front = Text2::new(alloc);
-    front.push_bytes(written.as_bytes())?;
+    let mut front = Bytes::new(alloc);
+    front.push_all(written.as_bytes())?;
     Ok(front)
 }
 

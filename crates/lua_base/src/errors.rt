@@ -6,7 +6,7 @@ ghost use Rattle.lua_table.specs.Keeping.{KeepsHeap};
 ghost use Rattle.lua_base.specs.Calls.{turned};
 ghost use Rattle.lua_base.specs.Errors.{assert_turned, assertion_failed, error_turned, error_at, raised_with, pcall_turned, pcall_back};
 
-use crate::answers::{append, bad_argument, copied, give, placed, raise_text};
+use crate::answers::{bad_argument, give, placed, raise_text};
 use crate::arguments::{argument, number_or};
 use lua_table::{Back, Heap, LibNext, LibTurn};
 use lua_value::{LibFn, Value, Values};
@@ -121,7 +121,7 @@ fn raise_with(
         Value::Text(id) => match at {
             Some(at) => {
                 let text = placed(heap, at, heap.text(id))?;
-                raise_text(heap, budget, place, text.bytes())
+                raise_text(heap, budget, place, text.as_slice())
             }
             None => Ok(LibTurn::Raise(value, place)),
         },
@@ -144,7 +144,7 @@ pub fn pcall(
     let Some((function, others)) = args.split_first() else {
         return bad_argument(heap, budget, place, 1, LibFn::Pcall);
     };
-    let args = copied(heap.allocator(), others)?;
+    let args = Values::from_slice(heap.allocator(), others)?;
     Ok(LibTurn::CallBack {
         function: *function,
         args,
@@ -161,7 +161,7 @@ pub fn pcall_back(heap: &Heap, answer: Back) -> Result<LibTurn, NoMemory>
         Back::Values(values) => {
             let mut all = Values::new(heap.allocator());
             all.push(Value::Boolean(true))?;
-            append(&mut all, values.as_slice())?;
+            all.push_all(values.as_slice())?;
             Ok(LibTurn::Values(all))
         }
         Back::Raised(value, _) => give(heap, &[Value::Boolean(false), value]),

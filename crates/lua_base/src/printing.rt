@@ -9,13 +9,13 @@ ghost use Rattle.lua_base.specs.Printing.{type_in, bytes_of, type_turned, printe
 ghost use Rattle.lua_base.specs.Printing.{print_turned, print_back, text_made, tostring_turned, given_paid, tostring_back, read_number};
 ghost use Rattle.lua_base.specs.Printing.{number_of, tonumber_turned, count_of, selected, is_count, select_turned};
 
-use crate::answers::{bad_argument, copied, give, give_text, raise};
+use crate::answers::{bad_argument, give, give_text, raise};
 use crate::arguments::{argument, number_in};
 use crate::texts::push_text;
 use lua_ops::{Numeral, read_numeral};
 use lua_table::{Back, Heap, LibNext, LibTurn, text_units};
 use lua_value::{LibFn, Number, Value, Values};
-use tl_base::{Budget, NoMemory, Place, Text2, TypeId};
+use tl_base::{Budget, Bytes, NoMemory, Place, TypeId};
 
 /// `type` gives the name of a value's kind, which is a text that is made.
 pub fn type_of(
@@ -67,7 +67,7 @@ pub fn print(heap: &mut Heap, budget: &mut Budget, args: &[Value]) -> Result<Lib
     ensures kept { OnOk result (KeepsHeap heap.old heap.new) }
     ensures paid { OnOk result (budget.new ≤ budget.old) }
 {
-    let line = Text2::new(heap.allocator());
+    let line = Bytes::new(heap.allocator());
     print_from(heap, budget, line, args, 0)
 }
 
@@ -75,7 +75,7 @@ pub fn print(heap: &mut Heap, budget: &mut Budget, args: &[Value]) -> Result<Lib
 fn print_from(
     heap: &mut Heap,
     budget: &mut Budget,
-    mut line: Text2,
+    mut line: Bytes,
     args: &[Value],
     from: usize,
 ) -> Result<LibTurn, NoMemory>
@@ -86,7 +86,7 @@ fn print_from(
 {
     match push_texts(heap, &mut line, args, from)? {
         Some((at, of)) => {
-            let args = copied(heap.allocator(), args)?;
+            let args = Values::from_slice(heap.allocator(), args)?;
             Ok(LibTurn::TypeText {
                 of,
                 next: LibNext::Print {
@@ -103,7 +103,7 @@ fn print_from(
 /// Puts the texts of arguments behind a line, from a number on, up to the first type. Gives the number and the type.
 fn push_texts(
     heap: &Heap,
-    line: &mut Text2,
+    line: &mut Bytes,
     args: &[Value],
     from: usize,
 ) -> Result<Option<(usize, TypeId)>, NoMemory>
@@ -123,7 +123,7 @@ fn push_texts(
 /// alone, and gives the type.
 fn push_argument(
     heap: &Heap,
-    line: &mut Text2,
+    line: &mut Bytes,
     value: Value,
     at: usize,
 ) -> Result<Option<TypeId>, NoMemory>
@@ -131,7 +131,7 @@ fn push_argument(
     ensures line { IfOk result (λ of. line.new ≡ line.old ++ tab_before at ++ text_unless of (value_text heap.now value)) }
 {
     if at > 0 {
-        line.push_bytes(b"\t")?;
+        line.push_all(b"\t")?;
     }
     if let Some(of) = type_in(&value) {
         return Ok(Some(of));
@@ -141,17 +141,17 @@ fn push_argument(
 }
 
 /// Ends a line, and prints it. It is paid for before.
-fn print_line(heap: &mut Heap, budget: &mut Budget, mut line: Text2) -> Result<LibTurn, NoMemory>
+fn print_line(heap: &mut Heap, budget: &mut Budget, mut line: Bytes) -> Result<LibTurn, NoMemory>
     ensures does { IfOk result (λ turn. turned turn (state heap.new budget.new)
         ≡ printed (state heap.old budget.old) (line ++ codes "\n")) }
     ensures kept { OnOk result (KeepsHeap heap.old heap.new) }
     ensures paid { OnOk result (budget.new ≤ budget.old) }
 {
-    line.push_bytes(b"\n")?;
-    if !budget.pay(text_units(line.bytes().len())) {
+    line.push_all(b"\n")?;
+    if !budget.pay(text_units(line.as_slice().len())) {
         return Ok(LibTurn::Spent);
     }
-    heap.print(line.bytes())?;
+    heap.print(line.as_slice())?;
     give(heap, &[])
 }
 
@@ -160,7 +160,7 @@ fn print_line(heap: &mut Heap, budget: &mut Budget, mut line: Text2) -> Result<L
 pub fn print_back(
     heap: &mut Heap,
     budget: &mut Budget,
-    written: Text2,
+    written: Bytes,
     args: Values,
     from: u64,
     answer: Back,
@@ -173,7 +173,7 @@ pub fn print_back(
     let mut line = written;
     match answer {
         Back::Values(values) => {
-            line.push_bytes(bytes_of(heap, &argument(values.as_slice(), 0)))?;
+            line.push_all(bytes_of(heap, &argument(values.as_slice(), 0)))?;
             let from = from as usize;
             if from < args.as_slice().len() {
                 print_from(heap, budget, line, args.as_slice(), from + 1)
@@ -222,9 +222,9 @@ fn text_of(
             next: LibNext::ToString,
         }),
         _ => {
-            let mut text = Text2::new(heap.allocator());
+            let mut text = Bytes::new(heap.allocator());
             push_text(heap, &mut text, value)?;
-            give_text(heap, budget, place, text.bytes())
+            give_text(heap, budget, place, text.as_slice())
         }
     }
 }

@@ -27,7 +27,7 @@ use crate::raise::LuaStep;
 use crate::statements::{block, statement, target, with_statement};
 use crate::tables::{store_values, with_field};
 use crate::turns::begin_turn;
-use crate::values::{append, one, split_values};
+use crate::values::{one, split_values};
 use crate::waiting::{proceed, take_all};
 use lua_model::{Caller, End, Job, LuaAnswer, LuaEnd, LuaJob, LuaQuestion, Scope};
 use lua_table::Heap;
@@ -122,7 +122,7 @@ fn with_all<'a>(
     match frame {
         AllFrame::Last(frame) => {
             let mut values = frame.values;
-            append(&mut values, more.as_slice())?;
+            values.push_all(more.as_slice())?;
             with_list(
                 tree,
                 slots,
@@ -140,7 +140,7 @@ fn with_all<'a>(
         }
         AllFrame::Target(rest, all, values, scope, before) => {
             let mut held = before;
-            append(&mut held, more.as_slice())?;
+            held.push_all(more.as_slice())?;
             targets(
                 tree, slots, frames, heap, budget, rest, all, values, scope, held,
             )
@@ -281,15 +281,15 @@ fn after_statement<'a>(
     let mut out = before;
     match end {
         End::Fell(more) => {
-            append(&mut out, more.as_slice())?;
+            out.push_all(more.as_slice())?;
             proceed(tree, slots, frames, heap, budget, rest, scope, out)
         }
         End::Broke(more) => {
-            append(&mut out, more.as_slice())?;
+            out.push_all(more.as_slice())?;
             Ok(Step::Return(End::Broke(out)))
         }
         End::Returned(values, more) => {
-            append(&mut out, more.as_slice())?;
+            out.push_all(more.as_slice())?;
             Ok(Step::Return(End::Returned(values, out)))
         }
         End::Raised(value, place) => Ok(Step::Return(End::Raised(value, place))),

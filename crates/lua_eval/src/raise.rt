@@ -11,13 +11,13 @@ use lua_model::{End, Job, LuaQuestion};
 use lua_ops::Fault;
 use lua_table::{Heap, text_units};
 use lua_value::Value;
-use tl_base::{Budget, NoMemory, Place, Step, Text, Text2};
+use tl_base::{Budget, Bytes, NoMemory, Place, Step, Text};
 
 /// What the machine does next.
 pub type LuaStep = Step<Job, End, LuaQuestion>;
 
 /// The text of an error: the place of what raises it, and what it is.
-fn error_text(heap: &Heap, place: Place, fault: Fault) -> Result<Text2, NoMemory>
+fn error_text(heap: &Heap, place: Place, fault: Fault) -> Result<Bytes, NoMemory>
     ensures { IfOk result (λ text. text ≡ error_text place fault) }
 {
     let alloc = heap.allocator();
@@ -25,9 +25,9 @@ fn error_text(heap: &Heap, place: Place, fault: Fault) -> Result<Text2, NoMemory
     let word = place.word;
     let before = format!(in alloc; "{line}:{word}: ")?;
     let behind = fault.text(alloc)?;
-    let mut text = Text2::new(alloc);
-    text.push_bytes(before.as_bytes())?;
-    text.push_bytes(behind.as_bytes())?;
+    let mut text = Bytes::new(alloc);
+    text.push_all(before.as_bytes())?;
+    text.push_all(behind.as_bytes())?;
     Ok(text)
 }
 
@@ -56,7 +56,7 @@ pub fn raise(
     ensures kept { OnOk result (KeepsHeap heap.old heap.new) }
 {
     let text = error_text(heap, place, fault)?;
-    let bytes = text.bytes();
+    let bytes = text.as_slice();
     if !budget.pay(text_units(bytes.len())) {
         return Ok(Step::Spent);
     }

@@ -1,6 +1,6 @@
 // Lists of values.
 
-ghost use Rattle.std.specs.Prelude.{◌≡◌, [], ◌∷◌, ◌++◌, IfOk, OnOk};
+ghost use Rattle.std.specs.Prelude.{◌≡◌, [], ◌∷◌, IfOk};
 ghost use Rattle.lua_table.specs.Cells.{first_value, further_values};
 
 use lua_value::{Value, Values};
@@ -48,21 +48,11 @@ pub fn three(alloc: Global, first: Value, second: Value, third: Value) -> Result
     Ok(values)
 }
 
-/// Puts values behind others.
-pub fn append(values: &mut Values, more: &[Value]) -> Result<(), NoMemory>
-    ensures { OnOk result (values.new ≡ values.old ++ more.now) }
-{
-    'more: for value in more {
-        values.push(*value)?;
-    }
-    Ok(())
-}
-
 /// Puts a value before others.
 pub fn with_first(alloc: Global, value: Value, values: &[Value]) -> Result<Values, NoMemory>
     ensures { IfOk result (λ all. all ≡ value ∷ values.now) }
 {
     let mut all = one(alloc, value)?;
-    append(&mut all, values)?;
+    all.push_all(values)?;
     Ok(all)
 }

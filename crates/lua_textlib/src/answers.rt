@@ -14,7 +14,7 @@ use lua_base::{bad_argument, raise};
 use lua_table::{Heap, LibTurn, text_units};
 use lua_value::{LibFn, Value, Values};
 use std::alloc::Global;
-use tl_base::{Budget, NoMemory, Place, Text, Text2};
+use tl_base::{Budget, Bytes, NoMemory, Place, Text};
 
 /// Gives no value.
 pub fn give_nothing(heap: &Heap) -> LibTurn
@@ -82,7 +82,7 @@ pub fn raise_too_long(
 pub fn make_or(
     heap: &mut Heap,
     budget: &mut Budget,
-    made: Result<Text2, Refusal>,
+    made: Result<Bytes, Refusal>,
     place: Place,
     function: LibFn,
 ) -> Result<LibTurn, NoMemory>
@@ -92,7 +92,7 @@ pub fn make_or(
     ensures paid { OnOk result (budget.new ≤ budget.old) }
 {
     match made {
-        Ok(text) => make(heap, budget, text.bytes(), place),
+        Ok(text) => make(heap, budget, text.as_slice(), place),
         Err(Refusal::BadArgument(position)) => {
             raise_bad_argument(heap, budget, position, place, function)
         }
@@ -121,13 +121,13 @@ fn raise_bad_argument(
 }
 
 /// Puts bytes behind a text that is being made, unless it becomes too long by them. Whether it does not.
-pub fn push_within(made: &mut Text2, more: &[u8]) -> Result<bool, NoMemory>
+pub fn push_within(made: &mut Bytes, more: &[u8]) -> Result<bool, NoMemory>
     ensures fits { IfOk result (λ fits. fits ≡ nat_le (length (made.old ++ more.now)) Text.MAX_LEN) }
     ensures made { IfOk result (λ fits. made.new ≡ (if fits then made.old ++ more.now else made.old)) }
 {
-    if made.bytes().len() > Text::MAX_LEN || more.len() > Text::MAX_LEN - made.bytes().len() {
+    if made.as_slice().len() > Text::MAX_LEN || more.len() > Text::MAX_LEN - made.as_slice().len() {
         return Ok(false);
     }
-    made.push_bytes(more)?;
+    made.push_all(more)?;
     Ok(true)
 }

@@ -12,12 +12,12 @@ use crate::refusal::Refusal;
 use lua_base::{argument, bad_argument, number_in};
 use lua_table::{Heap, LibTurn};
 use lua_value::{LibFn, Value};
-use tl_base::{Budget, NoMemory, Place, Text2};
+use tl_base::{Budget, Bytes, NoMemory, Place};
 
 /// What is made of the bytes of a format that are read so far.
 #[derive(Debug, Drop)]
 pub struct Formatting {
-    pub made: Text2,
+    pub made: Bytes,
     /// The byte before was a `%` that begins a directive.
     pub directive: bool,
     /// The argument that the next directive reads, from 0.
@@ -44,11 +44,11 @@ pub fn format(
 }
 
 /// What the bytes of a format make of the arguments.
-fn formatted(heap: &Heap, args: &[Value], format: &[u8]) -> Result<Result<Text2, Refusal>, NoMemory>
+fn formatted(heap: &Heap, args: &[Value], format: &[u8]) -> Result<Result<Bytes, Refusal>, NoMemory>
     ensures { IfOk result (λ made. made ≡ formatted heap.now args.now begun format.now) }
 {
     let mut formatting = Formatting {
-        made: Text2::new(heap.allocator()),
+        made: Bytes::new(heap.allocator()),
         directive: false,
         next: 1,
     };

@@ -16,7 +16,7 @@ use crate::refusal::Refusal;
 use lua_base::{argument, bad_argument, number_in, table_in};
 use lua_table::{Heap, LibTurn};
 use lua_value::{LibFn, Number, Value};
-use tl_base::{Budget, NoMemory, Place, TableId, Text2};
+use tl_base::{Budget, Bytes, NoMemory, Place, TableId};
 
 /// Gives the text of a table's values from a number to another one, or of its list, with a separator between them, or nothing. Each value
 /// is paid for before it is read, and the text before it is made.
@@ -78,12 +78,12 @@ fn joined(
     separator: &[u8],
     first: Number,
     last: Number,
-) -> Result<Result<Text2, Refusal>, NoMemory>
+) -> Result<Result<Bytes, Refusal>, NoMemory>
     ensures does { IfOk result (λ made. record { made = made; left = budget.new } ≡
         joined heap.now table separator.now [] first (count_between first last) [] budget.old) }
     ensures paid { OnOk result (budget.new ≤ budget.old) }
 {
-    let mut made = Text2::new(heap.allocator());
+    let mut made = Bytes::new(heap.allocator());
     let mut before: &[u8] = &[];
     for index in 0..count_between(first, last) {
         let at = first.get() + index as i64;
@@ -102,7 +102,7 @@ fn join_value(
     table: TableId,
     before: &[u8],
     at: i64,
-    made: &mut Text2,
+    made: &mut Bytes,
 ) -> Result<Option<Refusal>, NoMemory>
     requires { IsInProfile at }
     ensures does { IfOk result (λ refusal. record { made = grew refusal made.new; left = budget.new } ≡
@@ -118,7 +118,7 @@ fn join_value(
 /// Puts a value of a table behind a text that is being made, with what stands before it.
 fn push_value(
     heap: &Heap,
-    made: &mut Text2,
+    made: &mut Bytes,
     before: &[u8],
     value: Value,
 ) -> Result<Option<Refusal>, NoMemory>

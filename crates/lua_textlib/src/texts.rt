@@ -18,7 +18,7 @@ use lua_base::{argument, bad_argument, number_in};
 use lua_table::{Heap, LibTurn, text_units};
 use lua_value::{LibFn, Number, Value, Values};
 use std::alloc::Global;
-use tl_base::{Budget, NoMemory, Place, Text, Text2};
+use tl_base::{Budget, Bytes, NoMemory, Place, Text};
 
 /// Gives how many bytes a text has.
 pub fn len(
@@ -240,15 +240,15 @@ pub fn char(
 }
 
 /// The bytes that arguments are, or the position of the first one that is none.
-fn chars(heap: &Heap, args: &[Value]) -> Result<Result<Text2, Refusal>, NoMemory>
+fn chars(heap: &Heap, args: &[Value]) -> Result<Result<Bytes, Refusal>, NoMemory>
     ensures { IfOk result (λ made. made ≡ chars_from heap.now [] 1 args.now) }
 {
-    let mut made = Text2::new(heap.allocator());
+    let mut made = Bytes::new(heap.allocator());
     for (index, value) in args.iter().enumerate() {
         let Some(byte) = byte_in(heap, *value) else {
             return Ok(Err(Refusal::BadArgument(index + 1)));
         };
-        made.push_bytes(&[byte])?;
+        made.push_all(&[byte])?;
     }
     Ok(Ok(made))
 }

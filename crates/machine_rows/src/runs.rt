@@ -3,11 +3,11 @@
 ghost use Rattle.std.specs.Prelude.{◌<◌};
 
 use crate::words::{number_of, numbers_from, text_of, word_at};
-use elf_image::{Bytes, Image, Symbol, Symbols, Words, is_lawful};
+use elf_image::{Image, Symbol, Symbols, Words, is_lawful};
 use rv_machine::{Machine, Stop, run_image};
 use std::alloc::Global;
 use tl_base::limits::TEXT_ADDRESS;
-use tl_base::{Failed, MemSink, NoMemory, Sink};
+use tl_base::{Bytes, Failed, MemSink, NoMemory, Sink};
 
 /// The static bytes of each image.
 const STATICS: [u8; 16] = [
@@ -147,14 +147,14 @@ fn count_of(word: &str) -> usize {
 fn image_of(alloc: Global, text: &str) -> Result<Image, NoMemory> {
     let mut exports = Symbols::new(alloc);
     exports.push(Symbol {
-        name: Bytes::from(b"f".to_vec(alloc)?),
+        name: Bytes::from_vec(b"f".to_vec(alloc)?),
         address: TEXT_ADDRESS,
         params: Bytes::new(alloc),
         result: 3,
     })?;
     Ok(Image {
-        text: Words::from(text_of(alloc, text)?),
-        statics: Bytes::from(STATICS.to_vec(alloc)?),
+        text: Words::from_vec(text_of(alloc, text)?),
+        statics: Bytes::from_vec(STATICS.to_vec(alloc)?),
         memory: 65_536,
         heap: 0x4000_0010,
         private: 512,

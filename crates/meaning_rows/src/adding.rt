@@ -7,7 +7,7 @@ use crate::words::{bytes_of, count_at, number_at, word_at};
 use std::alloc::Global;
 use terra_term::{ParameterList, Term, TermList, Typed};
 use terra_types::Entry;
-use tl_base::{FnId, NoMemory, Place, TermId, Text2, TextId, TypeId};
+use tl_base::{Bytes, FnId, NoMemory, Place, TermId, TextId, TypeId};
 
 /// A type, a static, a function, the functions that stand as values, or what runs or lowers a function.
 pub fn row(work: &mut Work, word: &str, words: &[&str]) -> Result<Option<String>, NoMemory> {
@@ -69,7 +69,7 @@ fn structure(work: &mut Work, words: &[&str]) -> Result<Option<String>, NoMemory
 /// `bytes DIGITS`: a static, in a region of 65,536 bytes
 fn bytes(work: &mut Work, words: &[&str]) -> Result<Option<String>, NoMemory> {
     let alloc = work.store.allocator();
-    let bytes = Text2::from_vec(bytes_of(alloc, word_at(words, 1))?);
+    let bytes = Bytes::from_vec(bytes_of(alloc, word_at(words, 1))?);
     let Some(id) = work.store.new_global(TypeId(4), bytes, 65_536)? else {
         return Ok(Some(String::from_str(alloc, "no room")?));
     };

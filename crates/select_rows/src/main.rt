@@ -15,7 +15,7 @@ mod functions;
 ghost use Rattle.std.specs.Prelude.{◌≤◌, length, IfOk};
 ghost use Rattle.rv_link.specs.Linked.{AreSelected, AreThere};
 
-use elf_image::{Bytes, Image, Symbol, Symbols, Words, is_lawful};
+use elf_image::{Image, Symbol, Symbols, Words, is_lawful};
 use functions::program;
 use reg_alloc::{Home, assign};
 use rv_link::{Function, blocks_there, is_near, link};
@@ -25,7 +25,7 @@ use std::alloc::Global;
 use tac_form::{Instruction, Number, Operand, Size, Tac};
 use terra_words::BinaryOperator;
 use tl_base::limits::TEXT_ADDRESS;
-use tl_base::{FnId, MemSink, NoMemory, Place};
+use tl_base::{Bytes, FnId, MemSink, NoMemory, Place};
 
 /// Makes room for a frame in private memory: addi x2, x2, -256.
 const ENTER: u32 = 0xF001_0113;
@@ -219,13 +219,13 @@ fn run(alloc: Global, code: Vec<u32>, arguments: &[u64]) -> Result<Option<Stop>,
 fn image_of(alloc: Global, code: Vec<u32>) -> Result<Image, NoMemory> {
     let mut exports = Symbols::new(alloc);
     exports.push(Symbol {
-        name: Bytes::from(b"f".to_vec(alloc)?),
+        name: Bytes::from_vec(b"f".to_vec(alloc)?),
         address: TEXT_ADDRESS,
         params: Bytes::new(alloc),
         result: 3,
     })?;
     Ok(Image {
-        text: Words::from(code),
+        text: Words::from_vec(code),
         statics: Bytes::new(alloc),
         memory: 65_536,
         heap: 0x4000_0000,

@@ -20,7 +20,6 @@ use crate::names::{symbol_of, symbols_of, text_in, with_member};
 use crate::parameters::{draw, parameters, with_result, with_symbols};
 use crate::paths::names;
 use crate::reached::{Reached, SpecStep};
-use crate::row::Row;
 use crate::splices::splice;
 use crate::structs::with_entry;
 use crate::types::as_type;
@@ -28,7 +27,7 @@ use crate::variables::{variable_type, variables, with_wanted};
 use exotype::World;
 use lua_value::Value;
 use spec_model::{Drawn, End};
-use tl_base::{Budget, NoMemory, NodeId, Place, Step, SymId, TypeId};
+use tl_base::{Budget, List, NoMemory, NodeId, Place, Step, SymId, TypeId};
 use tl_tree::Tree;
 
 /// Goes on with what waited for a value.
@@ -156,7 +155,7 @@ fn variable_typed<'a>(
     budget: &mut Budget,
     node: NodeId,
     of: NodeId,
-    symbols: Option<Row<SymId>>,
+    symbols: Option<List<SymId>>,
     frame: VarFrame<'a>,
     value: Value,
 ) -> Result<SpecStep, NoMemory>
@@ -277,7 +276,7 @@ fn result_typed<'a>(
     budget: &mut Budget,
     of: NodeId,
     definition: Definition,
-    drawn: Row<Drawn>,
+    drawn: List<Drawn>,
     value: Value,
 ) -> Result<SpecStep, NoMemory>
     ensures means { IfOk result (λ step.

@@ -16,12 +16,11 @@ use crate::frame::{BlockFrame, BlockThen, SpecFrame, TermFrame};
 use crate::making::new_env;
 use crate::quotes::quoted;
 use crate::reached::SpecStep;
-use crate::row::{Row, term_list};
 use crate::terms::join;
 use exotype::World;
 use spec_model::Job;
-use terra_term::{LoopName, Statement, VarName};
-use tl_base::{Budget, EnvId, NoMemory, NodeId, Place, Step, SymId, TermId};
+use terra_term::{LoopName, Statement, TermList, VarName};
+use tl_base::{Budget, EnvId, List, NoMemory, NodeId, Place, Step, SymId, TermId};
 use tl_tree::Tree;
 
 /// Specialises a block in a new environment, which belongs to an owner.
@@ -43,7 +42,7 @@ pub fn entered<'a>(
     ensures kept { OnOk result (KeepsStage world.old world.new) }
 {
     let inner = new_env(world, owner, env)?;
-    let none = Row::new(world.heap.allocator());
+    let none = List::new(world.heap.allocator());
     statements(
         tree,
         frames,
@@ -64,7 +63,7 @@ pub fn statements<'a>(
     budget: &mut Budget,
     nodes: &'a [NodeId],
     env: EnvId,
-    terms: Row<TermId>,
+    terms: List<TermId>,
     then: BlockThen<'a>,
 ) -> Result<SpecStep, NoMemory>
     ensures means { IfOk result (λ step.
@@ -94,7 +93,7 @@ fn with_block<'a>(
     world: &mut World,
     budget: &mut Budget,
     env: EnvId,
-    terms: Row<TermId>,
+    terms: List<TermId>,
     then: BlockThen<'a>,
 ) -> Result<SpecStep, NoMemory>
     ensures means { IfOk result (λ step.
@@ -104,11 +103,11 @@ fn with_block<'a>(
 {
     match then {
         BlockThen::Do(place) => {
-            let list = term_list(terms)?;
+            let list = TermList::from_list(terms)?;
             join(world, place, Statement::Do(list))
         }
         BlockThen::While(test, place) => {
-            let list = term_list(terms)?;
+            let list = TermList::from_list(terms)?;
             join(world, place, Statement::While(test, list))
         }
         BlockThen::Repeat(condition, place) => {
@@ -134,8 +133,8 @@ fn for_statement(
     world: &mut World,
     symbol: SymId,
     at: Place,
-    bounds: Row<TermId>,
-    terms: Row<TermId>,
+    bounds: List<TermId>,
+    terms: List<TermId>,
     place: Place,
 ) -> Result<SpecStep, NoMemory>
     ensures means { IfOk result (λ step. (items : Items) (left : ℕ) →
@@ -149,7 +148,7 @@ fn for_statement(
         place: at,
     };
     let name = LoopName::new(world.heap.allocator(), name)?;
-    let bounds = term_list(bounds)?;
-    let list = term_list(terms)?;
+    let bounds = TermList::from_list(bounds)?;
+    let list = TermList::from_list(terms)?;
     join(world, place, Statement::For(name, bounds, list))
 }

@@ -18,11 +18,11 @@ use crate::code::{arm_parts, block_statements, place};
 use crate::frame::{Arm, ArmsFrame, BlockFrame, BlockThen, SpecFrame, TermFrame};
 use crate::making::{new_env, new_term};
 use crate::reached::SpecStep;
-use crate::row::{Row, list_if_any, single, term_list};
+use crate::row::{list_if_any, single};
 use exotype::World;
 use spec_model::{End, Job};
-use terra_term::{Statement, Term};
-use tl_base::{EnvId, NoMemory, NodeId, Place, Step, TermId};
+use terra_term::{Statement, Term, TermList};
+use tl_base::{EnvId, List, NoMemory, NodeId, Place, Step, TermId};
 use tl_tree::Tree;
 
 /// Specialises an `if` with these arms.
@@ -43,7 +43,7 @@ pub fn if_statement<'a>(
     let alloc = world.heap.allocator();
     match arms.split_first() {
         None => {
-            let none = term_list(Row::new(alloc))?;
+            let none = TermList::from_list(List::new(alloc))?;
             Ok(Step::Return(End::Joined(none)))
         }
         Some((first, rest)) => {
@@ -52,7 +52,7 @@ pub fn if_statement<'a>(
                 otherwise,
                 place,
                 env,
-                arms: Row::new(alloc),
+                arms: List::new(alloc),
             };
             arm(tree, frames, *first, frame)
         }
@@ -86,7 +86,7 @@ pub fn others<'a>(
     world: &mut World,
     frame: ArmsFrame<'a>,
     test: TermId,
-    statements: Row<TermId>,
+    statements: List<TermId>,
 ) -> Result<SpecStep, NoMemory>
     ensures means { IfOk result (λ step. (left : ℕ) →
         Goes (items_of tree.now) frames.old.items (waiting.others (items_of tree.now) frame.entry test statements)
@@ -131,7 +131,7 @@ fn else_block<'a>(
     otherwise: Option<NodeId>,
     env: EnvId,
     last: Arm,
-    arms: Row<Arm>,
+    arms: List<Arm>,
 ) -> Result<SpecStep, NoMemory>
     ensures means { IfOk result (λ step. (left : ℕ) →
         Goes (items_of tree.now) frames.old.items
@@ -143,7 +143,7 @@ fn else_block<'a>(
         return last_arm(world, last, arms, None);
     };
     let env = new_env(world, block, env)?;
-    let none = Row::new(world.heap.allocator());
+    let none = List::new(world.heap.allocator());
     match block_statements(tree, block).split_first() {
         None => last_arm(world, last, arms, Some(none)),
         Some((first, rest)) => {
@@ -163,14 +163,14 @@ fn else_block<'a>(
 fn arm_statement(
     world: &mut World,
     arm: Arm,
-    otherwise: Option<Row<TermId>>,
+    otherwise: Option<List<TermId>>,
 ) -> Result<TermId, NoMemory>
     ensures means { IfOk result (λ t.
         Gets (λ go. node (terms.Statement arm.place (kinds.If arm.test arm.statements otherwise)) go)
         world.old t world.new) }
     ensures kept { OnOk result (KeepsStage world.old world.new) }
 {
-    let statements = term_list(arm.statements)?;
+    let statements = TermList::from_list(arm.statements)?;
     let otherwise = list_if_any(otherwise)?;
     let statement = Statement::If(arm.test, statements, otherwise);
     let made = new_term(world, Term::Statement(arm.place, statement))?;
@@ -181,8 +181,8 @@ fn arm_statement(
 pub fn last_arm(
     world: &mut World,
     last: Arm,
-    arms: Row<Arm>,
-    otherwise: Option<Row<TermId>>,
+    arms: List<Arm>,
+    otherwise: Option<List<TermId>>,
 ) -> Result<SpecStep, NoMemory>
     ensures means { IfOk result (λ step. (items : Items) (left : ℕ) →
         Does items (waiting.last_arm last arms otherwise) world.old left step world.new left) }
@@ -195,6 +195,6 @@ pub fn last_arm(
         made = arm_statement(world, arm, Some(behind))?;
     }
     let row = single(world.heap.allocator(), made)?;
-    let terms = term_list(row)?;
+    let terms = TermList::from_list(row)?;
     Ok(Step::Return(End::Joined(terms)))
 }

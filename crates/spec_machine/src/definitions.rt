@@ -30,15 +30,15 @@ use crate::parameters::{draw, parameters};
 use crate::quotes::{function_size, past_limits};
 use crate::raise::raise;
 use crate::reached::{Reached, SpecStep};
-use crate::row::{Row, single, term_list};
+use crate::row::single;
 use crate::types::as_type;
 use exotype::{Fault, World};
 use lua_table::Heap;
 use lua_value::Value;
 use spec_model::{Drawn, End, SpecQuestion, Target};
-use terra_term::{FunctionState, Parameter, ParameterList, Size, Term};
+use terra_term::{FunctionState, Parameter, ParameterList, Size, Term, TermList};
 use terra_types::TypeForm;
-use tl_base::{Budget, EnvId, FnId, NoMemory, NodeId, Place, Step, TermId, TypeId};
+use tl_base::{Budget, EnvId, FnId, List, NoMemory, NodeId, Place, Step, TermId, TypeId};
 use tl_tree::Tree;
 
 /// What a target holds.
@@ -263,13 +263,13 @@ fn define<'a>(
 }
 
 /// The implicit first parameter of a method.
-fn self_parameter(world: &mut World, of: Option<TypeId>, at: Place) -> Result<Row<Drawn>, NoMemory>
+fn self_parameter(world: &mut World, of: Option<TypeId>, at: Place) -> Result<List<Drawn>, NoMemory>
     ensures means { IfOk result (λ drawn. Gets (λ go. plans.self of at go) world.old drawn world.new) }
     ensures kept { OnOk result (KeepsStage world.old world.new) }
 {
     let alloc = world.heap.allocator();
     match of {
-        None => Ok(Row::new(alloc)),
+        None => Ok(List::new(alloc)),
         Some(of) => {
             let pointer = world.pointer_to(of)?;
             let first = draw(world, pointer, at)?;
@@ -300,9 +300,9 @@ pub fn finish(
     world: &mut World,
     budget: &mut Budget,
     definition: &Definition,
-    drawn: Row<Drawn>,
+    drawn: List<Drawn>,
     of: Option<TypeId>,
-    body: Row<TermId>,
+    body: List<TermId>,
 ) -> Result<SpecStep, NoMemory>
     ensures means { IfOk result (λ step. (items : Items) →
         Does items (plans.finish definition.now.function drawn of body definition.now.place
@@ -324,7 +324,7 @@ pub fn finish(
 }
 
 /// How many nodes and levels a function of these parameters and this body has.
-fn size_of(world: &World, drawn: &Row<Drawn>, body: &Row<TermId>) -> Size
+fn size_of(world: &World, drawn: &List<Drawn>, body: &List<TermId>) -> Size
     ensures { result ≡ function_size world.now (length drawn.now) body.now }
 {
     let parameters = drawn.as_slice();
@@ -337,9 +337,9 @@ fn take_term_once(
     world: &mut World,
     budget: &mut Budget,
     definition: &Definition,
-    drawn: Row<Drawn>,
+    drawn: List<Drawn>,
     of: Option<TypeId>,
-    body: Row<TermId>,
+    body: List<TermId>,
 ) -> Result<SpecStep, NoMemory>
     ensures means { IfOk result (λ step. (items : Items) →
         Does items (if is_undefined world.old definition.now.function
@@ -363,9 +363,9 @@ fn take_term_once(
 fn take_term(
     world: &mut World,
     definition: &Definition,
-    drawn: Row<Drawn>,
+    drawn: List<Drawn>,
     of: Option<TypeId>,
-    body: Row<TermId>,
+    body: List<TermId>,
 ) -> Result<SpecStep, NoMemory>
     requires { is_undefined world.old definition.now.function ≡ true }
     ensures means { IfOk result (λ step. (items : Items) (left : ℕ) →
@@ -376,7 +376,7 @@ fn take_term(
     ensures kept { OnOk result (KeepsStage world.old world.new) }
 {
     let parameters = parameter_list(world, drawn.as_slice())?;
-    let body = term_list(body)?;
+    let body = TermList::from_list(body)?;
     let term = new_term(world, Term::Function(parameters, of, body))?;
     define_term(world, definition.function, term, definition.place)?;
     Ok(Step::Return(End::Gave(defined(definition))))

@@ -29,15 +29,14 @@ use crate::names::{member, naming};
 use crate::operators::{numeral, numeral_type};
 use crate::raise::text;
 use crate::reached::{Reached, SpecStep};
-use crate::row::{Row, term_list};
 use crate::terms::{literal, make, one};
 use crate::types::{type_from, type_of_term};
 use exotype::World;
 use lua_table::cells::local;
 use lua_value::Value;
 use spec_model::{End, Job, SpecQuestion};
-use terra_term::{Expression, FieldList, Initialiser};
-use tl_base::{Budget, EnvId, NoMemory, NodeId, Place, Step, TableId, TermId, TextId, TypeId};
+use terra_term::{Expression, FieldList, Initialiser, TermList};
+use tl_base::{Budget, EnvId, List, NoMemory, NodeId, Place, Step, TableId, TermId, TextId, TypeId};
 use tl_lex::literal_value;
 use tl_rename::Slots;
 use tl_tree::{Node, TerraExpression, Tree};
@@ -397,13 +396,13 @@ fn construct<'a>(
     let (place, env) = (frame.place, frame.env);
     if are_named(tree, frame.initials) {
         let made = NewFrame { of, place, env };
-        let names = Row::new(alloc);
-        let terms = Row::new(alloc);
+        let names = List::new(alloc);
+        let terms = List::new(alloc);
         let step = initials(tree, frames, world, made, frame.initials, names, terms)?;
         return Ok(step);
     }
     let then = TermsThen::Positional(of, place);
-    let step = terms(frames, world, frame.initials, env, Row::new(alloc), then)?;
+    let step = terms(frames, world, frame.initials, env, List::new(alloc), then)?;
     Ok(step)
 }
 
@@ -414,8 +413,8 @@ pub fn initials<'a>(
     world: &mut World,
     made: NewFrame,
     nodes: &'a [NodeId],
-    names: Row<TextId>,
-    terms: Row<TermId>,
+    names: List<TextId>,
+    terms: List<TermId>,
 ) -> Result<SpecStep, NoMemory>
     ensures means { IfOk result (λ step. (left : ℕ) →
         Goes (items_of tree.now) frames.old.items (initials_from (items_of tree.now) made nodes.now names terms)
@@ -474,15 +473,15 @@ fn named_initial<'a>(
 fn make_named(
     world: &mut World,
     made: NewFrame,
-    names: Row<TextId>,
-    terms: Row<TermId>,
+    names: List<TextId>,
+    terms: List<TermId>,
 ) -> Result<SpecStep, NoMemory>
     ensures means { IfOk result (λ step. (items : Items) (left : ℕ) →
         Does items (initials_from items made [] names terms) world.old left step world.new left) }
     ensures kept { OnOk result (KeepsStage world.old world.new) }
 {
-    let names = FieldList::from_vec(names.into_vec())?;
-    let terms = term_list(terms)?;
+    let names = FieldList::from_list(names)?;
+    let terms = TermList::from_list(terms)?;
     let values = Initialiser::Named(names, terms);
     let step = make(world, made.place, Expression::New(made.of, values))?;
     Ok(step)

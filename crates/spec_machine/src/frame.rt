@@ -1,8 +1,7 @@
 // What waits for the end of what is done above it: a frame for each place at which a plan waits.
 
-use crate::row::Row;
 use spec_model::{Drawn, Target, Wanted};
-use tl_base::{EnvId, FnId, NodeId, Place, SymId, TableId, TermId, TextId, TypeId};
+use tl_base::{EnvId, FnId, List, NodeId, Place, SymId, TableId, TermId, TextId, TypeId};
 use tl_tree::{BinaryOperator, UnaryOperator};
 
 /// A frame. How it goes on with an end is `after`, of `specs/Frames`.
@@ -49,15 +48,15 @@ pub enum TermFrame<'a> {
     /// What stands behind a backtick.
     Backtick(Place),
     /// The expression of a quote, with its statements.
-    Quoted(Row<TermId>, Place),
+    Quoted(List<TermId>, Place),
     /// A bound of a `for`, with those behind it, and the bounds before it.
-    Bound(Option<NodeId>, Option<NodeId>, Row<TermId>, ForFrame),
+    Bound(Option<NodeId>, Option<NodeId>, List<TermId>, ForFrame),
     /// A call as a statement.
     Perform(Place),
     /// The condition of a `while`, with its block.
     While(NodeId, Place, EnvId),
     /// The condition of a `repeat`, with its statements.
-    Repeat(Row<TermId>, Place),
+    Repeat(List<TermId>, Place),
     /// The condition of an arm, with its block.
     Arm(NodeId, ArmsFrame<'a>),
 }
@@ -67,8 +66,8 @@ pub enum TermFrame<'a> {
 pub struct InitialFrame<'a> {
     pub name: NodeId,
     pub rest: &'a [NodeId],
-    pub names: Row<TextId>,
-    pub terms: Row<TermId>,
+    pub names: List<TextId>,
+    pub terms: List<TermId>,
     pub made: NewFrame,
 }
 
@@ -97,7 +96,7 @@ pub struct ForFrame {
 pub struct Arm {
     pub place: Place,
     pub test: TermId,
-    pub statements: Row<TermId>,
+    pub statements: List<TermId>,
 }
 
 /// An `if` at one of its arms: the arms behind it and the block behind `else`, the arm's place, the environment, and
@@ -108,7 +107,7 @@ pub struct ArmsFrame<'a> {
     pub otherwise: Option<NodeId>,
     pub place: Place,
     pub env: EnvId,
-    pub arms: Row<Arm>,
+    pub arms: List<Arm>,
 }
 
 /// An expression in a list position, with the nodes behind it and the terms before it.
@@ -116,7 +115,7 @@ pub struct ArmsFrame<'a> {
 pub struct TermsFrame<'a> {
     pub rest: &'a [NodeId],
     pub env: EnvId,
-    pub terms: Row<TermId>,
+    pub terms: List<TermId>,
     pub then: TermsThen<'a>,
 }
 
@@ -132,10 +131,10 @@ pub enum TermsThen<'a> {
     /// They are the targets of an assignment, whose values are these nodes.
     Targets(&'a [NodeId], Place),
     /// They are the values of an assignment to these targets.
-    Assign(Row<TermId>, Place),
+    Assign(List<TermId>, Place),
     Return(Place),
     /// They are the values of a `var`.
-    Var(Row<Wanted>, Place),
+    Var(List<Wanted>, Place),
 }
 
 /// A statement of a block, with the statements behind it and the terms before it.
@@ -143,7 +142,7 @@ pub enum TermsThen<'a> {
 pub struct BlockFrame<'a> {
     pub rest: &'a [NodeId],
     pub env: EnvId,
-    pub terms: Row<TermId>,
+    pub terms: List<TermId>,
     pub then: BlockThen<'a>,
 }
 
@@ -156,15 +155,15 @@ pub enum BlockThen<'a> {
     /// They are a `repeat`'s, whose condition is this node.
     Repeat(NodeId, Place),
     /// They are a `for`'s: the symbol, its place and the bounds.
-    For(SymId, Place, Row<TermId>, Place),
+    For(SymId, Place, List<TermId>, Place),
     /// They are a quote's, with the node of its expression.
     Quoted(Option<NodeId>, Place),
     /// They are an arm's, with its condition.
     Arm(TermId, ArmsFrame<'a>),
     /// They stand behind `else`: the last arm, and those before it.
-    Else(Arm, Row<Arm>),
+    Else(Arm, List<Arm>),
     /// They are the body of a function: the parameters and the result type.
-    Body(Definition, Row<Drawn>, Option<TypeId>),
+    Body(Definition, List<Drawn>, Option<TypeId>),
 }
 
 /// A function that is being defined: its number, the node of its body, the owner of its environment, its place, the
@@ -200,7 +199,7 @@ pub enum ValueFrame<'a> {
     /// It stands in the place of a declared name of a `var`, which is that of the node.
     Symbols(NodeId, VarFrame<'a>),
     /// It is the type of a variable, whose node and the type's these are, with the symbols in its name's place.
-    VarType(NodeId, NodeId, Option<Row<SymId>>, VarFrame<'a>),
+    VarType(NodeId, NodeId, Option<List<SymId>>, VarFrame<'a>),
     /// It stands in the place of a `for`'s name, with the bounds.
     ForName(NodeId, NodeId, Option<NodeId>, ForFrame),
     /// It stands in a parameter's place.
@@ -208,7 +207,7 @@ pub enum ValueFrame<'a> {
     /// It is the type of a parameter, whose node and the type's these are.
     ParameterType(NodeId, NodeId, ParameterFrame<'a>),
     /// It is the result type of a function, which this node is.
-    Result(NodeId, Definition, Row<Drawn>),
+    Result(NodeId, Definition, List<Drawn>),
     /// It is the type of a declared function: the type's node, and where the function is stored.
     Declared(NodeId, Target, Place),
     /// It is an object in a path, with the names behind it.
@@ -236,7 +235,7 @@ pub struct VarFrame<'a> {
     pub values: &'a [NodeId],
     pub place: Place,
     pub env: EnvId,
-    pub wanted: Row<Wanted>,
+    pub wanted: List<Wanted>,
 }
 
 /// A function's parameters: those that are left, and those before.
@@ -244,7 +243,7 @@ pub struct VarFrame<'a> {
 pub struct ParameterFrame<'a> {
     pub definition: Definition,
     pub rest: &'a [NodeId],
-    pub drawn: Row<Drawn>,
+    pub drawn: List<Drawn>,
 }
 
 /// The names of a path that are left, the method's name, and what is done at the path's end.

@@ -12,13 +12,12 @@ ghost use Rattle.spec_machine.specs.Steps.{Goes, Does};
 use crate::frame::{SpecFrame, TermsFrame, TermsThen};
 use crate::names::naming;
 use crate::reached::SpecStep;
-use crate::row::{Row, term_list};
 use crate::terms::{join, make};
 use crate::variables::declared;
 use exotype::World;
 use spec_model::Job;
-use terra_term::{Expression, Initialiser, Statement};
-use tl_base::{EnvId, NoMemory, NodeId, Place, Step, TermId};
+use terra_term::{Expression, Initialiser, Statement, TermList};
+use tl_base::{EnvId, List, NoMemory, NodeId, Place, Step, TermId};
 
 /// Specialises expressions in their order behind terms, and does that with all terms.
 pub fn terms<'a>(
@@ -26,7 +25,7 @@ pub fn terms<'a>(
     world: &mut World,
     nodes: &'a [NodeId],
     env: EnvId,
-    terms: Row<TermId>,
+    terms: List<TermId>,
     then: TermsThen<'a>,
 ) -> Result<SpecStep, NoMemory>
     ensures means { IfOk result (λ step. (items : Items) (left : ℕ) →
@@ -54,7 +53,7 @@ fn with_terms<'a>(
     frames: &mut Vec<SpecFrame<'a>>,
     world: &mut World,
     env: EnvId,
-    terms: Row<TermId>,
+    terms: List<TermId>,
     then: TermsThen<'a>,
 ) -> Result<SpecStep, NoMemory>
     ensures means { IfOk result (λ step. (items : Items) (left : ℕ) →
@@ -64,22 +63,22 @@ fn with_terms<'a>(
 {
     match then {
         TermsThen::Call(callee, place) => {
-            let list = term_list(terms)?;
+            let list = TermList::from_list(terms)?;
             make(world, place, Expression::Call(callee, list))
         }
         TermsThen::Method(object, method, place) => {
             naming(world, method)?;
-            let list = term_list(terms)?;
+            let list = TermList::from_list(terms)?;
             make(world, place, Expression::Method(object, method, list))
         }
         TermsThen::Positional(of, place) => {
-            let values = Initialiser::Positional(term_list(terms)?);
+            let values = Initialiser::Positional(TermList::from_list(terms)?);
             make(world, place, Expression::New(of, values))
         }
         TermsThen::Targets(values, place) => assigned(frames, world, values, env, terms, place),
         TermsThen::Assign(targets, place) => assign(world, targets, terms, place),
         TermsThen::Return(place) => {
-            let list = term_list(terms)?;
+            let list = TermList::from_list(terms)?;
             join(world, place, Statement::Return(list))
         }
         TermsThen::Var(wanted, place) => declared(world, wanted, env, Some(terms), place),
@@ -92,7 +91,7 @@ fn assigned<'a>(
     world: &mut World,
     values: &'a [NodeId],
     env: EnvId,
-    targets: Row<TermId>,
+    targets: List<TermId>,
     place: Place,
 ) -> Result<SpecStep, NoMemory>
     ensures means { IfOk result (λ step. (items : Items) (left : ℕ) →
@@ -101,7 +100,7 @@ fn assigned<'a>(
         world.old left frames.new.items step world.new left) }
     ensures kept { OnOk result (KeepsStage world.old world.new) }
 {
-    let none = Row::new(world.heap.allocator());
+    let none = List::new(world.heap.allocator());
     match values.split_first() {
         None => assign(world, targets, none, place),
         Some((first, rest)) => {
@@ -120,15 +119,15 @@ fn assigned<'a>(
 /// Makes an assignment.
 fn assign(
     world: &mut World,
-    targets: Row<TermId>,
-    values: Row<TermId>,
+    targets: List<TermId>,
+    values: List<TermId>,
     place: Place,
 ) -> Result<SpecStep, NoMemory>
     ensures means { IfOk result (λ step. (items : Items) (left : ℕ) →
         Does items (plans.join place (kinds.Assign targets values)) world.old left step world.new left) }
     ensures kept { OnOk result (KeepsStage world.old world.new) }
 {
-    let targets = term_list(targets)?;
-    let values = term_list(values)?;
+    let targets = TermList::from_list(targets)?;
+    let values = TermList::from_list(values)?;
     join(world, place, Statement::Assign(targets, values))
 }

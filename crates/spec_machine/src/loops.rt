@@ -16,11 +16,10 @@ use crate::frame::{BlockThen, ForFrame, SpecFrame, TermFrame, ValueFrame};
 use crate::making::{new_env, new_symbol};
 use crate::names::declare;
 use crate::reached::SpecStep;
-use crate::row::Row;
 use exotype::World;
 use lua_value::Value;
 use spec_model::{Job, SpecQuestion};
-use tl_base::{Budget, EnvId, NoMemory, NodeId, Place, Step, SymId, TermId};
+use tl_base::{Budget, EnvId, List, NoMemory, NodeId, Place, Step, SymId, TermId};
 use tl_tree::Tree;
 
 /// Specialises a `for`: an escape in its name's place goes before the bounds.
@@ -73,7 +72,7 @@ pub fn bounds<'a>(
         Goes items frames.old.items (bounds_from items frame (first ∷ limit ∷ if_any step) [])
         w left frames.new.items next w left) }
 {
-    let none = Row::new(world.heap.allocator());
+    let none = List::new(world.heap.allocator());
     let bound = TermFrame::Bound(Some(limit), step, none, frame);
     frames.push(SpecFrame::Term(bound))?;
     Ok(Step::Enter(Job::Expression(first, frame.env)))
@@ -87,7 +86,7 @@ pub fn more_bounds<'a>(
     budget: &mut Budget,
     limit: Option<NodeId>,
     step: Option<NodeId>,
-    terms: Row<TermId>,
+    terms: List<TermId>,
     frame: ForFrame,
 ) -> Result<SpecStep, NoMemory>
     ensures means { IfOk result (λ next.
@@ -113,7 +112,7 @@ fn last_bound<'a>(
     world: &mut World,
     budget: &mut Budget,
     step: Option<NodeId>,
-    terms: Row<TermId>,
+    terms: List<TermId>,
     frame: ForFrame,
 ) -> Result<SpecStep, NoMemory>
     ensures means { IfOk result (λ next.
@@ -138,7 +137,7 @@ fn for_body<'a>(
     frames: &mut Vec<SpecFrame<'a>>,
     world: &mut World,
     budget: &mut Budget,
-    bounds: Row<TermId>,
+    bounds: List<TermId>,
     frame: ForFrame,
 ) -> Result<SpecStep, NoMemory>
     ensures means { IfOk result (λ next.
@@ -165,7 +164,7 @@ fn for_body<'a>(
             let inner = new_env(world, frame.node, frame.env)?;
             declare(world, inner, Value::Symbol(symbol))?;
             let then = BlockThen::For(symbol, frame.at, bounds, frame.place);
-            let none = Row::new(world.heap.allocator());
+            let none = List::new(world.heap.allocator());
             let nodes = block_statements(tree, frame.block);
             statements(tree, frames, world, budget, nodes, inner, none, then)
         }

@@ -29,7 +29,6 @@ use crate::parameters::parameters;
 use crate::paths::target;
 use crate::quotes::{backtick, quote, quote_let, quote_term};
 use crate::reached::{Reached, SpecStep};
-use crate::row::{Row, append, term_list};
 use crate::splices::splice_all;
 use crate::statements::statement;
 use crate::structs::{anonymous_struct, local_struct, more_entries};
@@ -39,8 +38,8 @@ use exotype::World;
 use lua_value::{Value, Values};
 use spec_model::{End, Job, SpecAnswer, SpecEnd, SpecJob, SpecQuestion};
 use std::alloc::Global;
-use terra_term::{Expression, Statement};
-use tl_base::{Budget, EnvId, Machine, NoMemory, NodeId, Place, Step, TermId};
+use terra_term::{Expression, Statement, TermList};
+use tl_base::{Budget, EnvId, List, Machine, NoMemory, NodeId, Place, Step, TermId};
 use tl_rename::Slots;
 use tl_tree::{Expression as LuaExpression, Node, Statement as LuaStatement, Tree};
 
@@ -186,7 +185,7 @@ fn with_term<'a>(
             Ok(step)
         }
         TermFrame::Callee(arguments, place, env) => {
-            let none = Row::new(world.heap.allocator());
+            let none = List::new(world.heap.allocator());
             let then = TermsThen::Call(term, place);
             let step = terms(frames, world, arguments, env, none, then)?;
             Ok(step)
@@ -224,7 +223,7 @@ fn with_term<'a>(
             Ok(step)
         }
         TermFrame::Repeat(statements, place) => {
-            let list = term_list(statements)?;
+            let list = TermList::from_list(statements)?;
             let step = join(world, place, Statement::Repeat(list, term))?;
             Ok(step)
         }
@@ -400,7 +399,7 @@ fn after_statement<'a>(
                 terms: mut all,
                 then,
             } = frame;
-            append(&mut all, more.as_slice())?;
+            all.push_all(more.as_slice())?;
             let step = statements(tree, frames, world, budget, rest, env, all, then)?;
             Ok(step)
         }

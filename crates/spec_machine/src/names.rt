@@ -17,14 +17,14 @@ use crate::frame::{MemberThen, SpecFrame, TermsThen, ValueFrame};
 use crate::lists::terms;
 use crate::raise::{raise, text};
 use crate::reached::{Reached, SpecStep};
-use crate::row::{Row, single};
+use crate::row::single;
 use crate::terms::{make, values_in};
 use exotype::{Fault, World};
 use lua_table::Heap;
 use lua_value::Value;
 use spec_model::SpecQuestion;
 use terra_term::Expression;
-use tl_base::{Budget, EnvId, NoMemory, NodeId, Place, Step, SymId, Text, TextId};
+use tl_base::{Budget, EnvId, List, NoMemory, NodeId, Place, Step, SymId, Text, TextId};
 use tl_tree::Tree;
 
 /// Declares a local with a value.
@@ -133,7 +133,7 @@ pub fn with_member<'a>(
             Ok(step)
         }
         MemberThen::Method(object, arguments, place, env) => {
-            let none = Row::new(world.heap.allocator());
+            let none = List::new(world.heap.allocator());
             let then = TermsThen::Method(object, text, place);
             let step = terms(frames, world, arguments, env, none, then)?;
             Ok(step)
@@ -147,7 +147,7 @@ pub fn symbols_of(
     budget: &mut Budget,
     value: Value,
     at: Place,
-) -> Result<Reached<Row<SymId>>, NoMemory>
+) -> Result<Reached<List<SymId>>, NoMemory>
     ensures means { IfOk result (λ reached.
         Comes (λ go. plans.symbols_of value at go) world.old budget.old reached world.new budget.new) }
     ensures kept { OnOk result (KeepsStage world.old world.new) }
@@ -172,12 +172,12 @@ fn symbols_in(
     budget: &mut Budget,
     values: &[Value],
     at: Place,
-) -> Result<Reached<Row<SymId>>, NoMemory>
+) -> Result<Reached<List<SymId>>, NoMemory>
     ensures means { IfOk result (λ reached.
         Comes (λ go. plans.symbols_in values.now at [] go) world.old budget.old reached world.new budget.new) }
     ensures kept { OnOk result (KeepsStage world.old world.new) }
 {
-    let mut symbols = Row::new(world.heap.allocator());
+    let mut symbols = List::new(world.heap.allocator());
     'values: for value in values {
         match value {
             Value::Symbol(symbol) => symbols.push(*symbol)?,

@@ -21,12 +21,11 @@ use crate::making::{new_env, new_symbol};
 use crate::names::{declare, symbols_of};
 use crate::raise::raise;
 use crate::reached::{Reached, SpecStep};
-use crate::row::Row;
 use exotype::{Fault, World};
 use lua_value::Value;
 use spec_model::{Drawn, End, SpecQuestion};
 use terra_types::TypeForm;
-use tl_base::{Budget, EnvId, NoMemory, NodeId, Place, Step, SymId, TypeId};
+use tl_base::{Budget, EnvId, List, NoMemory, NodeId, Place, Step, SymId, TypeId};
 use tl_tree::Tree;
 
 /// Goes on with the parameters that are left, each of which pays for itself.
@@ -154,7 +153,7 @@ fn with_spliced<'a>(
     frames: &mut Vec<SpecFrame<'a>>,
     world: &mut World,
     budget: &mut Budget,
-    symbols: Row<SymId>,
+    symbols: List<SymId>,
     at: Place,
     frame: ParameterFrame<'a>,
 ) -> Result<SpecStep, NoMemory>
@@ -201,8 +200,8 @@ fn spliced(
     budget: &mut Budget,
     symbols: &[SymId],
     at: Place,
-    drawn: Row<Drawn>,
-) -> Result<Reached<Row<Drawn>>, NoMemory>
+    drawn: List<Drawn>,
+) -> Result<Reached<List<Drawn>>, NoMemory>
     ensures means { IfOk result (λ reached.
         Comes (λ go. plans.spliced symbols.now at drawn go) world.old budget.old reached world.new budget.new) }
     ensures kept { OnOk result (KeepsStage world.old world.new) }
@@ -222,8 +221,8 @@ fn typed_symbols(
     world: &World,
     symbols: &[SymId],
     at: Place,
-    drawn: Row<Drawn>,
-) -> Result<Option<Row<Drawn>>, NoMemory>
+    drawn: List<Drawn>,
+) -> Result<Option<List<Drawn>>, NoMemory>
     ensures { IfOk result (λ all. all ≡ typed_symbols world.now symbols.now at drawn) }
 {
     let mut drawn = drawn;
@@ -264,7 +263,7 @@ fn with_parameters<'a>(
     world: &mut World,
     budget: &mut Budget,
     definition: &Definition,
-    drawn: Row<Drawn>,
+    drawn: List<Drawn>,
 ) -> Result<SpecStep, NoMemory>
     ensures means { IfOk result (λ step.
         Goes (items_of tree.now) frames.old.items
@@ -292,7 +291,7 @@ pub fn with_result<'a>(
     world: &mut World,
     budget: &mut Budget,
     definition: &Definition,
-    drawn: Row<Drawn>,
+    drawn: List<Drawn>,
     written: Option<TypeId>,
 ) -> Result<SpecStep, NoMemory>
     ensures means { IfOk result (λ step.
@@ -322,7 +321,7 @@ fn with_declaration<'a>(
     world: &mut World,
     budget: &mut Budget,
     definition: &Definition,
-    drawn: Row<Drawn>,
+    drawn: List<Drawn>,
     written: Option<TypeId>,
     declared: TypeId,
 ) -> Result<SpecStep, NoMemory>
@@ -431,7 +430,7 @@ fn body<'a>(
     world: &mut World,
     budget: &mut Budget,
     definition: &Definition,
-    drawn: Row<Drawn>,
+    drawn: List<Drawn>,
     of: Option<TypeId>,
 ) -> Result<SpecStep, NoMemory>
     ensures means { IfOk result (λ step.
@@ -441,7 +440,7 @@ fn body<'a>(
 {
     let inner = new_env(world, definition.owner, definition.env)?;
     declare_all(world, drawn.as_slice(), inner)?;
-    let none = Row::new(world.heap.allocator());
+    let none = List::new(world.heap.allocator());
     let nodes = block_statements(tree, terra_parts(tree, definition.body).block);
     let then = BlockThen::Body(*definition, drawn, of);
     let step = statements(tree, frames, world, budget, nodes, inner, none, then)?;

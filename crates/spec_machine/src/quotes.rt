@@ -21,13 +21,12 @@ use crate::code::quoted_parts;
 use crate::frame::{BlockThen, SpecFrame, TermFrame};
 use crate::raise::raise;
 use crate::reached::SpecStep;
-use crate::row::{Row, term_list};
 use exotype::{Fault, World};
 use lua_value::Value;
 use spec_model::{End, Job};
-use terra_term::{Expression, Quote, Size, Term};
+use terra_term::{Expression, Quote, Size, Term, TermList};
 use tl_base::limits::{MAX_TERM_LEVELS, MAX_TERM_NODES};
-use tl_base::{Budget, EnvId, NoMemory, NodeId, Place, Step, TermId};
+use tl_base::{Budget, EnvId, List, NoMemory, NodeId, Place, Step, TermId};
 use tl_tree::Tree;
 
 /// The error that something of this size raises, if it is past the limits.
@@ -120,7 +119,7 @@ pub fn quoted<'a>(
     world: &mut World,
     budget: &mut Budget,
     value: Option<NodeId>,
-    statements: Row<TermId>,
+    statements: List<TermId>,
     place: Place,
     env: EnvId,
 ) -> Result<SpecStep, NoMemory>
@@ -145,7 +144,7 @@ pub fn quoted<'a>(
 fn quote_statements(
     world: &mut World,
     budget: &mut Budget,
-    statements: Row<TermId>,
+    statements: List<TermId>,
     place: Place,
 ) -> Result<SpecStep, NoMemory>
     ensures means { IfOk result (λ step. (items : Items) →
@@ -161,7 +160,7 @@ fn quote_statements(
             Ok(step)
         }
         None => {
-            let list = term_list(statements)?;
+            let list = TermList::from_list(statements)?;
             let step = give_quote(world, Quote::Statements(list))?;
             Ok(step)
         }
@@ -196,7 +195,7 @@ pub fn quote_term(
 pub fn quote_let(
     world: &mut World,
     budget: &mut Budget,
-    statements: Row<TermId>,
+    statements: List<TermId>,
     place: Place,
     term: TermId,
 ) -> Result<SpecStep, NoMemory>
@@ -205,7 +204,7 @@ pub fn quote_let(
         world.old budget.old step world.new budget.new) }
     ensures kept { OnOk result (KeepsStage world.old world.new) }
 {
-    let list = term_list(statements)?;
+    let list = TermList::from_list(statements)?;
     let made = world
         .store
         .new_term(Term::Expression(place, Expression::Let(list, term)))?;

@@ -12,19 +12,19 @@ use lua_table::text_units;
 use lua_value::Value;
 use spec_model::End;
 use std::alloc::Global;
-use tl_base::{Budget, NoMemory, Place, Step, Text, Text2, TextId};
+use tl_base::{Budget, Bytes, NoMemory, Place, Step, Text, TextId};
 
 /// The text of an error: the place of what raises it, and what it is.
-fn error_text(alloc: Global, place: Place, fault: Fault) -> Result<Text2, NoMemory>
+fn error_text(alloc: Global, place: Place, fault: Fault) -> Result<Bytes, NoMemory>
     ensures { IfOk result (λ text. text ≡ error_text place fault) }
 {
     let line = place.line;
     let word = place.word;
     let before = format!(in alloc; "{line}:{word}: ")?;
     let behind = fault.text(alloc)?;
-    let mut text = Text2::new(alloc);
-    text.push_bytes(before.as_bytes())?;
-    text.push_bytes(behind.as_bytes())?;
+    let mut text = Bytes::new(alloc);
+    text.push_all(before.as_bytes())?;
+    text.push_all(behind.as_bytes())?;
     Ok(text)
 }
 
@@ -52,7 +52,7 @@ pub fn raise(
     ensures kept { OnOk result (KeepsStage world.old world.new) }
 {
     let bytes = error_text(world.heap.allocator(), place, fault)?;
-    let bytes = bytes.bytes();
+    let bytes = bytes.as_slice();
     if !budget.pay(text_units(bytes.len())) {
         return Ok(Step::Spent);
     }

@@ -11,13 +11,12 @@ ghost use Rattle.spec_machine.specs.Steps.{Comes, Does};
 use crate::making::new_term;
 use crate::quotes::terms_size;
 use crate::reached::{Reached, SpecStep};
-use crate::row::{Row, append, term_list};
 use crate::terms::{one, values_in};
 use exotype::World;
 use lua_value::Value;
 use spec_model::End;
-use terra_term::{Quote, Statement, Term};
-use tl_base::{Budget, NoMemory, Place, QuoteId, Step, TermId};
+use terra_term::{Quote, Statement, Term, TermList};
+use tl_base::{Budget, List, NoMemory, Place, QuoteId, Step, TermId};
 
 /// A value whose term is performed.
 fn performed(
@@ -25,8 +24,8 @@ fn performed(
     budget: &mut Budget,
     value: Value,
     at: Place,
-    terms: Row<TermId>,
-) -> Result<Reached<Row<TermId>>, NoMemory>
+    terms: List<TermId>,
+) -> Result<Reached<List<TermId>>, NoMemory>
     ensures means { IfOk result (λ reached.
         Comes (λ go. plans.performed value at terms go) world.old budget.old reached world.new budget.new) }
     ensures kept { OnOk result (KeepsStage world.old world.new) }
@@ -44,13 +43,13 @@ fn performed(
 }
 
 /// The statements of a quote of statements.
-fn quoted_statements(world: &World, quote: QuoteId) -> Result<Option<Row<TermId>>, NoMemory>
+fn quoted_statements(world: &World, quote: QuoteId) -> Result<Option<List<TermId>>, NoMemory>
     ensures { IfOk result (λ terms. terms ≡ statements_in (quote_at world.now quote)) }
 {
     match world.store.quote(quote) {
         Some(Quote::Statements(statements)) => {
-            let mut terms = Row::new(world.heap.allocator());
-            append(&mut terms, statements.as_slice())?;
+            let mut terms = List::new(world.heap.allocator());
+            terms.push_all(statements.as_slice())?;
             Ok(Some(terms))
         }
         _ => Ok(None),
@@ -63,8 +62,8 @@ fn quoted(
     budget: &mut Budget,
     quote: QuoteId,
     at: Place,
-    terms: Row<TermId>,
-) -> Result<Reached<Row<TermId>>, NoMemory>
+    terms: List<TermId>,
+) -> Result<Reached<List<TermId>>, NoMemory>
     ensures means { IfOk result (λ reached.
         Comes (λ go. plans.item_of (Value.Quote quote) at terms go) world.old budget.old reached world.new budget.new) }
     ensures kept { OnOk result (KeepsStage world.old world.new) }
@@ -78,7 +77,7 @@ fn quoted(
                 return Ok(Reached::Left(Step::Spent));
             }
             let mut terms = terms;
-            append(&mut terms, statements.as_slice())?;
+            terms.push_all(statements.as_slice())?;
             Ok(Reached::Value(terms))
         }
         None => {
@@ -94,8 +93,8 @@ fn item(
     budget: &mut Budget,
     value: Value,
     at: Place,
-    terms: Row<TermId>,
-) -> Result<Reached<Row<TermId>>, NoMemory>
+    terms: List<TermId>,
+) -> Result<Reached<List<TermId>>, NoMemory>
     ensures means { IfOk result (λ reached.
         Comes (λ go. plans.item_of value at terms go) world.old budget.old reached world.new budget.new) }
     ensures kept { OnOk result (KeepsStage world.old world.new) }
@@ -118,8 +117,8 @@ fn each_item(
     budget: &mut Budget,
     values: &[Value],
     at: Place,
-    terms: Row<TermId>,
-) -> Result<Reached<Row<TermId>>, NoMemory>
+    terms: List<TermId>,
+) -> Result<Reached<List<TermId>>, NoMemory>
     ensures means { IfOk result (λ reached.
         Comes (λ go. plans.each_item values.now at terms go) world.old budget.old reached world.new budget.new) }
     ensures kept { OnOk result (KeepsStage world.old world.new) }
@@ -141,8 +140,8 @@ pub fn spliced(
     budget: &mut Budget,
     value: Value,
     at: Place,
-    terms: Row<TermId>,
-) -> Result<Reached<Row<TermId>>, NoMemory>
+    terms: List<TermId>,
+) -> Result<Reached<List<TermId>>, NoMemory>
     ensures means { IfOk result (λ reached.
         Comes (λ go. plans.spliced value at terms go) world.old budget.old reached world.new budget.new) }
     ensures kept { OnOk result (KeepsStage world.old world.new) }
@@ -166,12 +165,12 @@ fn each_spliced(
     budget: &mut Budget,
     values: &[Value],
     at: Place,
-) -> Result<Reached<Row<TermId>>, NoMemory>
+) -> Result<Reached<List<TermId>>, NoMemory>
     ensures means { IfOk result (λ reached.
         Comes (λ go. plans.each_spliced values.now at [] go) world.old budget.old reached world.new budget.new) }
     ensures kept { OnOk result (KeepsStage world.old world.new) }
 {
-    let mut terms = Row::new(world.heap.allocator());
+    let mut terms = List::new(world.heap.allocator());
     'values: for value in values {
         let reached = spliced(world, budget, *value, at, terms)?;
         match reached {
@@ -183,11 +182,11 @@ fn each_spliced(
 }
 
 /// What was reached as the statements of a statement.
-fn joined(reached: Reached<Row<TermId>>) -> Result<SpecStep, NoMemory>
+fn joined(reached: Reached<List<TermId>>) -> Result<SpecStep, NoMemory>
     ensures { IfOk result (λ step. step ≡ joined_step reached) }
 {
     match reached {
-        Reached::Value(terms) => Ok(Step::Return(End::Joined(term_list(terms)?))),
+        Reached::Value(terms) => Ok(Step::Return(End::Joined(TermList::from_list(terms)?))),
         Reached::Left(step) => Ok(step),
     }
 }
@@ -203,7 +202,7 @@ pub fn splice(
         Does items (plans.spliced value at [] plans.joined) world.old budget.old step world.new budget.new) }
     ensures kept { OnOk result (KeepsStage world.old world.new) }
 {
-    let none = Row::new(world.heap.allocator());
+    let none = List::new(world.heap.allocator());
     let reached = spliced(world, budget, value, at, none)?;
     joined(reached)
 }

@@ -16,13 +16,12 @@ use crate::frame::{BlockThen, SpecFrame, TermFrame, TermsThen, ValueFrame, VarFr
 use crate::lists::terms;
 use crate::loops::for_loop;
 use crate::reached::SpecStep;
-use crate::row::{Row, term_list};
 use crate::terms::join;
 use crate::variables::variables;
 use exotype::World;
 use spec_model::{End, Job, SpecQuestion};
-use terra_term::Statement;
-use tl_base::{Budget, EnvId, NoMemory, NodeId, Place, Step};
+use terra_term::{Statement, TermList};
+use tl_base::{Budget, EnvId, List, NoMemory, NodeId, Place, Step};
 use tl_tree::{Node, TerraStatement, Tree};
 
 /// Specialises the statement that a node is.
@@ -45,7 +44,7 @@ pub fn statement<'a>(
             specialise(tree, frames, world, budget, statement, node, *place, env)
         }
         _ => {
-            let none = term_list(Row::new(world.heap.allocator()))?;
+            let none = TermList::from_list(List::new(world.heap.allocator()))?;
             Ok(Step::Return(End::Joined(none)))
         }
     }
@@ -70,7 +69,7 @@ fn specialise<'a>(
 {
     match statement {
         TerraStatement::Assign(targets, values) => {
-            let none = Row::new(world.heap.allocator());
+            let none = List::new(world.heap.allocator());
             let then = TermsThen::Targets(values.as_slice(), place);
             terms(frames, world, targets.as_slice(), env, none, then)
         }
@@ -107,7 +106,7 @@ fn specialise<'a>(
                 values: values.as_slice(),
                 place,
                 env,
-                wanted: Row::new(world.heap.allocator()),
+                wanted: List::new(world.heap.allocator()),
             };
             variables(tree, frames, world, budget, frame)
         }
@@ -116,7 +115,7 @@ fn specialise<'a>(
             Ok(Step::Stop(SpecQuestion::Emitted(*block, env)))
         }
         TerraStatement::Return(values) => {
-            let none = Row::new(world.heap.allocator());
+            let none = List::new(world.heap.allocator());
             let then = TermsThen::Return(place);
             terms(frames, world, values.as_slice(), env, none, then)
         }

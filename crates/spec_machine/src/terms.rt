@@ -13,13 +13,13 @@ ghost use Rattle.spec_machine.specs.Steps.{Comes, Does};
 
 use crate::raise::raise;
 use crate::reached::{Reached, SpecStep};
-use crate::row::{Row, single, term_list};
+use crate::row::single;
 use exotype::{Became, World};
 use lua_table::Heap;
 use lua_value::{Number, Value, Values};
 use spec_model::End;
-use terra_term::{Expression, Statement, Term};
-use tl_base::{Budget, NoMemory, Place, Step, TableId, TermId};
+use terra_term::{Expression, Statement, Term, TermList};
+use tl_base::{Budget, List, NoMemory, Place, Step, TableId, TermId};
 
 /// The value under a number of a table. No memory has a table with so many values that its last number isn't one of
 /// Lua's.
@@ -109,8 +109,8 @@ fn each_one(
     budget: &mut Budget,
     values: &[Value],
     at: Place,
-    terms: Row<TermId>,
-) -> Result<Reached<Row<TermId>>, NoMemory>
+    terms: List<TermId>,
+) -> Result<Reached<List<TermId>>, NoMemory>
     ensures means { IfOk result (λ reached.
         Comes (λ go. plans.each_one values.now at terms go) world.old budget.old reached world.new budget.new) }
     ensures kept { OnOk result (KeepsStage world.old world.new) }
@@ -131,8 +131,8 @@ fn one_more(
     budget: &mut Budget,
     value: Value,
     at: Place,
-    terms: Row<TermId>,
-) -> Result<Reached<Row<TermId>>, NoMemory>
+    terms: List<TermId>,
+) -> Result<Reached<List<TermId>>, NoMemory>
     ensures means { IfOk result (λ reached.
         Comes (λ go. plans.one value at (λ t. go (terms ++ t ∷ []))) world.old budget.old reached
         world.new budget.new) }
@@ -154,8 +154,8 @@ pub fn listed(
     budget: &mut Budget,
     value: Value,
     at: Place,
-    terms: Row<TermId>,
-) -> Result<Reached<Row<TermId>>, NoMemory>
+    terms: List<TermId>,
+) -> Result<Reached<List<TermId>>, NoMemory>
     ensures means { IfOk result (λ reached.
         Comes (λ go. plans.listed value at terms go) world.old budget.old reached world.new budget.new) }
     ensures kept { OnOk result (KeepsStage world.old world.new) }
@@ -191,6 +191,6 @@ pub fn join(world: &mut World, place: Place, statement: Statement) -> Result<Spe
     ensures kept { OnOk result (KeepsStage world.old world.new) }
 {
     let term = world.store.new_term(Term::Statement(place, statement))?;
-    let terms = term_list(single(world.heap.allocator(), term)?)?;
+    let terms = TermList::from_list(single(world.heap.allocator(), term)?)?;
     Ok(Step::Return(End::Joined(terms)))
 }

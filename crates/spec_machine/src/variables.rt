@@ -20,13 +20,13 @@ use crate::frame::{NextFrame, SpecFrame, TermsFrame, TermsThen, ValueFrame, VarF
 use crate::making::new_symbol;
 use crate::names::declare;
 use crate::reached::SpecStep;
-use crate::row::{Row, list_if_any};
+use crate::row::list_if_any;
 use crate::terms::join;
 use exotype::World;
 use lua_value::Value;
 use spec_model::{End, Job, SpecQuestion, Wanted};
 use terra_term::{Statement, VarName, VarNameList};
-use tl_base::{Budget, EnvId, NoMemory, NodeId, Place, Step, SymId, TermId, TypeId};
+use tl_base::{Budget, EnvId, List, NoMemory, NodeId, Place, Step, SymId, TermId, TypeId};
 use tl_tree::Tree;
 
 /// Goes on with the variables that are left.
@@ -85,7 +85,7 @@ pub fn variable_type<'a>(
     frames: &mut Vec<SpecFrame<'a>>,
     world: &mut World,
     node: NodeId,
-    symbols: Option<Row<SymId>>,
+    symbols: Option<List<SymId>>,
     frame: VarFrame<'a>,
 ) -> Result<SpecStep, NoMemory>
     ensures means { IfOk result (λ step. (left : ℕ) →
@@ -114,7 +114,7 @@ pub fn variable_type<'a>(
 pub fn with_wanted<'a>(
     tree: &'a Tree<'a>,
     node: NodeId,
-    symbols: Option<Row<SymId>>,
+    symbols: Option<List<SymId>>,
     of: Option<TypeId>,
     frame: VarFrame<'a>,
 ) -> Result<VarFrame<'a>, NoMemory>
@@ -145,11 +145,11 @@ pub fn with_wanted<'a>(
 
 /// Puts what stands in the place of a variable behind what stands in the place of others.
 fn placed(
-    before: Row<Wanted>,
-    symbols: Option<Row<SymId>>,
+    before: List<Wanted>,
+    symbols: Option<List<SymId>>,
     of: Option<TypeId>,
     at: Place,
-) -> Result<Row<Wanted>, NoMemory>
+) -> Result<List<Wanted>, NoMemory>
     ensures { IfOk result (λ all. all ≡ before ++ wanted_at symbols of at) }
 {
     let mut wanted = before;
@@ -171,7 +171,7 @@ fn placed(
 
 /// Puts symbols in the place of a variable behind what stands in the place of others.
 fn given(
-    wanted: &mut Row<Wanted>,
+    wanted: &mut List<Wanted>,
     symbols: &[SymId],
     of: Option<TypeId>,
     at: Place,
@@ -212,7 +212,7 @@ fn values<'a>(
             let frame = TermsFrame {
                 rest,
                 env,
-                terms: Row::new(world.heap.allocator()),
+                terms: List::new(world.heap.allocator()),
                 then: TermsThen::Var(wanted, place),
             };
             frames.push(SpecFrame::Terms(frame))?;
@@ -224,9 +224,9 @@ fn values<'a>(
 /// Draws the symbols of plain names, declares these, and makes the statement.
 pub fn declared(
     world: &mut World,
-    wanted: Row<Wanted>,
+    wanted: List<Wanted>,
     env: EnvId,
-    values: Option<Row<TermId>>,
+    values: Option<List<TermId>>,
     place: Place,
 ) -> Result<SpecStep, NoMemory>
     ensures means { IfOk result (λ step. (items : Items) (left : ℕ) →

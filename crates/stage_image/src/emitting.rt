@@ -15,14 +15,14 @@ use exotype::World;
 use spec_sound::places_fit;
 use std::alloc::Global;
 use terra_term::{Export, FunctionState, Store};
-use tl_base::{FnId, Limits, NoMemory, Place, Text2};
+use tl_base::{Bytes, FnId, Limits, NoMemory, Place};
 use tl_tree::Tree;
 
 /// What a staging is for a caller that runs or writes the image of its exports.
 #[derive(Debug, Drop)]
 pub struct Emitted {
     /// What was printed.
-    pub printed: Text2,
+    pub printed: Bytes,
     /// How many functions are defined at the end.
     pub functions: u64,
     pub end: Made,
@@ -33,7 +33,7 @@ pub struct Emitted {
 pub enum Made {
     Image(Image),
     /// By an error: its text, and the place of what raised it.
-    Raised { text: Text2, place: Place },
+    Raised { text: Bytes, place: Place },
     /// Before a payment above what was left of the budget.
     Spent,
     /// It is done, and no memory was found to compile its exports.

@@ -14,7 +14,7 @@ use lua_table::Heap;
 use lua_value::Value;
 use stage_form::{Outcome as Staging, run};
 use std::alloc::Global;
-use tl_base::{Budget, NoMemory, Place, Text2};
+use tl_base::{Budget, Bytes, NoMemory, Place};
 use tl_rename::resolve;
 use tl_tree::Tree;
 
@@ -23,7 +23,7 @@ use tl_tree::Tree;
 pub enum End {
     Done,
     /// By an error: its text, and the place of what raised it.
-    Raised { text: Text2, place: Place },
+    Raised { text: Bytes, place: Place },
     /// Before a payment above what was left of the budget.
     Spent,
 }
@@ -31,7 +31,7 @@ pub enum End {
 /// What a staging comes to: the bytes that were printed, and the end, with the units that are left then.
 #[derive(Debug, Drop)]
 pub struct Outcome {
-    pub printed: Text2,
+    pub printed: Bytes,
     pub end: End,
     pub left: u64,
 }
@@ -90,7 +90,7 @@ fn end_of(heap: &Heap, staging: &Staging<LuaEnd>) -> Result<End, NoMemory>
 }
 
 /// The text of an error: that of a text or a number, and one in place of any other value's.
-fn raised_text(heap: &Heap, value: Value) -> Result<Text2, NoMemory>
+fn raised_text(heap: &Heap, value: Value) -> Result<Bytes, NoMemory>
     ensures { IfOk result (λ text. text ≡ raised_text heap.now value) }
 {
     match value {
@@ -105,10 +105,10 @@ fn raised_text(heap: &Heap, value: Value) -> Result<Text2, NoMemory>
 }
 
 /// A text of these bytes.
-fn text_of(heap: &Heap, bytes: &[u8]) -> Result<Text2, NoMemory>
+fn text_of(heap: &Heap, bytes: &[u8]) -> Result<Bytes, NoMemory>
     ensures { IfOk result (λ text. text ≡ bytes.now) }
 {
-    let mut text = Text2::new(heap.allocator());
-    text.push_bytes(bytes)?;
+    let mut text = Bytes::new(heap.allocator());
+    text.push_all(bytes)?;
     Ok(text)
 }

@@ -5,13 +5,13 @@ ghost use Rattle.stage_text.specs.Terms.{export_line, is_exported, term_line, te
 
 use std::alloc::Global;
 use terra_term::{Export, Store, term_text};
-use tl_base::{FnId, NoMemory, Text2};
+use tl_base::{Bytes, FnId, NoMemory};
 
 /// A line for each export in order, and then a line with the term of each exported function, once, in order of first export.
-pub fn terms_text(store: &Store, exports: &[Export]) -> Result<Text2, NoMemory>
+pub fn terms_text(store: &Store, exports: &[Export]) -> Result<Bytes, NoMemory>
     ensures { IfOk result (λ text. text ≡ terms_text store.now exports.now) }
 {
-    let mut out = Text2::new(store.allocator());
+    let mut out = Bytes::new(store.allocator());
     for export in exports {
         push_export(store.allocator(), &mut out, export)?;
     }
@@ -20,18 +20,18 @@ pub fn terms_text(store: &Store, exports: &[Export]) -> Result<Text2, NoMemory>
 }
 
 /// Writes the line of an export.
-fn push_export(alloc: Global, out: &mut Text2, export: &Export) -> Result<(), NoMemory>
+fn push_export(alloc: Global, out: &mut Bytes, export: &Export) -> Result<(), NoMemory>
     ensures { OnOk result (out.new ≡ out.old ++ export_line export.now) }
 {
-    out.push_bytes(b"export ")?;
-    out.push_bytes(export.name.bytes())?;
+    out.push_all(b"export ")?;
+    out.push_all(export.name.bytes())?;
     let number = u128::from(export.function.0) + 1;
     let name = format!(in alloc; " = f{number}\n")?;
-    out.push_bytes(name.as_bytes())
+    out.push_all(name.as_bytes())
 }
 
 /// Writes the terms of exported functions, each once.
-fn push_terms(store: &Store, out: &mut Text2, exports: &[Export]) -> Result<(), NoMemory>
+fn push_terms(store: &Store, out: &mut Bytes, exports: &[Export]) -> Result<(), NoMemory>
     ensures { OnOk result (out.new ≡ out.old ++ term_lines store.now [] exports.now) }
 {
     for place in 0..exports.len() {
@@ -41,14 +41,14 @@ fn push_terms(store: &Store, out: &mut Text2, exports: &[Export]) -> Result<(), 
 }
 
 /// Writes the term of a function, but where it was exported before.
-fn push_term(store: &Store, out: &mut Text2, before: &[Export], f: FnId) -> Result<(), NoMemory>
+fn push_term(store: &Store, out: &mut Bytes, before: &[Export], f: FnId) -> Result<(), NoMemory>
     ensures { OnOk result (out.new ≡ out.old ++ term_line store.now before.now f) }
 {
     if is_exported(before, f) {
         return Ok(());
     }
-    out.push_bytes(term_text(store, f)?.bytes())?;
-    out.push_bytes(b"\n")
+    out.push_all(term_text(store, f)?.as_slice())?;
+    out.push_all(b"\n")
 }
 
 fn is_exported(exports: &[Export], f: FnId) -> bool

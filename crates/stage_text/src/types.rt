@@ -12,7 +12,7 @@ use std::alloc::Global;
 use std::collections::VecDeque;
 use terra_term::text_of_integer;
 use terra_types::{Integer, TypeForm, Types};
-use tl_base::{NoMemory, Text, Text2, TypeId};
+use tl_base::{Bytes, NoMemory, Text, TypeId};
 
 /// What is still to be written of a text.
 #[derive(Clone, Copy, Debug)]
@@ -38,16 +38,16 @@ pub enum Part {
 pub fn type_text(alloc: Global, types: &Types, of: TypeId) -> Result<Option<Text>, NoMemory>
     ensures { IfOk result (λ text. text ≡ text_of (type_text types.now of)) }
 {
-    let mut out = Text2::new(alloc);
+    let mut out = Bytes::new(alloc);
     let mut work = VecDeque::new(alloc);
     put_type(alloc, types, &mut work, of)?;
     // Each step writes a byte or leaves a type before another one, so no text of that length has so many steps.
     for _ in 0..u64::MAX {
-        if out.bytes().len() > Text::MAX_LEN {
+        if out.as_slice().len() > Text::MAX_LEN {
             return Ok(None);
         }
         let Some(part) = work.pop_front() else {
-            return Text::new(alloc, out.bytes());
+            return Text::new(alloc, out.as_slice());
         };
         step(alloc, types, &mut out, &mut work, part)?;
     }
@@ -58,7 +58,7 @@ pub fn type_text(alloc: Global, types: &Types, of: TypeId) -> Result<Option<Text
 pub fn push_function_type(
     alloc: Global,
     types: &Types,
-    out: &mut Text2,
+    out: &mut Bytes,
     parameters: &[TypeId],
     of: TypeId,
 ) -> Result<(), NoMemory>
@@ -73,7 +73,7 @@ pub fn push_function_type(
 fn push_parts(
     alloc: Global,
     types: &Types,
-    out: &mut Text2,
+    out: &mut Bytes,
     parts: Vec<Part>,
 ) -> Result<(), NoMemory>
     ensures { OnOk result (out.new ≡ out.old ++ text_in types.now parts.items) }
@@ -94,7 +94,7 @@ fn push_parts(
 fn step(
     alloc: Global,
     types: &Types,
-    out: &mut Text2,
+    out: &mut Bytes,
     work: &mut VecDeque<Part>,
     part: Part,
 ) -> Result<(), NoMemory>
@@ -108,30 +108,30 @@ fn step(
             }
             Ok(())
         }
-        Part::Integer(integer) => out.push_bytes(text_of_integer(integer)),
-        Part::Bool => out.push_bytes(b"bool"),
-        Part::Unit => out.push_bytes(b"{}"),
-        Part::Pointer => out.push_bytes(b"&"),
+        Part::Integer(integer) => out.push_all(text_of_integer(integer)),
+        Part::Bool => out.push_all(b"bool"),
+        Part::Unit => out.push_all(b"{}"),
+        Part::Pointer => out.push_all(b"&"),
         Part::Count(count) => push_count(alloc, out, count),
-        Part::Open => out.push_bytes(b"{"),
-        Part::Comma => out.push_bytes(b", "),
-        Part::Arrow => out.push_bytes(b"} -> "),
+        Part::Open => out.push_all(b"{"),
+        Part::Comma => out.push_all(b", "),
+        Part::Arrow => out.push_all(b"} -> "),
         Part::Struct(number) => push_struct(alloc, out, number),
     }
 }
 
-fn push_count(alloc: Global, out: &mut Text2, count: u64) -> Result<(), NoMemory>
+fn push_count(alloc: Global, out: &mut Bytes, count: u64) -> Result<(), NoMemory>
     ensures { OnOk result (out.new ≡ out.old ++ (codes "[" ++ decimal count ++ codes "]")) }
 {
     let text = format!(in alloc; "[{count}]")?;
-    out.push_bytes(text.as_bytes())
+    out.push_all(text.as_bytes())
 }
 
-fn push_struct(alloc: Global, out: &mut Text2, number: u64) -> Result<(), NoMemory>
+fn push_struct(alloc: Global, out: &mut Bytes, number: u64) -> Result<(), NoMemory>
     ensures { OnOk result (out.new ≡ out.old ++ (codes "struct " ++ decimal number)) }
 {
     let text = format!(in alloc; "struct {number}")?;
-    out.push_bytes(text.as_bytes())
+    out.push_all(text.as_bytes())
 }
 
 /// Puts the parts of a type before those that are still to be written.

@@ -4,7 +4,6 @@ use Rattle.tac_form.specs.declared.tac.Operand.TheVariants.{Temp}
 use Rattle.tac_form.specs.declared.tac.Instruction.{Instruction}
 use Rattle.tac_form.specs.declared.tac.Instruction.TheVariants.{Compute, Copy, Locate, Load, Alloc}
 use Rattle.tac_form.specs.declared.tac.Block.{Block}
-use Rattle.tac_form.specs.declared.tac.BlockList.{BlockList}
 use Rattle.tac_form.specs.declared.tac.Tac.{Tac}
 use Rattle.tac_copies.specs.Once.{is_once}
 

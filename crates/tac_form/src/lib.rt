@@ -15,6 +15,6 @@ pub use graph::{FlowBlock, Step, StepList, TempList};
 pub use laws::{code_has_one_run, code_steps_add_up};
 pub use tac::{
     Address, Block, BlockList, Destination, DestinationList, Edge, Exit, Instruction,
-    InstructionList, Number, Operand, OperandList, Part, PartList, Signature, Size, SizeList, Spot,
-    Tac, TypeIds,
+    InstructionList, Number, Operand, Part, PartList, Signature, Size, SizeList, Spot, Tac,
+    TypeIds,
 };

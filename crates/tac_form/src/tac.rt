@@ -1,10 +1,7 @@
 // What three-address code is.
 
-ghost use Rattle.std.specs.Prelude.{◌≡◌};
-
-use std::marker::Model;
 use terra_words::{BinaryOperator, FaultKind};
-use tl_base::{FnId, Place, TypeId};
+use tl_base::{FnId, List, Place, TypeId};
 
 /// How many bytes a number has.
 #[derive(Clone, Copy, Debug, PartialEq, Eq)]
@@ -57,98 +54,11 @@ pub enum Destination {
     Area(u64),
 }
 
-/// Words in order. Contracts see the list.
-#[derive(Debug, Drop)]
-pub struct OperandList {
-    items: Vec<Operand>,
-}
+/// Arguments in order.
+pub type PartList = List<Part>;
 
-impl Model for OperandList {
-    ghost use Rattle.std.specs.Prelude.{List};
-    ghost use Rattle.tac_form.specs.declared.tac.Operand.{Operand};
-
-    ghost Value = { List Operand };
-
-    ghost view = { λ l. l.items.items };
-}
-
-impl OperandList {
-    /// The list that takes over these words, with no allocation.
-    pub fn from_vec(items: Vec<Operand>) -> OperandList
-        ensures { result ≡ items.items }
-    {
-        OperandList { items }
-    }
-
-    /// These words.
-    pub fn as_slice(&self) -> &[Operand]
-        ensures { result.now ≡ self.now }
-    {
-        &self.items
-    }
-}
-
-/// Arguments in order. Contracts see the list.
-#[derive(Debug, Drop)]
-pub struct PartList {
-    items: Vec<Part>,
-}
-
-impl Model for PartList {
-    ghost use Rattle.std.specs.Prelude.{List};
-    ghost use Rattle.tac_form.specs.declared.tac.Part.{Part};
-
-    ghost Value = { List Part };
-
-    ghost view = { λ l. l.items.items };
-}
-
-impl PartList {
-    /// The list that takes over these arguments, with no allocation.
-    pub fn from_vec(items: Vec<Part>) -> PartList
-        ensures { result ≡ items.items }
-    {
-        PartList { items }
-    }
-
-    /// These arguments.
-    pub fn as_slice(&self) -> &[Part]
-        ensures { result.now ≡ self.now }
-    {
-        &self.items
-    }
-}
-
-/// Types in order. Contracts see the list.
-#[derive(Debug, Drop)]
-pub struct TypeIds {
-    items: Vec<TypeId>,
-}
-
-impl Model for TypeIds {
-    ghost use Rattle.std.specs.Prelude.{List};
-    ghost use Rattle.tl_base.specs.declared.ids.TypeId.{TypeId};
-
-    ghost Value = { List TypeId };
-
-    ghost view = { λ l. l.items.items };
-}
-
-impl TypeIds {
-    /// The list that takes over these types, with no allocation.
-    pub fn from_vec(items: Vec<TypeId>) -> TypeIds
-        ensures { result ≡ items.items }
-    {
-        TypeIds { items }
-    }
-
-    /// These types.
-    pub fn as_slice(&self) -> &[TypeId]
-        ensures { result.now ≡ self.now }
-    {
-        &self.items
-    }
-}
+/// Types in order.
+pub type TypeIds = List<TypeId>;
 
 /// The types of a function's parameters and of its result.
 #[derive(Debug, Drop)]
@@ -202,36 +112,8 @@ pub enum Exit {
     Fail(FaultKind, Place),
 }
 
-/// Instructions in order. Contracts see the list.
-#[derive(Debug, Drop)]
-pub struct InstructionList {
-    items: Vec<Instruction>,
-}
-
-impl Model for InstructionList {
-    ghost use Rattle.std.specs.Prelude.{List};
-    ghost use Rattle.tac_form.specs.declared.tac.Instruction.{Instruction};
-
-    ghost Value = { List Instruction };
-
-    ghost view = { λ l. l.items.items };
-}
-
-impl InstructionList {
-    /// The list that takes over these instructions, with no allocation.
-    pub fn from_vec(items: Vec<Instruction>) -> InstructionList
-        ensures { result ≡ items.items }
-    {
-        InstructionList { items }
-    }
-
-    /// These instructions.
-    pub fn as_slice(&self) -> &[Instruction]
-        ensures { result.now ≡ self.now }
-    {
-        &self.items
-    }
-}
+/// Instructions in order.
+pub type InstructionList = List<Instruction>;
 
 /// Instructions, and how they end.
 #[derive(Debug, Drop)]
@@ -240,97 +122,14 @@ pub struct Block {
     pub exit: Exit,
 }
 
-/// Blocks by their numbers. Contracts see the list.
-#[derive(Debug, Drop)]
-pub struct BlockList {
-    items: Vec<Block>,
-}
+/// Blocks by their numbers.
+pub type BlockList = List<Block>;
 
-impl Model for BlockList {
-    ghost use Rattle.std.specs.Prelude.{List};
-    ghost use Rattle.tac_form.specs.declared.tac.Block.{Block};
+/// Where parameters go, in order.
+pub type DestinationList = List<Destination>;
 
-    ghost Value = { List Block };
-
-    ghost view = { λ l. l.items.items };
-}
-
-impl BlockList {
-    /// The list that takes over these blocks, with no allocation.
-    pub fn from_vec(items: Vec<Block>) -> BlockList
-        ensures { result ≡ items.items }
-    {
-        BlockList { items }
-    }
-
-    /// These blocks.
-    pub fn as_slice(&self) -> &[Block]
-        ensures { result.now ≡ self.now }
-    {
-        &self.items
-    }
-}
-
-/// Where parameters go, in order. Contracts see the list.
-#[derive(Debug, Drop)]
-pub struct DestinationList {
-    items: Vec<Destination>,
-}
-
-impl Model for DestinationList {
-    ghost use Rattle.std.specs.Prelude.{List};
-    ghost use Rattle.tac_form.specs.declared.tac.Destination.{Destination};
-
-    ghost Value = { List Destination };
-
-    ghost view = { λ l. l.items.items };
-}
-
-impl DestinationList {
-    /// The list that takes over these destinations, with no allocation.
-    pub fn from_vec(items: Vec<Destination>) -> DestinationList
-        ensures { result ≡ items.items }
-    {
-        DestinationList { items }
-    }
-
-    /// These destinations.
-    pub fn as_slice(&self) -> &[Destination]
-        ensures { result.now ≡ self.now }
-    {
-        &self.items
-    }
-}
-
-/// Sizes in bytes, in order. Contracts see the list.
-#[derive(Debug, Drop)]
-pub struct SizeList {
-    items: Vec<u64>,
-}
-
-impl Model for SizeList {
-    ghost use Rattle.std.specs.Prelude.{ℕ, List};
-
-    ghost Value = { List ℕ };
-
-    ghost view = { λ l. l.items.items };
-}
-
-impl SizeList {
-    /// The list that takes over these sizes, with no allocation.
-    pub fn from_vec(items: Vec<u64>) -> SizeList
-        ensures { result ≡ items.items }
-    {
-        SizeList { items }
-    }
-
-    /// These sizes.
-    pub fn as_slice(&self) -> &[u64]
-        ensures { result.now ≡ self.now }
-    {
-        &self.items
-    }
-}
+/// Sizes in bytes, in order.
+pub type SizeList = List<u64>;
 
 /// The code of a function.
 #[derive(Debug, Drop)]

@@ -11,7 +11,7 @@ use terra_term::{
 };
 use terra_types::Types;
 use tl_base::{
-    ConstantId, FnId, GlobalId, Limits, NoMemory, SymId, TermId, Text, Text2, TextId, TypeId,
+    Bytes, ConstantId, FnId, GlobalId, Limits, NoMemory, SymId, TermId, Text, TextId, TypeId,
 };
 
 /// A row that adds no node.
@@ -24,11 +24,11 @@ pub fn row(work: &mut Work, word: &str, words: &[&str]) -> Result<Option<String>
         "standing" => standing(work, FnId(number_at(words, 1)))?,
         "text" => {
             let text = term_text(&work.store, FnId(number_at(words, 1)))?;
-            shown(alloc, text.bytes())?
+            shown(alloc, text.as_slice())?
         }
         "length" => {
             let text = term_text(&work.store, FnId(number_at(words, 1)))?;
-            let length = text.bytes().len();
+            let length = text.as_slice().len();
             format!(in alloc; "{length}")?
         }
         "typed" => return typed(work, words),
@@ -183,7 +183,7 @@ fn text_static(work: &mut Work, words: &[&str]) -> Result<String, NoMemory> {
 /// `new_global MEMORY HEX`
 fn global(work: &mut Work, words: &[&str]) -> Result<String, NoMemory> {
     let alloc = work.store.allocator();
-    let bytes = Text2::from_vec(bytes_of(alloc, word_at(words, 2))?);
+    let bytes = Bytes::from_vec(bytes_of(alloc, word_at(words, 2))?);
     let id = work
         .store
         .new_global(TypeId(2), bytes, memory_at(words, 1))?;

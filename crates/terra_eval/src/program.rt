@@ -40,7 +40,7 @@ pub fn static_bytes(store: &Store) -> Result<Vec<u8>, NoMemory>
             &mut bytes,
             s.address.saturating_sub(REGION_ADDRESS) as usize,
         )?;
-        bytes.extend_from_slice(s.bytes.bytes())?;
+        bytes.extend_from_slice(s.bytes.as_slice())?;
     }
     Ok(bytes)
 }

@@ -3,7 +3,7 @@
 use crate::rows::Row;
 use std::alloc::Global;
 use terra_stage::{End, Terms, stage_terms};
-use tl_base::{NoMemory, Text2};
+use tl_base::{Bytes, NoMemory};
 use tl_lex::LONGEST_TEXT;
 use tl_parse::{SyntaxError, parse};
 
@@ -11,14 +11,14 @@ use tl_parse::{SyntaxError, parse};
 const MEMORY: u64 = 1_048_576;
 
 /// What comes of a row, behind a line with its name.
-pub fn answer(alloc: Global, row: &Row) -> Result<Text2, NoMemory> {
-    let mut out = Text2::new(alloc);
+pub fn answer(alloc: Global, row: &Row) -> Result<Bytes, NoMemory> {
+    let mut out = Bytes::new(alloc);
     let name = row.name.as_str();
     let line = format!(in alloc; "== {name}\n")?;
-    out.push_bytes(line.as_bytes())?;
+    out.push_all(line.as_bytes())?;
     let source = row.source.as_str();
     if source.len() > LONGEST_TEXT {
-        out.push_bytes(b"-- too long\n")?;
+        out.push_all(b"-- too long\n")?;
         return Ok(out);
     }
     match parse(alloc, source) {
@@ -30,27 +30,27 @@ pub fn answer(alloc: Global, row: &Row) -> Result<Text2, NoMemory> {
         Err(SyntaxError::NoMemory) => Err(NoMemory),
         Err(error) => {
             let line = format!(in alloc; "-- {error}\n")?;
-            out.push_bytes(line.as_bytes())?;
+            out.push_all(line.as_bytes())?;
             Ok(out)
         }
     }
 }
 
-fn push_staged(alloc: Global, out: &mut Text2, staged: &Terms) -> Result<(), NoMemory> {
-    out.push_bytes(staged.printed.bytes())?;
+fn push_staged(alloc: Global, out: &mut Bytes, staged: &Terms) -> Result<(), NoMemory> {
+    out.push_all(staged.printed.as_slice())?;
     match &staged.end {
         End::Done => {
-            out.push_bytes(staged.lines.bytes())?;
-            out.push_bytes(b"-- done\n")
+            out.push_all(staged.lines.as_slice())?;
+            out.push_all(b"-- done\n")
         }
         End::Raised { text, place } => {
-            out.push_bytes(b"-- raised ")?;
-            out.push_bytes(text.bytes())?;
+            out.push_all(b"-- raised ")?;
+            out.push_all(text.as_slice())?;
             let line = place.line;
             let word = place.word;
             let line = format!(in alloc; " at {line}:{word}\n")?;
-            out.push_bytes(line.as_bytes())
+            out.push_all(line.as_bytes())
         }
-        End::Spent => out.push_bytes(b"-- spent\n"),
+        End::Spent => out.push_all(b"-- spent\n"),
     }
 }

@@ -19,7 +19,7 @@ fn main(rt: HostRuntime) -> anyhow::Result<()> {
         let line = line?;
         if let Some(head) = line.as_str().strip_prefix("== ") {
             if let Some(row) = &last {
-                rt.stdout().write_all(answer(alloc, row)?.bytes())?;
+                rt.stdout().write_all(answer(alloc, row)?.as_slice())?;
             }
             last = Some(Row::new(alloc, head)?);
         } else if let Some(row) = &mut last {
@@ -27,7 +27,7 @@ fn main(rt: HostRuntime) -> anyhow::Result<()> {
         }
     }
     if let Some(row) = &last {
-        rt.stdout().write_all(answer(alloc, row)?.bytes())?;
+        rt.stdout().write_all(answer(alloc, row)?.as_slice())?;
     }
     Ok(())
 }

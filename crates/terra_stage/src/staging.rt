@@ -22,7 +22,7 @@ use stage_library::Task;
 use std::alloc::Global;
 use terra_lib::end_of_chunk;
 use terra_types::Types;
-use tl_base::{Budget, NoMemory, Place, Text2};
+use tl_base::{Budget, Bytes, NoMemory, Place};
 use tl_rename::resolve;
 use tl_tree::Tree;
 
@@ -31,7 +31,7 @@ use tl_tree::Tree;
 pub enum End {
     Done,
     /// By an error: its text, and the place of what raised it.
-    Raised { text: Text2, place: Place },
+    Raised { text: Bytes, place: Place },
     /// Before a payment above what was left of the budget.
     Spent,
 }
@@ -144,7 +144,7 @@ fn end_of(heap: &Heap, staging: &Staging<LuaEnd>) -> Result<End, NoMemory>
 }
 
 /// The text of an error: that of a text or a number, and one in place of any other value's.
-pub fn raised_text(heap: &Heap, value: Value) -> Result<Text2, NoMemory>
+pub fn raised_text(heap: &Heap, value: Value) -> Result<Bytes, NoMemory>
     ensures { IfOk result (λ text. text ≡ raised_text heap.now value) }
 {
     match value {
@@ -159,10 +159,10 @@ pub fn raised_text(heap: &Heap, value: Value) -> Result<Text2, NoMemory>
 }
 
 /// A text of these bytes.
-fn text_of(heap: &Heap, bytes: &[u8]) -> Result<Text2, NoMemory>
+fn text_of(heap: &Heap, bytes: &[u8]) -> Result<Bytes, NoMemory>
     ensures { IfOk result (λ text. text ≡ bytes.now) }
 {
-    let mut text = Text2::new(heap.allocator());
-    text.push_bytes(bytes)?;
+    let mut text = Bytes::new(heap.allocator());
+    text.push_all(bytes)?;
     Ok(text)
 }

@@ -10,16 +10,16 @@ use crate::staging::{End, Outcome, stage};
 use exotype::World;
 use stage_text::terms_text;
 use std::alloc::Global;
-use tl_base::{NoMemory, Text2};
+use tl_base::{Bytes, NoMemory};
 use tl_tree::Tree;
 
 /// What is written of a staging: what was printed, how it ended, and a line for each export with the lines of the
 /// exported terms, as they were at that end.
 #[derive(Debug, Drop)]
 pub struct Terms {
-    pub printed: Text2,
+    pub printed: Bytes,
     pub end: End,
-    pub lines: Text2,
+    pub lines: Bytes,
 }
 
 /// Stages a source as [`stage`] does, and writes the lines of its exports and of their terms. They are written after each
@@ -54,7 +54,7 @@ fn terms_of(outcome: Outcome) -> Result<Terms, NoMemory>
 }
 
 /// The lines of the exports, and of their terms.
-fn lines_of(world: &World) -> Result<Text2, NoMemory>
+fn lines_of(world: &World) -> Result<Bytes, NoMemory>
     ensures { IfOk result (λ text. text ≡ terms_text world.now.store world.now.exports.list) }
 {
     let lines = terms_text(&world.store, world.exports.as_slice())?;

@@ -3,12 +3,14 @@
 ghost use Rattle.std.specs.Prelude.{◌≡◌, IfOk};
 
 use std::marker::Model;
-use tl_base::NoMemory;
+use tl_base::{List, NoMemory};
 
 /// Items in order, behind one pointer. Contracts see the list.
+///
+/// Terms hold lists: with a `List` in the node itself a node takes 104 bytes, and with one pointer 56.
 #[derive(Debug, Drop)]
 pub struct HeapList<T> {
-    items: Box<Vec<T>>,
+    items: Box<List<T>>,
 }
 
 impl<T> Model for HeapList<T> {
@@ -16,7 +18,7 @@ impl<T> Model for HeapList<T> {
 
     ghost Value = { List T };
 
-    ghost view = { λ l. l.items.value.items };
+    ghost view = { λ l. l.items.value };
 }
 
 impl<T> HeapList<T> {
@@ -28,14 +30,23 @@ impl<T> HeapList<T> {
     {
         let alloc = *items.allocator();
         Ok(HeapList {
-            items: Box::new(alloc, items)?,
+            items: Box::new(alloc, List::from_vec(items))?,
         })
+    }
+
+    /// The list that takes over this one.
+    pub fn from_list(items: List<T>) -> Result<HeapList<T>, NoMemory>
+    where
+        T: Drop,
+        ensures { IfOk result (λ l. l ≡ items) }
+    {
+        HeapList::from_vec(items.into_vec())
     }
 
     /// These items.
     pub fn as_slice(&self) -> &[T]
         ensures { result.now ≡ self.now }
     {
-        &self.items
+        self.items.as_slice()
     }
 }

@@ -19,6 +19,7 @@ pub mod term;
 pub mod text;
 pub mod typed;
 
+pub use heap_list::HeapList;
 pub use lists::{
     FieldList, LoopName, OffsetList, Parameter, ParameterList, TermList, TypedName, TypedNameList,
     VarName, VarNameList,

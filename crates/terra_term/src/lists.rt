@@ -62,193 +62,20 @@ pub struct TypedName {
     pub of: TypeId,
 }
 
-/// Nodes in order. Contracts see the list.
-#[derive(Debug, Drop)]
-pub struct TermList {
-    items: HeapList<TermId>,
-}
+/// Nodes in order.
+pub type TermList = HeapList<TermId>;
 
-impl Model for TermList {
-    ghost use Rattle.std.specs.Prelude.{List};
-    ghost use Rattle.tl_base.specs.declared.ids.TermId.{TermId};
+/// Names of fields in order.
+pub type FieldList = HeapList<TextId>;
 
-    ghost Value = { List TermId };
+/// Offsets in bytes, in order.
+pub type OffsetList = HeapList<u64>;
 
-    ghost view = { λ l. l.items };
-}
+/// Parameters in order.
+pub type ParameterList = HeapList<Parameter>;
 
-impl TermList {
-    /// The list that takes over these nodes.
-    pub fn from_vec(items: Vec<TermId>) -> Result<TermList, NoMemory>
-        ensures { IfOk result (λ l. l ≡ items.items) }
-    {
-        let items = HeapList::from_vec(items)?;
-        Ok(TermList { items })
-    }
+/// The names of a `var` in order.
+pub type VarNameList = HeapList<VarName>;
 
-    /// These nodes.
-    pub fn as_slice(&self) -> &[TermId]
-        ensures { result.now ≡ self.now }
-    {
-        self.items.as_slice()
-    }
-}
-
-/// Names of fields in order. Contracts see the list.
-#[derive(Debug, Drop)]
-pub struct FieldList {
-    items: HeapList<TextId>,
-}
-
-impl Model for FieldList {
-    ghost use Rattle.std.specs.Prelude.{List};
-    ghost use Rattle.tl_base.specs.declared.ids.TextId.{TextId};
-
-    ghost Value = { List TextId };
-
-    ghost view = { λ l. l.items };
-}
-
-impl FieldList {
-    /// The list that takes over these names.
-    pub fn from_vec(items: Vec<TextId>) -> Result<FieldList, NoMemory>
-        ensures { IfOk result (λ l. l ≡ items.items) }
-    {
-        let items = HeapList::from_vec(items)?;
-        Ok(FieldList { items })
-    }
-
-    /// These names.
-    pub fn as_slice(&self) -> &[TextId]
-        ensures { result.now ≡ self.now }
-    {
-        self.items.as_slice()
-    }
-}
-
-/// Offsets in bytes, in order. Contracts see the list.
-#[derive(Debug, Drop)]
-pub struct OffsetList {
-    items: HeapList<u64>,
-}
-
-impl Model for OffsetList {
-    ghost use Rattle.std.specs.Prelude.{List, ℕ};
-
-    ghost Value = { List ℕ };
-
-    ghost view = { λ l. l.items };
-}
-
-impl OffsetList {
-    /// The list that takes over these offsets.
-    pub fn from_vec(items: Vec<u64>) -> Result<OffsetList, NoMemory>
-        ensures { IfOk result (λ l. l ≡ items.items) }
-    {
-        let items = HeapList::from_vec(items)?;
-        Ok(OffsetList { items })
-    }
-
-    /// These offsets.
-    pub fn as_slice(&self) -> &[u64]
-        ensures { result.now ≡ self.now }
-    {
-        self.items.as_slice()
-    }
-}
-
-/// Parameters in order. Contracts see the list.
-#[derive(Debug, Drop)]
-pub struct ParameterList {
-    items: HeapList<Parameter>,
-}
-
-impl Model for ParameterList {
-    ghost use Rattle.std.specs.Prelude.{List};
-    ghost use Rattle.terra_term.specs.declared.lists.Parameter.{Parameter};
-
-    ghost Value = { List Parameter };
-
-    ghost view = { λ l. l.items };
-}
-
-impl ParameterList {
-    /// The list that takes over these parameters.
-    pub fn from_vec(items: Vec<Parameter>) -> Result<ParameterList, NoMemory>
-        ensures { IfOk result (λ l. l ≡ items.items) }
-    {
-        let items = HeapList::from_vec(items)?;
-        Ok(ParameterList { items })
-    }
-
-    /// These parameters.
-    pub fn as_slice(&self) -> &[Parameter]
-        ensures { result.now ≡ self.now }
-    {
-        self.items.as_slice()
-    }
-}
-
-/// The names of a `var` in order. Contracts see the list.
-#[derive(Debug, Drop)]
-pub struct VarNameList {
-    items: HeapList<VarName>,
-}
-
-impl Model for VarNameList {
-    ghost use Rattle.std.specs.Prelude.{List};
-    ghost use Rattle.terra_term.specs.declared.lists.VarName.{VarName};
-
-    ghost Value = { List VarName };
-
-    ghost view = { λ l. l.items };
-}
-
-impl VarNameList {
-    /// The list that takes over these names.
-    pub fn from_vec(items: Vec<VarName>) -> Result<VarNameList, NoMemory>
-        ensures { IfOk result (λ l. l ≡ items.items) }
-    {
-        let items = HeapList::from_vec(items)?;
-        Ok(VarNameList { items })
-    }
-
-    /// These names.
-    pub fn as_slice(&self) -> &[VarName]
-        ensures { result.now ≡ self.now }
-    {
-        self.items.as_slice()
-    }
-}
-
-/// Variables in order. Contracts see the list.
-#[derive(Debug, Drop)]
-pub struct TypedNameList {
-    items: HeapList<TypedName>,
-}
-
-impl Model for TypedNameList {
-    ghost use Rattle.std.specs.Prelude.{List};
-    ghost use Rattle.terra_term.specs.declared.lists.TypedName.{TypedName};
-
-    ghost Value = { List TypedName };
-
-    ghost view = { λ l. l.items };
-}
-
-impl TypedNameList {
-    /// The list that takes over these variables.
-    pub fn from_vec(items: Vec<TypedName>) -> Result<TypedNameList, NoMemory>
-        ensures { IfOk result (λ l. l ≡ items.items) }
-    {
-        let items = HeapList::from_vec(items)?;
-        Ok(TypedNameList { items })
-    }
-
-    /// These variables.
-    pub fn as_slice(&self) -> &[TypedName]
-        ensures { result.now ≡ self.now }
-    {
-        self.items.as_slice()
-    }
-}
+/// Variables in order.
+pub type TypedNameList = HeapList<TypedName>;

@@ -24,7 +24,7 @@ use std::mem::size_of;
 use terra_types::Types;
 use tl_base::limits::REGION_ADDRESS;
 use tl_base::{
-    ConstantId, FnId, GlobalId, NoMemory, Place, QuoteId, SymId, TermId, Text, Text2, TextId,
+    Bytes, ConstantId, FnId, GlobalId, NoMemory, Place, QuoteId, SymId, TermId, Text, TextId,
     TypeId,
 };
 
@@ -80,7 +80,7 @@ pub struct TerraConstant {
 pub struct Static {
     pub address: u64,
     pub is_text: bool,
-    pub bytes: Text2,
+    pub bytes: Bytes,
 }
 
 /// The bytes of a name.
@@ -473,7 +473,7 @@ impl Store {
     pub fn new_global(
         &mut self,
         of: TypeId,
-        bytes: Text2,
+        bytes: Bytes,
         memory: u64,
     ) -> Result<Option<GlobalId>, NoMemory>
         requires { memory ≤ MAX_MEMORY }
@@ -481,7 +481,7 @@ impl Store {
         ensures ok { OnOk result (self.new ≡ with_global self.old memory of bytes) }
         ensures err { OnErr result (self.new ≡ self.old) }
     {
-        let size = bytes.bytes().len();
+        let size = bytes.as_slice().len();
         let Some(address) = self.room(memory, size) else {
             return Ok(None);
         };
@@ -630,7 +630,7 @@ fn push_text(
     statics.push(Static {
         address,
         is_text: true,
-        bytes: Text2::from_vec(bytes),
+        bytes: Bytes::from_vec(bytes),
     })?;
     Ok(())
 }

@@ -22,15 +22,15 @@ use crate::term::{Statement, Term};
 use std::alloc::Global;
 use std::collections::VecDeque;
 use terra_types::{Integer, TypeForm};
-use tl_base::{FnId, NoMemory, TermId, Text2, TypeId};
+use tl_base::{Bytes, FnId, NoMemory, TermId, TypeId};
 
 /// The text of a function's term, as `terrac terms` writes it; nothing where the function isn't defined.
-pub fn term_text(store: &Store, f: FnId) -> Result<Text2, NoMemory>
+pub fn term_text(store: &Store, f: FnId) -> Result<Bytes, NoMemory>
     ensures { IfOk result (λ text. text ≡ texts.term_text store.now f) }
 {
     let alloc = store.allocator();
     let Some(term) = store.state(f).term() else {
-        return Ok(Text2::new(alloc));
+        return Ok(Bytes::new(alloc));
     };
     match store.term(term) {
         Some(Term::Function(parameters, of, body)) => {
@@ -44,17 +44,17 @@ pub fn term_text(store: &Store, f: FnId) -> Result<Text2, NoMemory>
             )?;
             write(store, pieces)
         }
-        Some(Term::Expression(_, _)) => Ok(Text2::new(alloc)),
-        Some(Term::Statement(_, _)) => Ok(Text2::new(alloc)),
-        None => Ok(Text2::new(alloc)),
+        Some(Term::Expression(_, _)) => Ok(Bytes::new(alloc)),
+        Some(Term::Statement(_, _)) => Ok(Bytes::new(alloc)),
+        None => Ok(Bytes::new(alloc)),
     }
 }
 
 /// The text of pieces.
-fn write(store: &Store, pieces: Vec<Piece>) -> Result<Text2, NoMemory>
+fn write(store: &Store, pieces: Vec<Piece>) -> Result<Bytes, NoMemory>
     ensures { IfOk result (λ text. text ≡ text_in store.now pieces.items) }
 {
-    let mut out = Text2::new(store.allocator());
+    let mut out = Bytes::new(store.allocator());
     let mut work = VecDeque::new(store.allocator());
     prepend(&mut work, pieces)?;
     // Each step writes a byte or leaves fewer nodes to be written, so no text that memory holds has so many steps.
@@ -81,7 +81,7 @@ fn prepend(work: &mut VecDeque<Piece>, pieces: Vec<Piece>) -> Result<(), NoMemor
 /// Writes a piece, or replaces a part by its own pieces.
 fn step(
     store: &Store,
-    out: &mut Text2,
+    out: &mut Bytes,
     work: &mut VecDeque<Piece>,
     piece: Piece,
 ) -> Result<(), NoMemory>
@@ -108,23 +108,23 @@ fn step(
             }
             Ok(())
         }
-        Piece::Word(word) => out.push_bytes(word.text()),
-        Piece::Unary(operator) => out.push_bytes(text_of_unary(operator)),
-        Piece::Binary(operator) => out.push_bytes(text_of_binary(operator)),
-        Piece::Primitive(primitive) => out.push_bytes(text_of_primitive(primitive)),
-        Piece::Integer(integer) => out.push_bytes(text_of_integer(integer)),
+        Piece::Word(word) => out.push_all(word.text()),
+        Piece::Unary(operator) => out.push_all(text_of_unary(operator)),
+        Piece::Binary(operator) => out.push_all(text_of_binary(operator)),
+        Piece::Primitive(primitive) => out.push_all(text_of_primitive(primitive)),
+        Piece::Integer(integer) => out.push_all(text_of_integer(integer)),
         Piece::Symbol(symbol) => {
-            out.push_bytes(b"$")?;
+            out.push_all(b"$")?;
             push_next(store.allocator(), out, symbol.0)
         }
         Piece::Function(f) => {
-            out.push_bytes(b"f")?;
+            out.push_all(b"f")?;
             push_next(store.allocator(), out, f.0)
         }
         Piece::Macro(id) => push_next(store.allocator(), out, id.0),
         Piece::Decimal(number) => push_decimal(store.allocator(), out, number),
         Piece::Number(bits, of) => push_number(store, out, bits, of),
-        Piece::Name(name) => out.push_bytes(store.name(name)),
+        Piece::Name(name) => out.push_all(store.name(name)),
     }
 }
 
@@ -194,29 +194,29 @@ fn pieces_of_type_id(store: &Store, of: TypeId) -> Result<Vec<Piece>, NoMemory>
 }
 
 /// Writes a number in decimal.
-fn push_decimal(alloc: Global, out: &mut Text2, number: u64) -> Result<(), NoMemory>
+fn push_decimal(alloc: Global, out: &mut Bytes, number: u64) -> Result<(), NoMemory>
     ensures { OnOk result (out.new ≡ out.old ++ decimal number) }
 {
     let text = format!(in alloc; "{number}")?;
-    out.push_bytes(text.as_bytes())
+    out.push_all(text.as_bytes())
 }
 
 /// Writes the number that follows an id's, as ids count from 0 and texts from 1.
-fn push_next(alloc: Global, out: &mut Text2, id: u64) -> Result<(), NoMemory>
+fn push_next(alloc: Global, out: &mut Bytes, id: u64) -> Result<(), NoMemory>
     ensures { OnOk result (out.new ≡ out.old ++ decimal (id + 1)) }
 {
     let number = u128::from(id) + 1;
     let text = format!(in alloc; "{number}")?;
-    out.push_bytes(text.as_bytes())
+    out.push_all(text.as_bytes())
 }
 
 /// Writes a word of 64 bits as the number that it is at a type.
-fn push_number(store: &Store, out: &mut Text2, bits: u64, of: TypeId) -> Result<(), NoMemory>
+fn push_number(store: &Store, out: &mut Bytes, bits: u64, of: TypeId) -> Result<(), NoMemory>
     ensures { OnOk result (out.new ≡ out.old ++ number_digits store.now.types bits of) }
 {
     let alloc = store.allocator();
     if has_sign(store, of) && bits >= 1 << 63 {
-        out.push_bytes(b"-")?;
+        out.push_all(b"-")?;
         push_decimal(alloc, out, u64::MAX - bits + 1)
     } else {
         push_decimal(alloc, out, bits)

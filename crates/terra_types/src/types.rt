@@ -18,7 +18,7 @@ use crate::table::{
 };
 use std::alloc::Global;
 use std::marker::Model;
-use tl_base::{NoMemory, Place, TextId, TypeId};
+use tl_base::{List, NoMemory, Place, TextId, TypeId};
 
 /// The integer types.
 #[derive(Clone, Copy, Debug, PartialEq, Eq, Hash)]
@@ -59,38 +59,8 @@ impl Integer {
     }
 }
 
-/// Ids of types in order. Contracts see the list.
-#[derive(Debug, Drop)]
-pub struct TypeList {
-    ids: Vec<TypeId>,
-}
-
-impl Model for TypeList {
-    ghost use Rattle.std.specs.Prelude.{List};
-    ghost use Rattle.tl_base.specs.declared.ids.TypeId.{TypeId};
-
-    ghost Value = { List TypeId };
-
-    ghost view = { λ l. l.ids.items };
-}
-
-impl TypeList {
-    /// The ids as a slice.
-    pub fn as_slice(&self) -> &[TypeId]
-        ensures { result.now ≡ self.now }
-    {
-        &self.ids
-    }
-
-    /// A copy of ids.
-    pub(crate) fn from_slice(alloc: Global, ids: &[TypeId]) -> Result<TypeList, NoMemory>
-        ensures { IfOk result (λ list. list ≡ ids.now) }
-    {
-        Ok(TypeList {
-            ids: Vec::from_slice(alloc, ids)?,
-        })
-    }
-}
+/// Ids of types in order.
+pub type TypeList = List<TypeId>;
 
 /// What a type is.
 #[derive(Debug, Drop)]

@@ -4,7 +4,7 @@ ghost use Rattle.std.specs.Prelude.{◌≡◌};
 ghost use Rattle.terrac_call.specs.DueView.{line_bytes};
 
 use crate::status::Status;
-use tl_base::Text2;
+use tl_base::Bytes;
 
 /// A line, with its line end; or the file of an image.
 #[derive(Drop)]
@@ -12,7 +12,7 @@ pub(crate) enum Line {
     Fixed(&'static str),
     Made(String),
     /// One that may be no UTF-8.
-    Bytes(Text2),
+    Bytes(Bytes),
 }
 
 impl Line {
@@ -22,7 +22,7 @@ impl Line {
         match self {
             Line::Fixed(text) => text.as_bytes(),
             Line::Made(text) => text.as_bytes(),
-            Line::Bytes(text) => text.bytes(),
+            Line::Bytes(text) => text.as_slice(),
         }
     }
 }

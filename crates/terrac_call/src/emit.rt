@@ -28,7 +28,7 @@ use crate::writing::write_piece;
 use elf_image::{Image, write};
 use stage_image::{Emitted, Made, stage_exports};
 use std::alloc::Global;
-use tl_base::{Failed, NoMemory, Sink, Text2};
+use tl_base::{Bytes, Failed, NoMemory, Sink};
 use tl_tree::Tree;
 
 /// What is due for the image of what the bytes of a source export. What its staging prints goes to `notes` on the way. Nothing goes to
@@ -83,7 +83,7 @@ fn emit_emitted<N: Sink>(alloc: Global, emitted: Emitted, notes: &mut N) -> Ende
         functions: _,
         end,
     } = emitted;
-    match write_piece(notes, printed.bytes()) {
+    match write_piece(notes, printed.as_slice()) {
         Ok(()) => Ended::Due(made_due_or_no_memory(alloc, end)),
         Err(Failed) => Ended::WriteFault,
     }
@@ -126,6 +126,6 @@ fn file_due(alloc: Global, image: &Image) -> Result<Due, NoMemory>
     let file = write(alloc, image)?;
     Ok(Due {
         status: Status::Ok,
-        line: Line::Bytes(Text2::from_vec(file)),
+        line: Line::Bytes(Bytes::from_vec(file)),
     })
 }

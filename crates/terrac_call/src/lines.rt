@@ -13,7 +13,7 @@ use crate::status::{FaultKind, ImageFault, Status};
 use elf_image::{ImageError, result_text};
 use rv_machine::MachineKind;
 use std::alloc::Global;
-use tl_base::{NoMemory, Place, Text2};
+use tl_base::{Bytes, NoMemory, Place};
 use tl_lex::SyntaxKind;
 
 /// The result line of a word, whose type has this code, with a text before it on that line.
@@ -106,17 +106,17 @@ pub(crate) fn bare_usage_due() -> Due
 }
 
 /// The end of a staging by an error with this text, whose place is this.
-pub(crate) fn raised_due(alloc: Global, text: Text2, place: Place) -> Result<Due, NoMemory>
+pub(crate) fn raised_due(alloc: Global, text: Bytes, place: Place) -> Result<Due, NoMemory>
     ensures due { IfOk result (λ due. shown_due due ≡ refused (statuses.Raised text place)) }
     ensures status { IfOk result (λ due. due.status ≡ statuses.Raised text place) }
 {
     let row = place.line;
     let word = place.word;
     let behind = format!(in alloc; " at {row}:{word}\n")?;
-    let mut line = Text2::new(alloc);
-    line.push_bytes(b"raised ")?;
-    line.push_bytes(text.bytes())?;
-    line.push_bytes(behind.as_bytes())?;
+    let mut line = Bytes::new(alloc);
+    line.push_all(b"raised ")?;
+    line.push_all(text.as_slice())?;
+    line.push_all(behind.as_bytes())?;
     Ok(Due {
         status: Status::Raised { text, place },
         line: Line::Bytes(line),

@@ -105,7 +105,7 @@ fn run_emitted<K: Sink, N: Sink>(
         functions,
         end,
     } = emitted;
-    match write_piece(out, printed.bytes()) {
+    match write_piece(out, printed.as_slice()) {
         Ok(()) => or_no_memory(run_made(alloc, asking, functions, end, out, notes)),
         Err(Failed) => Ended::WriteFault,
     }

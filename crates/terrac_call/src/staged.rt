@@ -16,7 +16,7 @@ use crate::words::Limits;
 use crate::writing::write_piece;
 use check_stage::End;
 use std::alloc::Global;
-use tl_base::{Failed, Limits as StagingLimits, NoMemory, Sink, Text2};
+use tl_base::{Bytes, Failed, Limits as StagingLimits, NoMemory, Sink};
 
 /// The number, or the end of the range that it lies beyond.
 fn within(least: u64, most: u64, number: u64) -> u64
@@ -57,9 +57,9 @@ pub(crate) fn staging_limits(limits: Limits) -> StagingLimits
 /// What is due for a staging that printed this and ended so, with these lines where it is done.
 pub(crate) fn staged_end<K: Sink>(
     alloc: Global,
-    printed: Text2,
+    printed: Bytes,
     end: End,
-    lines: Text2,
+    lines: Bytes,
     out: &mut K,
 ) -> Result<Ended, NoMemory>
     ensures ends { IfOk result (λ ended.
@@ -68,7 +68,7 @@ pub(crate) fn staged_end<K: Sink>(
     ensures err { OnErr result (out.new ≡ out.old) }
 {
     let rest = end_due(alloc, end, lines)?;
-    Ok(print(printed.bytes(), rest, out))
+    Ok(print(printed.as_slice(), rest, out))
 }
 
 /// Writes what a staging printed, as one piece, before the rest that is due.
@@ -84,7 +84,7 @@ fn print<K: Sink>(printed: &[u8], rest: Due, out: &mut K) -> Ended
 }
 
 /// What a staging that ends so owes behind what was printed, with these lines where it is done.
-fn end_due(alloc: Global, end: End, lines: Text2) -> Result<Due, NoMemory>
+fn end_due(alloc: Global, end: End, lines: Bytes) -> Result<Due, NoMemory>
     ensures due { IfOk result (λ due. shown_due due ≡ due_of_end end lines) }
     ensures status { IfOk result (λ due. due.status ≢ statuses.WriteFault) }
 {

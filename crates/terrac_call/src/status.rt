@@ -5,7 +5,7 @@ ghost use Rattle.terrac_call.specs.Statuses.{code_of};
 
 use elf_image::ImageError;
 use rv_machine::MachineKind;
-use tl_base::{Place, Text2};
+use tl_base::{Bytes, Place};
 use tl_lex::SyntaxKind;
 
 /// How a call ends. Each status but [`Status::Ok`] has a line on `notes`.
@@ -18,7 +18,7 @@ pub enum Status {
     /// The source is refused for this reason: the token at this place, or at 0:0 the whole source.
     Syntax { kind: SyntaxKind, place: Place },
     /// Staging ended by an error with this text, which none of the source's calls caught, at the place of what raised it.
-    Raised { text: Text2, place: Place },
+    Raised { text: Bytes, place: Place },
     /// Staging came to a payment above what was left of its budget.
     BudgetSpent,
     /// The source or the image has no function of the entry's name.

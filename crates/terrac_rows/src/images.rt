@@ -1,9 +1,9 @@
 // Rows that make images, whose numbers are hexadecimal.
 
 use crate::texts::{codes_of, number_of, word_at, words_of};
-use elf_image::{Bytes, Image, Symbol, Symbols, Words, is_lawful, write};
+use elf_image::{Image, Symbol, Symbols, Words, is_lawful, write};
 use std::alloc::Global;
-use tl_base::NoMemory;
+use tl_base::{Bytes, NoMemory};
 
 /// The image that stands.
 #[derive(Drop)]
@@ -24,7 +24,7 @@ impl ImageRows {
     /// `image TEXT`: an image with this text, whose words stand with commas between them.
     pub fn begin(&mut self, words: &[&str]) -> Result<String, NoMemory> {
         let text = words_of(self.alloc, word_at(words, 0))?;
-        self.image = image_with(self.alloc, Words::from(text));
+        self.image = image_with(self.alloc, Words::from_vec(text));
         Ok(String::from_str(self.alloc, "begun")?)
     }
 
@@ -32,9 +32,9 @@ impl ImageRows {
     pub fn export(&mut self, words: &[&str]) -> Result<String, NoMemory> {
         let alloc = self.alloc;
         self.image.exports.push(Symbol {
-            name: Bytes::from(word_at(words, 0).as_bytes().to_vec(alloc)?),
+            name: Bytes::from_vec(word_at(words, 0).as_bytes().to_vec(alloc)?),
             address: number_of(word_at(words, 1)),
-            params: Bytes::from(codes_of(alloc, word_at(words, 3))?),
+            params: Bytes::from_vec(codes_of(alloc, word_at(words, 3))?),
             result: (number_of(word_at(words, 2)) & 0xff) as u8,
         })?;
         Ok(String::from_str(alloc, "added")?)

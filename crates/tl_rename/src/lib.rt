@@ -1,7 +1,6 @@
 //! Names of locals: which declaration each use finds.
 #![tactic(auto)]
 
-mod ids;
 mod index;
 mod latest;
 mod search;

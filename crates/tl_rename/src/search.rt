@@ -6,11 +6,10 @@ ghost use Rattle.tl_tree.specs.Scopes as scopes;
 ghost use Rattle.tl_rename.specs.Counted.{declared_below};
 ghost use Rattle.tl_rename.specs.Latest.{IsIndexed};
 
-use crate::ids::Ids;
 use crate::index::{Index, is_read_up_to, latest_found};
 use crate::standing::Standing;
 use tl_base::{NoMemory, NodeId};
-use tl_tree::{Binder, Node, Scope, Tree};
+use tl_tree::{Binder, Node, NodeList, Scope, Tree};
 
 /// So many declarations are searched one by one, which takes less time than to find one by its name.
 const FEW: usize = 12;
@@ -53,7 +52,7 @@ fn last_found(
 }
 
 /// The declarations of the innermost owner that are in scope.
-fn declared_in<'d>(tree: &Tree, declared: &'d [Ids], scope: Scope) -> &'d [NodeId]
+fn declared_in<'d>(tree: &Tree, declared: &'d [NodeList], scope: Scope) -> &'d [NodeId]
     requires { declared.now ≡ declared_below (items_of tree.now) (suc (last_of (items_of tree.now)).0) }
     ensures { result.now ≡ scopes.declared_in (items_of tree.now) scope }
 {
@@ -72,7 +71,7 @@ fn declared_in<'d>(tree: &Tree, declared: &'d [Ids], scope: Scope) -> &'d [NodeI
 fn last_in_scope<'a>(
     index: &mut Index<'a>,
     tree: &Tree<'a>,
-    declared: &[Ids],
+    declared: &[NodeList],
     name: &'a str,
     depth: u32,
     scope: Scope,
@@ -96,7 +95,7 @@ fn found_from<'a>(
     index: &mut Index<'a>,
     tree: &Tree<'a>,
     standing: &Standing,
-    declared: &[Ids],
+    declared: &[NodeList],
     name: &'a str,
     scope: Option<Scope>,
 ) -> Result<Option<Binder>, NoMemory>
@@ -132,7 +131,7 @@ pub fn binder<'a>(
     index: &mut Index<'a>,
     tree: &Tree<'a>,
     standing: &Standing,
-    declared: &[Ids],
+    declared: &[NodeList],
     n: NodeId,
 ) -> Result<Option<Binder>, NoMemory>
     requires declared { declared.now ≡ declared_below (items_of tree.now) (suc (last_of (items_of tree.now)).0) }

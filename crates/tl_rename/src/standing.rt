@@ -6,12 +6,11 @@ ghost use Rattle.tl_tree.specs.Scopes as scopes;
 ghost use Rattle.tl_rename.specs.Lists.{within_of};
 ghost use Rattle.tl_rename.specs.Counted.{declared_below};
 
-use crate::ids::Ids;
 use crate::within::{Inside, push_declared, sees_itself};
 use std::alloc::Global;
 use std::marker::Model;
 use tl_base::{NoMemory, NodeId};
-use tl_tree::{Scope, Tree};
+use tl_tree::{NodeList, Scope, Tree};
 
 /// How many nodes there are up to this one.
 pub fn count_to(n: NodeId) -> Result<u64, NoMemory>
@@ -93,7 +92,7 @@ fn give_all(standing: &mut Standing, limit: NodeId, scope: Scope, ns: &[NodeId])
 }
 
 /// How many names a statement declares; `list` is memory to be used again.
-fn declared_count(list: &mut Ids, tree: &Tree, n: NodeId) -> Result<u64, NoMemory>
+fn declared_count(list: &mut NodeList, tree: &Tree, n: NodeId) -> Result<u64, NoMemory>
     ensures { IfOk result (λ count. count ≡ length (scopes.declared_at (items_of tree.now) n)) }
 {
     list.clear();
@@ -104,7 +103,7 @@ fn declared_count(list: &mut Ids, tree: &Tree, n: NodeId) -> Result<u64, NoMemor
 /// Says where the statements of an owner stand that has declared so many names before them. The answer is how many it declares with them.
 fn give_in_order(
     standing: &mut Standing,
-    list: &mut Ids,
+    list: &mut NodeList,
     tree: &Tree,
     owner: NodeId,
     before: u64,
@@ -130,7 +129,7 @@ fn give_in_order(
 /// Says where what is within a node stands.
 fn give_parts(
     standing: &mut Standing,
-    list: &mut Ids,
+    list: &mut NodeList,
     tree: &Tree,
     inside: &Inside,
     n: NodeId,
@@ -163,7 +162,7 @@ pub fn standing_of(alloc: Global, tree: &Tree) -> Result<Standing, NoMemory>
 {
     let root = tree.root();
     let mut standing = Standing::at_first(alloc, root)?;
-    let mut list = Ids::new(alloc);
+    let mut list = NodeList::new(alloc);
     let mut inside = Inside::new(alloc);
     let mut k = count_to(root)?;
     while k > 0 {
@@ -178,10 +177,10 @@ pub fn standing_of(alloc: Global, tree: &Tree) -> Result<Standing, NoMemory>
 }
 
 /// All that a node declares, in order of the text.
-fn declarations(alloc: Global, tree: &Tree, inside: &Inside) -> Result<Ids, NoMemory>
+fn declarations(alloc: Global, tree: &Tree, inside: &Inside) -> Result<NodeList, NoMemory>
     ensures { IfOk result (λ ids. ids ≡ scopes.all_declared (items_of tree.now) (within_of inside.now)) }
 {
-    let mut list = Ids::new(alloc);
+    let mut list = NodeList::new(alloc);
     list.push_all(inside.names.as_slice())?;
     for n in inside.statements.as_slice() {
         push_declared(&mut list, tree, *n)?;
@@ -190,7 +189,7 @@ fn declarations(alloc: Global, tree: &Tree, inside: &Inside) -> Result<Ids, NoMe
 }
 
 /// What each node declares, by its number.
-pub fn declared(alloc: Global, tree: &Tree) -> Result<Vec<Ids>, NoMemory>
+pub fn declared(alloc: Global, tree: &Tree) -> Result<Vec<NodeList>, NoMemory>
     ensures { IfOk result (λ v. v.items ≡ declared_below (items_of tree.now) (suc (last_of (items_of tree.now)).0)) }
 {
     let len = count_to(tree.root())?;

@@ -6,7 +6,6 @@ ghost use Rattle.tl_tree.specs.Code.{statements_at, names_method, if_any};
 ghost use Rattle.tl_tree.specs.Scopes as scopes;
 ghost use Rattle.tl_rename.specs.Lists.{within_of, and_more};
 
-use crate::ids::Ids;
 use std::alloc::Global;
 use tl_base::{NoMemory, NodeId};
 use tl_tree::{
@@ -53,8 +52,18 @@ fn path_use(tree: &Tree, path: NodeId) -> Option<NodeId>
     }
 }
 
+/// Adds a node if there is one.
+fn push_any(list: &mut NodeList, n: Option<NodeId>) -> Result<(), NoMemory>
+    ensures { OnOk result (list.new ≡ list.old ++ if_any n) }
+{
+    match n {
+        Some(n) => list.push(n),
+        None => Ok(()),
+    }
+}
+
 /// Adds the node if it is a name.
-fn push_if_name(list: &mut Ids, tree: &Tree, n: NodeId) -> Result<(), NoMemory>
+fn push_if_name(list: &mut NodeList, tree: &Tree, n: NodeId) -> Result<(), NoMemory>
     ensures { OnOk result (list.new ≡ list.old ++ scopes.if_name (items_of tree.now) n) }
 {
     if is_name(tree, n) {
@@ -65,7 +74,7 @@ fn push_if_name(list: &mut Ids, tree: &Tree, n: NodeId) -> Result<(), NoMemory>
 }
 
 /// Adds the node unless it is a name.
-fn push_unless_name(list: &mut Ids, tree: &Tree, n: NodeId) -> Result<(), NoMemory>
+fn push_unless_name(list: &mut NodeList, tree: &Tree, n: NodeId) -> Result<(), NoMemory>
     ensures { OnOk result (list.new ≡ list.old ++ scopes.unless_name (items_of tree.now) n) }
 {
     if is_name(tree, n) {
@@ -76,7 +85,7 @@ fn push_unless_name(list: &mut Ids, tree: &Tree, n: NodeId) -> Result<(), NoMemo
 }
 
 /// Adds the name of a parameter or of a variable.
-fn push_bound(list: &mut Ids, tree: &Tree, n: NodeId) -> Result<(), NoMemory>
+fn push_bound(list: &mut NodeList, tree: &Tree, n: NodeId) -> Result<(), NoMemory>
     ensures { OnOk result (list.new ≡ list.old ++ scopes.bound_by (items_of tree.now) (item_at (items_of tree.now) n)) }
 {
     match tree.node(n) {
@@ -87,7 +96,7 @@ fn push_bound(list: &mut Ids, tree: &Tree, n: NodeId) -> Result<(), NoMemory>
 }
 
 /// Adds the names of parameters or of variables.
-fn push_all_bound(list: &mut Ids, tree: &Tree, ns: &[NodeId]) -> Result<(), NoMemory>
+fn push_all_bound(list: &mut NodeList, tree: &Tree, ns: &[NodeId]) -> Result<(), NoMemory>
     ensures { OnOk result (list.new ≡ list.old ++ scopes.all_bound_by (items_of tree.now) ns.now) }
 {
     for n in ns {
@@ -97,7 +106,7 @@ fn push_all_bound(list: &mut Ids, tree: &Tree, ns: &[NodeId]) -> Result<(), NoMe
 }
 
 /// Adds the names that a statement declares in the block in which it stands.
-pub fn push_declared(list: &mut Ids, tree: &Tree, n: NodeId) -> Result<(), NoMemory>
+pub fn push_declared(list: &mut NodeList, tree: &Tree, n: NodeId) -> Result<(), NoMemory>
     ensures { OnOk result (list.new ≡ list.old ++ scopes.declared_at (items_of tree.now) n) }
 {
     match tree.node(n) {
@@ -136,10 +145,10 @@ pub fn sees_itself(tree: &Tree, n: NodeId) -> bool
 /// these, and those behind the block.
 #[derive(Debug, Drop)]
 pub struct Inside {
-    pub around: Ids,
-    pub names: Ids,
-    pub statements: Ids,
-    pub behind: Ids,
+    pub around: NodeList,
+    pub names: NodeList,
+    pub statements: NodeList,
+    pub behind: NodeList,
 }
 
 impl Inside {
@@ -148,10 +157,10 @@ impl Inside {
         ensures { within_of result ≡ scopes.plain [] }
     {
         Inside {
-            around: Ids::new(alloc),
-            names: Ids::new(alloc),
-            statements: Ids::new(alloc),
-            behind: Ids::new(alloc),
+            around: NodeList::new(alloc),
+            names: NodeList::new(alloc),
+            statements: NodeList::new(alloc),
+            behind: NodeList::new(alloc),
         }
     }
 
@@ -218,11 +227,11 @@ impl Inside {
             }
             Statement::If(arms, otherwise) => {
                 self.around.push_all(arms.as_slice())?;
-                self.around.push_any(*otherwise)
+                push_any(&mut self.around, *otherwise)
             }
             Statement::NumericFor(name, first, limit, step, block) => {
                 self.around.push_all(&[*first, *limit])?;
-                self.around.push_any(*step)?;
+                push_any(&mut self.around, *step)?;
                 self.names.push(*name)?;
                 self.statements.push_all(statements(tree, *block))
             }
@@ -232,19 +241,19 @@ impl Inside {
                 self.statements.push_all(statements(tree, *block))
             }
             Statement::Function(path, body) => {
-                self.around.push_any(path_use(tree, *path))?;
+                push_any(&mut self.around, path_use(tree, *path))?;
                 self.function(tree, n, names_method(tree, *path), *body)
             }
             Statement::Terra(path, body) => {
-                self.around.push_any(path_use(tree, *path))?;
+                push_any(&mut self.around, path_use(tree, *path))?;
                 self.terra_function(tree, n, names_method(tree, *path), *body)
             }
             Statement::DeclareTerra(path, e) => {
-                self.around.push_any(path_use(tree, *path))?;
+                push_any(&mut self.around, path_use(tree, *path))?;
                 self.around.push(*e)
             }
             Statement::Struct(path, entries) => {
-                self.around.push_any(path_use(tree, *path))?;
+                push_any(&mut self.around, path_use(tree, *path))?;
                 self.around.push_all(entries.as_slice())
             }
             Statement::Local(_, ns) | Statement::LocalStruct(_, _, ns) | Statement::Return(ns) => {
@@ -302,12 +311,12 @@ impl Inside {
             }
             TerraStatement::If(arms, otherwise) => {
                 self.around.push_all(arms.as_slice())?;
-                self.around.push_any(*otherwise)
+                push_any(&mut self.around, *otherwise)
             }
             TerraStatement::For(name, first, limit, step, block) => {
                 push_unless_name(&mut self.around, tree, *name)?;
                 self.around.push_all(&[*first, *limit])?;
-                self.around.push_any(*step)?;
+                push_any(&mut self.around, *step)?;
                 push_if_name(&mut self.names, tree, *name)?;
                 self.statements.push_all(statements(tree, *block))
             }
@@ -334,14 +343,14 @@ impl Inside {
             | Piece::SpliceParameter(_, e) => self.around.push(*e),
             Piece::Quoted(block, e) => {
                 self.statements.push_all(statements(tree, *block))?;
-                self.behind.push_any(*e)
+                push_any(&mut self.behind, *e)
             }
             Piece::TerraBody(_, parameters, result, block) => {
                 self.terra_parts(tree, parameters.as_slice(), *result, *block)
             }
             Piece::Variable(_, name, e) => {
                 push_unless_name(&mut self.around, tree, *name)?;
-                self.around.push_any(*e)
+                push_any(&mut self.around, *e)
             }
         }
     }
@@ -359,7 +368,7 @@ impl Inside {
             (statements_at (items_of tree.now) block) [])) }
     {
         self.around.push_all(parameters)?;
-        self.around.push_any(result_type)?;
+        push_any(&mut self.around, result_type)?;
         push_all_bound(&mut self.names, tree, parameters)?;
         self.statements.push_all(statements(tree, block))
     }

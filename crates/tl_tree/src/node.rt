@@ -1,9 +1,6 @@
 // The nodes of trees.
-ghost use Rattle.std.specs.Prelude.{◌≡◌, [], ◌∷◌, ◌++◌, OnOk, OnErr};
 
-use std::alloc::Global;
-use std::marker::Model;
-use tl_base::{NoMemory, NodeId, Place};
+use tl_base::{List, NodeId, Place};
 
 /// The operators between two operands of Lua and Terra code (Lua 5.1 manual, section 2.5).
 #[derive(Clone, Copy, Debug, PartialEq, Eq)]
@@ -42,47 +39,8 @@ pub enum UnaryOperator {
     Dereference,
 }
 
-/// Numbers of nodes in the order of the text. Contracts see the list.
-#[derive(Debug, Drop)]
-pub struct NodeList {
-    ids: Vec<NodeId>,
-}
-
-impl Model for NodeList {
-    ghost use Rattle.std.specs.Prelude.{List};
-    ghost use Rattle.tl_base.specs.declared.ids.NodeId.{NodeId};
-
-    ghost Value = { List NodeId };
-
-    ghost view = { λ l. l.ids.items };
-}
-
-impl NodeList {
-    /// No nodes.
-    pub fn new(alloc: Global) -> NodeList
-        ensures { result ≡ [] }
-    {
-        NodeList {
-            ids: Vec::new(alloc),
-        }
-    }
-
-    /// Adds a node at the end. After `NoMemory` the list is as it was.
-    pub fn push(&mut self, id: NodeId) -> Result<(), NoMemory>
-        ensures ok { OnOk result (self.new ≡ self.old ++ id ∷ []) }
-        ensures err { OnErr result (self.new ≡ self.old) }
-    {
-        self.ids.push(id)?;
-        Ok(())
-    }
-
-    /// The numbers.
-    pub fn as_slice(&self) -> &[NodeId]
-        ensures { result.now ≡ self.now }
-    {
-        &self.ids
-    }
-}
+/// Numbers of nodes in the order of the text.
+pub type NodeList = List<NodeId>;
 
 /// An expression of Lua code that is no name, number or text (Lua 5.1 manual, section 2.5).
 #[derive(Debug, Drop)]

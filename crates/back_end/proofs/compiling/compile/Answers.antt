@@ -45,12 +45,12 @@ overflow_mul-result-2 c =
 pub returns : goal.returns
 returns c =
     let image : Image = record {
-      text = c.from.result;
-      statics = c.from-2.result;
+      text = c.from_vec.result;
+      statics = c.from_vec-2.result;
       memory = c.args.limits.memory;
       heap = (1073741824 + c.len.result + 15) / 16 * 16;
       private = 512 * c.in_ok-linked.linked.frame;
-      exports = c.from-3.result;
+      exports = c.from_vec-3.result;
     } in
     let memory : IsMemorySize image.memory =
     (c.requires.limits.whole_kib, c.requires.limits.least_memory, c.requires.limits.most_memory) in
@@ -58,21 +58,21 @@ returns c =
     subst (λ (xs : List Function). IsLinkedText xs c.in_ok-linked.linked) c.deref.ensures.value c.in_ok-linked.ensures in
     let symbols : image.exports ≡ symbols_of (contents_of c.args.store.now) (map id_of c.in_ok-compiled.compiled.functions.items)
     c.in_ok-linked.linked.starts.items c.args.exports.now =
-    c.from-3.ensures ∙ c.in_ok-push_symbols.ensures
+    c.from_vec-3.ensures ∙ c.in_ok-push_symbols.ensures
     ∙ ap (λ l. l ++ symbols_of (contents_of c.args.store.now) c.in_ok-compiled.compiled.ids.keys c.deref-2.result.now c.args.exports.now)
     c.new-symbols.ensures.items
     ∙ ap (λ (fs : List FnId). symbols_of (contents_of c.args.store.now) fs c.deref-2.result.now c.args.exports.now) c.in_ok-compiled.ensures.ids
     ∙ ap (λ (s : List ℕ). symbols_of (contents_of c.args.store.now) (map id_of c.in_ok-compiled.compiled.functions.items) s c.args.exports.now)
     c.deref-2.ensures.value in
     let count : c.len.result ≡ length c.in_ok-statics.statics.items = search rules in
-    let heap : image.heap ≡ heap_start (length image.statics) = ap heap_start (count ∙ sym (ap length c.from-2.ensures)) in
+    let heap : image.heap ≡ heap_start (length image.statics) = ap heap_start (count ∙ sym (ap length c.from_vec-2.ensures)) in
     let words : (k : ℕ) → slice_index image.text k < 2 ^ 32 =
-    λ k. subst (λ (xs : List ℕ). slice_index xs k < 2 ^ 32) (c.deref-3.ensures.value ∙ sym c.from.ensures) (c.are_words.ensures k) in
+    λ k. subst (λ (xs : List ℕ). slice_index xs k < 2 ^ 32) (c.deref-3.ensures.value ∙ sym c.from_vec.ensures) (c.are_words.ensures k) in
     let bytes : (k : ℕ) → slice_index image.statics k < 2 ^ 8 =
-    λ k. subst (λ (xs : List ℕ). slice_index xs k < 2 ^ 8) (c.deref-4.ensures.value ∙ sym c.from-2.ensures) (c.are_bytes.ensures k) in
+    λ k. subst (λ (xs : List ℕ). slice_index xs k < 2 ^ 8) (c.deref-4.ensures.value ∙ sym c.from_vec-2.ensures) (c.are_bytes.ensures k) in
     let can : IsLawful image =
     lawful (contents_of c.args.store.now) c.args.exports.now c.in_ok-compiled.compiled.functions.items c.in_ok-linked.linked c.requires.exports
-    c.requires.names c.requires.few c.in_ok-compiled.ensures.whole text image c.from.ensures (c.from-2.ensures ∙ c.in_ok-statics.ensures) memory
+    c.requires.names c.requires.few c.in_ok-compiled.ensures.whole text image c.from_vec.ensures (c.from_vec-2.ensures ∙ c.in_ok-statics.ensures) memory
     c.requires.half heap refl symbols words bytes in
     let store = contents_of c.args.store.now in
     let part = c.requires.typed.0 in
@@ -84,6 +84,6 @@ returns c =
     (subst (λ (bytes : List ℕ). length bytes ≤ c.args.limits.memory / 2) (sym is.statics) c.requires.half)
     (outward-part store c.args.exports.now part is c.requires.exports)
     (whole-part store c.args.exports.now part is fs c.in_ok-compiled.ensures.whole) text can
-    (c.from-2.ensures ∙ c.in_ok-statics.ensures ∙ sym is.statics) c.from.ensures (omega arith)
+    (c.from_vec-2.ensures ∙ c.in_ok-statics.ensures ∙ sym is.statics) c.from_vec.ensures (omega arith)
     (symbols ∙ symbols-part store c.args.exports.now part is (map id_of fs) c.in_ok-linked.linked.starts.items c.args.exports.now
     (exported-same store c.args.exports.now part is)))

@@ -18,7 +18,7 @@ returns-in_ok-step-clause-means c = λ left.
     let step = c.in_ok-step.step in
     let plan : List Made → BodyPlan = λ ps. waiting.targets_from f ps in
     chosen fs fs2 m.is_place true (plan (f.places ++ m ∷ [])) (refuse NotPlace m.at f.site) w w2 left left step c.if-made.true
-    (moved fs fs2 (plan (f.places ++ m ∷ [])) (plan c.push.new.self) w w w2 left left step (ap plan (sym c.in_ok-push.ensures)) refl
+    (moved fs fs2 (plan (f.places ++ m ∷ [])) (plan c.push.new.self) w w w2 left left step (ap plan (sym c.in_ok-push.ensures.ok)) refl
     (c.in_ok-step.ensures.means left))
 
 pub returns-else-made-clause-means : goal.returns-else-made-clause-means

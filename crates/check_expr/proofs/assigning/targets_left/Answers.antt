@@ -34,8 +34,8 @@ returns-in_ok-step-in-None-clause-means c = λ left.
     let fs = a.frames.now.items in
     let w = a.typing.now in
     let nodes = c.in_ok-nodes-in-None.nodes in
-    let values = c.into_rest-values.result in
-    let kept = c.into_rest-kept.result in
+    let values = c.from_list-values.result in
+    let kept = c.from_list-kept.result in
     let all : List Made → List Made → List TermId → List TermId → BodyPlan =
     λ ms ps ns ids. models.converting_all ms ps f.site ids (λ done. waiting.assigned ns done f.at f.site) in
     let go : List Made → BodyPlan = λ ps. all f.made ps (ids_of ps) [] in
@@ -43,8 +43,8 @@ returns-in_ok-step-in-None-clause-means c = λ left.
     moved fs c.conversions_left.new.frames.items (plan f.targets) (all values kept nodes c.new.result) w w
     c.conversions_left.new.typing left left
     c.in_ok-step-in-None.step
-    (ap plan c.in-None.ensures ∙ ap (λ (ms : List Made). all ms f.places (ids_of f.places) []) (sym c.into_rest-values.ensures)
-    ∙ ap (λ (ps : List Made). all values ps (ids_of f.places) []) (sym c.into_rest-kept.ensures)
+    (ap plan c.in-None.ensures ∙ ap (λ (ms : List Made). all ms f.places (ids_of f.places) []) (sym c.from_list-values.ensures)
+    ∙ ap (λ (ps : List Made). all values ps (ids_of f.places) []) (sym c.from_list-kept.ensures)
     ∙ ap (λ (ns : List TermId). all values kept ns []) (ap ids_of (sym c.as_slice.ensures) ∙ sym c.in_ok-nodes-in-None.ensures)
     ∙ ap (all values kept nodes) (sym c.new.ensures)) refl
     (c.in_ok-step-in-None.ensures.means left)

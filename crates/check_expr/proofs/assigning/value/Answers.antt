@@ -13,4 +13,4 @@ returns-clause-means c = λ left.
     let plan : List Made → BodyPlan = λ ms. waiting.assigned_values f ms in
     moved a.frames.now.items c.values_left.new.frames.items (plan (f.made ++ a.made ∷ [])) (plan c.push.new.self) w w
     c.values_left.new.typing left left
-    c.in_ok-step.step (ap plan (sym c.in_ok-push.ensures)) refl (c.in_ok-step.ensures.means left)
+    c.in_ok-step.step (ap plan (sym c.in_ok-push.ensures.ok)) refl (c.in_ok-step.ensures.means left)

@@ -33,6 +33,6 @@ returns-in_ok-step-in-Stated-clause-means c = λ left.
     let plan : List TermId → BodyPlan = λ ids. waiting.block_from f m.found ids in
     rw m.is (moved a.frames.now.items c.statements_left.new.frames.items (plan (f.ids ++ m.id ∷ []))
     (plan c.push.new.self) w w
-    c.statements_left.new.typing left left c.in_ok-step-in-Stated.step (ap plan (sym c.in_ok-push-in-Stated.ensures))
+    c.statements_left.new.typing left left c.in_ok-step-in-Stated.step (ap plan (sym c.in_ok-push-in-Stated.ensures.ok))
     refl
     (c.in_ok-step-in-Stated.ensures.means left))

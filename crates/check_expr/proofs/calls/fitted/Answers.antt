@@ -14,4 +14,4 @@ returns-clause-means c = λ left.
     let plan : List TermId → BodyPlan = λ ids. waiting.operands_from f false ids a.of in
     moved a.frames.now.items c.operands_left.new.frames.items (plan (f.ids ++ a.made.id ∷ [])) (plan c.push.new.self) w
     w c.operands_left.new.typing left left
-    c.in_ok-step.step (ap plan (sym c.in_ok-push.ensures)) refl (c.in_ok-step.ensures.means left)
+    c.in_ok-step.step (ap plan (sym c.in_ok-push.ensures.ok)) refl (c.in_ok-step.ensures.means left)

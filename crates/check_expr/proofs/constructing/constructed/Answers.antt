@@ -13,5 +13,5 @@ returns-clause-means c = λ left fs.
     let plan : List ℕ → List TermId → BodyPlan = λ offsets ids. models.constructed f.of n.at n.source offsets ids in
     does_as fs (plan f.offsets f.ids) (plan c.in_ok-offsets.offsets c.in_ok-list.list) a.typing.now c.gives.new.typing
     left left c.in_ok-step.step
-    (ap (λ (offsets : List ℕ). plan offsets f.ids) (sym c.into_vec.ensures ∙ sym c.in_ok-offsets.ensures)
+    (ap (λ (offsets : List ℕ). plan offsets f.ids) (sym c.in_ok-offsets.ensures)
     ∙ ap (plan c.in_ok-offsets.offsets) (sym c.in_ok-list.ensures)) (c.in_ok-step.ensures.means left)

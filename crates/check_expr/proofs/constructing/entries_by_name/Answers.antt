@@ -12,7 +12,7 @@ names-preserved c =
     let fs = c.args.names.now in
     let l = c.names in
     let rest = models.by_name ls (drop (l.name-index + 1) fs) in
-    ap (λ (es : List (Option Laid)). es ++ rest) c.in_ok-push.ensures
+    ap (λ (es : List (Option Laid)). es ++ rest) c.in_ok-push.ensures.ok
     ∙ ap (λ (e : Option Laid). (l.entries ++ e ∷ []) ++ rest) c.entry_of.ensures
     ∙ place_more (models.by_name ls) (λ (f : TextId). entry_named f ls) (λ f more. refl) l.entries (models.by_name ls fs) fs l.name-index _
     c.names-test.true l.invariant
@@ -22,5 +22,5 @@ returns c =
     let ls = entries_of c.args.world.now.store.types c.args.of in
     let fs = c.args.names.now in
     let l = c.names in
-    c.into_rest.ensures
+    c.from_list.ensures
     ∙ places_end (models.by_name ls) refl l.entries (models.by_name ls fs) fs l.name-index c.names-test.false l.invariant

@@ -11,7 +11,7 @@ entries-preserved c =
     let ts = c.args.values.now in
     let l = c.entries in
     let some = c.in-Some in
-    ap (λ (es : List (Option Laid)). es ++ models.in_order (drop (l.place + 1) ls) (drop (l.place + 1) ts)) c.in_ok-push-in-Some.ensures
+    ap (λ (es : List (Option Laid)). es ++ models.in_order (drop (l.place + 1) ls) (drop (l.place + 1) ts)) c.in_ok-push-in-Some.ensures.ok
     ∙ order_more ls ts l.place some.laid (record { 0 = 0 }) l.entries (models.in_order ls ts) c.entries-test.true
     (sym c.entry_at.ensures ∙ some.is) l.invariant
 
@@ -20,7 +20,7 @@ returns-in-None c =
     let ls = entries_of c.args.world.now.store.types c.args.of in
     let ts = c.args.values.now in
     let l = c.entries in
-    c.into_rest.ensures
+    c.from_list.ensures
     ∙ order_over ls ts l.place l.entries (models.in_order ls ts) (sym c.entry_at.ensures ∙ c.in-None.is) l.invariant
 
 pub returns : goal.returns
@@ -28,5 +28,5 @@ returns c =
     let ls = entries_of c.args.world.now.store.types c.args.of in
     let ts = c.args.values.now in
     let l = c.entries in
-    c.into_rest-2.ensures
+    c.from_list-2.ensures
     ∙ order_end ls ts l.place l.entries (models.in_order ls ts) c.entries-test.false l.invariant

@@ -14,5 +14,5 @@ returns-clause-means c = λ left.
     let plan : List ℕ → List TermId → BodyPlan = λ offsets ids. values_from f offsets ids in
     moved a.frames.now.items c.values_left.new.frames.items (plan (f.offsets ++ a.laid.offset ∷ []) all)
     (plan c.push.new.self c.push-2.new.self) w w c.values_left.new.typing left left c.in_ok-step.step
-    (ap (λ (offsets : List ℕ). plan offsets all) (sym c.in_ok-push.ensures) ∙ ap (plan c.push.new.self) (sym c.in_ok-push-2.ensures)) refl
+    (ap (λ (offsets : List ℕ). plan offsets all) (sym c.in_ok-push.ensures.ok) ∙ ap (plan c.push.new.self) (sym c.in_ok-push-2.ensures.ok)) refl
     (c.in_ok-step.ensures.means left)

@@ -28,7 +28,7 @@ returns-clause-means c = λ left fs.
     let go : TermId → BodyPlan = λ x. small_plan x of a.at a.site in
     moved fs fs (plan a.names (unwrap_or a.found unit) a.ids) (plan names of list) w w v left left step
     (ap (λ (ns : List TypedName). plan ns (unwrap_or a.found unit) a.ids)
-    (sym c.into_vec.ensures ∙ sym c.in_ok-names.ensures)
+    (sym c.in_ok-names.ensures)
     ∙ ap (λ (t : TypeId). plan names t a.ids) (sym c.unwrap_or-of.ensures)
     ∙ ap (plan names of) (sym c.in_ok-list.ensures)) refl
     (moved fs fs (go (next_typed w.stage.store)) (go id) (with_node w (typed_kinds.Function names of list)) v v left

@@ -9,7 +9,7 @@ pub parameters-preserved : goal.parameters-preserved
 parameters-preserved c =
     let ps = c.args.parameters.now in
     let l = c.parameters in
-    ap (λ (ns : List TypedName). ns ++ models.names_of (drop (l.parameter-index + 1) ps)) c.in_ok-push.ensures
+    ap (λ (ns : List TypedName). ns ++ models.names_of (drop (l.parameter-index + 1) ps)) c.in_ok-push.ensures.ok
     ∙ place_more models.names_of (λ (p : Parameter). record { symbol = p.symbol; of = p.of }) (λ p rest. refl)
     l.named
     (models.names_of ps) ps l.parameter-index _ c.parameters-test.true l.invariant

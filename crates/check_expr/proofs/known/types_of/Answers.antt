@@ -9,7 +9,7 @@ pub parameters-preserved : goal.parameters-preserved
 parameters-preserved c =
     let ps = c.args.parameters.now in
     let l = c.parameters in
-    ap (λ (ts : List TypeId). ts ++ models.types_of (drop (l.parameter-index + 1) ps)) c.in_ok-push.ensures
+    ap (λ (ts : List TypeId). ts ++ models.types_of (drop (l.parameter-index + 1) ps)) c.in_ok-push.ensures.ok
     ∙ place_more models.types_of (λ (p : Parameter). p.of) (λ p rest. refl) l.types (models.types_of ps) ps
     l.parameter-index _
     c.parameters-test.true l.invariant
@@ -18,6 +18,6 @@ pub returns : goal.returns
 returns c =
     let ps = c.args.parameters.now in
     let l = c.parameters in
-    c.into_rest.ensures
+    c.from_list.ensures
     ∙ places_end models.types_of refl l.types (models.types_of ps) ps l.parameter-index c.parameters-test.false
     l.invariant

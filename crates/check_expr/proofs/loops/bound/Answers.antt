@@ -24,7 +24,7 @@ returns-in_ok-step-clause-means c = λ left.
     (ap (λ (v : TypingState). integer_form (form_in v.stage m.of)) (sym c.typing.view_is) ∙ sym c.is_integer.ensures
     ∙ c.if-is_integer.true)
     (moved fs fs2 (plan (f.made ++ m ∷ [])) (plan c.push.new.self) w w w2 left left step
-    (ap plan (sym c.in_ok-push.ensures)) refl
+    (ap plan (sym c.in_ok-push.ensures.ok)) refl
     (c.in_ok-step.ensures.means left))
 
 pub returns-else-is_integer-clause-means : goal.returns-else-is_integer-clause-means

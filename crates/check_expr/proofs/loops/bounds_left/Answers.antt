@@ -41,7 +41,7 @@ returns-in_ok-step-in-None-clause-means c = λ left.
     let w2 = c.conversions_left.new.typing in
     let step = c.in_ok-step-in-None.step in
     let of = c.meet_of-of.result in
-    let rest = c.into_rest.result in
+    let rest = c.from_list.result in
     let go : List Made → BodyPlan =
     λ ms. reading (λ v. models.counting (models.meet_of v ms) f.name ms f.body f.at f.site) in
     let plan : List TermId → BodyPlan = λ ts. models.integers ts f.site f.made go in
@@ -52,5 +52,5 @@ returns-in_ok-step-in-None-clause-means c = λ left.
     (ap (λ (t : TypeId). all t f.made [])
     (ap (λ (v : TypingState). models.meet_of v.stage f.made) (sym c.typing.view_is)
     ∙ ap (models.meet_of (the_view c.typing.inside).stage) (sym c.as_slice.ensures) ∙ sym c.meet_of-of.ensures)
-    ∙ ap (λ (ms : List Made). all of ms []) (sym c.into_rest.ensures) ∙ ap (all of rest) (sym c.new.ensures)) refl
+    ∙ ap (λ (ms : List Made). all of ms []) (sym c.from_list.ensures) ∙ ap (all of rest) (sym c.new.ensures)) refl
     (c.in_ok-step-in-None.ensures.means left))

@@ -14,8 +14,8 @@ returns-clause-means c =
     let w = a.typing.now in
     let plan : List VarName → List TypedName → BodyPlan = λ names named.
     models.names_for names f.at f.site named (λ all. waiting.var_names all f.ids f.at f.site) in
-    moved a.frames.now.items c.names_left.new.frames.items (plan f.typed []) (plan c.into_rest.result c.new.result) w w
+    moved a.frames.now.items c.names_left.new.frames.items (plan f.typed []) (plan c.from_list.result c.new.result) w w
     c.names_left.new.typing
     a.budget.now c.names_left.new.budget c.in_ok-step.step
-    (ap (λ (names : List VarName). plan names []) (sym c.into_rest.ensures) ∙ ap (plan c.into_rest.result) (sym c.new.ensures)) refl
+    (ap (λ (names : List VarName). plan names []) (sym c.from_list.ensures) ∙ ap (plan c.from_list.result) (sym c.new.ensures)) refl
     c.in_ok-step.ensures.means

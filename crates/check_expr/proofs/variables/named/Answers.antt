@@ -16,7 +16,7 @@ returns-clause-means c = λ left fs.
     let plan : List TypedName → List TermId → BodyPlan = λ names ids. states f.at (ts.Var names ids) f.site.result in
     moved fs fs (plan f.named f.ids) (plan c.in_ok-names.names c.in_ok-list.list) (with_variables w f.named) c.declare_all.new.typing
     c.states.new.typing left left c.in_ok-step.step
-    (ap (λ (names : List TypedName). plan names f.ids) (sym c.into_vec.ensures ∙ sym c.in_ok-names.ensures)
+    (ap (λ (names : List TypedName). plan names f.ids) (sym c.in_ok-names.ensures)
     ∙ ap (plan c.in_ok-names.names) (sym c.in_ok-list.ensures))
     (ap (with_variables w) (sym c.as_slice.ensures) ∙ sym c.in_ok-declare_all.ensures.ok) (c.in_ok-step.ensures.means left fs)
 

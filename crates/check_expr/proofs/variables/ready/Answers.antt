@@ -15,5 +15,5 @@ returns-clause-means c =
     let plan : List VarName → List TermId → BodyPlan = λ names all. waiting.var_from f names all in
     moved a.frames.now.items c.values_left.new.frames.items (plan (f.typed ++ waiting.with_type a.name a.of ∷ []) ids)
     (plan c.push.new.self c.push-2.new.self) w w c.values_left.new.typing a.budget.now c.values_left.new.budget c.in_ok-step.step
-    (ap (λ (names : List VarName). plan names ids) (sym c.in_ok-push.ensures) ∙ ap (plan c.push.new.self) (sym c.in_ok-push-2.ensures)) refl
+    (ap (λ (names : List VarName). plan names ids) (sym c.in_ok-push.ensures.ok) ∙ ap (plan c.push.new.self) (sym c.in_ok-push-2.ensures.ok)) refl
     c.in_ok-step.ensures.means

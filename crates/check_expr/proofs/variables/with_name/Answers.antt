@@ -13,4 +13,4 @@ returns-clause-means c =
     let plan : List TypedName → BodyPlan = λ names. waiting.names_from f names in
     moved a.frames.now.items c.names_left.new.frames.items (plan (f.named ++ a.name ∷ [])) (plan c.push.new.self) w w
     c.names_left.new.typing a.budget.now c.names_left.new.budget
-    c.in_ok-step.step (ap plan (sym c.in_ok-push.ensures)) refl c.in_ok-step.ensures.means
+    c.in_ok-step.step (ap plan (sym c.in_ok-push.ensures.ok)) refl c.in_ok-step.ensures.means

@@ -16,4 +16,4 @@ slice_bounds-from_slice-end c =
 pub returns : goal.returns
 returns c =
     let h = name_good c.args.names.now _ _ c.min.ensures c.length_before_zero-len.ensures c.if-len-eq0.false c.if-len-front.false in
-    (ap (λ t. unless t BadSymbol) h.0, c.from.ensures ∙ c.in_ok-from_slice.ensures.items ∙ h.1)
+    (ap (λ t. unless t BadSymbol) h.0, c.from_vec.ensures ∙ c.in_ok-from_slice.ensures.items ∙ h.1)

@@ -7,5 +7,5 @@ use Rattle.lua_base.proofs.answers.front.Goals as goal
 pub returns-clause-short : goal.returns-clause-short
 returns-clause-short c =
     let a = c.args in
-    let front : c.push_bytes.new.self ≡ placed a.line a.word [] = grind (arith, common_steps) in
+    let front : c.push_all.new.self ≡ placed a.line a.word [] = grind (arith, common_steps) in
     rw front (place_is_short a.line a.word c.ranges.line.fits c.ranges.word.fits)

@@ -16,10 +16,10 @@ returns-in-Fell-clause-means c =
     let more = c.as_slice.result.now in
     let s = a.heap.now in
     let go : List Value → LuaPlan = λ all. statements a.rest.now a.scope all Give in
-    if-ok c.proceed.result c.proceed.ensures.means (λ v it. moved items a.frames.now.items c.proceed.new.frames.items (on_fell a.end a.before Give go) (go c.append.new.values)
+    if-ok c.proceed.result c.proceed.ensures.means (λ v it. moved items a.frames.now.items c.proceed.new.frames.items (on_fell a.end a.before Give go) (go c.push_all.new.self)
     s s c.proceed.new.heap a.budget.now c.proceed.new.budget v
     (ap (λ (r : End). on_fell r a.before Give go) c.in-Fell.is
-    ∙ ap go (sym (c.in_ok-append-in-Fell.ensures ∙ ap (λ (vs : List Value). a.before ++ vs) c.as_slice.ensures))) refl
+    ∙ ap go (sym (c.in_ok-push_all-in-Fell.ensures.ok ∙ ap (λ (vs : List Value). a.before ++ vs) c.as_slice.ensures))) refl
     it)
 
 pub returns-clause-means : goal.returns-clause-means

@@ -39,9 +39,9 @@ returns-in-Last-clause-means c =
     let next = c.with_list in
     let plan : List Value → LuaPlan = λ vs. then_plan items f.then f.scope vs in
     rw c.in-Last.is (if-ok next.result next.ensures.means (λ v it.
-    moved items a.frames.now.items next.new.frames.items (plan (f.values ++ a.more)) (plan c.append.new.values)
+    moved items a.frames.now.items next.new.frames.items (plan (f.values ++ a.more)) (plan c.push_all.new.self)
     a.heap.now a.heap.now next.new.heap a.budget.now next.new.budget v
-    (ap plan (sym (c.in_ok-append-in-Last.ensures ∙ ap (λ (vs : List Value). f.values ++ vs) c.as_slice.ensures))) refl it))
+    (ap plan (sym (c.in_ok-push_all-in-Last.ensures.ok ∙ ap (λ (vs : List Value). f.values ++ vs) c.as_slice.ensures))) refl it))
 
 pub returns-in-Target-clause-means : goal.returns-in-Target-clause-means
 returns-in-Target-clause-means c =
@@ -51,9 +51,9 @@ returns-in-Target-clause-means c =
     let next = c.targets in
     let plan : List Value → LuaPlan = λ us. targets_plan items m.rest.now m.all.now m.values.now m.scope us in
     rw m.is (if-ok next.result next.ensures.means (λ v it.
-    moved items a.frames.now.items next.new.frames.items (plan (m.before ++ a.more)) (plan c.append-in-Target.new.values)
+    moved items a.frames.now.items next.new.frames.items (plan (m.before ++ a.more)) (plan c.push_all-in-Target.new.self)
     a.heap.now a.heap.now next.new.heap a.budget.now next.new.budget v
-    (ap plan (sym (c.in_ok-append-in-Target.ensures ∙ ap (λ (vs : List Value). m.before ++ vs) c.as_slice-in-Target.ensures))) refl it))
+    (ap plan (sym (c.in_ok-push_all-in-Target.ensures.ok ∙ ap (λ (vs : List Value). m.before ++ vs) c.as_slice-in-Target.ensures))) refl it))
 
 pub returns-in-Stores-clause-means : goal.returns-in-Stores-clause-means
 returns-in-Stores-clause-means c = rw c.in-Stores.is c.stores.ensures.means

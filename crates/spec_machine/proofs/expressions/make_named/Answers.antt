@@ -13,5 +13,5 @@ returns-clause-means c = λ items left fs.
     let a = c.args in
     let plan : List TextId → List TermId → SpecPlan = λ xs ts. plans.make a.made.place (e.New a.made.of (initialisers.Named xs ts)) in
     does_as items fs (plan a.names a.terms) (plan c.in_ok-names.names c.in_ok-terms.terms) a.world.now c.make.new.world left left c.in_ok-step.step
-    (sym (ap (λ (xs : List TextId). plan xs c.in_ok-terms.terms) (c.in_ok-names.ensures ∙ c.into_vec.ensures)
+    (sym (ap (λ (xs : List TextId). plan xs c.in_ok-terms.terms) c.in_ok-names.ensures
     ∙ ap (plan a.names) c.in_ok-terms.ensures)) (c.in_ok-step.ensures.means items left)

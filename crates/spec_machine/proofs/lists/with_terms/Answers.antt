@@ -27,16 +27,16 @@ returns-in_ok-list-in-Call-clause-means c =
     ∙ ap (λ (ts : List TermId). make m.place (e.Call m.callee ts)) (sym c.in_ok-list-in-Call.ensures))
     (g items left))
 
-pub returns-in_ok-term_list-in-Positional-clause-means : goal.returns-in_ok-term_list-in-Positional-clause-means
-returns-in_ok-term_list-in-Positional-clause-means c =
+pub returns-in_ok-from_list-in-Positional-clause-means : goal.returns-in_ok-from_list-in-Positional-clause-means
+returns-in_ok-from_list-in-Positional-clause-means c =
     let a = c.args in
     let m = c.in-Positional in
-    let list = c.in_ok-term_list-in-Positional.field-0 in
+    let list = c.in_ok-from_list-in-Positional.field-0 in
     carried _ _ c.make-in-Positional.result c.make-in-Positional.ensures.means (λ step g items left.
     does_as items a.frames.now.items (terms_then items a.then a.env a.terms) (make m.place (e.New m.of (initialisers.Positional list)))
     a.world.now c.make-in-Positional.new.world left left step
     (ap (λ (t : TermsThen). terms_then items t a.env a.terms) m.is
-    ∙ ap (λ (ts : List TermId). make m.place (e.New m.of (initialisers.Positional ts))) (sym c.in_ok-term_list-in-Positional.ensures))
+    ∙ ap (λ (ts : List TermId). make m.place (e.New m.of (initialisers.Positional ts))) (sym c.in_ok-from_list-in-Positional.ensures))
     (g items left))
 
 pub returns-in_ok-list-in-Return-clause-means : goal.returns-in_ok-list-in-Return-clause-means

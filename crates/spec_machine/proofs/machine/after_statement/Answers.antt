@@ -19,10 +19,10 @@ returns-in_ok-step-in-Joined-clause-means c =
     let items = items_of a.tree.now in
     let fs = a.frames.now.items in
     let go : List TermId → SpecPlan = λ ts. waiting.block_plan items f.rest.now f.env ts f.then in
-    moved items fs c.statements.new.frames.items (plans.as_statements a.end f.terms go) (go c.append.new.terms) a.world.now a.world.now c.statements.new.world
+    moved items fs c.statements.new.frames.items (plans.as_statements a.end f.terms go) (go c.push_all.new.self) a.world.now a.world.now c.statements.new.world
     a.budget.now c.statements.new.budget c.in_ok-step-in-Joined.step
     (ap (λ (r : End). plans.as_statements r f.terms go) c.in-Joined.is
-    ∙ ap go (sym (c.in_ok-append-in-Joined.ensures ∙ ap (λ (us : List TermId). f.terms ++ us) c.as_slice.ensures))) refl
+    ∙ ap go (sym (c.in_ok-push_all-in-Joined.ensures.ok ∙ ap (λ (us : List TermId). f.terms ++ us) c.as_slice.ensures))) refl
     c.in_ok-step-in-Joined.ensures.means
 
 pub returns-in_default : goal.returns-in_default

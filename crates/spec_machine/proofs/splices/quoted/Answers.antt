@@ -23,8 +23,8 @@ returns-then-not-pay-clause-means c =
     quoted_unpaid a.quote a.at a.terms us w a.budget.now c.pay.new.self (sym c.in-Some.is ∙ c.in_ok-found.ensures) short
     c.if-not-pay.ensures.refused
 
-pub returns-in_ok-append-in-Some-clause-means : goal.returns-in_ok-append-in-Some-clause-means
-returns-in_ok-append-in-Some-clause-means c =
+pub returns-in_ok-push_all-in-Some-clause-means : goal.returns-in_ok-push_all-in-Some-clause-means
+returns-in_ok-push_all-in-Some-clause-means c =
     let a = c.args in
     let w = a.world.now in
     let us = c.in-Some.statements in
@@ -34,6 +34,6 @@ returns-in_ok-append-in-Some-clause-means c =
     let had : c.from-nodes.result ≤ a.budget.now = grind (arith, c.if-not-pay.ensures.enough) in
     let enough : (terms_size w us).nodes ≤ a.budget.now = rw nodes at had in
     let paid : c.pay.new.self ≡ a.budget.now - (terms_size w us).nodes = rw nodes at c.if-not-pay.ensures.paid in
-    quoted_comes a.quote a.at a.terms us c.append.new.terms w a.budget.now c.pay.new.self (sym c.in-Some.is ∙ c.in_ok-found.ensures)
+    quoted_comes a.quote a.at a.terms us c.push_all.new.self w a.budget.now c.pay.new.self (sym c.in-Some.is ∙ c.in_ok-found.ensures)
     enough paid
-    (c.in_ok-append-in-Some.ensures ∙ ap (λ (ts : List TermId). a.terms ++ ts) c.as_slice-in-Some.ensures)
+    (c.in_ok-push_all-in-Some.ensures.ok ∙ ap (λ (ts : List TermId). a.terms ++ ts) c.as_slice-in-Some.ensures)

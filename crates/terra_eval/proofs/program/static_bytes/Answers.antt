@@ -17,7 +17,7 @@ loop-s-preserved c =
     let zeros : filled ≡ bytes ++ replicate (s.address - first_static - length bytes) 0 =
     c.in_ok-fill.ensures ∙ ap (λ (n : ℕ). bytes ++ replicate (n - length bytes) 0) c.saturating_sub.ensures in
     statics-later (static_bytes (contents_of c.args.store.now)) bytes filled _ (drop i held) (drop (i + 1) held) s
-    c.loop-s.invariant step zeros (c.in_ok-extend_from_slice.ensures.items ∙ ap (λ (l : List ℕ). filled ++ l) c.bytes.ensures)
+    c.loop-s.invariant step zeros (c.in_ok-extend_from_slice.ensures.items ∙ ap (λ (l : List ℕ). filled ++ l) c.as_slice.ensures)
 
 pub returns : goal.returns
 returns c =

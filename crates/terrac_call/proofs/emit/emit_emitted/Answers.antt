@@ -6,7 +6,7 @@ use Rattle.terrac_call.proofs.emit.emit_emitted.Goals as goal
 
 pub returns-in-Ok : goal.returns-in-Ok
 returns-in-Ok g c = λ limits w end made out faults.
-    let same = c.bytes.ensures in
+    let same = c.as_slice.ensures in
     emit_behind limits w end c.args.emitted.printed c.made_due_or_no_memory.result out _ _ faults _ _ _
     (c.in-Ok.ensures.whole ∙ ap (with_back (g.N.Sink.taken c.args.notes.now)) same) c.in-Ok.ensures.quiet
     (λ none. c.write_piece.ensures.empty (same ∙ none)) c.made_due_or_no_memory.ensures.status
@@ -15,7 +15,7 @@ returns-in-Ok g c = λ limits w end made out faults.
 -- where the write failed
 pub returns : goal.returns
 returns g c = λ limits w end made out faults.
-    let same = c.bytes.ensures in
+    let same = c.as_slice.ensures in
     let short : StopsShort c.args.emitted.printed (g.N.Sink.taken c.args.notes.now) (g.N.Sink.taken c.write_piece.new.sink)
     (g.N.Sink.faults c.args.notes.now) (g.N.Sink.faults c.write_piece.new.sink) =
     subst (λ (p : List ℕ). StopsShort p (g.N.Sink.taken c.args.notes.now) (g.N.Sink.taken c.write_piece.new.sink)

@@ -10,7 +10,7 @@ pub returns-in-Ok : goal.returns-in-Ok
 returns-in-Ok g c = λ w end functions made.
     let it = shown_asking c.args.asking.now in
     let printed = c.args.emitted.printed in
-    let same = c.bytes.ensures in
+    let same = c.as_slice.ensures in
     run_behind it w end printed c.run_made.result c.or_no_memory.result
     (g.K.Sink.taken c.args.out.now) (g.K.Sink.taken c.write_piece.new.sink) (g.K.Sink.taken c.run_made.new.out)
     (g.N.Sink.taken c.args.notes.now) (g.N.Sink.taken c.run_made.new.notes)
@@ -29,7 +29,7 @@ pub returns : goal.returns
 returns g c = λ w end functions made.
     let it = shown_asking c.args.asking.now in
     let printed = c.args.emitted.printed in
-    let same = c.bytes.ensures in
+    let same = c.as_slice.ensures in
     let short : StopsShort printed (g.K.Sink.taken c.args.out.now) (g.K.Sink.taken c.write_piece.new.sink)
     (g.K.Sink.faults c.args.out.now) (g.K.Sink.faults c.write_piece.new.sink) =
     subst (λ (p : List ℕ). StopsShort p (g.K.Sink.taken c.args.out.now) (g.K.Sink.taken c.write_piece.new.sink)
