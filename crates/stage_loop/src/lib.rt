@@ -9,4 +9,4 @@ pub mod library;
 pub mod staged;
 pub mod staging;
 
-pub use staging::{End, Outcome, stage};
+pub use staging::{End, Outcome, raised_text, stage};

@@ -68,7 +68,7 @@ fn outcome_of(heap: &Heap, left: u64, staging: &Staging<LuaEnd>) -> Result<Outco
     ensures left { IfOk result (λ it. it.left ≡ left) }
 {
     let end = end_of(heap, staging)?;
-    let printed = text_of(heap, heap.printed())?;
+    let printed = Bytes::from_slice(heap.allocator(), heap.printed())?;
     Ok(Outcome { printed, end, left })
 }
 
@@ -90,25 +90,16 @@ fn end_of(heap: &Heap, staging: &Staging<LuaEnd>) -> Result<End, NoMemory>
 }
 
 /// The text of an error: that of a text or a number, and one in place of any other value's.
-fn raised_text(heap: &Heap, value: Value) -> Result<Bytes, NoMemory>
+pub fn raised_text(heap: &Heap, value: Value) -> Result<Bytes, NoMemory>
     ensures { IfOk result (λ text. text ≡ raised_text heap.now value) }
 {
     match value {
-        Value::Text(id) => text_of(heap, heap.text(id)),
+        Value::Text(id) => Bytes::from_slice(heap.allocator(), heap.text(id)),
         Value::Number(number) => {
             let number = number.get();
             let written = format!(in heap.allocator(); "{number}")?;
-            text_of(heap, written.as_bytes())
+            Bytes::from_slice(heap.allocator(), written.as_bytes())
         }
-        _ => text_of(heap, b"(error object is not a string)"),
+        _ => Bytes::from_slice(heap.allocator(), b"(error object is not a string)"),
     }
-}
-
-/// A text of these bytes.
-fn text_of(heap: &Heap, bytes: &[u8]) -> Result<Bytes, NoMemory>
-    ensures { IfOk result (λ text. text ≡ bytes.now) }
-{
-    let mut text = Bytes::new(heap.allocator());
-    text.push_all(bytes)?;
-    Ok(text)
 }

@@ -10,5 +10,5 @@ pub mod staged;
 pub mod staging;
 pub mod terms;
 
-pub use staging::{End, Outcome, raised_text, stage};
+pub use staging::{End, Outcome, stage};
 pub use terms::{Terms, stage_terms};

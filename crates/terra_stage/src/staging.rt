@@ -7,7 +7,6 @@ ghost use Rattle.tl_base.specs.declared.limits.TheConstants.Limits.{MAX_MEMORY};
 ghost use Rattle.stage_form.specs.Stage.{final_of};
 ghost use Rattle.tl_tree.specs.Arena.{items_of, end_of as finish_of};
 ghost use Rattle.tl_tree.specs.Code.{Items};
-ghost use Rattle.stage_loop.specs.Staging.{raised_text};
 ghost use Rattle.exotype.specs.World.{StageState};
 ghost use Rattle.stage_library.specs.Keeping.{KeepsStaging};
 ghost use Rattle.terra_stage.specs.Staging.{Ending, opened, turn_final, exported, ending, end_in, outcome};
@@ -16,9 +15,10 @@ use crate::staged::TerraStage;
 use exotype::World;
 use lua_model::{LuaEnd, LuaJob};
 use lua_table::{Heap, LibTurn};
-use lua_value::{Value, Values};
+use lua_value::Values;
 use stage_form::{Outcome as Staging, run};
 use stage_library::Task;
+use stage_loop::raised_text;
 use std::alloc::Global;
 use terra_lib::end_of_chunk;
 use terra_types::Types;
@@ -141,28 +141,4 @@ fn end_of(heap: &Heap, staging: &Staging<LuaEnd>) -> Result<End, NoMemory>
             })
         }
     }
-}
-
-/// The text of an error: that of a text or a number, and one in place of any other value's.
-pub fn raised_text(heap: &Heap, value: Value) -> Result<Bytes, NoMemory>
-    ensures { IfOk result (λ text. text ≡ raised_text heap.now value) }
-{
-    match value {
-        Value::Text(id) => text_of(heap, heap.text(id)),
-        Value::Number(number) => {
-            let number = number.get();
-            let written = format!(in heap.allocator(); "{number}")?;
-            text_of(heap, written.as_bytes())
-        }
-        _ => text_of(heap, b"(error object is not a string)"),
-    }
-}
-
-/// A text of these bytes.
-fn text_of(heap: &Heap, bytes: &[u8]) -> Result<Bytes, NoMemory>
-    ensures { IfOk result (λ text. text ≡ bytes.now) }
-{
-    let mut text = Bytes::new(heap.allocator());
-    text.push_all(bytes)?;
-    Ok(text)
 }
