@@ -2,10 +2,8 @@
 use Rattle.std.proofs.Common.{refl, ◌∙◌}
 use Rattle.lua_table.proofs.Keeping.{front_self, front_then}
 use Rattle.lua_table.proofs.Keeping.{keeps_itself as heap_itself, keeps_then as heap_then}
-use Rattle.terra_term.specs.declared.store.FunctionState.{FunctionState}
 use Rattle.terra_term.specs.Held.{Held, state_of}
-use Rattle.terra_term.specs.Keeping.{Stays}
-use Rattle.terra_term.proofs.Staying.{stays-same}
+use Rattle.terra_term.proofs.Staying.{stays-same, stays-then}
 use Rattle.exotype.specs.World.{StageState}
 use Rattle.spec_machine.specs.Keeping.{KeepsStage, KeepsStore}
 
@@ -25,16 +23,9 @@ store_itself s = record {
   typed = refl;
 }
 
-stays_then : (a b c : FunctionState) → Stays a b → Stays b c → Stays a c
-stays_then a b c f g = record {
-  term = λ t h. g.term t (f.term t h);
-  typed = λ t h. g.typed t (f.typed t h);
-  refusal = λ w h. g.refusal w (f.refusal w h);
-}
-
 pub store_then : (a b c : Held) → KeepsStore a b → KeepsStore b c → KeepsStore a c
 store_then a b c f g = record {
-  functions = λ x. stays_then (state_of a x) (state_of b x) (state_of c x) (f.functions x) (g.functions x);
+  functions = λ x. stays-then (state_of a x) (state_of b x) (state_of c x) (f.functions x) (g.functions x);
   terms = front_then a.terms b.terms c.terms f.terms g.terms;
   types = front_then a.types b.types c.types f.types g.types;
   symbols = front_then a.symbols b.symbols c.symbols f.symbols g.symbols;

@@ -12,10 +12,9 @@ use Rattle.terra_types.specs.declared.types.TypeForm.{TypeForm}
 use Rattle.terra_types.specs.declared.types.TypeForm.TheVariants as forms
 use Rattle.terra_types.specs.Keeping.{KeepsForm, KeepsTypes}
 use Rattle.terra_types.proofs.Growing.{get-left}
-use Rattle.terra_term.specs.declared.store.FunctionState.{FunctionState}
 use Rattle.terra_term.specs.Held.{Held, state_of}
-use Rattle.terra_term.specs.Keeping.{Stays, AllStay}
-use Rattle.terra_term.proofs.Staying.{stays-same}
+use Rattle.terra_term.specs.Keeping.{AllStay}
+use Rattle.terra_term.proofs.Staying.{stays-same, stays-then}
 use Rattle.exotype.specs.World.{ExportState, StageState, with_heap}
 use Rattle.terra_lib.specs.Keeping.{KeepsExports, KeepsWorld}
 use Rattle.stage_library.specs.Keeping.{KeepsStaging}
@@ -68,13 +67,6 @@ types_then a b c f g i form at =
 
 -- ---- functions and exports
 
-stays_then : (a b c : FunctionState) → Stays a b → Stays b c → Stays a c
-stays_then a b c f g = record {
-  term = λ t h. g.term t (f.term t h);
-  typed = λ t h. g.typed t (f.typed t h);
-  refusal = λ w h. g.refusal w (f.refusal w h);
-}
-
 pub exports_stay : (e : ExportState) → KeepsExports e e
 exports_stay e = record { list = heaps.front_self e.list; saved = λ h. h }
 
@@ -107,7 +99,7 @@ keeps_itself w = keeps_in_heap w w.heap (heaps.keeps_itself w.heap)
 pub keeps_then : (a b c : StageState) → KeepsStaging a b → KeepsStaging b c → KeepsStaging a c
 keeps_then a b c f g = record {
   heap = heaps.keeps_then a.heap b.heap c.heap f.heap g.heap;
-  functions = λ x. stays_then (state_of a.store x) (state_of b.store x) (state_of c.store x) (f.functions x) (g.functions x);
+  functions = λ x. stays-then (state_of a.store x) (state_of b.store x) (state_of c.store x) (f.functions x) (g.functions x);
   terms = heaps.front_then a.store.terms b.store.terms c.store.terms f.terms g.terms;
   types = types_then a.store.types b.store.types c.store.types f.types g.types;
   symbols = heaps.front_then a.store.symbols b.store.symbols c.store.symbols f.symbols g.symbols;

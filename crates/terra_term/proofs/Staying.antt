@@ -24,6 +24,13 @@ use Rattle.terra_term.specs.Keeping.{Stays, AllStay, AreKept}
 pub stays-same : (s : FunctionState) → Stays s s
 stays-same s = record { term = λ t h. h; typed = λ made h. h; refusal = λ why h. h }
 
+pub stays-then : (a b c : FunctionState) → Stays a b → Stays b c → Stays a c
+stays-then a b c f g = record {
+  term = λ t h. g.term t (f.term t h);
+  typed = λ t h. g.typed t (f.typed t h);
+  refusal = λ w h. g.refusal w (f.refusal w h);
+}
+
 pub stays-begun : (s : FunctionState) → Stays s (begun s)
 stays-begun states.Undefined = record { term = λ t h. h; typed = λ made h. h; refusal = λ why h. h }
 stays-begun (states.Defined t) = record { term = λ t' h. h; typed = λ made h. h; refusal = λ why h. h }
