@@ -17,7 +17,6 @@ ghost use Rattle.lua_eval.specs.Frames.{targets_plan, define_name, with_target};
 ghost use Rattle.lua_eval.specs.Steps.{Goes, Does};
 
 use crate::cells::set_local;
-use crate::code::{name, name_place};
 use crate::direct::targets_at_once;
 use crate::expressions::begin_list;
 use crate::fields::{GLOBALS, read_named, store, store_named};
@@ -30,6 +29,7 @@ use lua_table::{Closure, Heap};
 use lua_value::{Value, Values};
 use tl_base::{Budget, NoMemory, NodeId, Place, Step};
 use tl_rename::Slots;
+use tl_tree::code::{name, place};
 use tl_tree::{Node, Tree};
 
 #[tactic(auto, using(tl_base::proofs::Steps::pushes))]
@@ -409,7 +409,7 @@ fn define_next<'a>(
         return Ok(step);
     }
     frames.push(LuaFrame::One(OneFrame::Target(TargetFrame::Path(rest, method, function, scope))))?;
-    let place = name_place(tree, first);
+    let place = place(tree, first);
     let text = name(tree, first);
     let found = read_named(
         frames,
@@ -444,7 +444,7 @@ fn define_last<'a>(
         function,
         env: scope.env,
     })?;
-    let place = name_place(tree, last);
+    let place = place(tree, last);
     let value = Value::Closure(made);
     let step = store_named(
         frames,

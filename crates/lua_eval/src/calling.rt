@@ -20,7 +20,7 @@ ghost use Rattle.lua_eval.specs.Slots.{ArePaths};
 ghost use Rattle.lua_eval.specs.Steps.{Goes};
 
 use crate::calls::{enter_call, may_call};
-use crate::code::{block_statements, function_parts};
+use crate::code::function_parts;
 use crate::frame::LuaFrame;
 use crate::quick::{Depth, Quick, spend};
 use crate::raise::LuaStep;
@@ -31,6 +31,7 @@ use lua_table::Heap;
 use lua_value::{Value, Values};
 use tl_base::{Budget, ClosureId, NoMemory, NodeId, Place, Step};
 use tl_rename::Slots;
+use tl_tree::code::block_statements;
 use tl_tree::{Expression, Node, Tree};
 
 /// What is left of a call, of which some was done at once. A value that it gave stands beside it, since what borrows the tree

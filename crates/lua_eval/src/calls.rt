@@ -17,7 +17,7 @@ ghost use Rattle.tl_base.specs.Plan.{Give};
 
 use crate::calling::{call_at_once, called_on};
 use crate::cells::{declare_all, with_cells};
-use crate::code::{Parts, block_statements, function_parts};
+use crate::code::{Parts, function_parts};
 use crate::frame::LuaFrame;
 use crate::raise::{LuaStep, raise};
 use crate::values::with_first;
@@ -29,6 +29,7 @@ use tl_base::limits::MAX_LUA_CALLS;
 use tl_base::{Budget, ClosureId, NoMemory, NodeId, Place, Step};
 use tl_rename::Slots;
 use tl_tree::Tree;
+use tl_tree::code::block_statements;
 
 /// Holds where one more call may be in progress.
 pub fn may_call(heap: &Heap) -> bool

@@ -15,13 +15,13 @@ ghost use Rattle.lua_eval.specs.AtOnce.{EndsAtOnce, Becomes};
 ghost use Rattle.lua_eval.specs.Spots.{held_in};
 ghost use Rattle.lua_eval.specs.Storing.{StoresIn, IsField};
 
-use crate::code::name;
 use crate::quick::{Depth, Quick, spend};
 use lua_model::Scope;
 use lua_table::Heap;
 use lua_value::{Value, Values};
 use tl_base::{Budget, NoMemory, NodeId, TableId, Text};
 use tl_rename::Slots;
+use tl_tree::code::name;
 use tl_tree::{Expression, Node, Tree};
 
 /// Where an assignment stores.

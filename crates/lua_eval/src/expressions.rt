@@ -24,7 +24,6 @@ ghost use Rattle.lua_eval.specs.declared.frame.LuaFrame.{LuaFrame};
 
 use crate::calling::{Called, call_of, inside_on};
 use crate::cells::values_from;
-use crate::code::name;
 use crate::fields::{GLOBALS, read, read_named};
 use crate::frame::{AllFrame, CallFrame, ListFrame, LuaFrame, OneFrame, Then, ValueFrame};
 use crate::lists::{list, values_at_once, with_list};
@@ -40,6 +39,7 @@ use lua_value::{Value, Values};
 use tl_base::{Budget, NoMemory, NodeId, Place, Step};
 use tl_lex::literal_value;
 use tl_rename::Slots;
+use tl_tree::code::name;
 use tl_tree::{BinaryOperator, Expression, Node, Tree, numeral_value};
 
 #[tactic(auto, using(tl_base::proofs::Steps::pushes))]

@@ -18,7 +18,6 @@ ghost use Rattle.lua_eval.specs.Steps.{Goes, Does};
 
 use crate::calls::call;
 use crate::cells::{declare, declare_all};
-use crate::code::block_statements;
 use crate::frame::{AllFrame, LoopFrame, LuaFrame, OneFrame, TurnFrame};
 use crate::raise::{LuaStep, raise};
 use crate::values::{split_values, two};
@@ -29,6 +28,7 @@ use lua_table::Heap;
 use lua_value::{Number, Value, Values};
 use tl_base::{Budget, EnvId, NoMemory, NodeId, Place, Step};
 use tl_rename::Slots;
+use tl_tree::code::block_statements;
 use tl_tree::{Node, Statement, Tree};
 
 /// A scope in another environment.

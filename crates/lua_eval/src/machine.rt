@@ -17,7 +17,6 @@ ghost use Rattle.lua_eval.specs.Steps.{Goes};
 
 use crate::assignments::{define_name, stores, targets, with_target};
 use crate::calls::{call, call_closure, statements};
-use crate::code::block_statements;
 use crate::expressions::{node, with_call, with_value};
 use crate::fields::{read, store};
 use crate::frame::{AllFrame, LuaFrame, OneFrame, TurnFrame, ValueFrame};
@@ -36,6 +35,7 @@ use std::alloc::Global;
 use tl_base::{Budget, CellId, EnvId, Machine, NoMemory, NodeId, Place, Step};
 use tl_rename::Slots;
 use tl_tree::Tree;
+use tl_tree::code::block_statements;
 
 /// The steps of the evaluation of Lua code.
 #[derive(Drop)]

@@ -22,7 +22,6 @@ ghost use Rattle.lua_eval.specs.Slots.{ArePaths};
 ghost use Rattle.lua_eval.specs.Steps.{Goes};
 ghost use Rattle.lua_eval.specs.AtOnce.{EndsAtOnce};
 
-use crate::code::name;
 use crate::expressions::numeral;
 use crate::operators::{Operation, operation_of, whole};
 use lua_model::Scope;
@@ -33,6 +32,7 @@ use lua_value::Value;
 use tl_base::{Budget, NodeId, TableId, Text};
 use tl_lex::literal_value;
 use tl_rename::Slots;
+use tl_tree::code::name;
 use tl_tree::{BinaryOperator, Expression, Node, Tree, UnaryOperator};
 
 /// A value, and the units that are left behind its evaluation.

@@ -24,7 +24,6 @@ ghost use Rattle.lua_eval.specs.Steps.{Goes};
 use crate::calling::find_all;
 use crate::calls::statements;
 use crate::cells::declare_all;
-use crate::code::block_statements;
 use crate::frame::LuaFrame;
 use crate::loops::within;
 use crate::quick::{Depth, Quick, spend};
@@ -36,6 +35,7 @@ use lua_table::{Closure, Heap};
 use lua_value::{Value, Values};
 use tl_base::{Budget, EnvId, NoMemory, NodeId};
 use tl_rename::Slots;
+use tl_tree::code::block_statements;
 use tl_tree::{Expression, Node, Statement, Tree};
 
 /// Executes an assignment at once and pays for it, where the statement is one and that is possible.

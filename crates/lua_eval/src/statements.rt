@@ -22,7 +22,6 @@ ghost use Rattle.lua_eval.specs.Choices.{choice_plan};
 use crate::assignments::{define, held, targets};
 use crate::calls::statements;
 use crate::cells::declare;
-use crate::code::{block_statements, path_method, path_names};
 use crate::expressions::begin_list;
 use crate::frame::{AllFrame, LoopFrame, LuaFrame, OneFrame, StatementFrame, TargetFrame, Then};
 use crate::loops::{while_test, within};
@@ -34,6 +33,7 @@ use lua_table::{Closure, Heap};
 use lua_value::{Value, Values};
 use tl_base::{Budget, NoMemory, NodeId, Place, Step};
 use tl_rename::Slots;
+use tl_tree::code::{block_statements, path_method, path_names};
 use tl_tree::{Expression, Node, NodeList, Piece, Statement, Tree};
 
 /// Executes a block as a statement of its own.

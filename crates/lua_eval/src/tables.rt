@@ -17,7 +17,6 @@ ghost use Rattle.lua_eval.specs.AtOnce.{Becomes};
 ghost use Rattle.lua_eval.specs.Slots.{ArePaths};
 ghost use Rattle.lua_eval.specs.Steps.{Goes};
 
-use crate::code::name;
 use crate::frame::{AllFrame, FieldFrame, LuaFrame, OneFrame, TableFrame};
 use crate::lists::enter_below;
 use crate::operators::whole;
@@ -29,6 +28,7 @@ use lua_table::Heap;
 use lua_value::Value;
 use tl_base::{Budget, NoMemory, NodeId, Place, Step, TableId, Text};
 use tl_rename::Slots;
+use tl_tree::code::name;
 use tl_tree::{Node, Piece, Tree};
 
 #[tactic(auto, using(crate::proofs::Numbering::stored_next, crate::proofs::Numbering::full_is_within))]

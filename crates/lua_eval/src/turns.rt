@@ -15,7 +15,6 @@ ghost use Rattle.lua_eval.specs.Steps.{Goes};
 ghost use Rattle.lua_eval.specs.Turns.{counted_plan, turned_plan, IsCounted, IsBlock};
 
 use crate::cells::declare;
-use crate::code::block_statements;
 use crate::frame::{LuaFrame, TurnFrame};
 use crate::loops::{following, runs, turn, within};
 use crate::quick::spend;
@@ -26,6 +25,7 @@ use lua_table::Heap;
 use lua_value::{Number, Value, Values};
 use tl_base::{Budget, EnvId, NoMemory, NodeId, Step};
 use tl_rename::Slots;
+use tl_tree::code::block_statements;
 use tl_tree::{Node, Statement, Tree};
 
 /// The block of a numeric `for`.

@@ -10,7 +10,7 @@ ghost use Rattle.spec_machine.specs.Frames as waiting;
 ghost use Rattle.spec_machine.specs.Keeping.{KeepsStage};
 ghost use Rattle.spec_machine.specs.Steps.{Goes};
 
-use crate::code::{place, typing_at};
+use crate::code::typing_at;
 use crate::definitions::with_declared;
 use crate::frame::{
     Definition, ForFrame, MemberThen, ParameterFrame, SpecFrame, ValueFrame, VarFrame,
@@ -29,6 +29,7 @@ use lua_value::Value;
 use spec_model::{Drawn, End};
 use tl_base::{Budget, List, NoMemory, NodeId, Place, Step, SymId, TypeId};
 use tl_tree::Tree;
+use tl_tree::code::place;
 
 /// Goes on with what waited for a value.
 fn with_value<'a>(

@@ -9,7 +9,6 @@ ghost use Rattle.spec_machine.specs.Frames.{block_plan, block_then};
 ghost use Rattle.spec_machine.specs.Keeping.{KeepsStage};
 ghost use Rattle.spec_machine.specs.Steps.{Goes, Does};
 
-use crate::code::block_statements;
 use crate::conditions::{last_arm, others};
 use crate::definitions::finish;
 use crate::frame::{BlockFrame, BlockThen, SpecFrame, TermFrame};
@@ -22,6 +21,7 @@ use spec_model::Job;
 use terra_term::{LoopName, Statement, TermList, VarName};
 use tl_base::{Budget, EnvId, List, NoMemory, NodeId, Place, Step, SymId, TermId};
 use tl_tree::Tree;
+use tl_tree::code::block_statements;
 
 /// Specialises a block in a new environment, which belongs to an owner.
 pub fn entered<'a>(

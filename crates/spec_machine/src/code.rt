@@ -7,77 +7,8 @@ ghost use Rattle.tl_tree.specs.Nodes.{item_at};
 ghost use Rattle.spec_model.specs.Nodes as nodes;
 ghost use Rattle.spec_machine.specs.Agreeing.{initial_in};
 
-use tl_base::{NodeId, Place};
+use tl_base::NodeId;
 use tl_tree::{Node, Piece, TerraExpression, Tree};
-
-/// The method's name of a path.
-pub fn path_method(tree: &Tree<'_>, path: NodeId) -> Option<NodeId>
-    ensures { result ≡ kept.path_method_of (item_at (items_of tree.now) path) }
-{
-    match tree.node(path) {
-        Node::Piece(Piece::Path(_, method)) => *method,
-        _ => None,
-    }
-}
-
-/// The names of a path, without the method's.
-pub fn path_names<'a>(tree: &'a Tree<'a>, path: NodeId) -> &'a [NodeId]
-    ensures { result.now ≡ kept.path_names_at (items_of tree.now) path }
-{
-    match tree.node(path) {
-        Node::Piece(Piece::Path(names, _)) => names.as_slice(),
-        _ => &[],
-    }
-}
-
-/// The statements of a block.
-pub fn block_statements<'a>(tree: &'a Tree<'a>, block: NodeId) -> &'a [NodeId]
-    ensures { result.now ≡ kept.statements_at (items_of tree.now) block }
-{
-    match tree.node(block) {
-        Node::Piece(Piece::Block(statements)) => statements.as_slice(),
-        _ => &[],
-    }
-}
-
-/// The text of a name.
-pub fn name<'a>(tree: &'a Tree<'a>, node: NodeId) -> &'a str
-    ensures { result.now ≡ kept.name_at (items_of tree.now) node }
-{
-    match tree.node(node) {
-        Node::Name(_, _, text) => text,
-        _ => "",
-    }
-}
-
-/// The place of a node.
-pub fn place(tree: &Tree<'_>, node: NodeId) -> Place
-    ensures { result ≡ kept.place_at (items_of tree.now) node }
-{
-    match tree.node(node) {
-        Node::Name(place, _, _)
-        | Node::Numeral(place, _)
-        | Node::Literal(place, _)
-        | Node::Expression(place, _)
-        | Node::Statement(place, _)
-        | Node::TerraExpression(place, _)
-        | Node::TerraStatement(place, _) => *place,
-        Node::Piece(piece) => piece_place(piece),
-    }
-}
-
-/// The place of a piece that has one.
-fn piece_place(piece: &Piece) -> Place
-    ensures { result ≡ kept.place_of_piece piece.now }
-{
-    match piece {
-        Piece::TerraBody(place, _, _, _)
-        | Piece::Parameter(place, _, _)
-        | Piece::SpliceParameter(place, _)
-        | Piece::Variable(place, _, _) => *place,
-        _ => Place { line: 0, word: 0 },
-    }
-}
 
 /// The Lua code of an escape, in the place of a name.
 pub fn escaped(tree: &Tree<'_>, node: NodeId) -> Option<NodeId>

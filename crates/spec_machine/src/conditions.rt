@@ -14,7 +14,7 @@ ghost use Rattle.spec_machine.specs.Frames as waiting;
 ghost use Rattle.spec_machine.specs.Keeping.{KeepsStage};
 ghost use Rattle.spec_machine.specs.Steps.{Goes, Does, Gets};
 
-use crate::code::{arm_parts, block_statements, place};
+use crate::code::arm_parts;
 use crate::frame::{Arm, ArmsFrame, BlockFrame, BlockThen, SpecFrame, TermFrame};
 use crate::making::{new_env, new_term};
 use crate::reached::SpecStep;
@@ -24,6 +24,7 @@ use spec_model::{End, Job};
 use terra_term::{Statement, Term, TermList};
 use tl_base::{EnvId, List, NoMemory, NodeId, Place, Step, TermId};
 use tl_tree::Tree;
+use tl_tree::code::{block_statements, place};
 
 /// Specialises an `if` with these arms.
 pub fn if_statement<'a>(

@@ -22,7 +22,7 @@ ghost use Rattle.spec_model.specs.declared.end.End.TheVariants.{Gave};
 ghost use Rattle.spec_machine.specs.Keeping.{KeepsStage};
 ghost use Rattle.spec_machine.specs.Steps.{Goes, Does, Gets};
 
-use crate::code::{place, terra_parts};
+use crate::code::terra_parts;
 use crate::frame::{Definition, ParameterFrame, SpecFrame, ValueFrame};
 use crate::making::new_term;
 use crate::names::declare;
@@ -40,6 +40,7 @@ use terra_term::{FunctionState, Parameter, ParameterList, Size, Term, TermList};
 use terra_types::TypeForm;
 use tl_base::{Budget, EnvId, FnId, List, NoMemory, NodeId, Place, Step, TermId, TypeId};
 use tl_tree::Tree;
+use tl_tree::code::place;
 
 /// What a target holds.
 fn held(heap: &Heap, target: Target) -> Value

@@ -19,7 +19,7 @@ ghost use Rattle.exotype.specs.World.{StageState};
 ghost use Rattle.tl_base.specs.declared.ids.TypeId.{TypeId};
 ghost use Rattle.spec_machine.specs.Steps.{Goes, Does, Comes};
 
-use crate::code::{Initial, are_named, initial_at, name, place};
+use crate::code::{Initial, are_named, initial_at};
 use crate::frame::{
     ConstructFrame, InitialFrame, MemberThen, NewFrame, NextFrame, SpecFrame, TermFrame, TermsThen,
     ValueFrame,
@@ -36,9 +36,12 @@ use lua_table::cells::local;
 use lua_value::Value;
 use spec_model::{End, Job, SpecQuestion};
 use terra_term::{Expression, FieldList, Initialiser, TermList};
-use tl_base::{Budget, EnvId, List, NoMemory, NodeId, Place, Step, TableId, TermId, TextId, TypeId};
+use tl_base::{
+    Budget, EnvId, List, NoMemory, NodeId, Place, Step, TableId, TermId, TextId, TypeId,
+};
 use tl_lex::literal_value;
 use tl_rename::Slots;
+use tl_tree::code::{name, place};
 use tl_tree::{Node, TerraExpression, Tree};
 
 /// The table of globals.
@@ -222,7 +225,7 @@ fn specialise<'a>(
         }
         TerraExpression::Construct(of, initials) => {
             let frame = ConstructFrame {
-                at: crate::code::place(tree, *of),
+                at: tl_tree::code::place(tree, *of),
                 initials: initials.as_slice(),
                 place,
                 env,

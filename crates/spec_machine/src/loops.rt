@@ -11,7 +11,7 @@ ghost use Rattle.spec_machine.specs.Keeping.{KeepsStage};
 ghost use Rattle.spec_machine.specs.Steps.{Goes};
 
 use crate::blocks::{entered, statements};
-use crate::code::{block_statements, escaped, place};
+use crate::code::escaped;
 use crate::frame::{BlockThen, ForFrame, SpecFrame, TermFrame, ValueFrame};
 use crate::making::{new_env, new_symbol};
 use crate::names::declare;
@@ -21,6 +21,7 @@ use lua_value::Value;
 use spec_model::{Job, SpecQuestion};
 use tl_base::{Budget, EnvId, List, NoMemory, NodeId, Place, Step, SymId, TermId};
 use tl_tree::Tree;
+use tl_tree::code::{block_statements, place};
 
 /// Specialises a `for`: an escape in its name's place goes before the bounds.
 pub fn for_loop<'a>(

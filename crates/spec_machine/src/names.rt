@@ -12,7 +12,7 @@ ghost use Rattle.spec_machine.specs.Frames.{with_member};
 ghost use Rattle.spec_machine.specs.Keeping.{KeepsStage};
 ghost use Rattle.spec_machine.specs.Steps.{Goes, Comes};
 
-use crate::code::{escaped, name, place};
+use crate::code::escaped;
 use crate::frame::{MemberThen, SpecFrame, TermsThen, ValueFrame};
 use crate::lists::terms;
 use crate::raise::{raise, text};
@@ -26,6 +26,7 @@ use spec_model::SpecQuestion;
 use terra_term::Expression;
 use tl_base::{Budget, EnvId, List, NoMemory, NodeId, Place, Step, SymId, Text, TextId};
 use tl_tree::Tree;
+use tl_tree::code::{name, place};
 
 /// Declares a local with a value.
 pub fn declare(world: &mut World, env: EnvId, value: Value) -> Result<(), NoMemory>

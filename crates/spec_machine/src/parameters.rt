@@ -15,7 +15,7 @@ ghost use Rattle.spec_machine.specs.Keeping.{KeepsStage};
 ghost use Rattle.spec_machine.specs.Steps.{Goes, Comes};
 
 use crate::blocks::statements;
-use crate::code::{block_statements, escaped, place, terra_parts, typing_at};
+use crate::code::{escaped, terra_parts, typing_at};
 use crate::frame::{BlockThen, Definition, NextFrame, ParameterFrame, SpecFrame, ValueFrame};
 use crate::making::{new_env, new_symbol};
 use crate::names::{declare, symbols_of};
@@ -27,6 +27,7 @@ use spec_model::{Drawn, End, SpecQuestion};
 use terra_types::TypeForm;
 use tl_base::{Budget, EnvId, List, NoMemory, NodeId, Place, Step, SymId, TypeId};
 use tl_tree::Tree;
+use tl_tree::code::{block_statements, place};
 
 /// Goes on with the parameters that are left, each of which pays for itself.
 pub fn parameters<'a>(

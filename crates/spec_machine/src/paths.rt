@@ -15,7 +15,6 @@ ghost use Rattle.spec_machine.specs.Agreeing.{is_last};
 ghost use Rattle.tl_rename.specs.Answers.{ArePaths};
 ghost use Rattle.spec_machine.specs.Steps.{Goes};
 
-use crate::code::{name, path_method, path_names, place};
 use crate::definitions::{declare_target, define_target};
 use crate::expressions::GLOBALS;
 use crate::frame::{PathFrame, SpecFrame, TargetThen, ValueFrame};
@@ -29,6 +28,7 @@ use spec_model::{End, SpecQuestion, Target};
 use tl_base::{Budget, EnvId, NoMemory, NodeId, Place, Step, TextId, TypeId};
 use tl_rename::Slots;
 use tl_tree::Tree;
+use tl_tree::code::{name, path_method, path_names, place};
 
 /// Finds the target of a path, whose first name pays, and does what is done there.
 pub fn target<'a>(

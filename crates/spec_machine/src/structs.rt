@@ -18,7 +18,7 @@ ghost use Rattle.spec_machine.specs.declared.frame.TargetThen.TheVariants as of_
 ghost use Rattle.spec_machine.specs.declared.frame.ValueFrame.TheVariants as of_value;
 ghost use Rattle.spec_machine.specs.Steps.{Goes, Runs};
 
-use crate::code::{name, place, typing_at};
+use crate::code::typing_at;
 use crate::definitions::store;
 use crate::frame::{EntryFrame, NextFrame, SpecFrame, ValueFrame};
 use crate::names::declare;
@@ -31,6 +31,7 @@ use lua_value::{Number, Value};
 use spec_model::{End, SpecQuestion, Target};
 use tl_base::{Budget, EnvId, NoMemory, NodeId, Place, Step, TableId, TextId, TypeId};
 use tl_tree::Tree;
+use tl_tree::code::{name, place};
 
 /// Makes a struct, which is stored in a target before the types of its entries are evaluated.
 pub fn struct_target<'a>(

@@ -15,7 +15,7 @@ ghost use Rattle.spec_machine.specs.Variables.{wanted_at};
 ghost use Rattle.spec_machine.specs.Keeping.{KeepsStage};
 ghost use Rattle.spec_machine.specs.Steps.{Goes, Does, Gets};
 
-use crate::code::{escaped, place, typing_at};
+use crate::code::{escaped, typing_at};
 use crate::frame::{NextFrame, SpecFrame, TermsFrame, TermsThen, ValueFrame, VarFrame};
 use crate::making::new_symbol;
 use crate::names::declare;
@@ -28,6 +28,7 @@ use spec_model::{End, Job, SpecQuestion, Wanted};
 use terra_term::{Statement, VarName, VarNameList};
 use tl_base::{Budget, EnvId, List, NoMemory, NodeId, Place, Step, SymId, TermId, TypeId};
 use tl_tree::Tree;
+use tl_tree::code::place;
 
 /// Goes on with the variables that are left.
 pub fn variables<'a>(

@@ -3,6 +3,7 @@
 #![tactic(auto)]
 
 pub mod binding_laws;
+pub mod code;
 pub mod laws;
 pub mod mode;
 pub mod node;

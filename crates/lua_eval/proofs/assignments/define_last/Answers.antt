@@ -24,11 +24,11 @@ returns-clause-means c =
     c.in_ok-made.made c.in_ok-made.ensures.id c.in_ok-made.ensures.ok
     (moved items a.frames.now.items fs2
     (with_text_of (name_at items a.last) (λ key. store a.object key made (place_at items a.last) a.scope.call fell))
-    (with_text_of c.as_bytes.result.now (λ key. store a.object key made c.name_place-place.result a.scope.call fell))
+    (with_text_of c.as_bytes.result.now (λ key. store a.object key made c.place-place.result a.scope.call fell))
     c.new_closure.new.self c.new_closure.new.self c.store_named.new.heap a.budget.now c.store_named.new.budget c.in_ok-step.step
     (ap (λ (bytes : List ℕ). with_text_of bytes (λ key. store a.object key made (place_at items a.last) a.scope.call fell))
     (sym (c.as_bytes.ensures.value ∙ c.name.ensures))
-    ∙ ap (λ (at : Place). with_text_of c.as_bytes.result.now (λ key. store a.object key made at a.scope.call fell)) (sym c.name_place-place.ensures))
+    ∙ ap (λ (at : Place). with_text_of c.as_bytes.result.now (λ key. store a.object key made at a.scope.call fell)) (sym c.place-place.ensures))
     refl (c.in_ok-step.ensures.means items))
 
 pub returns-clause-kept : goal.returns-clause-kept

@@ -41,13 +41,13 @@ returns-clause-means c =
     let last : LuaPlan = define_in items (a.first ∷ []) a.function a.scope a.object in
     let next : LuaPlan = with_text_of (name_at items a.first) (λ key. read a.object key (place_at items a.first) a.scope.call go) in
     let bytes = c.as_bytes.result.now in
-    let place = c.name_place-place.result in
+    let place = c.place-place.result in
     let goes_on : is_end ns ≡ false = sym c.is_end.ensures ∙ c.if-is_end.false in
     moved items fs fs2 (define_in items (a.first ∷ ns) a.function a.scope a.object)
     (with_text_of bytes (λ key. read a.object key place a.scope.call go)) a.heap.now a.heap.now s2 a.budget.now left2 found
     (define_in_by items a.first ns a.function a.scope a.object ∙ ap (λ (b : Bool). if b then last else next) goes_on
     ∙ ap (λ (bs : List ℕ). with_text_of bs (λ key. read a.object key (place_at items a.first) a.scope.call go)) (sym (c.as_bytes.ensures.value ∙ c.name-text.ensures))
-    ∙ ap (λ (p : Place). with_text_of bytes (λ key. read a.object key p a.scope.call go)) (sym c.name_place-place.ensures)) refl
+    ∙ ap (λ (p : Place). with_text_of bytes (λ key. read a.object key p a.scope.call go)) (sym c.place-place.ensures)) refl
     (named_below items fs c.push.new.self.items fs2 (frames.One (ones.Target (of_target.Path a.rest a.method a.function a.scope)))
     a.heap.now s2 a.budget.now left2 found a.object bytes place a.scope.call go c.in_ok-push.ensures.items (λ r. refl)
     (c.in_ok-found.ensures.means items))
