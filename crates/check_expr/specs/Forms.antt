@@ -1,5 +1,5 @@
 -- What forms of types say.
-use Rattle.std.specs.Prelude.{Bool, true, false, not, ◌&&◌, Option, Some, None}
+use Rattle.std.specs.Prelude.{Bool, not, ◌&&◌, Option, Some, None}
 use Rattle.tl_base.specs.declared.ids.TypeId.{TypeId}
 use Rattle.terra_types.specs.declared.types.TypeForm.{TypeForm}
 use Rattle.terra_types.specs.declared.types.TypeForm.TheVariants as forms
@@ -8,10 +8,7 @@ use Rattle.exotype.specs.World.{StageState}
 use Rattle.check_model.specs.Typing.{form_in, is_aggregate_form}
 use Rattle.check_expr.specs.declared.entries.Elements.{Elements}
 use Rattle.check_expr.specs.declared.entries.Elements.TheVariants as elements
-
-abbrev pub bool_form : TypeForm → Bool
-bool_form forms.Bool = true
-bool_form _ = false
+pub use Rattle.terra_types.specs.Scalars.{bool_form}
 
 abbrev pub target_in : TypeForm → Option TypeId
 target_in (forms.Pointer t) = Some t

@@ -1,5 +1,5 @@
 -- How each frame goes on with the end that it waited for: the plan that waited there.
-use Rattle.std.specs.Prelude.{ℕ, Bool, true, false, List, [], ◌∷◌, ◌++◌, length, Option, Some, None, if◌then◌else◌}
+use Rattle.std.specs.Prelude.{ℕ, Bool, false, List, [], ◌∷◌, ◌++◌, length, Option, Some, None, if◌then◌else◌}
 use Rattle.std.specs.Prelude.{nat_eq, nat_lt, unwrap_or, ◌+◌}
 use Rattle.tl_base.specs.declared.ids.FnId.{FnId}
 use Rattle.tl_base.specs.declared.ids.TermId.{TermId}
@@ -73,6 +73,7 @@ use Rattle.check_expr.specs.declared.frame.BlockThen.TheVariants as of_block
 use Rattle.check_expr.specs.declared.frame.LaidThen.{LaidThen}
 use Rattle.check_expr.specs.declared.frame.LaidThen.TheVariants as of_layout
 use Rattle.check_expr.specs.declared.frame.ParametersFrame.{ParametersFrame}
+pub use Rattle.check_model.specs.Bodies.{is_go}
 
 -- ---- expressions
 
@@ -269,8 +270,3 @@ reply a = ends.Answered a
 -- the language of bodies
 abbrev pub body_rules : Rules FnId BodyJob TypingState BodyQuestion CheckAnswer PartEnd BodyEnd BodyFrame
 body_rules = record { first = body_first; plan = body_job; after = after; reply = reply; close = close_body }
-
--- tells the answer that begins
-abbrev pub is_go : CheckAnswer → Bool
-is_go answers.Go = true
-is_go _ = false

@@ -1,5 +1,4 @@
 -- How a check goes on with the end that it waited for.
-use Rattle.std.specs.Prelude.{Bool, true, false}
 use Rattle.tl_base.specs.declared.ids.FnId.{FnId}
 use Rattle.tl_base.specs.Machine.{Rules}
 use Rattle.tl_base.specs.Plan.{Give}
@@ -12,6 +11,7 @@ use Rattle.check_model.specs.declared.question.CheckAnswer.{CheckAnswer}
 use Rattle.check_model.specs.declared.question.CheckAnswer.TheVariants as answers
 use Rattle.check_model.specs.Checks.{CheckPlan, check_job, check_first, past}
 use Rattle.check_flow.specs.declared.check_frame.CheckFrame.{CheckFrame}
+pub use Rattle.check_model.specs.Bodies.{is_go}
 
 -- behind the body of the function that was taken
 abbrev pub after : CheckFrame → CheckEnd → CheckPlan
@@ -29,8 +29,3 @@ close r = r
 -- the language of checks
 abbrev pub check_rules : Rules FnId CheckJob StageState CheckQuestion CheckAnswer CheckEnd CheckEnd CheckFrame
 check_rules = record { first = check_first; plan = check_job; after = after; reply = reply; close = close }
-
--- tells the answer that begins
-abbrev pub is_go : CheckAnswer → Bool
-is_go answers.Go = true
-is_go _ = false

@@ -1,5 +1,5 @@
 -- How a layout goes on with the end that it waited for.
-use Rattle.std.specs.Prelude.{Bool, true, false, List}
+use Rattle.std.specs.Prelude.{List}
 use Rattle.tl_base.specs.declared.place.Place.{Place}
 use Rattle.tl_base.specs.declared.ids.TypeId.{TypeId}
 use Rattle.tl_base.specs.Machine.{Rules}
@@ -18,6 +18,7 @@ use Rattle.check_model.specs.declared.question.CheckAnswer.TheVariants as answer
 use Rattle.check_model.specs.Layouts.{LayoutPlan, layout_first, layout_job, keep, parts_of, unless_settled, sized}
 use Rattle.check_flow.specs.declared.layout_frame.LayoutFrame.{LayoutFrame}
 use Rattle.check_flow.specs.declared.layout_frame.LayoutFrame.TheVariants as frames
+pub use Rattle.check_model.specs.Bodies.{is_go}
 
 -- the entries that are left, and the settling of the struct behind them
 abbrev pub parts_from : TypeId → Value → (left all : List Entry) → Place → LayoutPlan
@@ -40,8 +41,3 @@ close r = r
 -- the language of layouts
 abbrev pub layout_rules : Rules LayoutTask (Unit {0}) StageState LayoutQuestion CheckAnswer LayoutEnd LayoutEnd LayoutFrame
 layout_rules = record { first = layout_first; plan = layout_job; after = after; reply = reply; close = close }
-
--- tells the answer that begins
-abbrev pub is_go : CheckAnswer → Bool
-is_go answers.Go = true
-is_go _ = false

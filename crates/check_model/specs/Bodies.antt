@@ -1,5 +1,6 @@
 -- What typing a function's body means: a function of the function and of the answers that are given on the way.
-use Rattle.std.specs.Prelude.{ℕ, Bool, false, ◌||◌, nat_lt, if◌then◌else◌, List, [], ◌∷◌, length, Option, Some, None, slice_get, unwrap_or}
+use Rattle.std.specs.Prelude.{ℕ, Bool, true, false, ◌||◌, nat_lt, if◌then◌else◌, List, [], ◌∷◌, length, Option, Some, None}
+use Rattle.std.specs.Prelude.{slice_get, unwrap_or}
 use Rattle.tl_base.specs.declared.place.Place.{Place}
 use Rattle.tl_base.specs.declared.ids.TypeId.{TypeId}
 use Rattle.tl_base.specs.declared.ids.TermId.{TermId}
@@ -30,6 +31,7 @@ use Rattle.check_model.specs.declared.end.BodyEnd.{BodyEnd}
 use Rattle.check_model.specs.declared.end.BodyEnd.TheVariants as ends
 use Rattle.check_model.specs.declared.question.BodyQuestion.{BodyQuestion}
 use Rattle.check_model.specs.declared.question.CheckAnswer.{CheckAnswer}
+use Rattle.check_model.specs.declared.question.CheckAnswer.TheVariants as answers
 use Rattle.check_model.specs.Typing.{TypingState, function_at, with_variable, cut_to}
 use Rattle.check_model.specs.Plans.{BodyPlan, then_on, reading, writing, on_made, refuse, adding}
 use Rattle.check_model.specs.Calls.{call_value}
@@ -124,6 +126,11 @@ close_body (parts.Answered a) = ends.Typed (record { 0 = 0 })
 -- an answer, with the state in which it is given
 abbrev pub BodyGiven : Type 0
 BodyGiven = Given TypingState CheckAnswer
+
+-- tells the answer that begins
+abbrev pub is_go : CheckAnswer → Bool
+is_go answers.Go = true
+is_go _ = false
 
 -- what is seen of it, given the first answer, which is `Go`, and the answers after it
 abbrev pub body : FnId → Meaning TypingState BodyQuestion CheckAnswer BodyEnd

@@ -12,8 +12,8 @@ ghost use Rattle.rv_select.specs.Numbers.{constant};
 ghost use Rattle.rv_select.specs.Places.{with_homes};
 ghost use Rattle.rv_select.specs.Shapes.{applied_to, area_reached, bounds_tested, cleared, computed, copied, divisor_tested, failed};
 ghost use Rattle.rv_select.specs.Shapes.{fault_call, first_taken, branched_over, has_shape, held_after, is_held, is_never_zero};
-ghost use Rattle.rv_select.specs.Shapes.{is_second, is_symmetric, is_turned, is_zero, load_of, loaded, located, operated, operated_second, place_number, put_at};
-ghost use Rattle.rv_select.specs.Shapes.{reached, shape_of, small, store_of, stored, taken, zero_put, zeros};
+ghost use Rattle.rv_select.specs.Shapes.{is_second, is_symmetric, is_turned, is_zero, load_of, loaded, located, operated, operated_second};
+ghost use Rattle.rv_select.specs.Shapes.{place_number, put_at, reached, shape_of, small, store_of, stored, taken, zero_put, zeros};
 
 use crate::emit::{
     X0, X5, X6, area_offset, constant_words, push_constant, push_frame_address, push_frame_load,

@@ -35,6 +35,7 @@ use Rattle.tac_form.specs.declared.tac.Exit.TheVariants.{Jump, Branch, Return, F
 use Rattle.tac_form.specs.declared.tac.Block.{Block}
 use Rattle.tac_form.specs.declared.tac.Signature.{Signature}
 use Rattle.tac_form.specs.declared.tac.Tac.{Tac}
+pub use Rattle.terra_words.specs.Runs.{entry}
 
 -- how many bytes a number has, and the width of its words
 abbrev pub bytes_of : Size → ℕ
@@ -208,10 +209,6 @@ abbrev pub call_entry : Program → Destination → Place → Signature → Opti
 call_entry p to at sig None arguments s = fault BadCall at s
 call_entry p to at sig (Some f) arguments s =
     if has_signature sig (p.code f) then call p to at f arguments s else fault BadCall at s
-
-abbrev pub entry : List FnId → ℕ → Option FnId
-entry fs zero = None
-entry fs (suc i) = slice_get fs i
 
 abbrev pub allocated : ℕ → State → ℕ × Contents → Moved
 allocated d s given = Goes (ahead (set_temp d given.0 (record s { region = given.1 })))

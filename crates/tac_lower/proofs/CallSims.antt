@@ -1,5 +1,5 @@
 -- Calls of functions, and of values that are functions.
-use Rattle.std.proofs.Common.{◌≡◌, ℕ, zero, suc, ◌<◌, Bool, true, false, List, [], ◌∷◌, length, map, Option, Some, None, refl, sym, ap, ◌∙◌}
+use Rattle.std.proofs.Common.{◌≡◌, ℕ, suc, ◌<◌, Bool, true, false, List, [], ◌∷◌, length, map, Option, Some, None, refl, sym, ap, ◌∙◌}
 use Rattle.std.proofs.Common.{subst, arith}
 use Rattle.std.specs.Prelude.{◌&&◌, nat_eq, option_map, if◌then◌else◌}
 use Rattle.std.proofs.lemmas.Bool.{eqb-true}
@@ -15,7 +15,7 @@ use Rattle.terra_term.specs.declared.lists.TypedName.{TypedName}
 use Rattle.terra_term.specs.Stores.{Contents, Callable, callable_of}
 use Rattle.terra_meaning.specs.Values.{form_at, bytes_at, is_aggregate}
 use Rattle.terra_meaning.specs.Frames.{Home}
-use Rattle.terra_meaning.specs.Running.{State, Got, Gives, Ends}
+use Rattle.terra_meaning.specs.Running.{State, Got}
 use Rattle.terra_meaning.specs.Running as running
 use Rattle.terra_meaning.specs.Meaning as meaning
 use Rattle.terra_meaning.specs.Meaning.{the_value, behind}
@@ -24,7 +24,7 @@ use Rattle.tac_form.specs.declared.tac.Instruction.{Instruction}
 use Rattle.tac_form.specs.declared.tac.Instruction.TheVariants.{Call, CallValue}
 use Rattle.tac_form.specs.declared.tac.Signature.{Signature}
 use Rattle.tac_form.specs.Flow as flow
-use Rattle.tac_form.specs.Flow.{Moved, Goes, Stops, act}
+use Rattle.tac_form.specs.Flow.{act}
 use Rattle.tac_lower.specs.Pieces.{Used, with_temp, with_area, Piece, known, then_piece, Result, given, parts_of, word_at, rest, Holders}
 use Rattle.tac_lower.specs.Lowering.{lowered, code_of, unreached, are_narrow, parameter_types, type_of_name, call, call_value, signature_in}
 pub use Rattle.tac_lower.specs.Needs.{CallNeeds}
@@ -70,10 +70,6 @@ types-same (t ∷ ts) (x ∷ xs) e =
     ap (λ y. y ∷ ts) (same-id t x.of h.0) ∙ ap (λ l. x.of ∷ l) (types-same ts xs h.1)
 types-same [] (x ∷ xs) e = absurd (grind (arith, e))
 types-same (t ∷ ts) [] e = absurd (grind (arith, e))
-
-same-entry : (fs : List FnId) (i : ℕ) → flow.entry fs i ≡ meaning.entry fs i
-same-entry fs zero = refl
-same-entry fs (suc i) = refl
 
 module _ (z : Setting) (m : ℕ) (st : Contents) (homes : List Home) (turns : ℕ) where
   abbrev store : Contents
@@ -210,14 +206,14 @@ module _ (z : Setting) (m : ℕ) (st : Contents) (homes : List Home) (turns : �
         over = λ t lt away. away;
         run = λ out q k s has whole_ fine knows less.
             run_value true e q k s has.0 knows.0 whole_ fine less (meaning.entry z.program.entries (number (value_at vs 0)))
-            (same-entry z.program.entries (number (value_at vs 0)));
+            refl;
       }
       value_run false e = record {
         grown = grown-by false (bytes_at z.types of) u;
         over = λ t lt away. away;
         run = λ out q k s has whole_ fine knows less.
             run_value false e q k s has.0 knows.0 whole_ fine less (meaning.entry z.program.entries (number (value_at vs 0)))
-            (same-entry z.program.entries (number (value_at vs 0)));
+            refl;
       }
 
       pub value_call_sim : form_at z.types t ≡ forms.Function ts of →

@@ -46,7 +46,7 @@ use Rattle.tac_lower.proofs.Homes.{Homes, homes-of, declared-takes, declared-ope
 use Rattle.tac_lower.proofs.Typing.{no, three, four, five, same-id, same-ids, names-are, types-are, with-names, after-one, after-all}
 use Rattle.tac_lower.proofs.Typing.{in-names, integer-number, pointer-number, value-by, address-fits, int64-fits, word-value, pointer-wide}
 use Rattle.tac_lower.proofs.Typing.{points-pointer, bool-again, nil-value, function-value, position-few, entries-aggregate}
-use Rattle.tac_lower.proofs.Typing.{struct-aggregate, callee-form, compares-are, conversion, declared-count, outside-let, Asked}
+use Rattle.tac_lower.proofs.Typing.{struct-aggregate, callee-form, conversion, declared-count, outside-let, Asked}
 use Rattle.tac_lower.proofs.Typing.{value-asked}
 
 module _ (store : Contents) (are : AreTypes store.types) (entries : List FnId) (few : length entries < 2 ^ 32) where
@@ -112,7 +112,7 @@ module _ (store : Contents) (are : AreTypes store.types) (entries : List FnId) (
 
   binary-needs : (op : BinaryOperator) (a b of : TypeId) → typing.binary_typed store op a b of ≡ true →
       BinaryNeeds types (is_comparison op) a of
-  binary-needs op a b of h = subst (λ c. BinaryNeeds types c a of) (compares-are op) (by (typing.compares op) h)
+  binary-needs op a b of h = by (typing.compares op) h
     where
       by : (c : Bool) → (if c then same a b && typing.comparable store op a && same of boolean
           else typing.is_integer store a && same of a && (if typing.shifts op then typing.is_integer store b else same a b)) ≡ true →

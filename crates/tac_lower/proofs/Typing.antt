@@ -7,7 +7,6 @@ use Rattle.std.proofs.lemmas.Bool.{eqb-true, leb-true, leb-false, ltb-true, and_
 use Rattle.tl_base.specs.declared.ids.SymId.{SymId}
 use Rattle.tl_base.specs.declared.ids.TypeId.{TypeId}
 use Rattle.tl_base.specs.declared.ids.FnId.{FnId}
-use Rattle.terra_words.specs.declared.words.BinaryOperator.{BinaryOperator}
 use Rattle.terra_words.specs.declared.words.BinaryOperator.TheVariants as operators
 use Rattle.terra_words.specs.Words.{wrapped, flag}
 use Rattle.terra_words.specs.Runs.{word}
@@ -22,13 +21,12 @@ use Rattle.terra_term.specs.TypedTerms.{Do, Break, Finish, Return, Perform, Stat
 use Rattle.terra_term.specs.Stores.{Callable}
 use Rattle.terra_term.specs.Events.{declares_all, declared_in}
 use Rattle.terra_term.specs.WellTyped as typing
-use Rattle.terra_term.specs.WellTyped.{Within, same, is_typed, are_typed, one_typed, all_typed, body_typed, are_same, types_in}
+use Rattle.terra_term.specs.WellTyped.{same, are_same, types_in}
 use Rattle.terra_term.specs.WellTyped.{types_of_names, with_names, after_one, after_all}
 use Rattle.terra_meaning.specs.Values.{form_at, is_aggregate, IsValue}
 use Rattle.terra_meaning.specs.Meaning.{Wanted, the_value, the_address, position_of, types_of}
 use Rattle.tac_lower.specs.Lowering.{type_of_name}
 use Rattle.tac_lower.specs.Needs.{HasNumber, IsValueWanted, IsWide, by_test, InScope, declared_names, names_after, names_after_one}
-use Rattle.tac_lower.specs.Needs.{is_comparison}
 use Rattle.tac_lower.proofs.Words.{width_by, wrapped-zero}
 
 -- tests
@@ -287,26 +285,6 @@ callee-form forms.Unit ts of h = absurd (no h)
 callee-form (forms.Pointer s) ts of h = absurd (no h)
 callee-form (forms.Array s n) ts of h = absurd (no h)
 callee-form (forms.Struct n p l) ts of h = absurd (no h)
-
--- operators
-
-pub compares-are : (op : BinaryOperator) → typing.compares op ≡ is_comparison op
-compares-are operators.Add = refl
-compares-are operators.Subtract = refl
-compares-are operators.Multiply = refl
-compares-are operators.Divide = refl
-compares-are operators.Modulo = refl
-compares-are operators.Xor = refl
-compares-are operators.And = refl
-compares-are operators.Or = refl
-compares-are operators.ShiftLeft = refl
-compares-are operators.ShiftRight = refl
-compares-are operators.Equal = refl
-compares-are operators.NotEqual = refl
-compares-are operators.Less = refl
-compares-are operators.LessEqual = refl
-compares-are operators.Greater = refl
-compares-are operators.GreaterEqual = refl
 
 -- what a conversion gives has a number, or is a bool
 pub conversion : (n a i b p c d e : Bool) →

@@ -26,6 +26,7 @@ use Rattle.terra_meaning.specs.Frames.{Home, by_value, in_frame, home_at, frame_
 use Rattle.terra_meaning.specs.Meaning.{Wanted, the_value, the_address, constant, types_of, type_at, in_expression, in_list, in_statement}
 use Rattle.terra_meaning.specs.Meaning.{in_block}
 use Rattle.tac_lower.specs.Lowering.{type_of_name, are_narrow}
+pub use Rattle.terra_words.specs.Words.{is_comparison}
 
 -- types and words
 
@@ -93,15 +94,6 @@ names_after done names = names
 names_after (and_then s ss) names = names_after ss (names_after_one s names)
 
 -- operations
-
-abbrev pub is_comparison : BinaryOperator → Bool
-is_comparison operators.Equal = true
-is_comparison operators.NotEqual = true
-is_comparison operators.Less = true
-is_comparison operators.LessEqual = true
-is_comparison operators.Greater = true
-is_comparison operators.GreaterEqual = true
-is_comparison _ = false
 
 -- the operators on the bits of two words of one type
 abbrev pub joins_bits : BinaryOperator → Bool

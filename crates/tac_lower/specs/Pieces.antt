@@ -29,6 +29,7 @@ use Rattle.tac_form.specs.declared.tac.Destination.TheVariants as destinations
 use Rattle.tac_form.specs.declared.tac.Instruction.{Instruction}
 use Rattle.tac_form.specs.declared.tac.Instruction.TheVariants.{Compute, Copy, Locate, Load, Store, Move}
 use Rattle.tac_lower.specs.Items.{Item, does}
+pub use Rattle.terra_types.specs.Scalars.{bool_form}
 
 -- The temporaries and areas of a function so far: how many there are of the former, and the sizes of the latter.
 pub record Used : Type 0 where
@@ -134,10 +135,6 @@ number_in _ = whole_word
 -- how words of a type stand in memory; types without words are taken for addresses
 abbrev pub number_of : List TypeForm → TypeId → Number
 number_of types t = number_in (form_at types t)
-
-abbrev pub bool_form : TypeForm → Bool
-bool_form forms.Bool = true
-bool_form _ = false
 
 abbrev pub is_bool : List TypeForm → TypeId → Bool
 is_bool types t = bool_form (form_at types t)

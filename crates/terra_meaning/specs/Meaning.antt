@@ -37,6 +37,7 @@ use Rattle.terra_meaning.specs.Running as running
 use Rattle.terra_meaning.specs.Running.{Held, held, lies, State, Got, Gives, Ends, next, fault, stuck, need_more, counted, scoped}
 use Rattle.terra_meaning.specs.Running.{with_variable, found, with_value}
 pub use Rattle.terra_term.specs.WellTyped.{types_in as types_of}
+pub use Rattle.terra_words.specs.Runs.{entry}
 
 -- A call in progress: the store, the functions that stand as values, what a call of a function gives, the address of
 -- the frame, the homes of the function's declarations, and a number above the count.
@@ -156,10 +157,6 @@ abbrev pub called_value : Call → Place → TypeForm → Option FnId → List V
 called_value c at of None vs s = fault BadCall at s
 called_value c at of (Some f) vs s =
     if has_type of (callable_of c.store f) then c.call f vs at s else fault BadCall at s
-
-abbrev pub entry : List FnId → ℕ → Option FnId
-entry fs zero = None
-entry fs (suc i) = slice_get fs i
 
 abbrev pub behind : List Value → List Value
 behind [] = []

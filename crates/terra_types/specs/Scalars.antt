@@ -14,3 +14,7 @@ is_scalar form = false
 abbrev pub is_result : TypeForm → Bool
 is_result forms.Unit = true
 is_result form = is_scalar form
+
+abbrev pub bool_form : TypeForm → Bool
+bool_form forms.Bool = true
+bool_form _ = false
