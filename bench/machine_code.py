@@ -11,7 +11,7 @@ import sys
 import tempfile
 
 TOP = os.path.dirname(os.path.dirname(os.path.realpath(__file__)))
-SHARED = ("adding", "building", "doing", "operations", "weights", "words")
+SHARED = ("adding", "building", "doing", "operations", "weights")
 
 
 def below(lines, name):
@@ -28,7 +28,7 @@ def repository(room):
     """A repository of the program and the crates that it stands on. Where the program stands."""
     with open(f"{TOP}/crates.txt", encoding="utf-8") as it:
         lines = {l.split(":")[0].strip(): l.split(":")[1].split() for l in it if ":" in l and not l.startswith("#")}
-    names = below(lines, "back_end")
+    names = below(lines, "back_end") + ["row_words"]
     os.makedirs(f"{room}/crates/straight/src")
     shutil.copy(f"{TOP}/HANDLES", room)
     for name in names:

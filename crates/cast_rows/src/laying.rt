@@ -1,6 +1,7 @@
 // The rows that ask for what a type is and how it is laid out.
 
-use crate::words::{number_at, type_at};
+use crate::words::type_at;
+use row_words::number_at;
 use std::alloc::Global;
 use terra_types::{Layout, TypeForm, Types};
 use tl_base::{NoMemory, TextId, TypeId};

@@ -9,10 +9,10 @@ mod laying;
 mod making;
 mod words;
 
+use row_words::word_at;
 use std::alloc::Global;
 use terra_types::Types;
 use tl_base::NoMemory;
-use words::word_at;
 
 fn main(rt: HostRuntime) -> anyhow::Result<()> {
     let alloc = rt.alloc();

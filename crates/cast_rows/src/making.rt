@@ -1,6 +1,7 @@
 // The rows that make types.
 
-use crate::words::{number_at, number_of, type_at, word_at};
+use crate::words::{number_of, type_at};
+use row_words::{number_at, word_at};
 use std::alloc::Global;
 use terra_types::{Entry, Settled, Types};
 use tl_base::{NoMemory, Place, TextId, TypeId};

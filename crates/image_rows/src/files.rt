@@ -1,8 +1,9 @@
 // Rows that make files and read them.
 
 use crate::images::shown;
-use crate::words::{byte_of, bytes_of, count_at, word_at};
+use crate::words::byte_of;
 use elf_image::{ImageError, LONGEST_IMAGE, read};
+use row_words::{hexadecimal_bytes, short_count_at, word_at};
 use std::alloc::Global;
 use tl_base::NoMemory;
 
@@ -24,23 +25,23 @@ impl FileRows {
 
     /// `file BYTES`: a file, by its size.
     pub fn begin(&mut self, words: &[&str]) -> Result<String, NoMemory> {
-        self.bytes = bytes_of(self.alloc, word_at(words, 1))?;
+        self.bytes = hexadecimal_bytes(self.alloc, word_at(words, 1))?;
         self.size()
     }
 
     /// `more BYTES`: more at its end.
     pub fn more(&mut self, words: &[&str]) -> Result<String, NoMemory> {
-        let more = bytes_of(self.alloc, word_at(words, 1))?;
+        let more = hexadecimal_bytes(self.alloc, word_at(words, 1))?;
         self.bytes.extend_from_slice(&more)?;
         self.size()
     }
 
     /// `insert PLACE BYTES`: more before a place.
     pub fn insert(&mut self, words: &[&str]) -> Result<String, NoMemory> {
-        let more = bytes_of(self.alloc, word_at(words, 2))?;
+        let more = hexadecimal_bytes(self.alloc, word_at(words, 2))?;
         let behind = self
             .bytes
-            .split_off(count_at(words, 1).min(self.bytes.len()))?;
+            .split_off(short_count_at(words, 1).min(self.bytes.len()))?;
         self.bytes.extend_from_slice(&more)?;
         self.bytes.extend_from_slice(&behind)?;
         self.size()
@@ -48,7 +49,7 @@ impl FileRows {
 
     /// `set PLACE BYTE`: another byte at a place. It answers the one before.
     pub fn set(&mut self, words: &[&str]) -> Result<String, NoMemory> {
-        match self.bytes.get_mut(count_at(words, 1)) {
+        match self.bytes.get_mut(short_count_at(words, 1)) {
             Some(byte) => {
                 let before = *byte;
                 *byte = byte_of(word_at(words, 2));
@@ -84,7 +85,7 @@ impl FileRows {
     pub fn each(&mut self, words: &[&str]) -> Result<String, NoMemory> {
         let byte = byte_of(word_at(words, 3));
         let mut answers = Answers::new(self.alloc);
-        for place in count_at(words, 1)..count_at(words, 2).min(self.bytes.len()) {
+        for place in short_count_at(words, 1)..short_count_at(words, 2).min(self.bytes.len()) {
             if let Some(answer) = self.answer_with(place, byte)? {
                 answers.add(answer)?;
             }
@@ -110,7 +111,7 @@ impl FileRows {
     /// `fronts FROM TO`: what comes of the fronts of these lengths.
     pub fn fronts(&self, words: &[&str]) -> Result<String, NoMemory> {
         let mut answers = Answers::new(self.alloc);
-        for length in count_at(words, 1)..count_at(words, 2).min(self.bytes.len()) {
+        for length in short_count_at(words, 1)..short_count_at(words, 2).min(self.bytes.len()) {
             let (front, _rest) = self.bytes.split_at(length);
             answers.add(answer_to(self.alloc, front)?)?;
         }

@@ -1,7 +1,8 @@
 // Rows that make images, and images as rows show them.
 
-use crate::words::{byte_of, bytes_of, number_of, text_of, word_at};
+use crate::words::byte_of;
 use elf_image::{Image, Symbol, Symbols, Words, is_lawful, write};
+use row_words::{hexadecimal, hexadecimal_bytes, word_at, words_of};
 use std::alloc::Global;
 use tl_base::{Bytes, NoMemory};
 
@@ -32,11 +33,11 @@ impl ImageRows {
     pub fn begin(&mut self, words: &[&str]) -> Result<String, NoMemory> {
         let alloc = self.alloc;
         self.image = Image {
-            text: Words::from_vec(text_of(alloc, word_at(words, 1))?),
-            statics: Bytes::from_vec(bytes_of(alloc, word_at(words, 2))?),
-            memory: number_of(word_at(words, 3)),
-            heap: number_of(word_at(words, 4)),
-            private: number_of(word_at(words, 5)),
+            text: Words::from_vec(words_of(alloc, word_at(words, 1))?),
+            statics: Bytes::from_vec(hexadecimal_bytes(alloc, word_at(words, 2))?),
+            memory: hexadecimal(word_at(words, 3)),
+            heap: hexadecimal(word_at(words, 4)),
+            private: hexadecimal(word_at(words, 5)),
             exports: Symbols::new(alloc),
         };
         shown(alloc, &self.image)
@@ -47,8 +48,8 @@ impl ImageRows {
         let alloc = self.alloc;
         self.image.exports.push(Symbol {
             name: Bytes::from_vec(word_at(words, 1).as_bytes().to_vec(alloc)?),
-            address: number_of(word_at(words, 2)),
-            params: Bytes::from_vec(bytes_of(alloc, word_at(words, 3))?),
+            address: hexadecimal(word_at(words, 2)),
+            params: Bytes::from_vec(hexadecimal_bytes(alloc, word_at(words, 3))?),
             result: byte_of(word_at(words, 4)),
         })?;
         shown(alloc, &self.image)

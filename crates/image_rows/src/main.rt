@@ -10,9 +10,9 @@ mod words;
 
 use files::FileRows;
 use images::ImageRows;
+use row_words::word_at;
 use std::alloc::Global;
 use tl_base::NoMemory;
-use words::word_at;
 
 fn main(rt: HostRuntime) -> anyhow::Result<()> {
     let alloc = rt.alloc();

@@ -1,9 +1,10 @@
 // Rows of what else the heap holds.
 
 use crate::show::{push_word, show, show_bytes, show_size, show_size_or_none};
-use crate::words::{bytes_of, size_at, text_value, value_at, word_at};
+use crate::words::{bytes_of, text_value, value_at};
 use lua_table::{Cells, Closure, Heap};
 use lua_value::Value;
+use row_words::{number_at, word_at};
 use std::alloc::Global;
 use tl_base::{CellId, ClosureId, EnvId, MacroId, NoMemory, NodeId};
 
@@ -30,7 +31,7 @@ fn texts(heap: &mut Heap, word: &str, words: &[&str]) -> Result<String, NoMemory
     let alloc = heap.allocator();
     heap.texts_are_interned();
     if word == "long" {
-        let count = size_at(words, 1).min(100_000);
+        let count = number_at(words, 1).min(100_000);
         let mut bytes = vec![in alloc; b'x'; count as usize]?;
         let last = bytes_of(heap, word_at(words, 2))?;
         bytes.extend_from_slice(&last)?;
@@ -50,7 +51,7 @@ fn texts(heap: &mut Heap, word: &str, words: &[&str]) -> Result<String, NoMemory
 
 /// Makes a cell, reads one or sets one.
 fn cells(heap: &mut Heap, word: &str, words: &[&str]) -> Result<String, NoMemory> {
-    let cell = CellId(size_at(words, 1));
+    let cell = CellId(number_at(words, 1));
     match word {
         "cell" => {
             let value = value_at(heap, words, 1)?;
@@ -69,14 +70,14 @@ fn cells(heap: &mut Heap, word: &str, words: &[&str]) -> Result<String, NoMemory
 /// Makes an environment, reads one, or declares a cell in one.
 fn environments(heap: &mut Heap, word: &str, words: &[&str]) -> Result<String, NoMemory> {
     let alloc = heap.allocator();
-    let env = EnvId(size_at(words, 1));
+    let env = EnvId(number_at(words, 1));
     match word {
         "env" => {
             let outer = match word_at(words, 2) {
                 "none" => None,
-                _ => Some(EnvId(size_at(words, 2))),
+                _ => Some(EnvId(number_at(words, 2))),
             };
-            let env = heap.new_env(NodeId(size_at(words, 1)), outer)?;
+            let env = heap.new_env(NodeId(number_at(words, 1)), outer)?;
             show_size(alloc, env.0)
         }
         "block" => show_size(alloc, heap.block(env).0),
@@ -88,7 +89,7 @@ fn environments(heap: &mut Heap, word: &str, words: &[&str]) -> Result<String, N
             show_size_or_none(alloc, outer)
         }
         "declare" => {
-            heap.declare(env, CellId(size_at(words, 2)))?;
+            heap.declare(env, CellId(number_at(words, 2)))?;
             show_cells(alloc, heap.declared(env))
         }
         _ => show_cells(alloc, heap.declared(env)),
@@ -108,7 +109,7 @@ fn show_cells(alloc: Global, cells: &[CellId]) -> Result<String, NoMemory> {
 fn list(alloc: Global, words: &[&str]) -> Result<String, NoMemory> {
     let mut cells = Cells::new(alloc);
     for place in 1..words.len() {
-        cells.push(CellId(size_at(words, place)))?;
+        cells.push(CellId(number_at(words, place)))?;
     }
     show_cells(alloc, cells.as_slice())
 }
@@ -116,12 +117,12 @@ fn list(alloc: Global, words: &[&str]) -> Result<String, NoMemory> {
 /// Makes a function or a macro, or reads one.
 fn functions(heap: &mut Heap, word: &str, words: &[&str]) -> Result<String, NoMemory> {
     let alloc = heap.allocator();
-    let first = size_at(words, 1);
+    let first = number_at(words, 1);
     match word {
         "closure" => {
             let closure = Closure {
                 function: NodeId(first),
-                env: EnvId(size_at(words, 2)),
+                env: EnvId(number_at(words, 2)),
             };
             let value = Value::Closure(heap.new_closure(closure)?);
             show(heap, &value)

@@ -1,10 +1,11 @@
 // Rows of the library's functions, and of the globals with which a source begins.
 
 use crate::show::{push_word, show, show_bytes, show_next};
-use crate::words::{size_at, value_at};
+use crate::words::value_at;
 use lua_base::{call, opening};
 use lua_table::{Heap, LibCall, LibTurn};
 use lua_value::{LibFn, Value, Values};
+use row_words::number_at;
 use tl_base::{Budget, NoMemory, Place, TableId};
 
 /// What comes of a row of the library, and `None` where it is none.
@@ -24,7 +25,7 @@ fn called(heap: &mut Heap, words: &[&str]) -> Result<String, NoMemory> {
         Value::Library(function) => function,
         _ => LibFn::Print,
     };
-    let mut budget = Budget::new(size_at(words, 2));
+    let mut budget = Budget::new(number_at(words, 2));
     let mut args = Values::new(alloc);
     for place in 3..words.len() {
         args.push(value_at(heap, words, place)?)?;

@@ -13,8 +13,8 @@ mod values;
 mod words;
 
 use lua_table::Heap;
+use row_words::word_at;
 use tl_base::NoMemory;
-use words::word_at;
 
 fn main(rt: HostRuntime) -> anyhow::Result<()> {
     let mut heap = Heap::new(rt.alloc());

@@ -1,13 +1,14 @@
 // Rows of operators, numerals and faults.
 
 use crate::show::{push_word, show};
-use crate::words::{bytes_of, kind_at, value_at, word_at};
+use crate::words::{bytes_of, kind_at, value_at};
 use lua_ops::arith::{arith, unless_handled};
 use lua_ops::compare::compare;
 use lua_ops::concat::concat;
 use lua_ops::{Arithmetic, Comparison, Fault, Handler, Numeral, Outcome, numeral_of, read_numeral};
 use lua_table::Heap;
 use lua_value::Value;
+use row_words::word_at;
 use tl_base::NoMemory;
 
 /// What comes of a row of operators, and `None` where it is none.

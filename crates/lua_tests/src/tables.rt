@@ -1,16 +1,17 @@
 // Rows of tables, in the heap and alone.
 
 use crate::show::{push_word, show, show_entry, show_next, show_size, show_size_or_none};
-use crate::words::{size_at, value_at, word_at};
+use crate::words::value_at;
 use lua_table::{Heap, Next, Table};
 use lua_value::{Number, Value};
+use row_words::{number_at, word_at};
 use std::alloc::Global;
 use tl_base::{NoMemory, TableId};
 
 /// What comes of a row of tables, and `None` where it is none.
 pub fn answer(heap: &mut Heap, word: &str, words: &[&str]) -> Result<Option<String>, NoMemory> {
     let alloc = heap.allocator();
-    let table = TableId(size_at(words, 1));
+    let table = TableId(number_at(words, 1));
     match word {
         "table" => {
             let table = Value::Table(heap.new_table()?);
@@ -30,7 +31,7 @@ pub fn answer(heap: &mut Heap, word: &str, words: &[&str]) -> Result<Option<Stri
         }
         "walk" => Ok(Some(walk(heap, table)?)),
         "metatable" => Ok(Some(metatable(heap, table, words)?)),
-        "fill" => Ok(Some(fill(alloc, size_at(words, 1), size_at(words, 2))?)),
+        "fill" => Ok(Some(fill(alloc, number_at(words, 1), number_at(words, 2))?)),
         _ => Ok(None),
     }
 }
@@ -69,7 +70,7 @@ fn metatable(heap: &mut Heap, table: TableId, words: &[&str]) -> Result<String, 
     match word_at(words, 2) {
         "" => {}
         "none" => heap.set_metatable(table, None),
-        _ => heap.set_metatable(table, Some(TableId(size_at(words, 2)))),
+        _ => heap.set_metatable(table, Some(TableId(number_at(words, 2)))),
     }
     let metatable = match heap.metatable(table) {
         Some(metatable) => Some(metatable.0),

@@ -1,9 +1,10 @@
 // Rows of values alone.
 
 use crate::show::{push_word, show, show_size, show_truth};
-use crate::words::{value_at, word_at};
+use crate::words::value_at;
 use lua_table::Heap;
 use lua_value::{Number, Value, Values, kind_name};
+use row_words::word_at;
 use tl_base::NoMemory;
 
 /// What comes of a row of values, and `None` where it is none.

@@ -2,22 +2,10 @@
 
 use lua_table::Heap;
 use lua_value::{Kind, LibFn, Number, Primitive, Value};
+use row_words::word_at;
 use tl_base::{
     ClosureId, ConstantId, FnId, GlobalId, MacroId, NoMemory, QuoteId, SymId, TableId, TypeId,
 };
-
-/// A word of a row, and the empty one past the end.
-pub fn word_at<'a>(words: &[&'a str], place: usize) -> &'a str {
-    match words.get(place) {
-        Some(word) => *word,
-        None => "",
-    }
-}
-
-/// A number that a word writes, and 0 where it writes none.
-pub fn size_at(words: &[&str], place: usize) -> u64 {
-    word_at(words, place).parse::<u64>().unwrap_or(0)
-}
 
 /// The value that a word of a row stands for. A text is interned; `x:12` is one of so many x.
 pub fn value_at(heap: &mut Heap, words: &[&str], place: usize) -> Result<Value, NoMemory> {

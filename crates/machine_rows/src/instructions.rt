@@ -1,6 +1,7 @@
 // Rows of words: the instruction, as the assembler writes it, and its word again.
 
-use crate::words::{word_at, word_of};
+use crate::words::word_of;
+use row_words::word_at;
 use rv_isa::{
     BranchCondition, FenceFields, ImmediateOp, Instr, LoadOp, RegisterOp, RegisterWordOp, ShiftOp,
     StoreOp, decode, encode,

@@ -8,9 +8,9 @@ mod instructions;
 mod runs;
 mod words;
 
+use row_words::word_at;
 use runs::Bench;
 use tl_base::NoMemory;
-use words::word_at;
 
 fn main(rt: HostRuntime) -> anyhow::Result<()> {
     let mut bench = Bench::new(rt.alloc())?;

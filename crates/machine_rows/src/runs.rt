@@ -2,8 +2,9 @@
 
 ghost use Rattle.std.specs.Prelude.{◌<◌};
 
-use crate::words::{number_of, numbers_from, text_of, word_at};
+use crate::words::numbers_from;
 use elf_image::{Image, Symbol, Symbols, Words, is_lawful};
+use row_words::{hexadecimal, word_at, words_of};
 use rv_machine::{Machine, Stop, run_image};
 use std::alloc::Global;
 use tl_base::limits::TEXT_ADDRESS;
@@ -81,7 +82,7 @@ impl Bench {
         if !is_lawful(&image) || arguments.len() > 8 {
             return Ok(String::from_str(alloc, "no such image")?);
         }
-        let steps = number_of(word_at(words, 1));
+        let steps = hexadecimal(word_at(words, 1));
         let stop = run_image(
             alloc,
             &image,
@@ -119,7 +120,7 @@ impl Bench {
     pub fn steps(&mut self, words: &[&str]) -> Result<String, NoMemory> {
         match &mut self.machine {
             Some(machine) => {
-                let stop = machine.run(number_of(word_at(words, 1)), &mut self.out);
+                let stop = machine.run(hexadecimal(word_at(words, 1)), &mut self.out);
                 shown(self.alloc, stop)
             }
             None => Ok(String::from_str(self.alloc, "no machine")?),
@@ -140,7 +141,7 @@ fn narrow_sink(
 
 /// A number of at most 16 bits, for a count.
 fn count_of(word: &str) -> usize {
-    (number_of(word) & 0xffff) as usize
+    (hexadecimal(word) & 0xffff) as usize
 }
 
 /// An image with this text, the static bytes, and one export at the first word.
@@ -153,7 +154,7 @@ fn image_of(alloc: Global, text: &str) -> Result<Image, NoMemory> {
         result: 3,
     })?;
     Ok(Image {
-        text: Words::from_vec(text_of(alloc, text)?),
+        text: Words::from_vec(words_of(alloc, text)?),
         statics: Bytes::from_vec(STATICS.to_vec(alloc)?),
         memory: 65_536,
         heap: 0x4000_0010,

@@ -3,7 +3,7 @@
 use crate::building::Work;
 use crate::doing::names_from;
 use crate::running;
-use crate::words::{bytes_of, count_at, number_at, word_at};
+use row_words::{hexadecimal_bytes, number_at, short_count_at, word_at};
 use std::alloc::Global;
 use terra_term::{ParameterList, Term, TermList, Typed};
 use terra_types::Entry;
@@ -69,7 +69,7 @@ fn structure(work: &mut Work, words: &[&str]) -> Result<Option<String>, NoMemory
 /// `bytes DIGITS`: a static, in a region of 65,536 bytes
 fn bytes(work: &mut Work, words: &[&str]) -> Result<Option<String>, NoMemory> {
     let alloc = work.store.allocator();
-    let bytes = Bytes::from_vec(bytes_of(alloc, word_at(words, 1))?);
+    let bytes = Bytes::from_vec(hexadecimal_bytes(alloc, word_at(words, 1))?);
     let Some(id) = work.store.new_global(TypeId(4), bytes, 65_536)? else {
         return Ok(Some(String::from_str(alloc, "no room")?));
     };
@@ -83,7 +83,7 @@ fn bytes(work: &mut Work, words: &[&str]) -> Result<Option<String>, NoMemory> {
 fn function(work: &mut Work, words: &[&str]) -> Result<Option<String>, NoMemory> {
     let alloc = work.store.allocator();
     let parameters = names_from(alloc, words, 3)?;
-    let body = work.take(count_at(words, 1))?;
+    let body = work.take(short_count_at(words, 1))?;
     let node = Typed::Function(parameters, TypeId(number_at(words, 2)), body);
     let made = work.store.new_typed(node)?;
     let none = Term::Function(

@@ -1,6 +1,6 @@
 // The rows that add expressions.
 
-use crate::words::{count_at, number_at};
+use row_words::{number_at, short_count_at};
 use tac_form::Tac;
 use terra_term::{Constant, Store, TermList, Typed, TypedExpression, TypedStatement};
 use tl_base::{FnId, NoMemory, Place, SymId, TermId, TypeId};
@@ -73,7 +73,7 @@ pub fn expression(work: &mut Work, word: &str, words: &[&str]) -> Result<bool, N
         "both" | "either" => short_circuit(work, word),
         "let" => {
             let value = work.pop();
-            let block = work.take(count_at(words, 1))?;
+            let block = work.take(short_count_at(words, 1))?;
             work.put(of, TypedExpression::Let(block, value))
         }
         _ => place(work, word, n, of),

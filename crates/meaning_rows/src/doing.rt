@@ -1,7 +1,7 @@
 // The rows that add statements.
 
 use crate::building::Work;
-use crate::words::{count_at, word_at};
+use row_words::{short_count_at, word_at};
 use std::alloc::Global;
 use terra_term::{TypedName, TypedNameList, TypedStatement};
 use tl_base::{NoMemory, SymId, TypeId};
@@ -11,19 +11,19 @@ pub fn statement(work: &mut Work, word: &str, words: &[&str]) -> Result<bool, No
     match word {
         "var" => {
             let names = names_from(work.store.allocator(), words, 2)?;
-            let values = work.take(count_at(words, 1))?;
+            let values = work.take(short_count_at(words, 1))?;
             work.put_statement(TypedStatement::Var(names, values))
         }
         "set" => {
-            let values = work.take(count_at(words, 2))?;
-            let targets = work.take(count_at(words, 1))?;
+            let values = work.take(short_count_at(words, 2))?;
+            let targets = work.take(short_count_at(words, 1))?;
             work.put_statement(TypedStatement::Assign(targets, values))
         }
         "if" | "ifelse" => choice(work, word, words),
         "while" | "repeat" => guarded(work, word, words),
         "for" => counting(work, words),
         "do" => {
-            let block = work.take(count_at(words, 1))?;
+            let block = work.take(short_count_at(words, 1))?;
             work.put_statement(TypedStatement::Do(block))
         }
         "break" => work.put_statement(TypedStatement::Break),
@@ -64,30 +64,30 @@ pub fn names_from(alloc: Global, words: &[&str], from: usize) -> Result<TypedNam
 /// `if COUNT`, or `ifelse COUNT COUNT`, behind the condition and the blocks
 fn choice(work: &mut Work, word: &str, words: &[&str]) -> Result<bool, NoMemory> {
     let other = if word == "ifelse" {
-        Some(work.take(count_at(words, 2))?)
+        Some(work.take(short_count_at(words, 2))?)
     } else {
         None
     };
-    let block = work.take(count_at(words, 1))?;
+    let block = work.take(short_count_at(words, 1))?;
     let test = work.pop();
     work.put_statement(TypedStatement::If(test, block, other))
 }
 
 fn guarded(work: &mut Work, word: &str, words: &[&str]) -> Result<bool, NoMemory> {
     if word == "while" {
-        let block = work.take(count_at(words, 1))?;
+        let block = work.take(short_count_at(words, 1))?;
         let test = work.pop();
         return work.put_statement(TypedStatement::While(test, block));
     }
     let test = work.pop();
-    let block = work.take(count_at(words, 1))?;
+    let block = work.take(short_count_at(words, 1))?;
     work.put_statement(TypedStatement::Repeat(block, test))
 }
 
 /// `for NAME BOUNDS COUNT`
 fn counting(work: &mut Work, words: &[&str]) -> Result<bool, NoMemory> {
-    let block = work.take(count_at(words, 3))?;
-    let bounds = work.take(count_at(words, 2))?;
+    let block = work.take(short_count_at(words, 3))?;
+    let bounds = work.take(short_count_at(words, 2))?;
     let name = name_of(word_at(words, 1));
     work.put_statement(TypedStatement::For(name, bounds, block))
 }

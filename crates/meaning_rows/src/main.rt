@@ -17,15 +17,14 @@ mod machine;
 mod operations;
 mod running;
 mod weights;
-mod words;
 
 use building::Work;
+use row_words::word_at;
 use std::alloc::Global;
 use std::io::Write;
 use terra_term::Store;
 use terra_types::Types;
 use tl_base::NoMemory;
-use words::word_at;
 
 fn main(rt: HostRuntime) -> anyhow::Result<()> {
     let alloc = rt.alloc();

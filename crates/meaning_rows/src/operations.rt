@@ -1,8 +1,8 @@
 // The rows that add operations: `NAME COUNT TYPE ..`, behind so many operands.
 
 use crate::building::Work;
-use crate::words::{count_at, number_at, operator_of, word_at};
 use lua_value::Primitive;
+use row_words::{number_at, operator_of, short_count_at, word_at};
 use terra_term::{OffsetList, Operation, TypedExpression};
 use tl_base::{FnId, NoMemory, TypeId};
 
@@ -26,7 +26,7 @@ pub fn operation(work: &mut Work, word: &str, words: &[&str]) -> Result<bool, No
         "construct" => Operation::Construct(offsets(work, words)?),
         _ => return Ok(false),
     };
-    let operands = work.take(count_at(words, 1))?;
+    let operands = work.take(short_count_at(words, 1))?;
     work.put(
         TypeId(number_at(words, 2)),
         TypedExpression::Operate(operation, operands),

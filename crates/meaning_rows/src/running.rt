@@ -3,7 +3,7 @@
 use crate::building::Work;
 use crate::machine::{self, Program};
 use crate::weights::code_words;
-use crate::words::{number_at, shown};
+use row_words::{escaped, number_at};
 use std::alloc::Global;
 use tac_lower::lower;
 use terra_eval::{End, Run, Value, evaluate, static_bytes};
@@ -219,12 +219,12 @@ fn program_of<'a>(work: &'a Work) -> Program<'a> {
 fn run_text(alloc: Global, run: &Run) -> Result<String, NoMemory> {
     match run {
         Run::More(out) => {
-            let out = shown(alloc, out)?;
+            let out = escaped(alloc, out, b' ')?;
             Ok(format!(in alloc; "more [{out}]")?)
         }
         Run::Over(end, out) => {
             let end = end_text(alloc, end)?;
-            let out = shown(alloc, out)?;
+            let out = escaped(alloc, out, b' ')?;
             Ok(format!(in alloc; "{end} [{out}]")?)
         }
     }
@@ -237,7 +237,7 @@ fn end_text(alloc: Global, end: &End) -> Result<String, NoMemory> {
                 let word = v.number();
                 return Ok(format!(in alloc; "returned {word}")?);
             }
-            let bytes = shown(alloc, v.as_bytes())?;
+            let bytes = escaped(alloc, v.as_bytes(), b' ')?;
             Ok(format!(in alloc; "returned bytes {bytes}")?)
         }
         End::Fault(kind, at) => {

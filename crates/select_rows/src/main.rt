@@ -18,6 +18,7 @@ ghost use Rattle.rv_link.specs.Linked.{AreSelected, AreThere};
 use elf_image::{Image, Symbol, Symbols, Words, is_lawful};
 use functions::program;
 use reg_alloc::{Home, assign};
+use row_words::{number_at, operator_of, word_at};
 use rv_link::{Function, blocks_there, is_near, link};
 use rv_machine::{Stop, run_image};
 use rv_select::{all_has_code, push_instruction, select};
@@ -60,19 +61,6 @@ fn row_answer(alloc: Global, words: &[&str]) -> Result<String, NoMemory> {
         "words" => words_answer(alloc, word_at(words, 1)),
         _ => answer(alloc, words),
     }
-}
-
-/// A word of a row, and the empty one past the end.
-fn word_at<'a>(words: &[&'a str], place: usize) -> &'a str {
-    match words.get(place) {
-        Some(word) => *word,
-        None => "",
-    }
-}
-
-/// A number that a word writes, and 0 where it writes none.
-fn number_at(words: &[&str], place: usize) -> u64 {
-    word_at(words, place).parse::<u64>().unwrap_or(0)
 }
 
 /// The words of a copy to a register, or of a sum of slots, as the manual gives them.
@@ -254,25 +242,4 @@ fn size_of(bits: u64) -> Size {
 
 fn is_division(operator: BinaryOperator) -> bool {
     matches!(operator, BinaryOperator::Divide | BinaryOperator::Modulo)
-}
-
-fn operator_of(word: &str) -> BinaryOperator {
-    match word {
-        "-" => BinaryOperator::Subtract,
-        "*" => BinaryOperator::Multiply,
-        "/" => BinaryOperator::Divide,
-        "%" => BinaryOperator::Modulo,
-        "^" => BinaryOperator::Xor,
-        "and" => BinaryOperator::And,
-        "or" => BinaryOperator::Or,
-        "<<" => BinaryOperator::ShiftLeft,
-        ">>" => BinaryOperator::ShiftRight,
-        "==" => BinaryOperator::Equal,
-        "~=" => BinaryOperator::NotEqual,
-        "<" => BinaryOperator::Less,
-        "<=" => BinaryOperator::LessEqual,
-        ">" => BinaryOperator::Greater,
-        ">=" => BinaryOperator::GreaterEqual,
-        _ => BinaryOperator::Add,
-    }
 }

@@ -1,6 +1,6 @@
 // What comes of a row.
 
-use crate::rows::Row;
+use row_words::SourceRow;
 use stage_loop::{End, Outcome, stage};
 use std::alloc::Global;
 use tl_base::{Bytes, NoMemory};
@@ -10,7 +10,7 @@ use tl_tree::Tree;
 
 /// What comes of a row, behind a line with its name: of its source with all its units, and where it has units, with one
 /// less.
-pub fn answer(alloc: Global, row: &Row) -> Result<Bytes, NoMemory> {
+pub fn answer(alloc: Global, row: &SourceRow) -> Result<Bytes, NoMemory> {
     let mut out = Bytes::new(alloc);
     let name = row.name.as_str();
     let line = format!(in alloc; "== {name}\n")?;

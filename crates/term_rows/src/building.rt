@@ -3,7 +3,7 @@
 ghost use Rattle.std.specs.Prelude.{length};
 ghost use Rattle.terra_term.specs.Held.{NamesTyped};
 
-use crate::words::{count_at, number_at, operator_of, word_at};
+use row_words::{number_at, operator_of, short_count_at, word_at};
 use terra_term::{
     Expression, FieldList, Initialiser, Primitive, Quote, Size, Store, Term, TermList,
     UnaryOperator,
@@ -118,13 +118,13 @@ fn binary(work: &mut Work, words: &[&str]) -> Result<Option<String>, NoMemory> {
 }
 
 fn call(work: &mut Work, words: &[&str]) -> Result<Option<String>, NoMemory> {
-    let list = work.take(count_at(words, 1))?;
+    let list = work.take(short_count_at(words, 1))?;
     let callee = work.pop();
     work.put_expression(Expression::Call(callee, list))
 }
 
 fn method(work: &mut Work, words: &[&str]) -> Result<Option<String>, NoMemory> {
-    let list = work.take(count_at(words, 2))?;
+    let list = work.take(short_count_at(words, 2))?;
     let object = work.pop();
     let name = TextId(number_at(words, 1));
     work.put_expression(Expression::Method(object, name, list))
@@ -143,7 +143,7 @@ fn index(work: &mut Work) -> Result<Option<String>, NoMemory> {
 }
 
 fn constructor(work: &mut Work, words: &[&str]) -> Result<Option<String>, NoMemory> {
-    let list = work.take(count_at(words, 2))?;
+    let list = work.take(short_count_at(words, 2))?;
     let of = TypeId(number_at(words, 1));
     work.put_expression(Expression::New(of, Initialiser::Positional(list)))
 }
@@ -161,7 +161,7 @@ fn named_constructor(work: &mut Work, words: &[&str]) -> Result<Option<String>, 
 
 fn quote_with_value(work: &mut Work, words: &[&str]) -> Result<Option<String>, NoMemory> {
     let value = work.pop();
-    let block = work.take(count_at(words, 1))?;
+    let block = work.take(short_count_at(words, 1))?;
     work.put_expression(Expression::Let(block, value))
 }
 

@@ -1,7 +1,7 @@
 // The rows that add statements and functions.
 
 use crate::building::{HERE, Work};
-use crate::words::{count_at, number_at, word_at};
+use row_words::{number_at, short_count_at, word_at};
 use std::alloc::Global;
 use terra_term::{LoopName, Parameter, ParameterList, Statement, Term, VarName, VarNameList};
 use tl_base::{NoMemory, SymId, TypeId};
@@ -15,12 +15,12 @@ pub fn statement(work: &mut Work, word: &str, words: &[&str]) -> Result<Option<S
         "while" | "repeat" => guarded(work, word, words),
         "for" => counting(work, words),
         "do" => {
-            let block = work.take(count_at(words, 1))?;
+            let block = work.take(short_count_at(words, 1))?;
             work.put(Term::Statement(HERE, Statement::Do(block)))
         }
         "break" => work.put(Term::Statement(HERE, Statement::Break)),
         "return" => {
-            let values = work.take(count_at(words, 1))?;
+            let values = work.take(short_count_at(words, 1))?;
             work.put(Term::Statement(HERE, Statement::Return(values)))
         }
         "perform" => {
@@ -61,44 +61,44 @@ fn declaration(work: &mut Work, word: &str, words: &[&str]) -> Result<Option<Str
         return work.put(Term::Statement(HERE, Statement::Var(names, None)));
     }
     let names = VarNameList::from_vec(names_from(alloc, words, 2)?)?;
-    let values = work.take(count_at(words, 1))?;
+    let values = work.take(short_count_at(words, 1))?;
     work.put(Term::Statement(HERE, Statement::Var(names, Some(values))))
 }
 
 /// `set TARGETS VALUES`
 fn assignment(work: &mut Work, words: &[&str]) -> Result<Option<String>, NoMemory> {
-    let values = work.take(count_at(words, 2))?;
-    let targets = work.take(count_at(words, 1))?;
+    let values = work.take(short_count_at(words, 2))?;
+    let targets = work.take(short_count_at(words, 1))?;
     work.put(Term::Statement(HERE, Statement::Assign(targets, values)))
 }
 
 /// `if COUNT`, or `ifelse COUNT COUNT`, behind the condition and the blocks
 fn choice(work: &mut Work, word: &str, words: &[&str]) -> Result<Option<String>, NoMemory> {
     let other = if word == "ifelse" {
-        Some(work.take(count_at(words, 2))?)
+        Some(work.take(short_count_at(words, 2))?)
     } else {
         None
     };
-    let block = work.take(count_at(words, 1))?;
+    let block = work.take(short_count_at(words, 1))?;
     let test = work.pop();
     work.put(Term::Statement(HERE, Statement::If(test, block, other)))
 }
 
 fn guarded(work: &mut Work, word: &str, words: &[&str]) -> Result<Option<String>, NoMemory> {
     if word == "while" {
-        let block = work.take(count_at(words, 1))?;
+        let block = work.take(short_count_at(words, 1))?;
         let test = work.pop();
         return work.put(Term::Statement(HERE, Statement::While(test, block)));
     }
     let test = work.pop();
-    let block = work.take(count_at(words, 1))?;
+    let block = work.take(short_count_at(words, 1))?;
     work.put(Term::Statement(HERE, Statement::Repeat(block, test)))
 }
 
 /// `for NAME BOUNDS COUNT`
 fn counting(work: &mut Work, words: &[&str]) -> Result<Option<String>, NoMemory> {
-    let block = work.take(count_at(words, 3))?;
-    let bounds = work.take(count_at(words, 2))?;
+    let block = work.take(short_count_at(words, 3))?;
+    let bounds = work.take(short_count_at(words, 2))?;
     let name = LoopName::new(work.store.allocator(), name_of(word_at(words, 1)))?;
     work.put(Term::Statement(HERE, Statement::For(name, bounds, block)))
 }
@@ -120,7 +120,7 @@ fn function(work: &mut Work, words: &[&str]) -> Result<Option<String>, NoMemory>
         "?" => None,
         _ => Some(TypeId(number_at(words, 2))),
     };
-    let body = work.take(count_at(words, 1))?;
+    let body = work.take(short_count_at(words, 1))?;
     let parameters = ParameterList::from_vec(parameters)?;
     work.put(Term::Function(parameters, of, body))
 }

@@ -3,7 +3,7 @@
 ghost use Rattle.std.specs.Prelude.{◌≤◌};
 
 use crate::building::{HERE, Work, size_text};
-use crate::words::{bytes_of, count_at, number_at, shown, word_at};
+use row_words::{escaped, hexadecimal_bytes, number_at, short_count_at, word_at};
 use std::alloc::Global;
 use terra_term::{
     Constant, FunctionState, Quote, Refusal, RefusalKind, Standing, TerraConstant, Typed,
@@ -24,7 +24,7 @@ pub fn row(work: &mut Work, word: &str, words: &[&str]) -> Result<Option<String>
         "standing" => standing(work, FnId(number_at(words, 1)))?,
         "text" => {
             let text = term_text(&work.store, FnId(number_at(words, 1)))?;
-            shown(alloc, text.as_slice())?
+            escaped(alloc, text.as_slice(), b' ')?
         }
         "length" => {
             let text = term_text(&work.store, FnId(number_at(words, 1)))?;
@@ -175,7 +175,7 @@ fn address_text(alloc: Global, address: Option<u64>) -> Result<String, NoMemory>
 /// `new_text MEMORY HEX`
 fn text_static(work: &mut Work, words: &[&str]) -> Result<String, NoMemory> {
     let alloc = work.store.allocator();
-    let bytes = bytes_of(alloc, word_at(words, 2))?;
+    let bytes = hexadecimal_bytes(alloc, word_at(words, 2))?;
     let address = work.store.text_static(&bytes, memory_at(words, 1))?;
     address_text(alloc, address)
 }
@@ -183,7 +183,7 @@ fn text_static(work: &mut Work, words: &[&str]) -> Result<String, NoMemory> {
 /// `new_global MEMORY HEX`
 fn global(work: &mut Work, words: &[&str]) -> Result<String, NoMemory> {
     let alloc = work.store.allocator();
-    let bytes = Bytes::from_vec(bytes_of(alloc, word_at(words, 2))?);
+    let bytes = Bytes::from_vec(hexadecimal_bytes(alloc, word_at(words, 2))?);
     let id = work
         .store
         .new_global(TypeId(2), bytes, memory_at(words, 1))?;
@@ -201,11 +201,11 @@ fn global(work: &mut Work, words: &[&str]) -> Result<String, NoMemory> {
 fn kept(work: &mut Work, words: &[&str]) -> Result<String, NoMemory> {
     let alloc = work.store.allocator();
     let name = TextId(number_at(words, 1));
-    let bytes = bytes_of(alloc, word_at(words, 2))?;
+    let bytes = hexadecimal_bytes(alloc, word_at(words, 2))?;
     if let Some(text) = Text::new(alloc, &bytes)? {
         work.store.keep_name(name, text)?;
     }
-    shown(alloc, work.store.name(name))
+    escaped(alloc, work.store.name(name), b' ')
 }
 
 /// `pointer TYPE`, `array TYPE COUNT` of a type that is there, or `struct`
@@ -272,7 +272,7 @@ fn held(work: &Work, words: &[&str]) -> Result<String, NoMemory> {
 /// `chain COUNT`: so many negations of the last node
 fn chain(work: &mut Work, words: &[&str]) -> Result<Option<String>, NoMemory> {
     let mut last = None;
-    for _ in 0..count_at(words, 1) {
+    for _ in 0..short_count_at(words, 1) {
         last = crate::building::node(work, "neg", words)?;
     }
     Ok(last)
@@ -281,7 +281,7 @@ fn chain(work: &mut Work, words: &[&str]) -> Result<Option<String>, NoMemory> {
 /// `double COUNT`: so many sums of the last node and itself, which no function has
 fn doubled(work: &mut Work, words: &[&str]) -> Result<Option<String>, NoMemory> {
     let mut last = crate::building::leaf(work, "nil", words)?;
-    for _ in 0..count_at(words, 1) {
+    for _ in 0..short_count_at(words, 1) {
         let node = work.pop();
         work.stack.push(node)?;
         work.stack.push(node)?;

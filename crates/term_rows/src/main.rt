@@ -7,13 +7,12 @@
 mod building;
 mod doing;
 mod keeping;
-mod words;
 
 use building::Work;
+use row_words::word_at;
 use terra_term::Store;
 use terra_types::Types;
 use tl_base::NoMemory;
-use words::word_at;
 
 fn main(rt: HostRuntime) -> anyhow::Result<()> {
     let alloc = rt.alloc();

@@ -1,6 +1,6 @@
 // What comes of a row.
 
-use crate::rows::Row;
+use row_words::SourceRow;
 use std::alloc::Global;
 use terra_stage::{End, Terms, stage_terms};
 use tl_base::{Bytes, NoMemory};
@@ -11,7 +11,7 @@ use tl_parse::{SyntaxError, parse};
 const MEMORY: u64 = 1_048_576;
 
 /// What comes of a row, behind a line with its name.
-pub fn answer(alloc: Global, row: &Row) -> Result<Bytes, NoMemory> {
+pub fn answer(alloc: Global, row: &SourceRow) -> Result<Bytes, NoMemory> {
     let mut out = Bytes::new(alloc);
     let name = row.name.as_str();
     let line = format!(in alloc; "== {name}\n")?;

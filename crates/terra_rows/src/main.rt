@@ -6,10 +6,9 @@
 #![tactic(auto)]
 
 mod answers;
-mod rows;
 
 use answers::answer;
-use rows::Row;
+use row_words::SourceRow;
 use std::io::Write;
 
 fn main(rt: HostRuntime) -> anyhow::Result<()> {
@@ -21,7 +20,7 @@ fn main(rt: HostRuntime) -> anyhow::Result<()> {
             if let Some(row) = &last {
                 rt.stdout().write_all(answer(alloc, row)?.as_slice())?;
             }
-            last = Some(Row::new(alloc, head)?);
+            last = Some(SourceRow::new(alloc, head)?);
         } else if let Some(row) = &mut last {
             row.push_line(line.as_str())?;
         }

@@ -1,6 +1,7 @@
 // Rows that make a call.
 
-use crate::texts::{count_at, numbers_of, shown, word_at};
+use crate::texts::{count_at, numbers_of, shown};
+use row_words::word_at;
 use std::alloc::Global;
 use terrac_call::terrac;
 use tl_base::{MemSink, MemSource, NoMemory};

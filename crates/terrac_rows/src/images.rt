@@ -1,7 +1,8 @@
 // Rows that make images, whose numbers are hexadecimal.
 
-use crate::texts::{codes_of, number_of, word_at, words_of};
+use crate::texts::codes_of;
 use elf_image::{Image, Symbol, Symbols, Words, is_lawful, write};
+use row_words::{hexadecimal, word_at, words_of};
 use std::alloc::Global;
 use tl_base::{Bytes, NoMemory};
 
@@ -33,9 +34,9 @@ impl ImageRows {
         let alloc = self.alloc;
         self.image.exports.push(Symbol {
             name: Bytes::from_vec(word_at(words, 0).as_bytes().to_vec(alloc)?),
-            address: number_of(word_at(words, 1)),
+            address: hexadecimal(word_at(words, 1)),
             params: Bytes::from_vec(codes_of(alloc, word_at(words, 3))?),
-            result: (number_of(word_at(words, 2)) & 0xff) as u8,
+            result: (hexadecimal(word_at(words, 2)) & 0xff) as u8,
         })?;
         Ok(String::from_str(alloc, "added")?)
     }

@@ -11,9 +11,10 @@ mod texts;
 
 use calls::Faults;
 use images::ImageRows;
+use row_words::unescaped;
 use sources::SourceRows;
 use std::alloc::Global;
-use texts::{bytes_of, count_at};
+use texts::count_at;
 use tl_base::NoMemory;
 
 fn main(rt: HostRuntime) -> anyhow::Result<()> {
@@ -62,7 +63,7 @@ impl Bench {
         };
         let words: Vec<&str> = rest.split_whitespace().collect(alloc)?;
         match word {
-            "source" => self.sources.replace(bytes_of(alloc, rest)?),
+            "source" => self.sources.replace(unescaped(alloc, rest)?),
             "more" => self.sources.more(&words),
             "image" => self.images.begin(&words),
             "export" => self.images.export(&words),

@@ -1,6 +1,7 @@
 // Rows that make sources.
 
-use crate::texts::{bytes_of, count_at, word_at};
+use crate::texts::count_at;
+use row_words::{unescaped, word_at};
 use std::alloc::Global;
 use tl_base::NoMemory;
 
@@ -33,7 +34,7 @@ impl SourceRows {
 
     /// `more COUNT TEXT`: a text so many times at its end.
     pub fn more(&mut self, words: &[&str]) -> Result<String, NoMemory> {
-        let part = bytes_of(self.alloc, word_at(words, 1))?;
+        let part = unescaped(self.alloc, word_at(words, 1))?;
         for _ in 0..count_at(words, 0) {
             self.bytes.extend_from_slice(&part)?;
         }

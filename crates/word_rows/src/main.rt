@@ -5,6 +5,7 @@
 
 ghost use Rattle.std.specs.Prelude.{◌≤◌};
 
+use row_words::{number_at, operator_of, word_at};
 use std::alloc::Global;
 use terra_words::{BinaryOperator, Width};
 use tl_base::NoMemory;
@@ -20,19 +21,6 @@ fn main(rt: HostRuntime) -> anyhow::Result<()> {
         println!(rt; "{row} = {answer}")?;
     }
     Ok(())
-}
-
-/// A word of a row, and the empty one past the end.
-fn word_at<'a>(words: &[&'a str], place: usize) -> &'a str {
-    match words.get(place) {
-        Some(word) => *word,
-        None => "",
-    }
-}
-
-/// A number that a word writes, and 0 where it writes none.
-fn number_at(words: &[&str], place: usize) -> u64 {
-    word_at(words, place).parse::<u64>().unwrap_or(0)
 }
 
 /// A width of at most 64 bits.
@@ -56,7 +44,7 @@ fn answer(alloc: Global, words: &[&str]) -> Result<String, NoMemory> {
         "wrap" => return shown(alloc, wrap(width, u128::from(x))),
         "/" => return divided(alloc, BinaryOperator::Divide, width, x, y),
         "%" => return divided(alloc, BinaryOperator::Modulo, width, x, y),
-        word => plain_operator(word),
+        word => operator_of(word),
     };
     match operator {
         BinaryOperator::Divide => shown(alloc, 0),
@@ -82,24 +70,4 @@ fn divided(
 
 fn shown(alloc: Global, word: u64) -> Result<String, NoMemory> {
     Ok(format!(in alloc; "{word}")?)
-}
-
-/// An operator that isn't a division.
-fn plain_operator(word: &str) -> BinaryOperator {
-    match word {
-        "-" => BinaryOperator::Subtract,
-        "*" => BinaryOperator::Multiply,
-        "^" => BinaryOperator::Xor,
-        "and" => BinaryOperator::And,
-        "or" => BinaryOperator::Or,
-        "<<" => BinaryOperator::ShiftLeft,
-        ">>" => BinaryOperator::ShiftRight,
-        "==" => BinaryOperator::Equal,
-        "~=" => BinaryOperator::NotEqual,
-        "<" => BinaryOperator::Less,
-        "<=" => BinaryOperator::LessEqual,
-        ">" => BinaryOperator::Greater,
-        ">=" => BinaryOperator::GreaterEqual,
-        _ => BinaryOperator::Add,
-    }
 }

@@ -1,21 +1,21 @@
-// Rows: a source with its units and its name.
+// Rows that are sources, with their units and names.
 
 use std::alloc::Global;
 use tl_base::NoMemory;
 
 /// A source, with the units that it is given and what it shows.
 #[derive(Debug, Drop)]
-pub struct Row {
+pub struct SourceRow {
     pub units: u64,
     pub name: String,
     pub source: String,
 }
 
-impl Row {
+impl SourceRow {
     /// The row of a line `UNITS NAME`, without a source.
-    pub fn new(alloc: Global, head: &str) -> Result<Row, NoMemory> {
+    pub fn new(alloc: Global, head: &str) -> Result<SourceRow, NoMemory> {
         let (units, name) = head.split_once(' ').unwrap_or((head, ""));
-        Ok(Row {
+        Ok(SourceRow {
             units: units.parse::<u64>().unwrap_or(0),
             name: String::from_str(alloc, name)?,
             source: String::new(alloc),
