@@ -46,6 +46,7 @@
 #![tactic(auto)]
 
 pub mod assignments;
+pub mod callees;
 pub mod calling;
 pub mod calls;
 pub mod cells;

@@ -16,8 +16,9 @@ ghost use Rattle.lua_eval.specs.Frames.{lua_rules, with_one, with_all, next_turn
 ghost use Rattle.lua_eval.specs.Steps.{Goes};
 
 use crate::assignments::{define_name, stores, targets, with_target};
+use crate::callees::with_call;
 use crate::calls::{call, call_closure, statements};
-use crate::expressions::{node, with_call, with_value};
+use crate::expressions::{node, with_value};
 use crate::fields::{read, store};
 use crate::frame::{AllFrame, LuaFrame, OneFrame, TurnFrame, ValueFrame};
 use crate::lists::{list, with_list};

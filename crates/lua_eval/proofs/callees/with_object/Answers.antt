@@ -13,7 +13,7 @@ use Rattle.lua_eval.proofs.AtOnce.{named_behind}
 use Rattle.lua_eval.proofs.Below.{moved}
 use Rattle.lua_eval.proofs.Ended.{plan_never_gains}
 use Rattle.lua_eval.proofs.Passing.{if-ok}
-use Rattle.lua_eval.proofs.expressions.with_object.Goals as goal
+use Rattle.lua_eval.proofs.callees.with_object.Goals as goal
 
 pub spend-requires : goal.spend-requires
 spend-requires c =

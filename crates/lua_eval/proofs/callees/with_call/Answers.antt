@@ -6,7 +6,7 @@ use Rattle.lua_eval.specs.declared.frame.Then.TheVariants as thens
 use Rattle.lua_eval.specs.Frames.{list_plan}
 use Rattle.lua_eval.proofs.Below.{moved}
 use Rattle.lua_eval.proofs.Passing.{if-ok}
-use Rattle.lua_eval.proofs.expressions.with_call.Goals as goal
+use Rattle.lua_eval.proofs.callees.with_call.Goals as goal
 
 pub returns-in-Function-clause-means : goal.returns-in-Function-clause-means
 returns-in-Function-clause-means c =
