@@ -3,7 +3,10 @@ use Rattle.std.proofs.Common.{◌≡◌, ℕ, zero, suc, ◌+◌, ◌<◌, ◌�
 use Rattle.std.proofs.Common.{subst, append_assoc, arith}
 use Rattle.std.proofs.lemmas.List.{length-drop, length-take-le, take-append-drop, drop_at}
 use Rattle.tl_lex.specs.Fronts.{front_of}
-use Rattle.tl_lex.specs.Answers.{Token, Answer, token_at, position_behind, answers_at, answers_behind, first_line_len, answers_of}
+use Rattle.tl_lex.specs.Answers.{Token, Answer, Position, token_at, position_behind, answers_at, answers_behind, first_line_len, answers_of}
+use Rattle.tl_lex.specs.LineEnds.{line_ends}
+use Rattle.tl_lex.specs.Lexing.{answers_from, answers_left, behind, counted, counted_at, position_of}
+use Rattle.tl_lex.specs.declared.lexer.Lexer as lexers
 use Rattle.tl_lex.specs.Tokens.{is_token}
 use Rattle.tl_lex.specs.Laws.{Goes, Divides, HasOneDivision, IsToken, EndsOnce, AreSlices, IsLongestToken}
 use Rattle.tl_lex.specs.declared.TokenKind.{TokenKind}
@@ -84,6 +87,24 @@ pub ends_once : (text : List ℕ) → EndsOnce (answers_of text)
 unfolding answers_of
 ends_once text =
     ends_behind (length text + 1) (take (first_line_len text) text) [] (drop (first_line_len text) text) (omega (arith, length-drop (first_line_len text) text))
+
+ends_counted : (n : ℕ) (bytes : List ℕ) (at : Position) → length bytes < n → EndsOnce (counted n bytes at)
+ends_counted zero bytes at lt = absurd (omega arith)
+ends_counted (suc n) bytes at lt = go (front_of bytes) refl (front_fine bytes) (ends_counted n)
+  where
+    go : (f : Front) → front_of bytes ≡ f → Fine bytes f → ((b : List ℕ) (p : Position) → length b < n → EndsOnce (counted n b p)) → EndsOnce (counted_at f bytes at (counted n))
+    go fronts.End e fine ih = refl
+    go (fronts.Refusal w) e fine ih = tt
+    go (fronts.Blank k) e fine ih =
+        ih (drop k bytes) (behind at k (line_ends (take k bytes)) 0) (omega (arith, length-drop k bytes, fine.some, fine.within))
+    go (fronts.Lexeme kind k) e fine ih =
+        ends_cons (Ok (token_at kind (take k bytes) at)) (counted n (drop k bytes) (behind at k (line_ends (take k bytes)) 1)) (never_end_token bytes kind k e)
+        (ih (drop k bytes) (behind at k (line_ends (take k bytes)) 1) (omega (arith, length-drop k bytes, fine.0.some, fine.0.within)))
+
+-- the same of what a lexer has before it, wherever that stands
+pub ends_left : (l : lexers.Lexer) → EndsOnce (answers_left l)
+unfolding answers_from
+ends_left l = ends_counted (length l.rest.now + 1) l.rest.now (position_of l) (omega arith)
 
 -- the bytes at the front of what is left are a slice of the text
 slice_is : (text passed bytes : List ℕ) (k : ℕ) → k ≤ length bytes → passed ++ bytes ≡ text → take k bytes ≡ take (length (take k bytes)) (drop (length passed) text)

@@ -15,7 +15,7 @@ use Rattle.tl_tree.specs.Forms.{sign, opening, name, Chained, chained, chain, op
 use Rattle.tl_tree.specs.LuaExpressions as lua
 use Rattle.tl_tree.proofs.Unrolling.{bind_again}
 use Rattle.tl_parse.specs.Using.{reading, part_at, used, sign_at, open_at, prefix_at, raise_at, number_at}
-use Rattle.tl_parse.specs.Expressions.{name_at, paren_at, base_at, method_arguments_at, applied_at, suffixes_at, prefixed_at, number_tree_at, literal_at, constant, constant_at, function_at, table_at, simple_at, is_simple, primary_at, right_at, power_at, unary_at, inner_of, more_at, ranks_at, binary_at, chained_at, is_name, field_behind_at, keyed_field_at, field_at}
+use Rattle.tl_parse.specs.Expressions.{name_at, paren_at, base_at, method_arguments_at, listed_arguments_at, table_argument_at, applied_at, suffixes_at, prefixed_at, number_tree_at, literal_at, constant, constant_at, function_at, table_at, simple_at, is_simple, primary_at, right_at, power_at, unary_at, inner_of, more_at, ranks_at, binary_at, chained_at, is_name, field_behind_at, keyed_field_at, field_at}
 pub use Rattle.tl_parse.proofs.Following.{sign_then, opened_then, open_then, then, either_is}
 use Rattle.tl_parse.proofs.TerraCodeAgreeing.{terra_code_agrees}
 use Rattle.tl_parse.specs.TerraCode.{terra_code_at}
@@ -40,7 +40,7 @@ base_agrees levels m ts =
     (paren_agrees levels m ts) (then levels name (λ n. give (chained n chain shapes.Name)) (λ us. name_at us) (λ n rest. Took (chained n chain shapes.Name) rest) (λ us. name_agrees levels us) (λ n us. refl) ts)
 
 pub method_arguments_agree : (levels : ℕ) (m : Mode) (ts : List Token) → reading levels (lua.arguments m) ts ≡ method_arguments_at levels m ts
-unfolding method_arguments_at
+unfolding method_arguments_at listed_arguments_at table_argument_at
 method_arguments_agree levels m ts =
     either_is (begins (is symbols.OpenParen) ts) (reading levels (bind (opening symbols.OpenParen (Arguments m)) λ x. bind (sign symbols.CloseParen) λ y. give x.1) ts) (cond (begins (is symbols.OpenBrace) ts) (reading levels with_table ts) (reading levels with_text ts))
     (open_at symbols.OpenParen levels ts >>= λ t a. part_at (levels - 1) (Arguments m) a >>= λ x b. sign_at symbols.CloseParen b >>= λ y rest. Took x rest) _

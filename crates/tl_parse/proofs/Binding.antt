@@ -34,7 +34,6 @@ binding_first levels end m left start now a t =
           ap (λ (o : Outcome Chained). o >>= λ b rest. ranks_at levels end 0 m b rest) t.took
           ∙ begins_on levels end m (chained t.tree a.left a.shape) (tokens_left now);
       finish = t.finish;
-      ready = t.ready;
       items = t.items;
       is_last = t.is_last;
     }
@@ -74,7 +73,6 @@ binding_next levels from back end rank m start now mid new o a b r x most some s
           ∙ ap (λ (shape : Shape). ranks_at levels (end - rank_behind rank) (rank_behind rank) m (chained made r.left shape) (tokens_left new)) (sym j.shape)
           ∙ ap (λ (k : ℕ). ranks_at levels (end - k) k m (chained made r.left r.shape) (tokens_left new)) (sym behind);
       finish = j.pushed.finish ∙ t.finish ∙ i.finish;
-      ready = j.pushed.ready t.ready;
       items = joined_items start now mid new x i.tree t.tree a b r i.items i.is_last t.items t.is_last j;
       is_last = j.pushed.is_last;
     }
@@ -98,7 +96,6 @@ binding_ends levels from end m start now o a most none i =
       tree = i.tree;
       took = i.goes_on ∙ climbs_end levels from end m (chained i.tree a.left a.shape) (tokens_left now) most none;
       finish = i.finish;
-      ready = i.ready;
       items = i.items;
       is_last = i.is_last;
     }

@@ -12,6 +12,7 @@ use Rattle.tl_lex.specs.Answers as answers
 use Rattle.tl_lex.specs.Lexing.{answers_left, answer_of, behind_first}
 use Rattle.tl_lex.specs.Lexing as lexing
 use Rattle.tl_lex.specs.Laws.{EndsOnce, IsToken, IsLast}
+use Rattle.tl_lex.proofs.LawLemmas.{ends_left}
 use Rattle.tl_tree.specs.declared.symbol.Symbol.{Symbol}
 use Rattle.tl_tree.specs.declared.symbol.Symbol.TheVariants as symbols
 use Rattle.tl_tree.specs.Symbols.{number_of, is_bad, has, spelling, written, words, signs, last_bytes, symbol_of}
@@ -19,15 +20,18 @@ use Rattle.tl_tree.specs.Tokens as tokens
 use Rattle.tl_tree.specs.Tokens.{Token, among, is, tokens_in, place_of}
 use Rattle.tl_tree.specs.Grammar.{begins, is_of, blame}
 use Rattle.tl_tree.specs.Nodes.{item_of}
-use Rattle.tl_parse.specs.Parsing.{token_of, with_token, unless_bad, tokens_left, end_of, Ready, items_of, blame_of, HasNext}
+use Rattle.tl_parse.specs.Parsing.{token_of, with_token, unless_bad, tokens_left, end_of, items_of, blame_of, HasNext}
 use Rattle.tl_tree.specs.declared.mode.Mode.{Mode}
 use Rattle.tl_tree.specs.declared.mode.Mode.TheVariants as modes
 use Rattle.tl_tree.specs.LuaExpressions.{is_suffix, suffix_symbols, stays, is_varargs}
 use Rattle.tl_parse.specs.Expressions.{is_types, is_variadic}
 use Rattle.tl_parse.specs.Parsing.{with_token_by}
-use Rattle.tl_parse.specs.Looking.{is_end, IsNext, Advanced, BeginsAt}
+use Rattle.tl_parse.specs.Looking.{IsNext, Advanced, BeginsAt}
+use Rattle.tl_parse.specs.Using.{is_end}
 use Rattle.tl_parse.specs.declared.parser.Parser.{Parser}
 use Rattle.tl_parse.specs.declared.parser.Next as code
+use Rattle.tl_parse.specs.declared.error.SyntaxError.TheVariants as errors
+use Rattle.tl_lex.specs.declared.SyntaxKind.TheVariants as why
 
 -- ---- no token of the lexer is bad
 
@@ -78,7 +82,6 @@ not_bad kinds.End text = refl
 pub record Looked (xs : List Answer) (next : code.Next) : Type 0 where
   pub tokens : (tokens_in xs).tokens ≡ with_token next.is_end (token_of next) (tokens_in (behind_first xs)).tokens
   pub finish : (tokens_in (behind_first xs)).finish ≡ (tokens_in xs).finish
-  pub once : EndsOnce (behind_first xs)
   pub place : next.is_end ≡ true → next.place ≡ (tokens_in xs).finish
 
 at_end : (k : TokenKind) (t : answers.Token) (x : tokens.Tokens) → k ≡ kinds.End → tokens.put_answer k t x ≡ record { tokens = []; finish = t.place }
@@ -104,7 +107,6 @@ last_ok t next k same e =
     record {
       tokens = ap (λ (x : tokens.Tokens). x.tokens) here ∙ sym (ap (λ (b : Bool). with_token b (token_of next) (tokens_in (Ok t ∷ [])).tokens) true-end);
       finish = refl;
-      once = k;
       place = λ h. ap (λ (x : Token). x.place) same ∙ sym (ap (λ (x : tokens.Tokens). x.finish) here);
     }
 
@@ -113,7 +115,6 @@ last_err e next same none =
     record {
       tokens = sym (ap (λ (b : Bool). with_token b (token_of next) (tokens_in (Err e ∷ [])).tokens) none ∙ ap (λ (x : Token). unless_bad (is_bad x.symbol) x (tokens_in (Err e ∷ [])).tokens) same);
       finish = refl;
-      once = tt;
       place = λ h. absurd (let c : false ≡ true = sym none ∙ h in cc);
     }
 
@@ -126,7 +127,6 @@ first_ok t b more next k once same e =
       tokens = ap (λ (x : tokens.Tokens). x.tokens) here
           ∙ sym (ap (λ (c : Bool). with_token c (token_of next) rest) none ∙ ap (λ (x : Token). unless_bad (is_bad x.symbol) x rest) same ∙ ap (λ (c : Bool). unless_bad c (tokens.token_of t) rest) (not_bad t.kind t.text));
       finish = sym (ap (λ (x : tokens.Tokens). x.finish) here);
-      once = once;
       place = λ h. absurd (let c : false ≡ true = sym none ∙ h in cc);
     }
 
@@ -144,15 +144,20 @@ looked (a ∷ b ∷ more) (Ok u) next once e is =
 looked (a ∷ b ∷ more) (Err u) next once e is =
     let same : Err u ≡ a = cc in absurd (subst (λ (x : Answer). IsToken x) (sym same) once.0)
 
+-- behind an answer, where that was the end, the end is where the text ends
+pub ends_there : (before after : lexers.Lexer) (r : Result lexed.Token LexError) (next : code.Next) → slice_get (answers_left before) 0 ≡ Some (answer_of r) → answers_left after ≡ behind_first (answers_left before) → IsNext r next → next.is_end ≡ true → next.place ≡ (tokens_in (answers_left after)).finish
+ends_there before after r next first rest is h =
+    let l : Looked (answers_left before) next = looked (answers_left before) r next (ends_left before) first is in
+    l.place h ∙ sym (ap (λ (x : List Answer). (tokens_in x).finish) rest ∙ l.finish)
+
 -- the parser at the beginning
-pub begins_at : (text : List ℕ) (before : lexers.Lexer) (p : Parser) (r : Result lexed.Token LexError) → EndsOnce (answers_of text) → answers_left before ≡ answers_of text → slice_get (answers_left before) 0 ≡ Some (answer_of r) → answers_left p.lexer ≡ behind_first (answers_left before) → IsNext r p.current → p.nodes.items ≡ [] → BeginsAt text p
-unfolding tokens_left end_of Ready items_of
-begins_at text before p r once same first rest is none =
-    let l : Looked (answers_left before) p.current = looked (answers_left before) r p.current (subst (λ (x : List Answer). EndsOnce x) (sym same) once) first is in
+pub begins_at : (text : List ℕ) (before : lexers.Lexer) (p : Parser) (r : Result lexed.Token LexError) → answers_left before ≡ answers_of text → slice_get (answers_left before) 0 ≡ Some (answer_of r) → answers_left p.lexer ≡ behind_first (answers_left before) → IsNext r p.current → p.nodes.items ≡ [] → BeginsAt text p
+unfolding tokens_left end_of items_of
+begins_at text before p r same first rest is none =
+    let l : Looked (answers_left before) p.current = looked (answers_left before) r p.current (ends_left before) first is in
     record {
       tokens = ap (λ (x : List Answer). with_token p.current.is_end (token_of p.current) (tokens_in x).tokens) rest ∙ sym l.tokens ∙ ap (λ (x : List Answer). (tokens_in x).tokens) same;
       finish = ap (λ (x : List Answer). (tokens_in x).finish) rest ∙ l.finish ∙ ap (λ (x : List Answer). (tokens_in x).finish) same;
-      ready = (subst (λ (x : List Answer). EndsOnce x) (sym rest) l.once, λ h. l.place h ∙ sym (ap (λ (x : List Answer). (tokens_in x).finish) rest ∙ l.finish));
       items = ap (λ (x : _). map item_of x) none;
     }
 
@@ -165,16 +170,15 @@ has_next false b t ts s h = go b s (is_bad t.symbol) refl h
     go b s false g h = ap (λ (x : Bool). unless_bad x t ts) (sym g)
 
 -- the next token is taken
-pub advanced : (old new : Parser) (t : code.Next) (r : Result lexed.Token LexError) → HasNext (tokens_left old) → Ready old → slice_get (answers_left old.lexer) 0 ≡ Some (answer_of r) → answers_left new.lexer ≡ behind_first (answers_left old.lexer) → IsNext r new.current → t ≡ old.current → new.nodes ≡ old.nodes → Advanced old new t
-unfolding tokens_left end_of Ready items_of
-advanced old new t r next ready first rest is same nodes =
-    let l : Looked (answers_left old.lexer) new.current = looked (answers_left old.lexer) r new.current ready.0 first is in
+pub advanced : (old new : Parser) (t : code.Next) (r : Result lexed.Token LexError) → HasNext (tokens_left old) → slice_get (answers_left old.lexer) 0 ≡ Some (answer_of r) → answers_left new.lexer ≡ behind_first (answers_left old.lexer) → IsNext r new.current → t ≡ old.current → new.nodes ≡ old.nodes → Advanced old new t
+unfolding tokens_left end_of items_of
+advanced old new t r next first rest is same nodes =
+    let l : Looked (answers_left old.lexer) new.current = looked (answers_left old.lexer) r new.current (ends_left old.lexer) first is in
     let ts : List Token = (tokens_in (answers_left old.lexer)).tokens in
     let new-ts : ts ≡ tokens_left new = l.tokens ∙ sym (ap (λ (x : List Answer). with_token new.current.is_end (token_of new.current) (tokens_in x).tokens) rest) in
     record {
       tokens = has_next old.current.is_end (is_bad old.current.symbol) (token_of old.current) ts refl next ∙ ap (λ (x : List Token). token_of old.current ∷ x) new-ts ∙ ap (λ (x : code.Next). token_of x ∷ tokens_left new) (sym same);
       finish = ap (λ (x : List Answer). (tokens_in x).finish) rest ∙ l.finish;
-      ready = (subst (λ (x : List Answer). EndsOnce x) (sym rest) l.once, λ h. l.place h ∙ sym (ap (λ (x : List Answer). (tokens_in x).finish) rest ∙ l.finish));
       items = ap (λ (x : _). map item_of x.items) nodes;
     }
 
@@ -277,10 +281,17 @@ begins_varargs _ ts = never ts
         go true = refl
         go false = refl
 
+-- the refusal of the end
+pub refuses_end : (p : Parser) → p.current.is_end ≡ true → errors.Refused why.Unexpected p.current.place ≡ errors.Refused (blame_of (tokens_left p)) (place_of (tokens_left p) (end_of p))
+unfolding tokens_left end_of lexing.answers_from
+refuses_end p h =
+    ap (λ (x : Place). errors.Refused why.Unexpected x) (p.ends h)
+    ∙ sym (ap (λ (e : Bool). errors.Refused (blame_of (with_token e (token_of p.current) (tokens_in (answers_left p.lexer)).tokens)) (place_of (with_token e (token_of p.current) (tokens_in (answers_left p.lexer)).tokens) (tokens_in (answers_left p.lexer)).finish)) h)
+
 -- where no token is left, the parser is at the end
-pub finish_is : (p : Parser) → Ready p → tokens_left p ≡ [] → p.current.place ≡ end_of p
-unfolding tokens_left Ready
-finish_is p r h = go p.current.is_end (is_bad p.current.symbol) r.1 h
+pub finish_is : (p : Parser) → tokens_left p ≡ [] → p.current.place ≡ end_of p
+unfolding tokens_left end_of lexing.answers_from
+finish_is p h = go p.current.is_end (is_bad p.current.symbol) p.ends h
   where
     go : (e b : Bool) → (e ≡ true → p.current.place ≡ end_of p) → with_token_by e b (token_of p.current) (tokens_in (answers_left p.lexer)).tokens ≡ [] → p.current.place ≡ end_of p
     go true b r h = r refl

@@ -13,7 +13,7 @@ use Rattle.tl_tree.specs.Nodes.{laid, last_of}
 use Rattle.tl_tree.specs.Grammar.{Outcome, Took, ◌>>=◌, begins}
 use Rattle.tl_tree.specs.Forms.{Chained, chained}
 use Rattle.tl_tree.specs.LuaStatements.{fresh, body_mode, Parameters, parameters_of}
-use Rattle.tl_parse.specs.Parsing.{tokens_left, items_of, end_of, Ready, Fails, TookList}
+use Rattle.tl_parse.specs.Parsing.{tokens_left, items_of, end_of, Fails, TookList}
 use Rattle.tl_parse.specs.Using.{part_at, sign_at}
 use Rattle.tl_parse.specs.Expressions.{name_at, applied_at}
 use Rattle.tl_parse.specs.Statements.{first_place, is_call, more_targets_at, next_target_at, values_at, call_or_assignment_at, numeric_at}
@@ -25,25 +25,23 @@ use Rattle.tl_parse.specs.declared.parser.Parser.{Parser}
 use Rattle.tl_parse.proofs.Failing.{fails_bind, fails_from}
 use Rattle.tl_parse.proofs.StatementTurns.{targets_go, names_go, body_part}
 
-pub listing_first : (start now : Parser) (o : Outcome Tree) (more : Tree → List Token → Outcome Tree) (e : Tree) (n : NodeId) (numbers : List NodeId) → o ≡ more (More Nothing e) (tokens_left now) → end_of now ≡ end_of start → Ready now → items_of now ≡ (laid e (items_of start)).items → n ≡ last_of (items_of now) → numbers ≡ n ∷ [] → Listing start now o more numbers
-listing_first start now o more e n numbers goes finish ready items is_last list =
+pub listing_first : (start now : Parser) (o : Outcome Tree) (more : Tree → List Token → Outcome Tree) (e : Tree) (n : NodeId) (numbers : List NodeId) → o ≡ more (More Nothing e) (tokens_left now) → end_of now ≡ end_of start → items_of now ≡ (laid e (items_of start)).items → n ≡ last_of (items_of now) → numbers ≡ n ∷ [] → Listing start now o more numbers
+listing_first start now o more e n numbers goes finish items is_last list =
     record {
       tree = More Nothing e;
       goes_on = goes;
       finish = finish;
-      ready = ready;
       items = items;
       list = list ∙ ap (λ (x : NodeId). x ∷ []) (is_last ∙ ap (λ (i : List Item). last_of i) items);
     }
 
-pub listing_next : (start now new : Parser) (o : Outcome Tree) (more : Tree → List Token → Outcome Tree) (e : Tree) (n : NodeId) (numbers longer : List NodeId) (s : Listing start now o more numbers) → more s.tree (tokens_left now) ≡ more (More s.tree e) (tokens_left new) → end_of new ≡ end_of now → Ready new → items_of new ≡ (laid e (items_of now)).items → n ≡ last_of (items_of new) → longer ≡ numbers ++ n ∷ [] → Listing start new o more longer
-listing_next start now new o more e n numbers longer s goes finish ready items is_last list =
+pub listing_next : (start now new : Parser) (o : Outcome Tree) (more : Tree → List Token → Outcome Tree) (e : Tree) (n : NodeId) (numbers longer : List NodeId) (s : Listing start now o more numbers) → more s.tree (tokens_left now) ≡ more (More s.tree e) (tokens_left new) → end_of new ≡ end_of now → items_of new ≡ (laid e (items_of now)).items → n ≡ last_of (items_of new) → longer ≡ numbers ++ n ∷ [] → Listing start new o more longer
+listing_next start now new o more e n numbers longer s goes finish items is_last list =
     let all : items_of new ≡ (laid e (laid s.tree (items_of start)).items).items = items ∙ ap (λ (i : List Item). (laid e i).items) s.items in
     record {
       tree = More s.tree e;
       goes_on = s.goes_on ∙ goes;
       finish = finish ∙ s.finish;
-      ready = ready;
       items = all;
       list = list ∙ ap (λ (x : NodeId). numbers ++ x ∷ []) (is_last ∙ ap (λ (i : List Item). last_of i) all) ∙ ap (λ (ns : List NodeId). ns ++ last_of (laid e (laid s.tree (items_of start)).items).items ∷ []) s.list;
     }
@@ -58,7 +56,7 @@ listing_stops start now o more numbers s x f e goes h = listing_fails start now 
 
 -- a list that no more tree follows
 pub listing_ends : (start now : Parser) (o : Outcome Tree) (more : Tree → List Token → Outcome Tree) (numbers : List NodeId) (s : Listing start now o more numbers) → more s.tree (tokens_left now) ≡ Took s.tree (tokens_left now) → TookList start now o numbers
-listing_ends start now o more numbers s goes = record { tree = s.tree; took = s.goes_on ∙ goes; finish = s.finish; ready = s.ready; items = s.items; list = s.list }
+listing_ends start now o more numbers s goes = record { tree = s.tree; took = s.goes_on ∙ goes; finish = s.finish; items = s.items; list = s.list }
 
 -- the numbers of one more tree
 pub numbers_next : (start now new : Parser) (tree e : Tree) (n : NodeId) (numbers longer : List NodeId) → items_of now ≡ (laid tree (items_of start)).items → numbers ≡ (laid tree (items_of start)).numbers → items_of new ≡ (laid e (items_of now)).items → n ≡ last_of (items_of new) → longer ≡ numbers ++ n ∷ [] →

@@ -41,7 +41,7 @@ within p h small = go p.current.is_end (is_bad p.current.symbol) h
     go false false h = number_use (token_of p.current) ts false small ∙ sym (plain_use (token_of p.current) ts)
 
 pub taken_number : (old new : Parser) (t : code.Next) → begins (is symbols.Numeral) (tokens_left old) ≡ true → nat_lt largest_lua (value_of old.current.text.now) ≡ false → Uses false 0 Plain old new t → TookToken old new (used (is symbols.Numeral) false 0 LuaNumber (tokens_left old)) t
-taken_number old new t h small u = record { took = within old h small ∙ u.took (is symbols.Numeral) h; finish = u.finish; ready = u.ready; items = u.items }
+taken_number old new t h small u = record { took = within old h small ∙ u.took (is symbols.Numeral) h; finish = u.finish; items = u.items }
 
 pub too_large : (p : Parser) → begins (is symbols.Numeral) (tokens_left p) ≡ true → nat_lt largest_lua (value_of p.current.text.now) ≡ true → Fails p (used (is symbols.Numeral) false 0 LuaNumber (tokens_left p)) (errors.Refused why.BadNumber p.current.place)
 unfolding tokens_left

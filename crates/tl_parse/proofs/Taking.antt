@@ -17,7 +17,8 @@ use Rattle.tl_tree.specs.Grammar.{Took, Stop, begins, is_of, blame, unless, is_n
 use Rattle.tl_parse.specs.Parsing.{token_of, with_token_by, tokens_left, end_of, blame_of, Refuses, Stops, Fails, HasNext, TookToken}
 use Rattle.tl_parse.specs.Looking.{Advanced}
 use Rattle.tl_parse.specs.Using.{barred, used, is_number}
-use Rattle.tl_parse.specs.Taking.{bar_of, barred_next, Uses, Barred}
+use Rattle.tl_parse.specs.Taking.{barred_next, Uses, Barred}
+use Rattle.tl_parse.specs.Using.{bar_of}
 use Rattle.tl_parse.specs.declared.error.SyntaxError.{SyntaxError}
 use Rattle.tl_parse.specs.declared.error.SyntaxError.TheVariants as errors
 use Rattle.tl_parse.specs.declared.parser.Parser.{Parser}
@@ -42,7 +43,6 @@ takes opens levels extra old new t a b =
           ap (λ (x : List Token). used class opens levels extra x) a.tokens
           ∙ used_took class opens levels extra (token_of t) (tokens_left new) (subst (λ (x : List Token). begins class x ≡ true) a.tokens h) (subst (λ (x : List Token). barred_next opens levels extra x ≡ None) a.tokens b);
       finish = a.finish;
-      ready = a.ready;
       items = a.items;
     }
 
@@ -114,7 +114,7 @@ next_of class ts h = sound_next class ts h
 
 -- the token is taken where the grammar takes it
 pub taken : (class : Token → Bool) (opens : Bool) (levels : ℕ) (extra : Extra) (old new : Parser) (t : code.Next) → begins class (tokens_left old) ≡ true → Uses opens levels extra old new t → TookToken old new (used class opens levels extra (tokens_left old)) t
-taken class opens levels extra old new t h u = record { took = u.took class h; finish = u.finish; ready = u.ready; items = u.items }
+taken class opens levels extra old new t h u = record { took = u.took class h; finish = u.finish; items = u.items }
 
 -- the limits refuse the token
 pub barred_there : (class : Token → Bool) (opens : Bool) (levels : ℕ) (extra : Extra) (p : Parser) (e : SyntaxError) → begins class (tokens_left p) ≡ true → Barred opens levels extra p e → Fails p (used class opens levels extra (tokens_left p)) e

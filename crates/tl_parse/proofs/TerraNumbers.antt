@@ -58,7 +58,7 @@ within_terra p h small = go p.current.is_end (is_bad p.current.symbol) h
     go false false h = terra_use (token_of p.current) ts false small ∙ sym (plain_terra_use (token_of p.current) ts)
 
 pub taken_terra_number : (old new : Parser) (t : code.Next) → begins (among terra_numerals) (tokens_left old) ≡ true → nat_lt (largest_terra old.current.symbol) (value_of old.current.text.now) ≡ false → Uses false 0 Plain old new t → TookToken old new (used (among terra_numerals) false 0 TerraNumber (tokens_left old)) t
-taken_terra_number old new t h small u = record { took = within_terra old h small ∙ u.took (among terra_numerals) h; finish = u.finish; ready = u.ready; items = u.items }
+taken_terra_number old new t h small u = record { took = within_terra old h small ∙ u.took (among terra_numerals) h; finish = u.finish; items = u.items }
 
 pub too_large_for_terra : (p : Parser) → begins (among terra_numerals) (tokens_left p) ≡ true → nat_lt (largest_terra p.current.symbol) (value_of p.current.text.now) ≡ true → Fails p (used (among terra_numerals) false 0 TerraNumber (tokens_left p)) (errors.Refused why.BadNumber p.current.place)
 unfolding tokens_left

@@ -29,11 +29,11 @@ use Rattle.tl_parse.specs.TerraExpressions.{escape_at, terra_name_at, terra_pare
 use Rattle.tl_parse.specs.TerraExpressions.{terra_prefixed_at, terra_unary_at, terra_binary_at, more_terra_expressions_at}
 use Rattle.tl_parse.specs.TerraExpressions.{terra_expressions_at}
 use Rattle.tl_parse.specs.TerraStatements.{written_type_at, terra_loop_at, terra_arm_at, more_terra_arms_at, terra_arms_at}
-use Rattle.tl_parse.specs.TerraStatements.{terra_otherwise_at, terra_step_at, terra_variable_at, more_terra_variables_at}
+use Rattle.tl_parse.specs.TerraStatements.{terra_otherwise_at, terra_step_at, terra_variable_at, spliced_variable_at, named_variable_at, more_terra_variables_at}
 use Rattle.tl_parse.specs.TerraStatements.{terra_variables_at, terra_initial_values_at, terra_returned_values_at, terra_target_at}
 use Rattle.tl_parse.specs.TerraStatements.{terra_assignment_at, assignment_symbols, terra_statement_behind_at, terra_simple_statement_at}
 use Rattle.tl_parse.specs.TerraStatements.{terra_do_at, terra_while_at, terra_repeat_at, terra_if_at, terra_for_at, terra_var_at}
-use Rattle.tl_parse.specs.TerraStatements.{escape_block_at, terra_return_at, terra_break_at, terra_statement_at, terra_parameter_at}
+use Rattle.tl_parse.specs.TerraStatements.{escape_block_at, terra_return_at, terra_break_at, terra_statement_at, terra_parameter_at, spliced_parameter_at, named_parameter_at}
 use Rattle.tl_parse.specs.TerraStatements.{more_terra_parameters_at, terra_parameters_at}
 use Rattle.tl_parse.specs.declared.terra_expressions.TerraPrecedence.TheVariants as precedences
 use Rattle.tl_parse.proofs.Uses.{never, bind_same, opens_any, opened_at}
@@ -101,7 +101,7 @@ variable_behind_agrees : (levels : ℕ) (place : Place) (n : Tree) (ts : List To
 variable_behind_agrees levels place n ts = then_give levels terra.written_type (λ e. Variable place n e) (λ vs. written_type_at levels vs) (λ vs. written_type_agrees levels vs) ts
 
 pub terra_variable_agrees : (levels : ℕ) (ts : List Token) → reading levels terra.terra_variable ts ≡ terra_variable_at levels ts
-unfolding terra_variable_at
+unfolding terra_variable_at spliced_variable_at named_variable_at
 terra_variable_agrees levels ts =
     either_is (begins (is symbols.OpenBracket) ts) (reading levels (expressions.escaped terra.variable_behind) ts) (reading levels (named terra.variable_behind) ts)
     (open_at symbols.OpenBracket levels ts >>= λ t a. part_at (levels - 1) (Expression modes.Plain) a >>= λ x b. sign_at symbols.CloseBracket b >>= λ y d. written_type_at levels d >>= λ e rest. Took (Variable t.place (Escape t.place x) e) rest)
@@ -135,7 +135,7 @@ terra_returned_values_agree levels ts =
 -- ---- functions and quotes
 
 pub terra_parameter_agrees : (levels : ℕ) (ts : List Token) → reading levels terra.terra_parameter ts ≡ terra_parameter_at levels ts
-unfolding terra_parameter_at
+unfolding terra_parameter_at spliced_parameter_at named_parameter_at
 terra_parameter_agrees levels ts =
     either_is (begins (is symbols.OpenBracket) ts) (reading levels (expressions.escaped λ place e. give (SpliceParameter place e)) ts) (reading levels (named λ place n. bind (sign symbols.Colon) λ y. bind terra.terra_type λ e. give (Parameter place n e)) ts)
     (open_at symbols.OpenBracket levels ts >>= λ t a. part_at (levels - 1) (Expression modes.Plain) a >>= λ x b. sign_at symbols.CloseBracket b >>= λ y rest. Took (SpliceParameter t.place (Escape t.place x)) rest)

@@ -83,14 +83,24 @@ unfoldable pub select_suffix_at : ℕ → List Token → Outcome Suffixed
 select_suffix_at left ts = operator_at (symbols.Dot ∷ []) left ts >>= λ t a. name_at a
     >>= λ n rest. Took (Selects t.place n) rest
 
+-- arguments in parentheses
+unfoldable pub listed_arguments_at : ℕ → Mode → List Token → Outcome Tree
+listed_arguments_at levels m ts =
+    open_at symbols.OpenParen levels ts >>= λ t a.
+    part_at (levels - 1) (Arguments m) a >>= λ x b. sign_at symbols.CloseParen b >>= λ y rest. Took x rest
+
+-- one argument that is a table
+unfoldable pub table_argument_at : ℕ → Mode → List Token → Outcome Tree
+table_argument_at levels m ts =
+    open_at symbols.OpenBrace levels ts >>= λ t a.
+    part_at (levels - 1) (Fields m) a >>= λ x b. sign_at symbols.CloseBrace b
+    >>= λ y rest. Took (More Nothing (Table t.place x)) rest
+
 -- the arguments behind a method's name
 unfoldable pub method_arguments_at : ℕ → Mode → List Token → Outcome Tree
 method_arguments_at levels m ts =
-    if begins (is symbols.OpenParen) ts then (open_at symbols.OpenParen levels ts >>= λ t a.
-    part_at (levels - 1) (Arguments m) a >>= λ x b. sign_at symbols.CloseParen b >>= λ y rest. Took x rest)
-    else (if begins (is symbols.OpenBrace) ts then (open_at symbols.OpenBrace levels ts >>= λ t a.
-    part_at (levels - 1) (Fields m) a >>= λ x b. sign_at symbols.CloseBrace b
-    >>= λ y rest. Took (More Nothing (Table t.place x)) rest)
+    if begins (is symbols.OpenParen) ts then listed_arguments_at levels m ts
+    else (if begins (is symbols.OpenBrace) ts then table_argument_at levels m ts
     else (sign_at symbols.Literal ts >>= λ t rest. Took (More Nothing (Literal t.place t.text)) rest))
 
 unfoldable pub method_suffix_at : ℕ → Mode → ℕ → List Token → Outcome Suffixed

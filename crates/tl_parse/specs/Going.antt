@@ -12,7 +12,7 @@ use Rattle.tl_tree.specs.Forms.{Chained, chained}
 use Rattle.tl_tree.specs.LuaStatements.{Sequence, sequence, Parameters, parameters_of}
 use Rattle.tl_parse.specs.Statements.{Numeric, Generic, settle_at, more_statements_at, more_parameters_at}
 use Rattle.tl_parse.specs.declared.statements.Numeric as code_statements
-use Rattle.tl_parse.specs.Parsing.{token_of, tokens_left, items_of, end_of, Ready}
+use Rattle.tl_parse.specs.Parsing.{token_of, tokens_left, items_of, end_of}
 use Rattle.tl_parse.specs.Expressions.{Suffixed, attached, shape_of, suffixes_at, ranks_at}
 use Rattle.tl_parse.specs.declared.parser.Parser.{Parser}
 use Rattle.tl_parse.specs.declared.parser.Next as code
@@ -23,7 +23,6 @@ pub record TookOperation (old new : Parser) (o : Outcome (Token × Chained)) (t 
   pub tree : Tree
   pub took : o ≡ Took (token_of t, chained tree r.left r.shape) (tokens_left new)
   pub finish : end_of new ≡ end_of old
-  pub ready : Ready new
   pub items : items_of new ≡ (laid tree (items_of old)).items
   pub is_last : r.node ≡ last_of (items_of new)
 
@@ -32,7 +31,6 @@ pub record TookSuffix (old new : Parser) (o : Outcome Suffixed) (a r : Operand) 
   pub suffix : Suffixed
   pub took : o ≡ Took suffix (tokens_left new)
   pub finish : end_of new ≡ end_of old
-  pub ready : Ready new
   pub left : r.left ≡ down a.left
   pub shape : r.shape ≡ shape_of suffix
   pub items : (tree : Tree) (before : List Item) → items_of old ≡ (laid tree before).items
@@ -44,7 +42,6 @@ pub record Binding (levels rank end : ℕ) (m : Mode) (start now : Parser) (o : 
   pub tree : Tree
   pub goes_on : o ≡ ranks_at levels (end - rank) rank m (chained tree a.left a.shape) (tokens_left now)
   pub finish : end_of now ≡ end_of start
-  pub ready : Ready now
   pub items : items_of now ≡ (laid tree (items_of start)).items
   pub is_last : a.node ≡ last_of (items_of now)
 
@@ -53,7 +50,6 @@ pub record Applying (levels : ℕ) (m : Mode) (start now : Parser) (o : Outcome 
   pub tree : Tree
   pub goes_on : o ≡ suffixes_at levels m (chained tree a.left a.shape) (tokens_left now)
   pub finish : end_of now ≡ end_of start
-  pub ready : Ready now
   pub items : items_of now ≡ (laid tree (items_of start)).items
   pub is_last : a.node ≡ last_of (items_of now)
 
@@ -63,7 +59,6 @@ pub record Listing (start now : Parser) (o : Outcome Tree) (more : Tree → List
   pub tree : Tree
   pub goes_on : o ≡ more tree (tokens_left now)
   pub finish : end_of now ≡ end_of start
-  pub ready : Ready now
   pub items : items_of now ≡ (laid tree (items_of start)).items
   pub list : numbers ≡ (laid tree (items_of start)).numbers
 
@@ -74,7 +69,6 @@ pub record TookNumeric (old new : Parser) (o : Outcome Numeric) (r : code_statem
   pub trees : Numeric
   pub took : o ≡ Took trees (tokens_left new)
   pub finish : end_of new ≡ end_of old
-  pub ready : Ready new
   pub items : items_of new
       ≡ (laid trees.block (laid trees.step (laid trees.limit (laid trees.from (items_of old)).items).items).items).items
   pub from_is : r.from ≡ last (laid trees.from (items_of old))
@@ -87,7 +81,6 @@ pub record TookGeneric (old new : Parser) (o : Outcome Generic) (values : List N
   pub trees : Generic
   pub took : o ≡ Took trees (tokens_left new)
   pub finish : end_of new ≡ end_of old
-  pub ready : Ready new
   pub items : items_of new ≡ (laid trees.block (laid trees.values (items_of old)).items).items
   pub values_are : values ≡ (laid trees.values (items_of old)).numbers
   pub block_is : block ≡ last_of (items_of new)
@@ -97,7 +90,6 @@ pub record TookParameters (old new : Parser) (o : Outcome Parameters) (numbers :
   pub tree : Tree
   pub took : o ≡ Took (parameters_of tree variadic) (tokens_left new)
   pub finish : end_of new ≡ end_of old
-  pub ready : Ready new
   pub items : items_of new ≡ (laid tree (items_of old)).items
   pub list : numbers ≡ (laid tree (items_of old)).numbers
 
@@ -106,7 +98,6 @@ pub record Naming (levels : ℕ) (start now : Parser) (o : Outcome Parameters) (
   pub tree : Tree
   pub goes_on : o ≡ more_parameters_at levels tree variadic (tokens_left now)
   pub finish : end_of now ≡ end_of start
-  pub ready : Ready now
   pub items : items_of now ≡ (laid tree (items_of start)).items
   pub list : numbers ≡ (laid tree (items_of start)).numbers
 
@@ -115,7 +106,6 @@ pub record TookStatement (old new : Parser) (o : Outcome Sequence) (number : Nod
   pub tree : Tree
   pub took : o ≡ Took (sequence tree ends) (tokens_left new)
   pub finish : end_of new ≡ end_of old
-  pub ready : Ready new
   pub items : items_of new ≡ (laid tree (items_of old)).items
   pub is_last : number ≡ last_of (items_of new)
 
@@ -126,7 +116,6 @@ pub record Sequencing (levels : ℕ) (c : Context) (start now : Parser) (o : Out
   pub goes_on : o ≡ (more_statements_at levels c tree ended (tokens_left now)
       >>= λ a rest. Took (Block a.statements) rest)
   pub finish : end_of now ≡ end_of start
-  pub ready : Ready now
   pub items : items_of now ≡ (laid tree (items_of start)).items
   pub list : numbers ≡ (laid tree (items_of start)).numbers
 
@@ -135,6 +124,5 @@ pub record Settling (levels : ℕ) (m : Mode) (start now : Parser) (o : Outcome 
   pub tree : Tree
   pub goes_on : o ≡ (settle_at levels m (chained tree a.left a.shape) (tokens_left now) >>= λ a rest. Took a.tree rest)
   pub finish : end_of now ≡ end_of start
-  pub ready : Ready now
   pub items : items_of now ≡ (laid tree (items_of start)).items
   pub is_last : a.node ≡ last_of (items_of now)

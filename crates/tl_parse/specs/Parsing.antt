@@ -3,7 +3,6 @@ use Rattle.std.specs.Prelude.{◌≡◌, Bool, true, false, List, [], ◌∷◌,
 use Rattle.tl_base.specs.declared.place.Place.{Place}
 use Rattle.tl_base.specs.declared.ids.NodeId.{NodeId}
 use Rattle.tl_lex.specs.Lexing.{answers_left}
-use Rattle.tl_lex.specs.Laws.{EndsOnce}
 use Rattle.tl_lex.specs.declared.SyntaxKind.{SyntaxKind}
 use Rattle.tl_lex.specs.declared.SyntaxKind.TheVariants as why
 use Rattle.tl_tree.specs.Symbols.{is_bad}
@@ -45,10 +44,6 @@ tokens_left p = with_token p.current.is_end (token_of p.current) (tokens_in (ans
 unfoldable pub end_of : Parser → Place
 end_of p = (tokens_in (answers_left p.lexer)).finish
 
--- The lexer has one last answer before it. Where that is the end, and was taken, it is known where the text ends.
-unfoldable pub Ready : Parser → Type 0
-Ready p = EndsOnce (answers_left p.lexer) × (p.current.is_end ≡ true → p.current.place ≡ end_of p)
-
 -- the nodes that it made
 unfoldable pub items_of : Parser → List Item
 items_of p = map item_of p.nodes.items
@@ -65,7 +60,6 @@ Refuses p e = e ≡ errors.Refused (blame_of (tokens_left p)) (place_of (tokens_
 pub record Pushed (old new : Parser) (node : Node) (number : NodeId) : Type 0 where
   pub rest : tokens_left new ≡ tokens_left old
   pub finish : end_of new ≡ end_of old
-  pub ready : Ready old → Ready new
   pub items : items_of new ≡ items_of old ++ item_of node ∷ []
   pub is_last : number ≡ last_of (items_of new)
 
@@ -91,7 +85,6 @@ pub record Fails {A : Type 0} (p : Parser) (o : Outcome A) (e : SyntaxError) : T
 pub record TookToken (old new : Parser) (o : Outcome Token) (t : code.Next) : Type 0 where
   pub took : o ≡ Took (token_of t) (tokens_left new)
   pub finish : end_of new ≡ end_of old
-  pub ready : Ready new
   pub items : items_of new ≡ items_of old
 
 -- the code made the nodes of the tree that the outcome has
@@ -99,7 +92,6 @@ pub record TookTree (old new : Parser) (o : Outcome Tree) (number : NodeId) : Ty
   pub tree : Tree
   pub took : o ≡ Took tree (tokens_left new)
   pub finish : end_of new ≡ end_of old
-  pub ready : Ready new
   pub items : items_of new ≡ (laid tree (items_of old)).items
   pub is_last : number ≡ last_of (items_of new)
 
@@ -108,7 +100,6 @@ pub record TookOperand (old new : Parser) (o : Outcome Chained) (r : operands.Op
   pub tree : Tree
   pub took : o ≡ Took (chained tree r.left r.shape) (tokens_left new)
   pub finish : end_of new ≡ end_of old
-  pub ready : Ready new
   pub items : items_of new ≡ (laid tree (items_of old)).items
   pub is_last : r.node ≡ last_of (items_of new)
 
@@ -117,7 +108,6 @@ pub record TookList (old new : Parser) (o : Outcome Tree) (numbers : List NodeId
   pub tree : Tree
   pub took : o ≡ Took tree (tokens_left new)
   pub finish : end_of new ≡ end_of old
-  pub ready : Ready new
   pub items : items_of new ≡ (laid tree (items_of old)).items
   pub list : numbers ≡ (laid tree (items_of old)).numbers
 
@@ -126,7 +116,6 @@ pub record TookOption (old new : Parser) (o : Outcome Tree) (number : Option Nod
   pub tree : Tree
   pub took : o ≡ Took tree (tokens_left new)
   pub finish : end_of new ≡ end_of old
-  pub ready : Ready new
   pub items : items_of new ≡ (laid tree (items_of old)).items
   pub is_any : number ≡ if_any (laid tree (items_of old))
 
@@ -134,14 +123,12 @@ pub record TookOption (old new : Parser) (o : Outcome Tree) (number : Option Nod
 pub record TookNone (old new : Parser) (o : Outcome (Option Tree)) : Type 0 where
   pub took : o ≡ Took None (tokens_left new)
   pub finish : end_of new ≡ end_of old
-  pub ready : Ready new
   pub items : items_of new ≡ items_of old
 
 pub record TookSome (old new : Parser) (o : Outcome (Option Tree)) (number : NodeId) : Type 0 where
   pub tree : Tree
   pub took : o ≡ Took (Some tree) (tokens_left new)
   pub finish : end_of new ≡ end_of old
-  pub ready : Ready new
   pub items : items_of new ≡ (laid tree (items_of old)).items
   pub is_last : number ≡ last_of (items_of new)
 

@@ -1,21 +1,14 @@
 -- A token is taken where the limits allow its use, and else refused.
-use Rattle.std.specs.Prelude.{◌≡◌, ℕ, Bool, true, List, [], ◌∷◌, ◌==◌, ◌||◌, ◌&&◌, if◌then◌else◌, Option, Some, None}
+use Rattle.std.specs.Prelude.{◌≡◌, ℕ, Bool, true, List, [], ◌∷◌, Option, None}
 use Rattle.tl_lex.specs.declared.SyntaxKind.{SyntaxKind}
-use Rattle.tl_lex.specs.declared.SyntaxKind.TheVariants as why
 use Rattle.tl_tree.specs.declared.mode.Extra.{Extra}
 use Rattle.tl_tree.specs.Tokens.{Token}
-use Rattle.tl_tree.specs.Grammar.{Took, begins, calls, chain_too_long}
-use Rattle.tl_parse.specs.Parsing.{token_of, tokens_left, end_of, Ready, items_of, Fails}
+use Rattle.tl_tree.specs.Grammar.{Took, begins}
+use Rattle.tl_parse.specs.Parsing.{token_of, tokens_left, end_of, items_of, Fails}
 use Rattle.tl_parse.specs.Using.{barred, used}
 use Rattle.tl_parse.specs.declared.error.SyntaxError.{SyntaxError}
 use Rattle.tl_parse.specs.declared.parser.Parser.{Parser}
 use Rattle.tl_parse.specs.declared.parser.Next as code
-
--- what the limits say of a use of a token that is first on its line or isn't
-abbrev pub bar_of : Bool → ℕ → Extra → Bool → Option SyntaxKind
-bar_of opens levels extra first =
-    if (opens && (levels == 0)) || chain_too_long extra then Some why.TooDeep else (if calls extra && first then
-    Some why.Ambiguous else None)
 
 -- what the limits say of a use of the next token
 abbrev pub barred_next : Bool → ℕ → Extra → List Token → Option SyntaxKind
@@ -28,7 +21,6 @@ pub record Uses (opens : Bool) (levels : ℕ) (extra : Extra) (old new : Parser)
   pub took : (class : Token → Bool) → begins class (tokens_left old) ≡ true
       → used class opens levels extra (tokens_left old) ≡ Took (token_of t) (tokens_left new)
   pub finish : end_of new ≡ end_of old
-  pub ready : Ready new
   pub items : items_of new ≡ items_of old
 
 -- The limits refuse this use of the token, wherever it is of the class that is wanted.

@@ -9,7 +9,7 @@ use Rattle.tl_tree.specs.Item.{Item}
 use Rattle.tl_tree.specs.Nodes.{laid, last_of}
 use Rattle.tl_tree.specs.Grammar.{Outcome, Took, down}
 use Rattle.tl_tree.specs.Forms.{Chained, chained, binary_of}
-use Rattle.tl_parse.specs.Parsing.{tokens_left, items_of, end_of, Ready, Pushed}
+use Rattle.tl_parse.specs.Parsing.{tokens_left, items_of, end_of, Pushed}
 use Rattle.tl_parse.specs.TerraExpressions.{TerraSuffixed, terra_attached, terra_shape_of, terra_suffixes_at}
 use Rattle.tl_parse.specs.TerraExpressions.{terra_more_at}
 use Rattle.tl_parse.specs.declared.terra_expressions.TerraPrecedence.{TerraPrecedence}
@@ -29,7 +29,6 @@ pub record TookTerraSuffix (old new : Parser) (o : Outcome TerraSuffixed) (a r :
   pub suffix : TerraSuffixed
   pub took : o ≡ Took suffix (tokens_left new)
   pub finish : end_of new ≡ end_of old
-  pub ready : Ready new
   pub left : r.left ≡ down a.left
   pub shape : r.shape ≡ terra_shape_of suffix
   pub items : (tree : Tree) (before : List Item) → items_of old ≡ (laid tree before).items
@@ -41,7 +40,6 @@ pub record TerraBinding (levels : ℕ) (p : TerraPrecedence) (start now : Parser
   pub tree : Tree
   pub goes_on : o ≡ terra_more_at levels p (chained tree a.left a.shape) (tokens_left now)
   pub finish : end_of now ≡ end_of start
-  pub ready : Ready now
   pub items : items_of now ≡ (laid tree (items_of start)).items
   pub is_last : a.node ≡ last_of (items_of now)
 
@@ -50,7 +48,6 @@ pub record TerraApplying (levels : ℕ) (start now : Parser) (o : Outcome Chaine
   pub tree : Tree
   pub goes_on : o ≡ terra_suffixes_at levels (chained tree a.left a.shape) (tokens_left now)
   pub finish : end_of now ≡ end_of start
-  pub ready : Ready now
   pub items : items_of now ≡ (laid tree (items_of start)).items
   pub is_last : a.node ≡ last_of (items_of now)
 
@@ -59,7 +56,6 @@ pub record TookInitialiser (old new : Parser) (o : Outcome (Tree × Bool)) (numb
   pub tree : Tree
   pub took : o ≡ Took (tree, named) (tokens_left new)
   pub finish : end_of new ≡ end_of old
-  pub ready : Ready new
   pub items : items_of new ≡ (laid tree (items_of old)).items
   pub is_last : number ≡ last_of (items_of new)
 
@@ -67,7 +63,6 @@ pub record TookInitialiser (old new : Parser) (o : Outcome (Tree × Bool)) (numb
 pub record TookNothing (old new : Parser) (o : Outcome Tree) : Type 0 where
   pub took : o ≡ Took Nothing (tokens_left new)
   pub finish : end_of new ≡ end_of old
-  pub ready : Ready new
   pub items : items_of new ≡ items_of old
 
 -- how far a precedence is from the highest

@@ -4,7 +4,7 @@ use Rattle.tl_base.specs.declared.ids.NodeId.{NodeId}
 use Rattle.tl_tree.specs.Tree.{Tree, Block}
 use Rattle.tl_tree.specs.Nodes.{laid}
 use Rattle.tl_tree.specs.Grammar.{Outcome, Took, ◌>>=◌}
-use Rattle.tl_parse.specs.Parsing.{tokens_left, items_of, end_of, Ready}
+use Rattle.tl_parse.specs.Parsing.{tokens_left, items_of, end_of}
 use Rattle.tl_parse.specs.TerraStatements.{more_terra_statements_at}
 use Rattle.tl_parse.specs.declared.parser.Parser.{Parser}
 
@@ -14,6 +14,5 @@ pub record TerraSequencing (levels : ℕ) (start now : Parser) (o : Outcome Tree
   pub goes_on : o ≡ (more_terra_statements_at levels tree ended (tokens_left now)
       >>= λ a rest. Took (Block a.statements) rest)
   pub finish : end_of now ≡ end_of start
-  pub ready : Ready now
   pub items : items_of now ≡ (laid tree (items_of start)).items
   pub list : numbers ≡ (laid tree (items_of start)).numbers

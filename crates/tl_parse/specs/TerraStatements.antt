@@ -56,14 +56,22 @@ terra_step_at levels ts =
     if begins (is symbols.Comma) ts then (sign_at symbols.Comma ts >>= λ y a. part_at levels TerraExpression a
     >>= λ e rest. Took (Just e) rest) else Took Nothing ts
 
+-- a variable whose name Lua code gives
+unfoldable pub spliced_variable_at : ℕ → List Token → Outcome Tree
+spliced_variable_at levels ts =
+    open_at symbols.OpenBracket levels ts >>= λ t a. part_at (levels - 1) (Expression modes.Plain) a >>= λ x b.
+    sign_at symbols.CloseBracket b >>= λ y d.
+    written_type_at levels d >>= λ e rest. Took (Variable t.place (Escape t.place x) e) rest
+
+-- a variable by its name
+unfoldable pub named_variable_at : ℕ → List Token → Outcome Tree
+named_variable_at levels ts =
+    sign_at symbols.Name ts >>= λ n a. written_type_at levels a
+    >>= λ e rest. Took (Variable n.place (Name n.place n.offset n.text) e) rest
+
 unfoldable pub terra_variable_at : ℕ → List Token → Outcome Tree
 terra_variable_at levels ts =
-    if begins (is symbols.OpenBracket) ts then
-    (open_at symbols.OpenBracket levels ts >>= λ t a. part_at (levels - 1) (Expression modes.Plain) a >>= λ x b.
-    sign_at symbols.CloseBracket b >>= λ y d.
-    written_type_at levels d >>= λ e rest. Took (Variable t.place (Escape t.place x) e) rest)
-    else (sign_at symbols.Name ts >>= λ n a. written_type_at levels a
-    >>= λ e rest. Took (Variable n.place (Name n.place n.offset n.text) e) rest)
+    if begins (is symbols.OpenBracket) ts then spliced_variable_at levels ts else named_variable_at levels ts
 
 unfoldable pub next_terra_variable_at : ℕ → List Token → Outcome Tree
 next_terra_variable_at levels ts = sign_at symbols.Comma ts >>= λ y a. terra_variable_at levels a
@@ -208,16 +216,23 @@ terra_block_at levels ts = more_terra_statements_at levels Nothing false ts >>= 
 
 -- ---- functions and quotes
 
+-- a parameter that Lua code gives
+unfoldable pub spliced_parameter_at : ℕ → List Token → Outcome Tree
+spliced_parameter_at levels ts =
+    open_at symbols.OpenBracket levels ts >>= λ t a. part_at (levels - 1) (Expression modes.Plain) a >>= λ x b.
+    sign_at symbols.CloseBracket b >>= λ y rest.
+    Took (SpliceParameter t.place (Escape t.place x)) rest
+
+-- a parameter by its name, with its type
+unfoldable pub named_parameter_at : ℕ → List Token → Outcome Tree
+named_parameter_at levels ts =
+    sign_at symbols.Name ts >>= λ n a. sign_at symbols.Colon a >>= λ y b. part_at levels (Expression modes.Types) b
+    >>= λ e rest.
+    Took (Parameter n.place (Name n.place n.offset n.text) e) rest
+
 unfoldable pub terra_parameter_at : ℕ → List Token → Outcome Tree
 terra_parameter_at levels ts =
-    if begins (is symbols.OpenBracket) ts then
-    (open_at symbols.OpenBracket levels ts >>= λ t a. part_at (levels - 1) (Expression modes.Plain) a >>= λ x b.
-    sign_at symbols.CloseBracket b >>= λ y rest.
-    Took (SpliceParameter t.place (Escape t.place x)) rest)
-    else
-    (sign_at symbols.Name ts >>= λ n a. sign_at symbols.Colon a >>= λ y b. part_at levels (Expression modes.Types) b
-    >>= λ e rest.
-    Took (Parameter n.place (Name n.place n.offset n.text) e) rest)
+    if begins (is symbols.OpenBracket) ts then spliced_parameter_at levels ts else named_parameter_at levels ts
 
 unfoldable pub next_terra_parameter_at : ℕ → List Token → Outcome Tree
 next_terra_parameter_at levels ts = sign_at symbols.Comma ts >>= λ y a. terra_parameter_at levels a

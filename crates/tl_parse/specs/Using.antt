@@ -1,6 +1,8 @@
 -- The uses of single tokens.
-use Rattle.std.specs.Prelude.{ℕ, Bool, true, false, List, [], ◌∷◌, if◌then◌else◌, Option, Some, None}
+use Rattle.std.specs.Prelude.{ℕ, Bool, true, false, List, [], ◌∷◌, ◌==◌, ◌||◌, ◌&&◌, if◌then◌else◌, Option, Some, None}
 use Rattle.tl_lex.specs.declared.SyntaxKind.{SyntaxKind}
+use Rattle.tl_lex.specs.declared.TokenKind.{TokenKind}
+use Rattle.tl_lex.specs.declared.TokenKind.TheVariants as kinds
 use Rattle.tl_lex.specs.declared.SyntaxKind.TheVariants as why
 use Rattle.tl_tree.specs.declared.symbol.Symbol.{Symbol}
 use Rattle.tl_tree.specs.declared.symbol.Symbol.TheVariants as symbols
@@ -8,7 +10,7 @@ use Rattle.tl_tree.specs.declared.mode.Extra.{Extra}
 use Rattle.tl_tree.specs.declared.mode.Extra.TheVariants.{Plain, Continues, Calls, LuaNumber, TerraNumber}
 use Rattle.tl_tree.specs.Tokens.{Token, among, is}
 use Rattle.tl_tree.specs.Tree.{Tree, Part, FunctionBody}
-use Rattle.tl_tree.specs.Grammar.{Grammar, Outcome, Took, Stop, blame, run, below, bar, is_of, unless}
+use Rattle.tl_tree.specs.Grammar.{Grammar, Outcome, Took, Stop, blame, run, below, bar, is_of, unless, calls, chain_too_long}
 use Rattle.tl_tree.specs.Syntax.{syntax_of}
 
 -- reading a grammar, with so many levels left
@@ -19,6 +21,11 @@ reading levels g ts = run levels (λ part us. below syntax_of levels part us) g 
 unfoldable pub part_at : ℕ → Part → List Token → Outcome Tree
 part_at levels part ts = reading levels (syntax_of part) ts
 
+-- the kind of the end of a text, which is no token of the grammar
+abbrev pub is_end : TokenKind → Bool
+is_end kinds.End = true
+is_end _ = false
+
 -- the limits on a token that opens a level or doesn't
 abbrev pub barred : Bool → ℕ → Extra → Token → Option SyntaxKind
 barred opens levels extra t = bar (record {
@@ -27,6 +34,12 @@ barred opens levels extra t = bar (record {
   levels = levels;
   extra = extra;
 }) t
+
+-- what the limits say of a use of a token that is first on its line or isn't
+abbrev pub bar_of : Bool → ℕ → Extra → Bool → Option SyntaxKind
+bar_of opens levels extra first =
+    if (opens && (levels == 0)) || chain_too_long extra then Some why.TooDeep else (if calls extra && first then
+    Some why.Ambiguous else None)
 
 -- A token of a class, which may open a level where so many are left, and what else it does.
 unfoldable pub used : (Token → Bool) → Bool → ℕ → Extra → List Token → Outcome Token

@@ -6,12 +6,12 @@ ghost use Rattle.tl_tree.specs.LuaExpressions as lua;
 ghost use Rattle.tl_tree.specs.Tokens.{among};
 ghost use Rattle.tl_tree.specs.Tree as parts;
 ghost use Rattle.tl_tree.specs.Grammar.{begins};
-ghost use Rattle.tl_parse.specs.Parsing.{tokens_left, Ready, Fails, TookToken, TookTree, TookOperand, TookList};
+ghost use Rattle.tl_parse.specs.Parsing.{tokens_left, Fails, TookToken, TookTree, TookOperand, TookList};
 ghost use Rattle.tl_parse.specs.Parsing.{TookMaybe};
 ghost use Rattle.tl_parse.specs.Using.{part_at, number_at};
 ghost use Rattle.tl_parse.specs.Expressions.{name_at, expressions_at, next_expression_at, arguments_at, paren_at};
 ghost use Rattle.tl_parse.specs.Expressions.{base_at, call_suffix_at, index_suffix_at, select_suffix_at};
-ghost use Rattle.tl_parse.specs.Expressions.{method_arguments_at, method_suffix_at, table_suffix_at};
+ghost use Rattle.tl_parse.specs.Expressions.{listed_arguments_at, table_argument_at, method_arguments_at, method_suffix_at, table_suffix_at};
 ghost use Rattle.tl_parse.specs.Expressions.{literal_suffix_at, suffix_at, applied_at, prefixed_at, number_tree_at};
 ghost use Rattle.tl_parse.specs.Expressions.{literal_at, constant, constant_at, function_at, table_at, simple_at};
 ghost use Rattle.tl_parse.specs.Expressions.{is_simple, primary_at, power_at, unary_at};
@@ -79,7 +79,6 @@ impl<'a> Parser<'a> {
     /// Name
     #[tactic(auto, using(crate::proofs::Failing::failing), unfolding(crate::specs::Expressions::name_at))]
     pub(crate) fn name(&mut self) -> Result<NodeId, SyntaxError>
-        requires { Ready self.old }
         ensures ok { IfOk result (λ r. TookTree self.old self.new (name_at (tokens_left self.old)) r) }
         ensures err { IfErr result (λ e. Fails self.old (name_at (tokens_left self.old)) e) }
     {
@@ -90,7 +89,6 @@ impl<'a> Parser<'a> {
     /// Numeral, of Lua code
     #[tactic(auto, using(crate::proofs::Failing::failing), unfolding(crate::specs::Expressions::number_tree_at))]
     pub(crate) fn number(&mut self) -> Result<NodeId, SyntaxError>
-        requires { Ready self.old }
         ensures ok { IfOk result (λ r. TookTree self.old self.new (number_tree_at (tokens_left self.old)) r) }
         ensures err { IfErr result (λ e. Fails self.old (number_tree_at (tokens_left self.old)) e) }
     {
@@ -101,7 +99,6 @@ impl<'a> Parser<'a> {
     /// Text
     #[tactic(auto, using(crate::proofs::Failing::failing), unfolding(crate::specs::Expressions::literal_at))]
     pub(crate) fn literal(&mut self) -> Result<NodeId, SyntaxError>
-        requires { Ready self.old }
         ensures ok { IfOk result (λ r. TookTree self.old self.new (literal_at (tokens_left self.old)) r) }
         ensures err { IfErr result (λ e. Fails self.old (literal_at (tokens_left self.old)) e) }
     {
@@ -112,7 +109,6 @@ impl<'a> Parser<'a> {
     /// "nil"
     #[tactic(auto, using(crate::proofs::Failing::failing), unfolding(crate::specs::Expressions::constant_at))]
     fn nil(&mut self) -> Result<NodeId, SyntaxError>
-        requires { Ready self.old }
         ensures ok { IfOk result (λ r. TookTree self.old self.new (constant_at Symbol.Nil (tokens_left self.old)) r) }
         ensures err { IfErr result (λ e. Fails self.old (constant_at Symbol.Nil (tokens_left self.old)) e) }
     {
@@ -123,7 +119,6 @@ impl<'a> Parser<'a> {
     /// "false"
     #[tactic(auto, using(crate::proofs::Failing::failing), unfolding(crate::specs::Expressions::constant_at))]
     fn false_constant(&mut self) -> Result<NodeId, SyntaxError>
-        requires { Ready self.old }
         ensures ok { IfOk result (λ r. TookTree self.old self.new (constant_at Symbol.False (tokens_left self.old)) r) }
         ensures err { IfErr result (λ e. Fails self.old (constant_at Symbol.False (tokens_left self.old)) e) }
     {
@@ -134,7 +129,6 @@ impl<'a> Parser<'a> {
     /// "true"
     #[tactic(auto, using(crate::proofs::Failing::failing), unfolding(crate::specs::Expressions::constant_at))]
     fn true_constant(&mut self) -> Result<NodeId, SyntaxError>
-        requires { Ready self.old }
         ensures ok { IfOk result (λ r. TookTree self.old self.new (constant_at Symbol.True (tokens_left self.old)) r) }
         ensures err { IfErr result (λ e. Fails self.old (constant_at Symbol.True (tokens_left self.old)) e) }
     {
@@ -145,7 +139,6 @@ impl<'a> Parser<'a> {
     /// "..."
     #[tactic(auto, using(crate::proofs::Failing::failing), unfolding(crate::specs::Expressions::constant_at))]
     fn varargs(&mut self) -> Result<NodeId, SyntaxError>
-        requires { Ready self.old }
         ensures ok { IfOk result (λ r. TookTree self.old self.new (constant_at Symbol.Ellipsis (tokens_left self.old)) r) }
         ensures err { IfErr result (λ e. Fails self.old (constant_at Symbol.Ellipsis (tokens_left self.old)) e) }
     {
@@ -157,7 +150,6 @@ impl<'a> Parser<'a> {
     #[cycle(parser)]
     #[tactic(auto, using(crate::proofs::Failing::failing_same, crate::proofs::Parts::expression_part))]
     pub(crate) fn expression(&mut self, mode: Mode, levels: u32) -> Result<NodeId, SyntaxError>
-        requires { Ready self.old }
         ensures ok { IfOk result (λ r. TookTree self.old self.new (part_at levels (parts.Expression mode) (tokens_left self.old)) r) }
         ensures err { IfErr result (λ e. Fails self.old (part_at levels (parts.Expression mode) (tokens_left self.old)) e) }
     {
@@ -169,7 +161,6 @@ impl<'a> Parser<'a> {
     #[cycle(parser)]
     #[tactic(auto, using(crate::proofs::Failing::failing_same, crate::proofs::Parts::operand_part))]
     fn operand(&mut self, mode: Mode, levels: u32) -> Result<NodeId, SyntaxError>
-        requires { Ready self.old }
         ensures ok { IfOk result (λ r. TookTree self.old self.new (part_at levels (parts.Operand mode) (tokens_left self.old)) r) }
         ensures err { IfErr result (λ e. Fails self.old (part_at levels (parts.Operand mode) (tokens_left self.old)) e) }
     {
@@ -181,7 +172,6 @@ impl<'a> Parser<'a> {
     #[cycle(parser)]
     #[tactic(auto, using(crate::proofs::Failing::failing_same, crate::proofs::Parts::concatenation_part))]
     fn concatenated(&mut self, mode: Mode, levels: u32) -> Result<NodeId, SyntaxError>
-        requires { Ready self.old }
         ensures ok { IfOk result (λ r. TookTree self.old self.new (part_at levels (parts.Concatenation mode) (tokens_left self.old)) r) }
         ensures err { IfErr result (λ e. Fails self.old (part_at levels (parts.Concatenation mode) (tokens_left self.old)) e) }
     {
@@ -193,7 +183,6 @@ impl<'a> Parser<'a> {
     #[cycle(parser)]
     #[tactic(auto, using(crate::proofs::Parts::arguments), unfolding(crate::specs::Expressions::arguments_at))]
     fn arguments(&mut self, mode: Mode, levels: u32) -> Result<NodeList, SyntaxError>
-        requires { Ready self.old }
         ensures ok { IfOk result (λ r. TookList self.old self.new (part_at levels (parts.Arguments mode) (tokens_left self.old)) r) }
         ensures err { IfErr result (λ e. Fails self.old (part_at levels (parts.Arguments mode) (tokens_left self.old)) e) }
     {
@@ -207,7 +196,6 @@ impl<'a> Parser<'a> {
     #[cycle(parser)]
     #[tactic(auto, using(crate::proofs::Failing::failing), unfolding(crate::specs::Expressions::next_expression_at))]
     fn next_expression(&mut self, mode: Mode, levels: u32) -> Result<NodeId, SyntaxError>
-        requires { Ready self.old }
         ensures ok { IfOk result (λ r. TookTree self.old self.new (next_expression_at levels mode (tokens_left self.old)) r) }
         ensures err { IfErr result (λ e. Fails self.old (next_expression_at levels mode (tokens_left self.old)) e) }
     {
@@ -219,7 +207,6 @@ impl<'a> Parser<'a> {
     #[cycle(parser)]
     #[tactic(auto, using(crate::proofs::Turns::expressions), unfolding(crate::specs::Expressions::expressions_at))]
     pub(crate) fn expressions(&mut self, mode: Mode, levels: u32) -> Result<NodeList, SyntaxError>
-        requires { Ready self.old }
         ensures ok { IfOk result (λ r. TookList self.old self.new (expressions_at levels mode (tokens_left self.old)) r) }
         ensures err { IfErr result (λ e. Fails self.old (expressions_at levels mode (tokens_left self.old)) e) }
     {
@@ -237,7 +224,6 @@ impl<'a> Parser<'a> {
     #[cycle(parser)]
     #[tactic(auto, using(crate::proofs::Failing::failing), unfolding(crate::specs::Expressions::paren_at))]
     fn paren(&mut self, mode: Mode, levels: u32) -> Result<Operand, SyntaxError>
-        requires { Ready self.old }
         ensures ok { IfOk result (λ r. TookOperand self.old self.new (paren_at levels mode (tokens_left self.old)) r) }
         ensures err { IfErr result (λ e. Fails self.old (paren_at levels mode (tokens_left self.old)) e) }
     {
@@ -257,7 +243,6 @@ impl<'a> Parser<'a> {
     #[tactic(auto, using(crate::proofs::Failing::failing), unfolding(crate::specs::Expressions::base_at))]
     #[inline(always)]
     pub(crate) fn base(&mut self, mode: Mode, levels: u32) -> Result<Operand, SyntaxError>
-        requires { Ready self.old }
         ensures ok { IfOk result (λ r. TookOperand self.old self.new (base_at levels mode (tokens_left self.old)) r) }
         ensures err { IfErr result (λ e. Fails self.old (base_at levels mode (tokens_left self.old)) e) }
     {
@@ -276,7 +261,6 @@ impl<'a> Parser<'a> {
     #[cycle(parser)]
     #[tactic(auto, using(crate::proofs::Taking::shorter), unfolding(crate::specs::Expressions::call_suffix_at))]
     fn call_suffix(&mut self, mode: Mode, levels: u32, a: Operand) -> Result<Operand, SyntaxError>
-        requires { Ready self.old }
         ensures ok { IfOk result (λ r. TookSuffix self.old self.new (call_suffix_at levels mode a.left (tokens_left self.old)) a r) }
         ensures err { IfErr result (λ e. Fails self.old (call_suffix_at levels mode a.left (tokens_left self.old)) e) }
     {
@@ -298,7 +282,6 @@ impl<'a> Parser<'a> {
     #[cycle(parser)]
     #[tactic(auto, using(crate::proofs::Taking::shorter), unfolding(crate::specs::Expressions::index_suffix_at))]
     fn index_suffix(&mut self, mode: Mode, levels: u32, a: Operand) -> Result<Operand, SyntaxError>
-        requires { Ready self.old }
         ensures ok { IfOk result (λ r. TookSuffix self.old self.new (index_suffix_at levels mode a.left (tokens_left self.old)) a r) }
         ensures err { IfErr result (λ e. Fails self.old (index_suffix_at levels mode a.left (tokens_left self.old)) e) }
     {
@@ -316,7 +299,6 @@ impl<'a> Parser<'a> {
     /// "." Name
     #[tactic(auto, using(crate::proofs::Taking::shorter), unfolding(crate::specs::Expressions::select_suffix_at))]
     fn select_suffix(&mut self, a: Operand) -> Result<Operand, SyntaxError>
-        requires { Ready self.old }
         ensures ok { IfOk result (λ r. TookSuffix self.old self.new (select_suffix_at a.left (tokens_left self.old)) a r) }
         ensures err { IfErr result (λ e. Fails self.old (select_suffix_at a.left (tokens_left self.old)) e) }
     {
@@ -337,7 +319,6 @@ impl<'a> Parser<'a> {
     #[cycle(parser)]
     #[tactic(auto, using(crate::proofs::Taking::shorter), unfolding(crate::specs::Expressions::method_suffix_at))]
     fn method_suffix(&mut self, mode: Mode, levels: u32, a: Operand) -> Result<Operand, SyntaxError>
-        requires { Ready self.old }
         ensures ok { IfOk result (λ r. TookSuffix self.old self.new (method_suffix_at levels mode a.left (tokens_left self.old)) a r) }
         ensures err { IfErr result (λ e. Fails self.old (method_suffix_at levels mode a.left (tokens_left self.old)) e) }
     {
@@ -359,7 +340,6 @@ impl<'a> Parser<'a> {
     #[cycle(parser)]
     #[tactic(auto, using(crate::proofs::Taking::shorter), unfolding(crate::specs::Expressions::table_suffix_at))]
     fn table_suffix(&mut self, mode: Mode, levels: u32, a: Operand) -> Result<Operand, SyntaxError>
-        requires { Ready self.old }
         ensures ok { IfOk result (λ r. TookSuffix self.old self.new (table_suffix_at levels mode a.left (tokens_left self.old)) a r) }
         ensures err { IfErr result (λ e. Fails self.old (table_suffix_at levels mode a.left (tokens_left self.old)) e) }
     {
@@ -382,7 +362,6 @@ impl<'a> Parser<'a> {
     /// args = Text
     #[tactic(auto, using(crate::proofs::Taking::shorter), unfolding(crate::specs::Expressions::literal_suffix_at))]
     fn literal_suffix(&mut self, a: Operand) -> Result<Operand, SyntaxError>
-        requires { Ready self.old }
         ensures ok { IfOk result (λ r. TookSuffix self.old self.new (literal_suffix_at a.left (tokens_left self.old)) a r) }
         ensures err { IfErr result (λ e. Fails self.old (literal_suffix_at a.left (tokens_left self.old)) e) }
     {
@@ -400,26 +379,45 @@ impl<'a> Parser<'a> {
         })
     }
 
+    /// "(" [exps] ")"
+    #[cycle(parser)]
+    #[tactic(auto, using(crate::proofs::Failing::failing), unfolding(crate::specs::Expressions::listed_arguments_at))]
+    fn listed_arguments(&mut self, mode: Mode, levels: u32) -> Result<NodeList, SyntaxError>
+        ensures ok { IfOk result (λ r. TookList self.old self.new (listed_arguments_at levels mode (tokens_left self.old)) r) }
+        ensures err { IfErr result (λ e. Fails self.old (listed_arguments_at levels mode (tokens_left self.old)) e) }
+    {
+        read!(self.open(Symbol::OpenParen, levels));
+        let arguments = read!(self.arguments(mode, levels - 1));
+        read!(self.take(Symbol::CloseParen));
+        Ok(arguments)
+    }
+
+    /// table, as a list of one
+    #[cycle(parser)]
+    #[tactic(auto, using(crate::proofs::Failing::failing), unfolding(crate::specs::Expressions::table_argument_at))]
+    fn table_argument(&mut self, mode: Mode, levels: u32) -> Result<NodeList, SyntaxError>
+        ensures ok { IfOk result (λ r. TookList self.old self.new (table_argument_at levels mode (tokens_left self.old)) r) }
+        ensures err { IfErr result (λ e. Fails self.old (table_argument_at levels mode (tokens_left self.old)) e) }
+    {
+        let token = read!(self.open(Symbol::OpenBrace, levels));
+        let fields = read!(self.fields(mode, levels - 1));
+        read!(self.take(Symbol::CloseBrace));
+        let table = read!(self.push(Node::Expression(token.place, Expression::Table(fields))));
+        self.one_node(table)
+    }
+
     /// args = "(" [exps] ")" | table | Text
     #[cycle(parser)]
     #[tactic(auto, using(crate::proofs::Failing::failing), unfolding(crate::specs::Expressions::method_arguments_at))]
     fn method_arguments(&mut self, mode: Mode, levels: u32) -> Result<NodeList, SyntaxError>
-        requires { Ready self.old }
         ensures ok { IfOk result (λ r. TookList self.old self.new (method_arguments_at levels mode (tokens_left self.old)) r) }
         ensures err { IfErr result (λ e. Fails self.old (method_arguments_at levels mode (tokens_left self.old)) e) }
     {
         if self.next_is(Symbol::OpenParen) {
-            read!(self.open(Symbol::OpenParen, levels));
-            let arguments = read!(self.arguments(mode, levels - 1));
-            read!(self.take(Symbol::CloseParen));
-            return Ok(arguments);
+            return self.listed_arguments(mode, levels);
         }
         if self.next_is(Symbol::OpenBrace) {
-            let token = read!(self.open(Symbol::OpenBrace, levels));
-            let fields = read!(self.fields(mode, levels - 1));
-            read!(self.take(Symbol::CloseBrace));
-            let table = read!(self.push(Node::Expression(token.place, Expression::Table(fields))));
-            return self.one_node(table);
+            return self.table_argument(mode, levels);
         }
         let token = read!(self.take(Symbol::Literal));
         let text = read!(self.push(Node::Literal(token.place, token.text)));
@@ -435,7 +433,6 @@ impl<'a> Parser<'a> {
         levels: u32,
         a: Operand,
     ) -> Result<Operand, SyntaxError>
-        requires { Ready self.old }
         ensures ok { IfOk result (λ r. TookSuffix self.old self.new (suffix_at levels mode a.left (tokens_left self.old)) a r) }
         ensures err { IfErr result (λ e. Fails self.old (suffix_at levels mode a.left (tokens_left self.old)) e) }
     {
@@ -467,7 +464,6 @@ impl<'a> Parser<'a> {
         levels: u32,
         bare: bool,
     ) -> Result<Operand, SyntaxError>
-        requires { Ready self.old }
         ensures ok { IfOk result (λ r. TookOperand self.old self.new (applied_at levels mode bare (tokens_left self.old)) r) }
         ensures err { IfErr result (λ e. Fails self.old (applied_at levels mode bare (tokens_left self.old)) e) }
     {
@@ -485,7 +481,6 @@ impl<'a> Parser<'a> {
     #[cycle(parser)]
     #[tactic(auto, using(crate::proofs::Failing::failing), unfolding(crate::specs::Expressions::prefixed_at))]
     fn prefixed(&mut self, mode: Mode, levels: u32, left: u32) -> Result<Operand, SyntaxError>
-        requires { Ready self.old }
         ensures ok { IfOk result (λ r. TookOperand self.old self.new (prefixed_at levels mode left (tokens_left self.old)) r) }
         ensures err { IfErr result (λ e. Fails self.old (prefixed_at levels mode left (tokens_left self.old)) e) }
     {
@@ -501,7 +496,6 @@ impl<'a> Parser<'a> {
     #[cycle(parser)]
     #[tactic(auto, using(crate::proofs::Failing::failing), unfolding(crate::specs::Expressions::function_at))]
     fn function(&mut self, levels: u32) -> Result<NodeId, SyntaxError>
-        requires { Ready self.old }
         ensures ok { IfOk result (λ r. TookTree self.old self.new (function_at levels (tokens_left self.old)) r) }
         ensures err { IfErr result (λ e. Fails self.old (function_at levels (tokens_left self.old)) e) }
     {
@@ -515,7 +509,6 @@ impl<'a> Parser<'a> {
     #[cycle(parser)]
     #[tactic(auto, using(crate::proofs::Failing::failing), unfolding(crate::specs::Expressions::simple_at))]
     fn simple(&mut self, mode: Mode, levels: u32) -> Result<NodeId, SyntaxError>
-        requires { Ready self.old }
         ensures ok { IfOk result (λ r. TookTree self.old self.new (simple_at levels mode (tokens_left self.old)) r) }
         ensures err { IfErr result (λ e. Fails self.old (simple_at levels mode (tokens_left self.old)) e) }
     {
@@ -550,7 +543,6 @@ impl<'a> Parser<'a> {
     #[cycle(parser)]
     #[tactic(auto, using(crate::proofs::Failing::failing), unfolding(crate::specs::Expressions::primary_at))]
     fn primary(&mut self, mode: Mode, levels: u32, left: u32) -> Result<Operand, SyntaxError>
-        requires { Ready self.old }
         ensures ok { IfOk result (λ r. TookOperand self.old self.new (primary_at levels mode left (tokens_left self.old)) r) }
         ensures err { IfErr result (λ e. Fails self.old (primary_at levels mode left (tokens_left self.old)) e) }
     {
@@ -569,7 +561,6 @@ impl<'a> Parser<'a> {
     #[cycle(parser)]
     #[tactic(auto, using(crate::proofs::Taking::shorter), unfolding(crate::specs::Expressions::power_at))]
     fn power(&mut self, mode: Mode, levels: u32, left: u32) -> Result<Operand, SyntaxError>
-        requires { Ready self.old }
         ensures ok { IfOk result (λ r. TookOperand self.old self.new (power_at levels mode left (tokens_left self.old)) r) }
         ensures err { IfErr result (λ e. Fails self.old (power_at levels mode left (tokens_left self.old)) e) }
     {
@@ -586,7 +577,6 @@ impl<'a> Parser<'a> {
     #[cycle(parser)]
     #[tactic(auto, using(crate::proofs::Failing::failing), unfolding(crate::specs::Expressions::unary_at))]
     fn unary(&mut self, mode: Mode, levels: u32, left: u32) -> Result<Operand, SyntaxError>
-        requires { Ready self.old }
         ensures ok { IfOk result (λ r. TookOperand self.old self.new (unary_at levels mode left (tokens_left self.old)) r) }
         ensures err { IfErr result (λ e. Fails self.old (unary_at levels mode left (tokens_left self.old)) e) }
     {
@@ -617,8 +607,7 @@ impl<'a> Parser<'a> {
         levels: u32,
         left: u32,
     ) -> Result<(Next<'a>, Operand), SyntaxError>
-        requires some { rank < 6 }
-        requires ready { Ready self.old }
+        requires { rank < 6 }
         ensures ok { IfOk result (λ r. TookOperation self.old self.new (one_more_at levels rank mode left (tokens_left self.old)) r.0 r.1) }
         ensures err { IfErr result (λ e. Fails self.old (one_more_at levels rank mode left (tokens_left self.old)) e) }
     {
@@ -647,8 +636,7 @@ impl<'a> Parser<'a> {
         levels: u32,
         left: u32,
     ) -> Result<Operand, SyntaxError>
-        requires some { ranks ≤ 6 }
-        requires ready { Ready self.old }
+        requires { ranks ≤ 6 }
         ensures ok { IfOk result (λ r. TookOperand self.old self.new (binary_at levels ranks mode left (tokens_left self.old)) r) }
         ensures err { IfErr result (λ e. Fails self.old (binary_at levels ranks mode left (tokens_left self.old)) e) }
     {
@@ -669,7 +657,6 @@ impl<'a> Parser<'a> {
     #[tactic(auto, using(crate::proofs::Taking::shorter), unfolding(crate::specs::Expressions::chained_at))]
     #[inline(always)]
     pub(crate) fn chained(&mut self, mode: Mode, levels: u32) -> Result<Operand, SyntaxError>
-        requires { Ready self.old }
         ensures ok { IfOk result (λ r. TookOperand self.old self.new (chained_at levels mode (tokens_left self.old)) r) }
         ensures err { IfErr result (λ e. Fails self.old (chained_at levels mode (tokens_left self.old)) e) }
     {

@@ -9,19 +9,13 @@ ghost use Rattle.tl_tree.specs.TerraExpressions as terra;
 ghost use Rattle.tl_tree.specs.Numbers.{largest_terra};
 ghost use Rattle.tl_parse.specs.TerraExpressions.{terra_number_at};
 ghost use Rattle.tl_parse.specs.Expressions.{is_simple, simple_symbols, is_types, is_variadic};
-ghost use Rattle.tl_parse.specs.Joining.{Joined};
 ghost use Rattle.tl_parse.specs.Statements.{first_place, goes_on, plain_statements};
 ghost use Rattle.tl_lex.specs.Lexing.{answers_left};
-ghost use Rattle.tl_lex.specs.Laws.{EndsOnce};
 ghost use Rattle.tl_tree.specs.Symbols.{number_of, is_bad, has};
 ghost use Rattle.tl_tree.specs.Tokens.{Token, among, is, tokens_in};
 ghost use Rattle.tl_tree.specs.Grammar.{begins, blame, calls, chain_too_long};
-ghost use Rattle.tl_parse.specs.Looking.{is_end, IsNext, BeginsAt, Advanced};
-ghost use Rattle.tl_parse.specs.Parsing.{tokens_left, end_of, Ready, items_of, Refuses, Pushed, HasNext, Fails};
-ghost use Rattle.tl_parse.specs.Parsing.{TookToken, token_of, with_token};
 ghost use Rattle.tl_parse.specs.Using.{is_number, sign_at, open_at, sign_among_at, prefix_at, operator_at, raise_at};
-ghost use Rattle.tl_parse.specs.Using.{call_at, number_at};
-ghost use Rattle.tl_parse.specs.Taking.{bar_of, Uses, Barred};
+ghost use Rattle.tl_parse.specs.Using.{call_at, number_at, is_end, bar_of};
 ghost use Rattle.tl_parse.specs.Ranks.{rank_at, is_ranked, is_of_rank, ranked_at};
 
 use crate::error::SyntaxError;
@@ -32,7 +26,6 @@ use crate::symbols::{
 use std::alloc::Global;
 use tl_base::limits::LARGEST_NUMBER;
 use tl_base::{NodeId, Place};
-use tl_lex::laws::one_division;
 use tl_lex::{LONGEST_TEXT, LexError, Lexer, SyntaxKind, TokenKind};
 use tl_tree::{
     BinaryOperator, Context, Expression, Extra, Mode, Node, NodeList, Shape, Symbol, symbol_of,
@@ -62,7 +55,7 @@ static TERRA_NUMERAL: [Symbol; 3] = [
 ];
 
 /// A token as the grammar sees it, or the end.
-#[derive(Clone, Copy, Debug)]
+#[derive(Clone, Copy)]
 pub(crate) struct Next<'a> {
     pub(crate) symbol: Symbol,
     pub(crate) text: &'a str,
@@ -73,7 +66,7 @@ pub(crate) struct Next<'a> {
 }
 
 /// An operand or a prefix expression: its node, how many more tokens may continue its chain, and what it is.
-#[derive(Clone, Copy, Debug)]
+#[derive(Clone, Copy)]
 pub(crate) struct Operand {
     pub(crate) node: NodeId,
     pub(crate) left: u32,
@@ -81,15 +74,19 @@ pub(crate) struct Operand {
 }
 
 /// Reads tokens from left to right, one ahead, and keeps the nodes that it made.
-#[derive(Debug, Drop)]
+#[derive(Drop)]
 pub(crate) struct Parser<'a> {
     lexer: Lexer<'a>,
     current: Next<'a>,
     nodes: Vec<Node<'a>>,
     alloc: Global,
+    /// Where the next token is the end, that is where the text ends.
+    ghost ends: { current.is_end ≡ true → current.place ≡ (tokens_in (answers_left lexer)).finish },
 }
 
 impl<'a> Next<'a> {
+    ghost use Rattle.tl_parse.specs.Looking.{IsNext};
+
     /// The answer of the lexer as a token.
     #[inline(always)]
     fn new(answer: Result<tl_lex::Token<'a>, LexError>) -> Next<'a>
@@ -167,13 +164,17 @@ fn is_end(kind: TokenKind) -> bool
 }
 
 impl<'a> Parser<'a> {
+    ghost use Rattle.tl_parse.specs.Parsing.{tokens_left, end_of, items_of, Refuses, Pushed, HasNext, Fails, TookToken};
+    ghost use Rattle.tl_parse.specs.Looking.{BeginsAt, Advanced};
+    ghost use Rattle.tl_parse.specs.Taking.{Uses, Barred};
+    ghost use Rattle.tl_parse.specs.Joining.{Joined};
+
     /// A parser before the first token of a text.
     #[tactic(auto, using(crate::proofs::Looking::begins_at))]
     pub(crate) fn new(alloc: Global, text: &'a str) -> Parser<'a>
         requires { length text.now ≤ LONGEST_TEXT }
         ensures { BeginsAt text.now result }
     {
-        one_division(text);
         let mut lexer = Lexer::new(text);
         let current = Next::new(lexer.next_token());
         Parser {
@@ -259,17 +260,15 @@ impl<'a> Parser<'a> {
     /// The place where the text ends, of which no token is left.
     #[tactic(auto, using(crate::proofs::Looking::finish_is))]
     pub(crate) fn finish(&self) -> Place
-        requires ready { Ready self.now }
-        requires end { tokens_left self.now ≡ [] }
+        requires { tokens_left self.now ≡ [] }
         ensures { result ≡ end_of self.now }
     {
         self.current.place
     }
 
     /// The refusal of the next token, where the grammar does not go on with it.
-    #[tactic(auto, using(crate::proofs::Looking::blames), unfolding(crate::specs::Parsing::tokens_left, crate::specs::Parsing::Ready))]
+    #[tactic(auto, using(crate::proofs::Looking::blames, crate::proofs::Looking::refuses_end), unfolding(crate::specs::Parsing::tokens_left))]
     pub(crate) fn refusal(&self) -> SyntaxError
-        requires { Ready self.now }
         ensures { Refuses self.now result }
     {
         let place = self.current.place;
@@ -295,8 +294,7 @@ impl<'a> Parser<'a> {
     #[tactic(auto, using(crate::proofs::Looking::advanced))]
     #[inline(never)]
     fn pass(&mut self)
-        requires next { HasNext (tokens_left self.old) }
-        requires ready { Ready self.old }
+        requires { HasNext (tokens_left self.old) }
         ensures { Advanced self.old self.new self.old.current }
     {
         self.current = Next::new(self.lexer.next_token());
@@ -305,8 +303,7 @@ impl<'a> Parser<'a> {
     /// Takes the next token.
     #[inline(always)]
     fn next(&mut self) -> Next<'a>
-        requires next { HasNext (tokens_left self.old) }
-        requires ready { Ready self.old }
+        requires { HasNext (tokens_left self.old) }
         ensures { Advanced self.old self.new result }
     {
         let token = self.current;
@@ -319,7 +316,6 @@ impl<'a> Parser<'a> {
     #[inline(always)]
     fn advance(&mut self, opens: bool, levels: u32, extra: Extra) -> Result<Next<'a>, SyntaxError>
         requires next { HasNext (tokens_left self.old) }
-        requires ready { Ready self.old }
         requires sized { is_number extra ≡ false }
         ensures ok { IfOk result (λ t. Uses opens levels extra self.old self.new t) }
         ensures err { IfErr result (λ e. Barred opens levels extra self.old e) }
@@ -335,8 +331,7 @@ impl<'a> Parser<'a> {
 
     /// Takes this token, which has no other use.
     pub(crate) fn take(&mut self, symbol: Symbol) -> Result<Next<'a>, SyntaxError>
-        requires first { is_bad symbol ≡ false }
-        requires ready { Ready self.old }
+        requires { is_bad symbol ≡ false }
         ensures ok { IfOk result (λ t. TookToken self.old self.new (sign_at symbol (tokens_left self.old)) t) }
         ensures err { IfErr result (λ e. Fails self.old (sign_at symbol (tokens_left self.old)) e) }
     {
@@ -349,8 +344,7 @@ impl<'a> Parser<'a> {
 
     /// Takes this token, which opens a level of nesting where so many are left.
     pub(crate) fn open(&mut self, symbol: Symbol, levels: u32) -> Result<Next<'a>, SyntaxError>
-        requires first { is_bad symbol ≡ false }
-        requires ready { Ready self.old }
+        requires { is_bad symbol ≡ false }
         ensures ok { IfOk result (λ t. TookToken self.old self.new (open_at symbol levels (tokens_left self.old)) t) }
         ensures level { IfOk result (λ _. 0 < levels) }
         ensures err { IfErr result (λ e. Fails self.old (open_at symbol levels (tokens_left self.old)) e) }
@@ -365,8 +359,7 @@ impl<'a> Parser<'a> {
     /// Takes one of these tokens, which has no other use.
     #[tactic(auto, using(crate::proofs::Taking::taking), unfolding(crate::specs::Using::sign_among_at))]
     pub(crate) fn take_among(&mut self, symbols: &[Symbol]) -> Result<Next<'a>, SyntaxError>
-        requires first { has symbols.now 65 ≡ false }
-        requires ready { Ready self.old }
+        requires { has symbols.now 65 ≡ false }
         ensures ok { IfOk result (λ t. TookToken self.old self.new (sign_among_at symbols.now (tokens_left self.old)) t) }
         ensures err { IfErr result (λ e. Fails self.old (sign_among_at symbols.now (tokens_left self.old)) e) }
     {
@@ -384,8 +377,7 @@ impl<'a> Parser<'a> {
         symbols: &[Symbol],
         levels: u32,
     ) -> Result<Next<'a>, SyntaxError>
-        requires first { has symbols.now 65 ≡ false }
-        requires ready { Ready self.old }
+        requires { has symbols.now 65 ≡ false }
         ensures ok { IfOk result (λ t. TookToken self.old self.new (prefix_at symbols.now levels (tokens_left self.old)) t) }
         ensures level { IfOk result (λ _. 0 < levels) }
         ensures err { IfErr result (λ e. Fails self.old (prefix_at symbols.now levels (tokens_left self.old)) e) }
@@ -404,8 +396,7 @@ impl<'a> Parser<'a> {
         symbols: &[Symbol],
         left: u32,
     ) -> Result<Next<'a>, SyntaxError>
-        requires first { has symbols.now 65 ≡ false }
-        requires ready { Ready self.old }
+        requires { has symbols.now 65 ≡ false }
         ensures ok { IfOk result (λ t. TookToken self.old self.new (operator_at symbols.now left (tokens_left self.old)) t) }
         ensures chain { IfOk result (λ _. 0 < left) }
         ensures err { IfErr result (λ e. Fails self.old (operator_at symbols.now left (tokens_left self.old)) e) }
@@ -420,8 +411,7 @@ impl<'a> Parser<'a> {
     /// Takes an operator of this rank, which continues a chain that so many may continue.
     #[tactic(auto, using(crate::proofs::Taking::taking, crate::proofs::Taking::chain_left), unfolding(crate::specs::Ranks::ranked_at))]
     pub(crate) fn ranked_operator(&mut self, rank: u8, left: u32) -> Result<Next<'a>, SyntaxError>
-        requires some { rank < 6 }
-        requires ready { Ready self.old }
+        requires { rank < 6 }
         ensures ok { IfOk result (λ t. TookToken self.old self.new (ranked_at rank left (tokens_left self.old)) t) }
         ensures chain { IfOk result (λ _. 0 < left) }
         ensures err { IfErr result (λ e. Fails self.old (ranked_at rank left (tokens_left self.old)) e) }
@@ -440,8 +430,7 @@ impl<'a> Parser<'a> {
         levels: u32,
         left: u32,
     ) -> Result<Next<'a>, SyntaxError>
-        requires first { is_bad symbol ≡ false }
-        requires ready { Ready self.old }
+        requires { is_bad symbol ≡ false }
         ensures ok { IfOk result (λ t. TookToken self.old self.new (raise_at symbol levels left (tokens_left self.old)) t) }
         ensures level { IfOk result (λ _. 0 < levels) }
         ensures chain { IfOk result (λ _. 0 < left) }
@@ -457,7 +446,6 @@ impl<'a> Parser<'a> {
     /// Takes the bracket that calls what is before it.
     #[tactic(auto, using(crate::proofs::Taking::calling), unfolding(crate::specs::Using::call_at))]
     pub(crate) fn open_call(&mut self, levels: u32, left: u32) -> Result<Next<'a>, SyntaxError>
-        requires ready { Ready self.old }
         ensures ok { IfOk result (λ t. TookToken self.old self.new (call_at levels left (tokens_left self.old)) t) }
         ensures level { IfOk result (λ _. 0 < levels) }
         ensures chain { IfOk result (λ _. 0 < left) }
@@ -473,7 +461,6 @@ impl<'a> Parser<'a> {
     /// Takes a number of Lua code.
     #[tactic(auto, using(crate::proofs::Numbers::numbers), unfolding(crate::specs::Using::number_at))]
     pub(crate) fn take_number(&mut self) -> Result<Next<'a>, SyntaxError>
-        requires ready { Ready self.old }
         ensures ok { IfOk result (λ t. TookToken self.old self.new (number_at (tokens_left self.old)) t) }
         ensures err { IfErr result (λ e. Fails self.old (number_at (tokens_left self.old)) e) }
     {
@@ -492,7 +479,6 @@ impl<'a> Parser<'a> {
     /// Takes a number of Terra code.
     #[tactic(auto, using(crate::proofs::TerraNumbers::numbers), unfolding(crate::specs::TerraExpressions::terra_number_at))]
     pub(crate) fn take_terra_number(&mut self) -> Result<Next<'a>, SyntaxError>
-        requires { Ready self.old }
         ensures ok { IfOk result (λ t. TookToken self.old self.new (terra_number_at (tokens_left self.old)) t) }
         ensures err { IfErr result (λ e. Fails self.old (terra_number_at (tokens_left self.old)) e) }
     {

@@ -6,7 +6,7 @@ ghost use Rattle.tl_tree.specs.LuaStatements as lua;
 ghost use Rattle.tl_tree.specs.Tree as parts;
 ghost use Rattle.tl_tree.specs.Grammar.{begins};
 ghost use Rattle.tl_tree.specs.Tokens.{among};
-ghost use Rattle.tl_parse.specs.Parsing.{tokens_left, Ready, Fails, HasNext, TookTree, TookList, TookOption, TookMaybe};
+ghost use Rattle.tl_parse.specs.Parsing.{tokens_left, Fails, HasNext, TookTree, TookList, TookOption, TookMaybe};
 ghost use Rattle.tl_parse.specs.Using.{part_at};
 ghost use Rattle.tl_parse.specs.Statements.{first_place, is_unsettled, variable_at, next_target_at, is_call};
 ghost use Rattle.tl_parse.specs.Statements.{values_at, call_or_assignment_at, do_at, loop_at, while_at, repeat_at};
@@ -25,7 +25,7 @@ use tl_base::{NodeId, Place};
 use tl_tree::{Context, Mode, Node, NodeList, Piece, Shape, Statement, Symbol};
 
 /// What a numeric `for` has behind its name.
-#[derive(Debug, Drop)]
+#[derive(Drop)]
 pub(crate) struct Numeric {
     from: NodeId,
     limit: NodeId,
@@ -112,7 +112,6 @@ impl<'a> Parser<'a> {
     /// "," Name
     #[tactic(auto, using(crate::proofs::Failing::failing), unfolding(crate::specs::Paths::next_name_at))]
     fn next_name(&mut self) -> Result<NodeId, SyntaxError>
-        requires { Ready self.old }
         ensures ok { IfOk result (λ r. TookTree self.old self.new (next_name_at (tokens_left self.old)) r) }
         ensures err { IfErr result (λ e. Fails self.old (next_name_at (tokens_left self.old)) e) }
     {
@@ -123,7 +122,6 @@ impl<'a> Parser<'a> {
     /// names = Name {"," Name}
     #[tactic(auto, using(crate::proofs::StatementTurns::names), unfolding(crate::specs::Paths::names_at))]
     fn names(&mut self, levels: u32) -> Result<NodeList, SyntaxError>
-        requires { Ready self.old }
         ensures ok { IfOk result (λ r. TookList self.old self.new (names_at levels (tokens_left self.old)) r) }
         ensures err { IfErr result (λ e. Fails self.old (names_at levels (tokens_left self.old)) e) }
     {
@@ -140,8 +138,7 @@ impl<'a> Parser<'a> {
     /// "." Name, or ":" Name, with the place of the sign
     #[tactic(auto, using(crate::proofs::Failing::failing), unfolding(crate::specs::Paths::behind_sign_at))]
     pub(crate) fn behind_sign(&mut self, symbol: Symbol) -> Result<NodeId, SyntaxError>
-        requires first { is_bad symbol ≡ false }
-        requires ready { Ready self.old }
+        requires { is_bad symbol ≡ false }
         ensures ok { IfOk result (λ r. TookTree self.old self.new (behind_sign_at symbol (tokens_left self.old)) r) }
         ensures err { IfErr result (λ e. Fails self.old (behind_sign_at symbol (tokens_left self.old)) e) }
     {
@@ -153,7 +150,6 @@ impl<'a> Parser<'a> {
     /// [":" Name]
     #[tactic(auto, using(crate::proofs::Failing::failing), unfolding(crate::specs::Paths::path_method_at))]
     fn path_method(&mut self) -> Result<Option<NodeId>, SyntaxError>
-        requires { Ready self.old }
         ensures ok { IfOk result (λ r. TookOption self.old self.new (path_method_at (tokens_left self.old)) r) }
         ensures err { IfErr result (λ e. Fails self.old (path_method_at (tokens_left self.old)) e) }
     {
@@ -167,7 +163,6 @@ impl<'a> Parser<'a> {
     /// path = Name {"." Name} [":" Name]
     #[tactic(auto, using(crate::proofs::StatementTurns::paths), unfolding(crate::specs::Paths::path_at))]
     pub(crate) fn path(&mut self, levels: u32) -> Result<NodeId, SyntaxError>
-        requires { Ready self.old }
         ensures ok { IfOk result (λ r. TookTree self.old self.new (path_at levels (tokens_left self.old)) r) }
         ensures err { IfErr result (λ e. Fails self.old (path_at levels (tokens_left self.old)) e) }
     {
@@ -186,7 +181,6 @@ impl<'a> Parser<'a> {
     #[cycle(parser)]
     #[tactic(auto, using(crate::proofs::StatementTurns::variables), unfolding(crate::specs::Statements::variable_at))]
     fn variable(&mut self, mode: Mode, levels: u32) -> Result<NodeId, SyntaxError>
-        requires { Ready self.old }
         ensures ok { IfOk result (λ r. TookTree self.old self.new (variable_at levels mode (tokens_left self.old)) r) }
         ensures err { IfErr result (λ e. Fails self.old (variable_at levels mode (tokens_left self.old)) e) }
     {
@@ -204,7 +198,6 @@ impl<'a> Parser<'a> {
     #[cycle(parser)]
     #[tactic(auto, using(crate::proofs::Failing::failing), unfolding(crate::specs::Statements::next_target_at))]
     fn next_target(&mut self, mode: Mode, levels: u32) -> Result<NodeId, SyntaxError>
-        requires { Ready self.old }
         ensures ok { IfOk result (λ r. TookTree self.old self.new (next_target_at levels mode (tokens_left self.old)) r) }
         ensures err { IfErr result (λ e. Fails self.old (next_target_at levels mode (tokens_left self.old)) e) }
     {
@@ -216,7 +209,6 @@ impl<'a> Parser<'a> {
     #[cycle(parser)]
     #[tactic(auto, using(crate::proofs::Failing::failing), unfolding(crate::specs::Statements::values_at))]
     fn values(&mut self, mode: Mode, levels: u32) -> Result<NodeList, SyntaxError>
-        requires { Ready self.old }
         ensures ok { IfOk result (λ r. TookList self.old self.new (values_at levels mode (tokens_left self.old)) r) }
         ensures err { IfErr result (λ e. Fails self.old (values_at levels mode (tokens_left self.old)) e) }
     {
@@ -228,8 +220,7 @@ impl<'a> Parser<'a> {
     #[cycle(parser)]
     #[tactic(auto, using(crate::proofs::StatementTurns::targets), unfolding(crate::specs::Statements::call_or_assignment_at))]
     fn call_or_assignment(&mut self, mode: Mode, levels: u32) -> Result<NodeId, SyntaxError>
-        requires next { HasNext (tokens_left self.old) }
-        requires ready { Ready self.old }
+        requires { HasNext (tokens_left self.old) }
         ensures ok { IfOk result (λ r. TookTree self.old self.new (call_or_assignment_at levels mode (tokens_left self.old)) r) }
         ensures err { IfErr result (λ e. Fails self.old (call_or_assignment_at levels mode (tokens_left self.old)) e) }
     {
@@ -252,7 +243,6 @@ impl<'a> Parser<'a> {
     #[cycle(parser)]
     #[tactic(auto, using(crate::proofs::Failing::failing), unfolding(crate::specs::Statements::do_at))]
     fn do_statement(&mut self, context: Context, levels: u32) -> Result<NodeId, SyntaxError>
-        requires { Ready self.old }
         ensures ok { IfOk result (λ r. TookTree self.old self.new (do_at levels context (tokens_left self.old)) r) }
         ensures err { IfErr result (λ e. Fails self.old (do_at levels context (tokens_left self.old)) e) }
     {
@@ -266,7 +256,6 @@ impl<'a> Parser<'a> {
     #[cycle(parser)]
     #[tactic(auto, using(crate::proofs::Failing::failing), unfolding(crate::specs::Statements::loop_at))]
     fn loop_block(&mut self, context: Context, levels: u32) -> Result<NodeId, SyntaxError>
-        requires { Ready self.old }
         ensures ok { IfOk result (λ r. TookTree self.old self.new (loop_at levels context (tokens_left self.old)) r) }
         ensures err { IfErr result (λ e. Fails self.old (loop_at levels context (tokens_left self.old)) e) }
     {
@@ -280,7 +269,6 @@ impl<'a> Parser<'a> {
     #[cycle(parser)]
     #[tactic(auto, using(crate::proofs::Failing::failing), unfolding(crate::specs::Statements::while_at))]
     fn while_statement(&mut self, context: Context, levels: u32) -> Result<NodeId, SyntaxError>
-        requires { Ready self.old }
         ensures ok { IfOk result (λ r. TookTree self.old self.new (while_at levels context (tokens_left self.old)) r) }
         ensures err { IfErr result (λ e. Fails self.old (while_at levels context (tokens_left self.old)) e) }
     {
@@ -294,7 +282,6 @@ impl<'a> Parser<'a> {
     #[cycle(parser)]
     #[tactic(auto, using(crate::proofs::Failing::failing), unfolding(crate::specs::Statements::repeat_at))]
     fn repeat_statement(&mut self, context: Context, levels: u32) -> Result<NodeId, SyntaxError>
-        requires { Ready self.old }
         ensures ok { IfOk result (λ r. TookTree self.old self.new (repeat_at levels context (tokens_left self.old)) r) }
         ensures err { IfErr result (λ e. Fails self.old (repeat_at levels context (tokens_left self.old)) e) }
     {
@@ -309,7 +296,6 @@ impl<'a> Parser<'a> {
     #[cycle(parser)]
     #[tactic(auto, using(crate::proofs::Failing::failing), unfolding(crate::specs::Statements::arm_at))]
     fn arm(&mut self, context: Context, levels: u32) -> Result<NodeId, SyntaxError>
-        requires { Ready self.old }
         ensures ok { IfOk result (λ r. TookTree self.old self.new (arm_at levels context (tokens_left self.old)) r) }
         ensures err { IfErr result (λ e. Fails self.old (arm_at levels context (tokens_left self.old)) e) }
     {
@@ -323,7 +309,6 @@ impl<'a> Parser<'a> {
     #[cycle(parser)]
     #[tactic(auto, using(crate::proofs::Failing::failing), unfolding(crate::specs::Statements::next_arm_at))]
     fn next_arm(&mut self, context: Context, levels: u32) -> Result<NodeId, SyntaxError>
-        requires { Ready self.old }
         ensures ok { IfOk result (λ r. TookTree self.old self.new (next_arm_at levels context (tokens_left self.old)) r) }
         ensures err { IfErr result (λ e. Fails self.old (next_arm_at levels context (tokens_left self.old)) e) }
     {
@@ -335,7 +320,6 @@ impl<'a> Parser<'a> {
     #[cycle(parser)]
     #[tactic(auto, using(crate::proofs::StatementTurns::arms), unfolding(crate::specs::Statements::arms_at))]
     fn arms(&mut self, context: Context, levels: u32) -> Result<NodeList, SyntaxError>
-        requires { Ready self.old }
         ensures ok { IfOk result (λ r. TookList self.old self.new (arms_at levels context (tokens_left self.old)) r) }
         ensures err { IfErr result (λ e. Fails self.old (arms_at levels context (tokens_left self.old)) e) }
     {
@@ -353,7 +337,6 @@ impl<'a> Parser<'a> {
     #[cycle(parser)]
     #[tactic(auto, using(crate::proofs::Failing::failing), unfolding(crate::specs::Statements::otherwise_at))]
     fn otherwise(&mut self, context: Context, levels: u32) -> Result<Option<NodeId>, SyntaxError>
-        requires { Ready self.old }
         ensures ok { IfOk result (λ r. TookOption self.old self.new (otherwise_at levels context (tokens_left self.old)) r) }
         ensures err { IfErr result (λ e. Fails self.old (otherwise_at levels context (tokens_left self.old)) e) }
     {
@@ -369,7 +352,6 @@ impl<'a> Parser<'a> {
     #[cycle(parser)]
     #[tactic(auto, using(crate::proofs::Failing::failing), unfolding(crate::specs::Statements::if_at))]
     fn if_statement(&mut self, context: Context, levels: u32) -> Result<NodeId, SyntaxError>
-        requires { Ready self.old }
         ensures ok { IfOk result (λ r. TookTree self.old self.new (if_at levels context (tokens_left self.old)) r) }
         ensures err { IfErr result (λ e. Fails self.old (if_at levels context (tokens_left self.old)) e) }
     {
@@ -384,7 +366,6 @@ impl<'a> Parser<'a> {
     #[cycle(parser)]
     #[tactic(auto, using(crate::proofs::Failing::failing), unfolding(crate::specs::Statements::step_at))]
     fn step(&mut self, mode: Mode, levels: u32) -> Result<Option<NodeId>, SyntaxError>
-        requires { Ready self.old }
         ensures ok { IfOk result (λ r. TookOption self.old self.new (step_at levels mode (tokens_left self.old)) r) }
         ensures err { IfErr result (λ e. Fails self.old (step_at levels mode (tokens_left self.old)) e) }
     {
@@ -400,7 +381,6 @@ impl<'a> Parser<'a> {
     #[cycle(parser)]
     #[tactic(auto, using(crate::proofs::Failing::failing), unfolding(crate::specs::Statements::numeric_at))]
     fn numeric(&mut self, context: Context, levels: u32) -> Result<Numeric, SyntaxError>
-        requires { Ready self.old }
         ensures ok { IfOk result (λ r. TookNumeric self.old self.new (numeric_at levels context (tokens_left self.old)) r) }
         ensures err { IfErr result (λ e. Fails self.old (numeric_at levels context (tokens_left self.old)) e) }
     {
@@ -422,7 +402,6 @@ impl<'a> Parser<'a> {
     #[cycle(parser)]
     #[tactic(auto, using(crate::proofs::Failing::failing), unfolding(crate::specs::Statements::generic_at))]
     fn generic(&mut self, context: Context, levels: u32) -> Result<(NodeList, NodeId), SyntaxError>
-        requires { Ready self.old }
         ensures ok { IfOk result (λ r. TookGeneric self.old self.new (generic_at levels context (tokens_left self.old)) r.0 r.1) }
         ensures err { IfErr result (λ e. Fails self.old (generic_at levels context (tokens_left self.old)) e) }
     {
@@ -436,7 +415,6 @@ impl<'a> Parser<'a> {
     #[cycle(parser)]
     #[tactic(auto, using(crate::proofs::StatementTurns::names), unfolding(crate::specs::Statements::for_at))]
     fn for_statement(&mut self, context: Context, levels: u32) -> Result<NodeId, SyntaxError>
-        requires { Ready self.old }
         ensures ok { IfOk result (λ r. TookTree self.old self.new (for_at levels context (tokens_left self.old)) r) }
         ensures err { IfErr result (λ e. Fails self.old (for_at levels context (tokens_left self.old)) e) }
     {
@@ -463,7 +441,6 @@ impl<'a> Parser<'a> {
     #[cycle(parser)]
     #[tactic(auto, using(crate::proofs::Failing::failing), unfolding(crate::specs::Statements::function_statement_at))]
     fn function_statement(&mut self, levels: u32) -> Result<NodeId, SyntaxError>
-        requires { Ready self.old }
         ensures ok { IfOk result (λ r. TookTree self.old self.new (function_statement_at levels (tokens_left self.old)) r) }
         ensures err { IfErr result (λ e. Fails self.old (function_statement_at levels (tokens_left self.old)) e) }
     {
@@ -478,7 +455,6 @@ impl<'a> Parser<'a> {
     #[cycle(parser)]
     #[tactic(auto, using(crate::proofs::Failing::failing), unfolding(crate::specs::Statements::local_function_at))]
     fn local_function(&mut self, levels: u32, place: Place) -> Result<NodeId, SyntaxError>
-        requires { Ready self.old }
         ensures ok { IfOk result (λ r. TookTree self.old self.new (local_function_at levels place (tokens_left self.old)) r) }
         ensures err { IfErr result (λ e. Fails self.old (local_function_at levels place (tokens_left self.old)) e) }
     {
@@ -493,7 +469,6 @@ impl<'a> Parser<'a> {
     #[cycle(parser)]
     #[tactic(auto, using(crate::proofs::Failing::failing), unfolding(crate::specs::Statements::initial_values_at))]
     fn initial_values(&mut self, mode: Mode, levels: u32) -> Result<NodeList, SyntaxError>
-        requires { Ready self.old }
         ensures ok { IfOk result (λ r. TookList self.old self.new (initial_values_at levels mode (tokens_left self.old)) r) }
         ensures err { IfErr result (λ e. Fails self.old (initial_values_at levels mode (tokens_left self.old)) e) }
     {
@@ -507,7 +482,6 @@ impl<'a> Parser<'a> {
     #[cycle(parser)]
     #[tactic(auto, using(crate::proofs::Failing::failing), unfolding(crate::specs::Statements::local_names_at))]
     fn local_names(&mut self, mode: Mode, levels: u32, place: Place) -> Result<NodeId, SyntaxError>
-        requires { Ready self.old }
         ensures ok { IfOk result (λ r. TookTree self.old self.new (local_names_at levels mode place (tokens_left self.old)) r) }
         ensures err { IfErr result (λ e. Fails self.old (local_names_at levels mode place (tokens_left self.old)) e) }
     {
@@ -520,7 +494,6 @@ impl<'a> Parser<'a> {
     #[cycle(parser)]
     #[tactic(auto, using(crate::proofs::Failing::failing), unfolding(crate::specs::Statements::local_at))]
     fn local_statement(&mut self, context: Context, levels: u32) -> Result<NodeId, SyntaxError>
-        requires { Ready self.old }
         ensures ok { IfOk result (λ r. TookTree self.old self.new (local_at levels context (tokens_left self.old)) r) }
         ensures err { IfErr result (λ e. Fails self.old (local_at levels context (tokens_left self.old)) e) }
     {
@@ -538,7 +511,6 @@ impl<'a> Parser<'a> {
     #[cycle(parser)]
     #[tactic(auto, using(crate::proofs::Failing::failing), unfolding(crate::specs::Statements::returned_values_at))]
     fn returned_values(&mut self, mode: Mode, levels: u32) -> Result<NodeList, SyntaxError>
-        requires { Ready self.old }
         ensures ok { IfOk result (λ r. TookList self.old self.new (returned_values_at levels mode (tokens_left self.old)) r) }
         ensures err { IfErr result (λ e. Fails self.old (returned_values_at levels mode (tokens_left self.old)) e) }
     {
@@ -552,7 +524,6 @@ impl<'a> Parser<'a> {
     #[cycle(parser)]
     #[tactic(auto, using(crate::proofs::Failing::failing), unfolding(crate::specs::Statements::return_at))]
     fn return_statement(&mut self, mode: Mode, levels: u32) -> Result<NodeId, SyntaxError>
-        requires { Ready self.old }
         ensures ok { IfOk result (λ r. TookTree self.old self.new (return_at levels mode (tokens_left self.old)) r) }
         ensures err { IfErr result (λ e. Fails self.old (return_at levels mode (tokens_left self.old)) e) }
     {
@@ -564,7 +535,6 @@ impl<'a> Parser<'a> {
     /// "break"
     #[tactic(auto, using(crate::proofs::Failing::failing), unfolding(crate::specs::Statements::break_at))]
     fn break_statement(&mut self) -> Result<NodeId, SyntaxError>
-        requires { Ready self.old }
         ensures ok { IfOk result (λ r. TookTree self.old self.new (break_at (tokens_left self.old)) r) }
         ensures err { IfErr result (λ e. Fails self.old (break_at (tokens_left self.old)) e) }
     {
@@ -576,7 +546,6 @@ impl<'a> Parser<'a> {
     #[cycle(parser)]
     #[tactic(auto, using(crate::proofs::Failing::failing), unfolding(crate::specs::Statements::emit_at))]
     fn emit_statement(&mut self, mode: Mode, levels: u32) -> Result<NodeId, SyntaxError>
-        requires { Ready self.old }
         ensures ok { IfOk result (λ r. TookTree self.old self.new (emit_at levels mode (tokens_left self.old)) r) }
         ensures err { IfErr result (λ e. Fails self.old (emit_at levels mode (tokens_left self.old)) e) }
     {
@@ -589,8 +558,7 @@ impl<'a> Parser<'a> {
     #[cycle(parser)]
     #[tactic(auto, using(crate::proofs::Failing::failing), unfolding(crate::specs::Statements::statement_at))]
     fn statement(&mut self, context: Context, levels: u32) -> Result<NodeId, SyntaxError>
-        requires next { HasNext (tokens_left self.old) }
-        requires ready { Ready self.old }
+        requires { HasNext (tokens_left self.old) }
         ensures ok { IfOk result (λ r. TookTree self.old self.new (statement_at levels context (tokens_left self.old)) r) }
         ensures err { IfErr result (λ e. Fails self.old (statement_at levels context (tokens_left self.old)) e) }
     {
@@ -641,8 +609,7 @@ impl<'a> Parser<'a> {
         context: Context,
         levels: u32,
     ) -> Result<(NodeId, bool), SyntaxError>
-        requires next { HasNext (tokens_left self.old) }
-        requires ready { Ready self.old }
+        requires { HasNext (tokens_left self.old) }
         ensures ok { IfOk result (λ r. TookStatement self.old self.new (next_statement_at levels context (tokens_left self.old)) r.0 r.1) }
         ensures err { IfErr result (λ e. Fails self.old (next_statement_at levels context (tokens_left self.old)) e) }
     {
@@ -659,7 +626,6 @@ impl<'a> Parser<'a> {
     #[cycle(parser)]
     #[tactic(auto, using(crate::proofs::StatementTurns::blocks), unfolding(crate::specs::Statements::block_at))]
     pub(crate) fn block(&mut self, context: Context, levels: u32) -> Result<NodeId, SyntaxError>
-        requires { Ready self.old }
         ensures ok { IfOk result (λ r. TookTree self.old self.new (part_at levels (parts.Statements context) (tokens_left self.old)) r) }
         ensures err { IfErr result (λ e. Fails self.old (part_at levels (parts.Statements context) (tokens_left self.old)) e) }
     {
@@ -676,7 +642,6 @@ impl<'a> Parser<'a> {
     /// Name | "..."
     #[tactic(auto, using(crate::proofs::Failing::failing), unfolding(crate::specs::Statements::parameter_at))]
     fn parameter(&mut self) -> Result<Option<NodeId>, SyntaxError>
-        requires { Ready self.old }
         ensures ok { IfOk result (λ r. TookMaybe self.old self.new (parameter_at (tokens_left self.old)) r) }
         ensures err { IfErr result (λ e. Fails self.old (parameter_at (tokens_left self.old)) e) }
     {
@@ -691,7 +656,6 @@ impl<'a> Parser<'a> {
     /// "," (Name | "...")
     #[tactic(auto, using(crate::proofs::Failing::failing), unfolding(crate::specs::Statements::next_parameter_at))]
     fn next_parameter(&mut self) -> Result<Option<NodeId>, SyntaxError>
-        requires { Ready self.old }
         ensures ok { IfOk result (λ r. TookMaybe self.old self.new (next_parameter_at (tokens_left self.old)) r) }
         ensures err { IfErr result (λ e. Fails self.old (next_parameter_at (tokens_left self.old)) e) }
     {
@@ -702,7 +666,6 @@ impl<'a> Parser<'a> {
     /// [names ["," "..."] | "..."], up to a ")"
     #[tactic(auto, using(crate::proofs::StatementTurns::parameters), unfolding(crate::specs::Statements::parameters_at))]
     fn parameters(&mut self, levels: u32) -> Result<(NodeList, bool), SyntaxError>
-        requires { Ready self.old }
         ensures ok { IfOk result (λ r. TookParameters self.old self.new (parameters_at levels (tokens_left self.old)) r.0 r.1) }
         ensures err { IfErr result (λ e. Fails self.old (parameters_at levels (tokens_left self.old)) e) }
     {
@@ -736,7 +699,6 @@ impl<'a> Parser<'a> {
     #[cycle(parser)]
     #[tactic(auto, using(crate::proofs::StatementTurns::body), unfolding(crate::specs::Statements::body_at))]
     pub(crate) fn function_body(&mut self, levels: u32) -> Result<NodeId, SyntaxError>
-        requires { Ready self.old }
         ensures ok { IfOk result (λ r. TookTree self.old self.new (part_at levels parts.FunctionBody (tokens_left self.old)) r) }
         ensures err { IfErr result (λ e. Fails self.old (part_at levels parts.FunctionBody (tokens_left self.old)) e) }
     {

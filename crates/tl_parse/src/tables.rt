@@ -1,7 +1,7 @@
 // Reading of tables (Lua 5.1 manual, section 2.5.7).
 ghost use Rattle.std.specs.Prelude.{◌≡◌, ◌<◌, ◌≤◌, ◌-◌, ℕ, length, true, false, IfOk, IfErr, [], ◌∷◌};
 ghost use Rattle.tl_tree.specs.Tree as parts;
-ghost use Rattle.tl_parse.specs.Parsing.{tokens_left, Ready, Fails, TookTree, TookList, TookMaybe};
+ghost use Rattle.tl_parse.specs.Parsing.{tokens_left, Fails, TookTree, TookList, TookMaybe};
 ghost use Rattle.tl_parse.specs.Using.{part_at};
 ghost use Rattle.tl_parse.specs.Expressions.{table_at, keyed_field_at, field_at, next_field_at};
 
@@ -18,7 +18,6 @@ impl<'a> Parser<'a> {
     #[cycle(parser)]
     #[tactic(auto, using(crate::proofs::Failing::failing), unfolding(crate::specs::Expressions::table_at))]
     pub(crate) fn table(&mut self, mode: Mode, levels: u32) -> Result<NodeId, SyntaxError>
-        requires { Ready self.old }
         ensures ok { IfOk result (λ r. TookTree self.old self.new (table_at levels mode (tokens_left self.old)) r) }
         ensures err { IfErr result (λ e. Fails self.old (table_at levels mode (tokens_left self.old)) e) }
     {
@@ -32,7 +31,6 @@ impl<'a> Parser<'a> {
     #[cycle(parser)]
     #[tactic(auto, using(crate::proofs::Failing::failing), unfolding(crate::specs::Expressions::keyed_field_at))]
     fn keyed_field(&mut self, mode: Mode, levels: u32) -> Result<NodeId, SyntaxError>
-        requires { Ready self.old }
         ensures ok { IfOk result (λ r. TookTree self.old self.new (keyed_field_at levels mode (tokens_left self.old)) r) }
         ensures err { IfErr result (λ e. Fails self.old (keyed_field_at levels mode (tokens_left self.old)) e) }
     {
@@ -48,7 +46,6 @@ impl<'a> Parser<'a> {
     #[cycle(parser)]
     #[tactic(auto, using(crate::proofs::Failing::failing), unfolding(crate::specs::Expressions::field_at))]
     fn field(&mut self, mode: Mode, levels: u32) -> Result<NodeId, SyntaxError>
-        requires { Ready self.old }
         ensures ok { IfOk result (λ r. TookTree self.old self.new (field_at levels mode (tokens_left self.old)) r) }
         ensures err { IfErr result (λ e. Fails self.old (field_at levels mode (tokens_left self.old)) e) }
     {
@@ -70,7 +67,6 @@ impl<'a> Parser<'a> {
     #[cycle(parser)]
     #[tactic(auto, using(crate::proofs::Failing::failing), unfolding(crate::specs::Expressions::next_field_at))]
     fn next_field(&mut self, mode: Mode, levels: u32) -> Result<Option<NodeId>, SyntaxError>
-        requires { Ready self.old }
         ensures ok { IfOk result (λ r. TookMaybe self.old self.new (next_field_at levels mode (tokens_left self.old)) r) }
         ensures err { IfErr result (λ e. Fails self.old (next_field_at levels mode (tokens_left self.old)) e) }
     {
@@ -86,7 +82,6 @@ impl<'a> Parser<'a> {
     #[cycle(parser)]
     #[tactic(auto, using(crate::proofs::Turns::fields), unfolding(crate::specs::Expressions::fields_at))]
     pub(crate) fn fields(&mut self, mode: Mode, levels: u32) -> Result<NodeList, SyntaxError>
-        requires { Ready self.old }
         ensures ok { IfOk result (λ r. TookList self.old self.new (part_at levels (parts.Fields mode) (tokens_left self.old)) r) }
         ensures err { IfErr result (λ e. Fails self.old (part_at levels (parts.Fields mode) (tokens_left self.old)) e) }
     {

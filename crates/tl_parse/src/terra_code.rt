@@ -1,7 +1,7 @@
 // Reading of the Terra code in Lua expressions.
 ghost use Rattle.std.specs.Prelude.{◌≡◌, ◌<◌, ◌≤◌, ◌-◌, ℕ, length, true, false, IfOk, IfErr, [], ◌∷◌};
 ghost use Rattle.tl_tree.specs.Tree as parts;
-ghost use Rattle.tl_parse.specs.Parsing.{tokens_left, Ready, Fails, TookTree, TookList};
+ghost use Rattle.tl_parse.specs.Parsing.{tokens_left, Fails, TookTree, TookList};
 ghost use Rattle.tl_parse.specs.Using.{part_at};
 ghost use Rattle.tl_parse.specs.TerraCode.{terra_function_at, struct_body_at, struct_at, quote_at, backtick_at};
 ghost use Rattle.tl_parse.specs.TerraCode.{terra_code_at};
@@ -20,7 +20,6 @@ impl<'a> Parser<'a> {
     #[cycle(parser)]
     #[tactic(auto, using(crate::proofs::Failing::failing), unfolding(crate::specs::TerraCode::terra_function_at))]
     fn terra_function(&mut self, levels: u32) -> Result<NodeId, SyntaxError>
-        requires { Ready self.old }
         ensures ok { IfOk result (λ r. TookTree self.old self.new (terra_function_at levels (tokens_left self.old)) r) }
         ensures err { IfErr result (λ e. Fails self.old (terra_function_at levels (tokens_left self.old)) e) }
     {
@@ -34,7 +33,6 @@ impl<'a> Parser<'a> {
     #[cycle(parser)]
     #[tactic(auto, using(crate::proofs::Failing::failing), unfolding(crate::specs::TerraCode::struct_body_at))]
     pub(crate) fn struct_body(&mut self, mode: Mode, levels: u32) -> Result<NodeList, SyntaxError>
-        requires { Ready self.old }
         ensures ok { IfOk result (λ r. TookList self.old self.new (struct_body_at levels mode (tokens_left self.old)) r) }
         ensures err { IfErr result (λ e. Fails self.old (struct_body_at levels mode (tokens_left self.old)) e) }
     {
@@ -48,7 +46,6 @@ impl<'a> Parser<'a> {
     #[cycle(parser)]
     #[tactic(auto, using(crate::proofs::Failing::failing), unfolding(crate::specs::TerraCode::struct_at))]
     fn struct_type(&mut self, mode: Mode, levels: u32) -> Result<NodeId, SyntaxError>
-        requires { Ready self.old }
         ensures ok { IfOk result (λ r. TookTree self.old self.new (struct_at levels mode (tokens_left self.old)) r) }
         ensures err { IfErr result (λ e. Fails self.old (struct_at levels mode (tokens_left self.old)) e) }
     {
@@ -61,7 +58,6 @@ impl<'a> Parser<'a> {
     #[cycle(parser)]
     #[tactic(auto, using(crate::proofs::Failing::failing), unfolding(crate::specs::TerraCode::quote_at))]
     fn quote(&mut self, levels: u32) -> Result<NodeId, SyntaxError>
-        requires { Ready self.old }
         ensures ok { IfOk result (λ r. TookTree self.old self.new (quote_at levels (tokens_left self.old)) r) }
         ensures err { IfErr result (λ e. Fails self.old (quote_at levels (tokens_left self.old)) e) }
     {
@@ -75,7 +71,6 @@ impl<'a> Parser<'a> {
     #[cycle(parser)]
     #[tactic(auto, using(crate::proofs::Failing::failing), unfolding(crate::specs::TerraCode::backtick_at))]
     fn backtick(&mut self, levels: u32) -> Result<NodeId, SyntaxError>
-        requires { Ready self.old }
         ensures ok { IfOk result (λ r. TookTree self.old self.new (backtick_at levels (tokens_left self.old)) r) }
         ensures err { IfErr result (λ e. Fails self.old (backtick_at levels (tokens_left self.old)) e) }
     {
@@ -88,7 +83,6 @@ impl<'a> Parser<'a> {
     #[cycle(parser)]
     #[tactic(auto, using(crate::proofs::Failing::failing), unfolding(crate::specs::TerraCode::terra_code_at))]
     pub(crate) fn terra_code(&mut self, mode: Mode, levels: u32) -> Result<NodeId, SyntaxError>
-        requires { Ready self.old }
         ensures ok { IfOk result (λ r. TookTree self.old self.new (terra_code_at levels mode (tokens_left self.old)) r) }
         ensures err { IfErr result (λ e. Fails self.old (terra_code_at levels mode (tokens_left self.old)) e) }
     {
@@ -107,7 +101,6 @@ impl<'a> Parser<'a> {
     /// ["," | ";"]
     #[tactic(auto, using(crate::proofs::Failing::failing), unfolding(crate::specs::Entries::separator_at))]
     fn separator(&mut self) -> Result<(), SyntaxError>
-        requires { Ready self.old }
         ensures ok { IfOk result (λ r. TookNothing self.old self.new (separator_at (tokens_left self.old))) }
         ensures err { IfErr result (λ e. Fails self.old (separator_at (tokens_left self.old)) e) }
     {
@@ -121,7 +114,6 @@ impl<'a> Parser<'a> {
     #[cycle(parser)]
     #[tactic(auto, using(crate::proofs::Failing::failing), unfolding(crate::specs::Entries::entry_at))]
     fn entry(&mut self, mode: Mode, levels: u32) -> Result<NodeId, SyntaxError>
-        requires { Ready self.old }
         ensures ok { IfOk result (λ r. TookTree self.old self.new (entry_at levels mode (tokens_left self.old)) r) }
         ensures err { IfErr result (λ e. Fails self.old (entry_at levels mode (tokens_left self.old)) e) }
     {
@@ -136,7 +128,6 @@ impl<'a> Parser<'a> {
     #[cycle(parser)]
     #[tactic(auto, using(crate::proofs::TerraTurns::entries))]
     fn entries(&mut self, mode: Mode, levels: u32) -> Result<NodeList, SyntaxError>
-        requires { Ready self.old }
         ensures ok { IfOk result (λ r. TookList self.old self.new (part_at levels (parts.Entries mode) (tokens_left self.old)) r) }
         ensures err { IfErr result (λ e. Fails self.old (part_at levels (parts.Entries mode) (tokens_left self.old)) e) }
     {

@@ -1,6 +1,6 @@
 // Reading of the Lua statements that define Terra functions and types.
 ghost use Rattle.std.specs.Prelude.{◌≡◌, length, true, false, IfOk, IfErr};
-ghost use Rattle.tl_parse.specs.Parsing.{tokens_left, Ready, Fails, TookTree};
+ghost use Rattle.tl_parse.specs.Parsing.{tokens_left, Fails, TookTree};
 ghost use Rattle.tl_parse.specs.TerraDefinitions.{struct_path_at, define_terra_at, local_terra_function_at};
 ghost use Rattle.tl_parse.specs.TerraDefinitions.{local_struct_at, local_terra_at, define_struct_at};
 
@@ -13,7 +13,6 @@ impl<'a> Parser<'a> {
     /// Name {"." Name}
     #[tactic(auto, using(crate::proofs::StatementTurns::paths), unfolding(crate::specs::TerraDefinitions::struct_path_at))]
     fn struct_path(&mut self, levels: u32) -> Result<NodeId, SyntaxError>
-        requires { Ready self.old }
         ensures ok { IfOk result (λ r. TookTree self.old self.new (struct_path_at levels (tokens_left self.old)) r) }
         ensures err { IfErr result (λ e. Fails self.old (struct_path_at levels (tokens_left self.old)) e) }
     {
@@ -31,7 +30,6 @@ impl<'a> Parser<'a> {
     #[cycle(parser)]
     #[tactic(auto, using(crate::proofs::Failing::failing), unfolding(crate::specs::TerraDefinitions::define_terra_at))]
     pub(crate) fn define_terra(&mut self, mode: Mode, levels: u32) -> Result<NodeId, SyntaxError>
-        requires { Ready self.old }
         ensures ok { IfOk result (λ r. TookTree self.old self.new (define_terra_at levels mode (tokens_left self.old)) r) }
         ensures err { IfErr result (λ e. Fails self.old (define_terra_at levels mode (tokens_left self.old)) e) }
     {
@@ -56,7 +54,6 @@ impl<'a> Parser<'a> {
         place: Place,
         levels: u32,
     ) -> Result<NodeId, SyntaxError>
-        requires { Ready self.old }
         ensures ok { IfOk result (λ r. TookTree self.old self.new (local_terra_function_at levels mode place (tokens_left self.old)) r) }
         ensures err { IfErr result (λ e. Fails self.old (local_terra_function_at levels mode place (tokens_left self.old)) e) }
     {
@@ -79,7 +76,6 @@ impl<'a> Parser<'a> {
     #[cycle(parser)]
     #[tactic(auto, using(crate::proofs::Failing::failing), unfolding(crate::specs::TerraDefinitions::local_struct_at))]
     fn local_struct(&mut self, mode: Mode, place: Place, levels: u32) -> Result<NodeId, SyntaxError>
-        requires { Ready self.old }
         ensures ok { IfOk result (λ r. TookTree self.old self.new (local_struct_at levels mode place (tokens_left self.old)) r) }
         ensures err { IfErr result (λ e. Fails self.old (local_struct_at levels mode place (tokens_left self.old)) e) }
     {
@@ -98,7 +94,6 @@ impl<'a> Parser<'a> {
         place: Place,
         levels: u32,
     ) -> Result<NodeId, SyntaxError>
-        requires { Ready self.old }
         ensures ok { IfOk result (λ r. TookTree self.old self.new (local_terra_at levels mode place (tokens_left self.old)) r) }
         ensures err { IfErr result (λ e. Fails self.old (local_terra_at levels mode place (tokens_left self.old)) e) }
     {
@@ -112,7 +107,6 @@ impl<'a> Parser<'a> {
     #[cycle(parser)]
     #[tactic(auto, using(crate::proofs::Failing::failing), unfolding(crate::specs::TerraDefinitions::define_struct_at))]
     pub(crate) fn define_struct(&mut self, mode: Mode, levels: u32) -> Result<NodeId, SyntaxError>
-        requires { Ready self.old }
         ensures ok { IfOk result (λ r. TookTree self.old self.new (define_struct_at levels mode (tokens_left self.old)) r) }
         ensures err { IfErr result (λ e. Fails self.old (define_struct_at levels mode (tokens_left self.old)) e) }
     {

@@ -5,7 +5,7 @@ ghost use Rattle.tl_tree.specs.Tokens.{among};
 ghost use Rattle.tl_tree.specs.Tree as parts;
 ghost use Rattle.tl_tree.specs.Grammar.{begins};
 ghost use Rattle.tl_tree.specs.TerraExpressions as terra;
-ghost use Rattle.tl_parse.specs.Parsing.{tokens_left, Ready, Fails, TookToken, TookTree, TookOperand, TookList};
+ghost use Rattle.tl_parse.specs.Parsing.{tokens_left, Fails, TookToken, TookTree, TookOperand, TookList};
 ghost use Rattle.tl_parse.specs.Parsing.{TookMaybe};
 ghost use Rattle.tl_parse.specs.Using.{part_at};
 ghost use Rattle.tl_parse.specs.Going.{TookOperation};
@@ -30,7 +30,7 @@ use tl_base::NodeId;
 use tl_tree::{Mode, Node, NodeList, Piece, Shape, Symbol, TerraExpression};
 
 /// The precedences of the operators of Terra code, which all group to the left, from the highest.
-#[derive(Clone, Copy, Debug, PartialEq, Eq)]
+#[derive(Clone, Copy, PartialEq, Eq)]
 pub(crate) enum TerraPrecedence {
     Power,
     Product,
@@ -106,7 +106,6 @@ impl<'a> Parser<'a> {
     /// Numeral, of Terra code
     #[tactic(auto, using(crate::proofs::Failing::failing), unfolding(crate::specs::TerraExpressions::terra_number_tree_at))]
     fn terra_number(&mut self) -> Result<NodeId, SyntaxError>
-        requires { Ready self.old }
         ensures ok { IfOk result (λ r. TookTree self.old self.new (terra_number_tree_at (tokens_left self.old)) r) }
         ensures err { IfErr result (λ e. Fails self.old (terra_number_tree_at (tokens_left self.old)) e) }
     {
@@ -117,7 +116,6 @@ impl<'a> Parser<'a> {
     /// "nil"
     #[tactic(auto, using(crate::proofs::Failing::failing), unfolding(crate::specs::TerraExpressions::terra_constant_at))]
     fn terra_nil(&mut self) -> Result<NodeId, SyntaxError>
-        requires { Ready self.old }
         ensures ok { IfOk result (λ r. TookTree self.old self.new (terra_constant_at Symbol.Nil (tokens_left self.old)) r) }
         ensures err { IfErr result (λ e. Fails self.old (terra_constant_at Symbol.Nil (tokens_left self.old)) e) }
     {
@@ -128,7 +126,6 @@ impl<'a> Parser<'a> {
     /// "false"
     #[tactic(auto, using(crate::proofs::Failing::failing), unfolding(crate::specs::TerraExpressions::terra_constant_at))]
     fn terra_false(&mut self) -> Result<NodeId, SyntaxError>
-        requires { Ready self.old }
         ensures ok { IfOk result (λ r. TookTree self.old self.new (terra_constant_at Symbol.False (tokens_left self.old)) r) }
         ensures err { IfErr result (λ e. Fails self.old (terra_constant_at Symbol.False (tokens_left self.old)) e) }
     {
@@ -139,7 +136,6 @@ impl<'a> Parser<'a> {
     /// "true"
     #[tactic(auto, using(crate::proofs::Failing::failing), unfolding(crate::specs::TerraExpressions::terra_constant_at))]
     fn terra_true(&mut self) -> Result<NodeId, SyntaxError>
-        requires { Ready self.old }
         ensures ok { IfOk result (λ r. TookTree self.old self.new (terra_constant_at Symbol.True (tokens_left self.old)) r) }
         ensures err { IfErr result (λ e. Fails self.old (terra_constant_at Symbol.True (tokens_left self.old)) e) }
     {
@@ -150,7 +146,6 @@ impl<'a> Parser<'a> {
     /// "nil" | "false" | "true" | Numeral | Text
     #[tactic(auto, using(crate::proofs::Failing::failing), unfolding(crate::specs::TerraExpressions::terra_simple_at))]
     fn terra_simple(&mut self) -> Result<NodeId, SyntaxError>
-        requires { Ready self.old }
         ensures ok { IfOk result (λ r. TookTree self.old self.new (terra_simple_at (tokens_left self.old)) r) }
         ensures err { IfErr result (λ e. Fails self.old (terra_simple_at (tokens_left self.old)) e) }
     {
@@ -195,7 +190,6 @@ impl<'a> Parser<'a> {
     #[cycle(parser)]
     #[tactic(auto, using(crate::proofs::Failing::failing), unfolding(crate::specs::TerraExpressions::escape_at))]
     pub(crate) fn escape(&mut self, levels: u32) -> Result<NodeId, SyntaxError>
-        requires { Ready self.old }
         ensures ok { IfOk result (λ r. TookTree self.old self.new (escape_at levels (tokens_left self.old)) r) }
         ensures err { IfErr result (λ e. Fails self.old (escape_at levels (tokens_left self.old)) e) }
     {
@@ -209,7 +203,6 @@ impl<'a> Parser<'a> {
     #[cycle(parser)]
     #[tactic(auto, using(crate::proofs::Failing::failing), unfolding(crate::specs::TerraExpressions::terra_name_at))]
     pub(crate) fn terra_name(&mut self, levels: u32) -> Result<NodeId, SyntaxError>
-        requires { Ready self.old }
         ensures ok { IfOk result (λ r. TookTree self.old self.new (terra_name_at levels (tokens_left self.old)) r) }
         ensures err { IfErr result (λ e. Fails self.old (terra_name_at levels (tokens_left self.old)) e) }
     {
@@ -223,7 +216,6 @@ impl<'a> Parser<'a> {
     #[cycle(parser)]
     #[tactic(auto, using(crate::proofs::Failing::failing), unfolding(crate::specs::TerraExpressions::terra_paren_at))]
     fn terra_paren(&mut self, levels: u32) -> Result<Operand, SyntaxError>
-        requires { Ready self.old }
         ensures ok { IfOk result (λ r. TookOperand self.old self.new (terra_paren_at levels (tokens_left self.old)) r) }
         ensures err { IfErr result (λ e. Fails self.old (terra_paren_at levels (tokens_left self.old)) e) }
     {
@@ -245,7 +237,6 @@ impl<'a> Parser<'a> {
     #[cycle(parser)]
     #[tactic(auto, using(crate::proofs::Failing::failing), unfolding(crate::specs::TerraExpressions::terra_base_at))]
     fn terra_base(&mut self, levels: u32) -> Result<Operand, SyntaxError>
-        requires { Ready self.old }
         ensures ok { IfOk result (λ r. TookOperand self.old self.new (terra_base_at levels (tokens_left self.old)) r) }
         ensures err { IfErr result (λ e. Fails self.old (terra_base_at levels (tokens_left self.old)) e) }
     {
@@ -272,7 +263,6 @@ impl<'a> Parser<'a> {
     #[cycle(parser)]
     #[tactic(auto, using(crate::proofs::Taking::shorter), unfolding(crate::specs::TerraExpressions::terra_call_suffix_at))]
     fn terra_call_suffix(&mut self, levels: u32, a: Operand) -> Result<Operand, SyntaxError>
-        requires { Ready self.old }
         ensures ok { IfOk result (λ r. TookTerraSuffix self.old self.new (terra_call_suffix_at levels a.left (tokens_left self.old)) a r) }
         ensures err { IfErr result (λ e. Fails self.old (terra_call_suffix_at levels a.left (tokens_left self.old)) e) }
     {
@@ -294,7 +284,6 @@ impl<'a> Parser<'a> {
     #[cycle(parser)]
     #[tactic(auto, using(crate::proofs::Taking::shorter), unfolding(crate::specs::TerraExpressions::terra_index_suffix_at))]
     fn terra_index_suffix(&mut self, levels: u32, a: Operand) -> Result<Operand, SyntaxError>
-        requires { Ready self.old }
         ensures ok { IfOk result (λ r. TookTerraSuffix self.old self.new (terra_index_suffix_at levels a.left (tokens_left self.old)) a r) }
         ensures err { IfErr result (λ e. Fails self.old (terra_index_suffix_at levels a.left (tokens_left self.old)) e) }
     {
@@ -316,7 +305,6 @@ impl<'a> Parser<'a> {
     #[cycle(parser)]
     #[tactic(auto, using(crate::proofs::Taking::shorter), unfolding(crate::specs::TerraExpressions::terra_select_suffix_at))]
     fn terra_select_suffix(&mut self, levels: u32, a: Operand) -> Result<Operand, SyntaxError>
-        requires { Ready self.old }
         ensures ok { IfOk result (λ r.
             TookTerraSuffix self.old self.new (terra_select_suffix_at levels a.left (tokens_left self.old)) a r) }
         ensures err { IfErr result (λ e. Fails self.old (terra_select_suffix_at levels a.left (tokens_left self.old)) e) }
@@ -338,7 +326,6 @@ impl<'a> Parser<'a> {
     #[cycle(parser)]
     #[tactic(auto, using(crate::proofs::Taking::shorter), unfolding(crate::specs::TerraExpressions::terra_method_suffix_at))]
     fn terra_method_suffix(&mut self, levels: u32, a: Operand) -> Result<Operand, SyntaxError>
-        requires { Ready self.old }
         ensures ok { IfOk result (λ r.
             TookTerraSuffix self.old self.new (terra_method_suffix_at levels a.left (tokens_left self.old)) a r) }
         ensures err { IfErr result (λ e. Fails self.old (terra_method_suffix_at levels a.left (tokens_left self.old)) e) }
@@ -363,7 +350,6 @@ impl<'a> Parser<'a> {
     #[cycle(parser)]
     #[tactic(auto, using(crate::proofs::Taking::shorter), unfolding(crate::specs::TerraExpressions::construct_suffix_at))]
     fn construct_suffix(&mut self, levels: u32, a: Operand) -> Result<Operand, SyntaxError>
-        requires { Ready self.old }
         ensures ok { IfOk result (λ r. TookTerraSuffix self.old self.new (construct_suffix_at levels a.left (tokens_left self.old)) a r) }
         ensures err { IfErr result (λ e. Fails self.old (construct_suffix_at levels a.left (tokens_left self.old)) e) }
     {
@@ -385,7 +371,6 @@ impl<'a> Parser<'a> {
     #[cycle(parser)]
     #[tactic(auto, using(crate::proofs::Failing::failing), unfolding(crate::specs::TerraExpressions::terra_suffix_at))]
     fn terra_suffix(&mut self, levels: u32, a: Operand) -> Result<Operand, SyntaxError>
-        requires { Ready self.old }
         ensures ok { IfOk result (λ r. TookTerraSuffix self.old self.new (terra_suffix_at levels a.left (tokens_left self.old)) a r) }
         ensures err { IfErr result (λ e. Fails self.old (terra_suffix_at levels a.left (tokens_left self.old)) e) }
     {
@@ -408,7 +393,6 @@ impl<'a> Parser<'a> {
     #[cycle(parser)]
     #[tactic(auto, using(crate::proofs::TerraTurns::suffixes), unfolding(crate::specs::TerraExpressions::terra_applied_at))]
     pub(crate) fn terra_applied(&mut self, levels: u32) -> Result<Operand, SyntaxError>
-        requires { Ready self.old }
         ensures ok { IfOk result (λ r. TookOperand self.old self.new (terra_applied_at levels (tokens_left self.old)) r) }
         ensures err { IfErr result (λ e. Fails self.old (terra_applied_at levels (tokens_left self.old)) e) }
     {
@@ -423,7 +407,6 @@ impl<'a> Parser<'a> {
     #[cycle(parser)]
     #[tactic(auto, using(crate::proofs::Failing::failing), unfolding(crate::specs::TerraExpressions::terra_primary_at))]
     fn terra_primary(&mut self, levels: u32, left: u32) -> Result<Operand, SyntaxError>
-        requires { Ready self.old }
         ensures ok { IfOk result (λ r. TookOperand self.old self.new (terra_primary_at levels left (tokens_left self.old)) r) }
         ensures err { IfErr result (λ e. Fails self.old (terra_primary_at levels left (tokens_left self.old)) e) }
     {
@@ -447,7 +430,6 @@ impl<'a> Parser<'a> {
     #[cycle(parser)]
     #[tactic(auto, using(crate::proofs::Failing::failing), unfolding(crate::specs::TerraExpressions::terra_prefixed_at))]
     fn terra_prefixed(&mut self, levels: u32, left: u32) -> Result<Operand, SyntaxError>
-        requires { Ready self.old }
         ensures ok { IfOk result (λ r. TookOperand self.old self.new (terra_prefixed_at levels left (tokens_left self.old)) r) }
         ensures err { IfErr result (λ e. Fails self.old (terra_prefixed_at levels left (tokens_left self.old)) e) }
     {
@@ -468,7 +450,6 @@ impl<'a> Parser<'a> {
     #[cycle(parser)]
     #[tactic(auto, using(crate::proofs::Failing::failing), unfolding(crate::specs::TerraExpressions::terra_exponent_at))]
     fn terra_exponent(&mut self, levels: u32, left: u32) -> Result<Operand, SyntaxError>
-        requires { Ready self.old }
         ensures ok { IfOk result (λ r. TookOperand self.old self.new (terra_exponent_at levels left (tokens_left self.old)) r) }
         ensures err { IfErr result (λ e. Fails self.old (terra_exponent_at levels left (tokens_left self.old)) e) }
     {
@@ -482,7 +463,6 @@ impl<'a> Parser<'a> {
     #[cycle(parser)]
     #[tactic(auto, using(crate::proofs::Failing::failing), unfolding(crate::specs::TerraExpressions::terra_unary_at))]
     fn terra_unary(&mut self, levels: u32, left: u32) -> Result<Operand, SyntaxError>
-        requires { Ready self.old }
         ensures ok { IfOk result (λ r. TookOperand self.old self.new (terra_unary_at levels left (tokens_left self.old)) r) }
         ensures err { IfErr result (λ e. Fails self.old (terra_unary_at levels left (tokens_left self.old)) e) }
     {
@@ -501,7 +481,6 @@ impl<'a> Parser<'a> {
         levels: u32,
         left: u32,
     ) -> Result<Operand, SyntaxError>
-        requires { Ready self.old }
         ensures ok { IfOk result (λ r. TookOperand self.old self.new (terra_inner_at levels precedence left (tokens_left self.old)) r) }
         ensures err { IfErr result (λ e. Fails self.old (terra_inner_at levels precedence left (tokens_left self.old)) e) }
     {
@@ -533,7 +512,6 @@ impl<'a> Parser<'a> {
         levels: u32,
         left: u32,
     ) -> Result<Operand, SyntaxError>
-        requires { Ready self.old }
         ensures ok { IfOk result (λ r. TookOperand self.old self.new (terra_first_at levels precedence left (tokens_left self.old)) r) }
         ensures err { IfErr result (λ e. Fails self.old (terra_first_at levels precedence left (tokens_left self.old)) e) }
     {
@@ -553,7 +531,6 @@ impl<'a> Parser<'a> {
         levels: u32,
         left: u32,
     ) -> Result<(Next<'a>, Operand), SyntaxError>
-        requires { Ready self.old }
         ensures ok { IfOk result (λ r.
             TookOperation self.old self.new (terra_one_more_at levels precedence left (tokens_left self.old)) r.0 r.1) }
         ensures err { IfErr result (λ e. Fails self.old (terra_one_more_at levels precedence left (tokens_left self.old)) e) }
@@ -573,7 +550,6 @@ impl<'a> Parser<'a> {
         levels: u32,
         left: u32,
     ) -> Result<Operand, SyntaxError>
-        requires { Ready self.old }
         ensures ok { IfOk result (λ r. TookOperand self.old self.new (terra_binary_at levels precedence left (tokens_left self.old)) r) }
         ensures err { IfErr result (λ e. Fails self.old (terra_binary_at levels precedence left (tokens_left self.old)) e) }
     {
@@ -590,7 +566,6 @@ impl<'a> Parser<'a> {
     #[cycle(parser)]
     #[tactic(auto, using(crate::proofs::Failing::failing_same, crate::proofs::TerraParts::terra_operand_part))]
     fn terra_operand(&mut self, levels: u32) -> Result<NodeId, SyntaxError>
-        requires { Ready self.old }
         ensures ok { IfOk result (λ r. TookTree self.old self.new (part_at levels parts.TerraOperand (tokens_left self.old)) r) }
         ensures err { IfErr result (λ e. Fails self.old (part_at levels parts.TerraOperand (tokens_left self.old)) e) }
     {
@@ -602,7 +577,6 @@ impl<'a> Parser<'a> {
     #[cycle(parser)]
     #[tactic(auto, using(crate::proofs::Failing::failing_same, crate::proofs::TerraParts::terra_expression_part))]
     pub(crate) fn terra_expression(&mut self, levels: u32) -> Result<NodeId, SyntaxError>
-        requires { Ready self.old }
         ensures ok { IfOk result (λ r. TookTree self.old self.new (part_at levels parts.TerraExpression (tokens_left self.old)) r) }
         ensures err { IfErr result (λ e. Fails self.old (part_at levels parts.TerraExpression (tokens_left self.old)) e) }
     {
@@ -614,7 +588,6 @@ impl<'a> Parser<'a> {
     #[cycle(parser)]
     #[tactic(auto, using(crate::proofs::Failing::failing), unfolding(crate::specs::TerraExpressions::next_terra_expression_at))]
     pub(crate) fn next_terra_expression(&mut self, levels: u32) -> Result<NodeId, SyntaxError>
-        requires { Ready self.old }
         ensures ok { IfOk result (λ r. TookTree self.old self.new (next_terra_expression_at levels (tokens_left self.old)) r) }
         ensures err { IfErr result (λ e. Fails self.old (next_terra_expression_at levels (tokens_left self.old)) e) }
     {
@@ -626,7 +599,6 @@ impl<'a> Parser<'a> {
     #[cycle(parser)]
     #[tactic(auto, using(crate::proofs::TerraTurns::expressions), unfolding(crate::specs::TerraExpressions::terra_expressions_at))]
     pub(crate) fn terra_expressions(&mut self, levels: u32) -> Result<NodeList, SyntaxError>
-        requires { Ready self.old }
         ensures ok { IfOk result (λ r. TookList self.old self.new (terra_expressions_at levels (tokens_left self.old)) r) }
         ensures err { IfErr result (λ e. Fails self.old (terra_expressions_at levels (tokens_left self.old)) e) }
     {
@@ -644,7 +616,6 @@ impl<'a> Parser<'a> {
     #[cycle(parser)]
     #[tactic(auto, using(crate::proofs::TerraParts::arguments), unfolding(crate::specs::TerraExpressions::terra_arguments_at))]
     fn terra_arguments(&mut self, levels: u32) -> Result<NodeList, SyntaxError>
-        requires { Ready self.old }
         ensures ok { IfOk result (λ r. TookList self.old self.new (part_at levels parts.TerraArguments (tokens_left self.old)) r) }
         ensures err { IfErr result (λ e. Fails self.old (part_at levels parts.TerraArguments (tokens_left self.old)) e) }
     {
@@ -658,7 +629,6 @@ impl<'a> Parser<'a> {
     #[cycle(parser)]
     #[tactic(auto, using(crate::proofs::Failing::failing), unfolding(crate::specs::TerraExpressions::named_initialiser_at))]
     fn named_initialiser(&mut self, levels: u32) -> Result<NodeId, SyntaxError>
-        requires { Ready self.old }
         ensures ok { IfOk result (λ r. TookTree self.old self.new (named_initialiser_at levels (tokens_left self.old)) r) }
         ensures err { IfErr result (λ e. Fails self.old (named_initialiser_at levels (tokens_left self.old)) e) }
     {
@@ -672,7 +642,6 @@ impl<'a> Parser<'a> {
     #[cycle(parser)]
     #[tactic(auto, using(crate::proofs::Failing::failing), unfolding(crate::specs::TerraExpressions::initialiser_at))]
     fn initialiser(&mut self, named: bool, levels: u32) -> Result<NodeId, SyntaxError>
-        requires { Ready self.old }
         ensures ok { IfOk result (λ r. TookTree self.old self.new (initialiser_at levels named (tokens_left self.old)) r) }
         ensures err { IfErr result (λ e. Fails self.old (initialiser_at levels named (tokens_left self.old)) e) }
     {
@@ -686,7 +655,6 @@ impl<'a> Parser<'a> {
     #[cycle(parser)]
     #[tactic(auto, using(crate::proofs::Failing::failing), unfolding(crate::specs::TerraExpressions::first_initialiser_at))]
     fn first_initialiser(&mut self, levels: u32) -> Result<(NodeId, bool), SyntaxError>
-        requires { Ready self.old }
         ensures ok { IfOk result (λ r. TookInitialiser self.old self.new (first_initialiser_at levels (tokens_left self.old)) r.0 r.1) }
         ensures err { IfErr result (λ e. Fails self.old (first_initialiser_at levels (tokens_left self.old)) e) }
     {
@@ -706,7 +674,6 @@ impl<'a> Parser<'a> {
     #[cycle(parser)]
     #[tactic(auto, using(crate::proofs::Failing::failing), unfolding(crate::specs::TerraExpressions::next_initialiser_at))]
     fn next_initialiser(&mut self, named: bool, levels: u32) -> Result<Option<NodeId>, SyntaxError>
-        requires { Ready self.old }
         ensures ok { IfOk result (λ r. TookMaybe self.old self.new (next_initialiser_at levels named (tokens_left self.old)) r) }
         ensures err { IfErr result (λ e. Fails self.old (next_initialiser_at levels named (tokens_left self.old)) e) }
     {
@@ -722,7 +689,6 @@ impl<'a> Parser<'a> {
     #[cycle(parser)]
     #[tactic(auto, using(crate::proofs::TerraTurns::initialisers), unfolding(crate::specs::TerraExpressions::initialisers_at))]
     fn initialisers(&mut self, levels: u32) -> Result<NodeList, SyntaxError>
-        requires { Ready self.old }
         ensures ok { IfOk result (λ r. TookList self.old self.new (part_at levels parts.Initialisers (tokens_left self.old)) r) }
         ensures err { IfErr result (λ e. Fails self.old (part_at levels parts.Initialisers (tokens_left self.old)) e) }
     {

@@ -3,13 +3,14 @@ ghost use Rattle.std.specs.Prelude.{◌≡◌, length, true, false, IfOk, IfErr,
 ghost use Rattle.tl_tree.specs.TerraStatements as terra;
 ghost use Rattle.tl_tree.specs.Tree as parts;
 ghost use Rattle.tl_tree.specs.Grammar.{begins};
-ghost use Rattle.tl_parse.specs.Parsing.{tokens_left, Ready, HasNext, Fails, TookTree, TookOperand, TookList};
+ghost use Rattle.tl_parse.specs.Parsing.{tokens_left, HasNext, Fails, TookTree, TookOperand, TookList};
 ghost use Rattle.tl_parse.specs.Parsing.{TookOption};
 ghost use Rattle.tl_parse.specs.Using.{part_at};
 ghost use Rattle.tl_parse.specs.Going.{TookStatement};
 ghost use Rattle.tl_parse.specs.Statements.{is_call};
 ghost use Rattle.tl_parse.specs.TerraStatements.{written_type_at, terra_loop_at, terra_arm_at, next_terra_arm_at};
-ghost use Rattle.tl_parse.specs.TerraStatements.{terra_arms_at, terra_otherwise_at, terra_step_at, terra_variable_at};
+ghost use Rattle.tl_parse.specs.TerraStatements.{terra_arms_at, terra_otherwise_at, terra_step_at};
+ghost use Rattle.tl_parse.specs.TerraStatements.{terra_variable_at, spliced_variable_at, named_variable_at};
 ghost use Rattle.tl_parse.specs.TerraStatements.{next_terra_variable_at, terra_variables_at, terra_initial_values_at};
 ghost use Rattle.tl_parse.specs.TerraStatements.{terra_returned_values_at, terra_target_at};
 ghost use Rattle.tl_parse.specs.TerraStatements.{terra_simple_statement_at, is_escape, terra_goes_on};
@@ -17,7 +18,8 @@ ghost use Rattle.tl_parse.specs.TerraStatements.{terra_function_body_at, quoted_
 ghost use Rattle.tl_parse.specs.TerraStatements.{terra_do_at, terra_while_at, terra_repeat_at, terra_if_at};
 ghost use Rattle.tl_parse.specs.TerraStatements.{terra_for_at, terra_var_at, escape_block_at, terra_return_at};
 ghost use Rattle.tl_parse.specs.TerraStatements.{terra_break_at, terra_statement_at, next_terra_statement_at};
-ghost use Rattle.tl_parse.specs.TerraStatements.{terra_parameter_at, next_terra_parameter_at, terra_parameters_at};
+ghost use Rattle.tl_parse.specs.TerraStatements.{terra_parameter_at, spliced_parameter_at, named_parameter_at};
+ghost use Rattle.tl_parse.specs.TerraStatements.{next_terra_parameter_at, terra_parameters_at};
 
 use crate::error::SyntaxError;
 use crate::parser::{CHAIN, Operand, Parser, add};
@@ -85,7 +87,6 @@ impl<'a> Parser<'a> {
     #[cycle(parser)]
     #[tactic(auto, using(crate::proofs::Failing::failing), unfolding(crate::specs::TerraStatements::written_type_at))]
     fn written_type(&mut self, levels: u32) -> Result<Option<NodeId>, SyntaxError>
-        requires { Ready self.old }
         ensures ok { IfOk result (λ r. TookOption self.old self.new (written_type_at levels (tokens_left self.old)) r) }
         ensures err { IfErr result (λ e. Fails self.old (written_type_at levels (tokens_left self.old)) e) }
     {
@@ -101,7 +102,6 @@ impl<'a> Parser<'a> {
     #[cycle(parser)]
     #[tactic(auto, using(crate::proofs::Failing::failing), unfolding(crate::specs::TerraStatements::terra_loop_at))]
     fn terra_loop(&mut self, levels: u32) -> Result<NodeId, SyntaxError>
-        requires { Ready self.old }
         ensures ok { IfOk result (λ r. TookTree self.old self.new (terra_loop_at levels (tokens_left self.old)) r) }
         ensures err { IfErr result (λ e. Fails self.old (terra_loop_at levels (tokens_left self.old)) e) }
     {
@@ -115,7 +115,6 @@ impl<'a> Parser<'a> {
     #[cycle(parser)]
     #[tactic(auto, using(crate::proofs::Failing::failing), unfolding(crate::specs::TerraStatements::terra_arm_at))]
     fn terra_arm(&mut self, levels: u32) -> Result<NodeId, SyntaxError>
-        requires { Ready self.old }
         ensures ok { IfOk result (λ r. TookTree self.old self.new (terra_arm_at levels (tokens_left self.old)) r) }
         ensures err { IfErr result (λ e. Fails self.old (terra_arm_at levels (tokens_left self.old)) e) }
     {
@@ -129,7 +128,6 @@ impl<'a> Parser<'a> {
     #[cycle(parser)]
     #[tactic(auto, using(crate::proofs::Failing::failing), unfolding(crate::specs::TerraStatements::next_terra_arm_at))]
     fn next_terra_arm(&mut self, levels: u32) -> Result<NodeId, SyntaxError>
-        requires { Ready self.old }
         ensures ok { IfOk result (λ r. TookTree self.old self.new (next_terra_arm_at levels (tokens_left self.old)) r) }
         ensures err { IfErr result (λ e. Fails self.old (next_terra_arm_at levels (tokens_left self.old)) e) }
     {
@@ -141,7 +139,6 @@ impl<'a> Parser<'a> {
     #[cycle(parser)]
     #[tactic(auto, using(crate::proofs::TerraStatementTurns::arms), unfolding(crate::specs::TerraStatements::terra_arms_at))]
     fn terra_arms(&mut self, levels: u32) -> Result<NodeList, SyntaxError>
-        requires { Ready self.old }
         ensures ok { IfOk result (λ r. TookList self.old self.new (terra_arms_at levels (tokens_left self.old)) r) }
         ensures err { IfErr result (λ e. Fails self.old (terra_arms_at levels (tokens_left self.old)) e) }
     {
@@ -159,7 +156,6 @@ impl<'a> Parser<'a> {
     #[cycle(parser)]
     #[tactic(auto, using(crate::proofs::Failing::failing), unfolding(crate::specs::TerraStatements::terra_otherwise_at))]
     fn terra_otherwise(&mut self, levels: u32) -> Result<Option<NodeId>, SyntaxError>
-        requires { Ready self.old }
         ensures ok { IfOk result (λ r. TookOption self.old self.new (terra_otherwise_at levels (tokens_left self.old)) r) }
         ensures err { IfErr result (λ e. Fails self.old (terra_otherwise_at levels (tokens_left self.old)) e) }
     {
@@ -175,7 +171,6 @@ impl<'a> Parser<'a> {
     #[cycle(parser)]
     #[tactic(auto, using(crate::proofs::Failing::failing), unfolding(crate::specs::TerraStatements::terra_step_at))]
     fn terra_step(&mut self, levels: u32) -> Result<Option<NodeId>, SyntaxError>
-        requires { Ready self.old }
         ensures ok { IfOk result (λ r. TookOption self.old self.new (terra_step_at levels (tokens_left self.old)) r) }
         ensures err { IfErr result (λ e. Fails self.old (terra_step_at levels (tokens_left self.old)) e) }
     {
@@ -187,34 +182,52 @@ impl<'a> Parser<'a> {
         Ok(None)
     }
 
-    /// tvar = tname [":" exp]
+    /// "[" exp "]" [":" exp]
     #[cycle(parser)]
-    #[tactic(auto, using(crate::proofs::Failing::failing), unfolding(crate::specs::TerraStatements::terra_variable_at))]
-    fn terra_variable(&mut self, levels: u32) -> Result<NodeId, SyntaxError>
-        requires { Ready self.old }
-        ensures ok { IfOk result (λ r. TookTree self.old self.new (terra_variable_at levels (tokens_left self.old)) r) }
-        ensures err { IfErr result (λ e. Fails self.old (terra_variable_at levels (tokens_left self.old)) e) }
+    #[tactic(auto, using(crate::proofs::Failing::failing), unfolding(crate::specs::TerraStatements::spliced_variable_at))]
+    fn spliced_variable(&mut self, levels: u32) -> Result<NodeId, SyntaxError>
+        ensures ok { IfOk result (λ r. TookTree self.old self.new (spliced_variable_at levels (tokens_left self.old)) r) }
+        ensures err { IfErr result (λ e. Fails self.old (spliced_variable_at levels (tokens_left self.old)) e) }
     {
-        if self.next_is(Symbol::OpenBracket) {
-            let token = read!(self.open(Symbol::OpenBracket, levels));
-            let code = read!(self.expression(Mode::Plain, levels - 1));
-            read!(self.take(Symbol::CloseBracket));
-            let escape = Node::TerraExpression(token.place, TerraExpression::Escape(code));
-            let name = read!(self.push(escape));
-            let written = read!(self.written_type(levels));
-            return self.push(Node::Piece(Piece::Variable(token.place, name, written)));
-        }
+        let token = read!(self.open(Symbol::OpenBracket, levels));
+        let code = read!(self.expression(Mode::Plain, levels - 1));
+        read!(self.take(Symbol::CloseBracket));
+        let escape = Node::TerraExpression(token.place, TerraExpression::Escape(code));
+        let name = read!(self.push(escape));
+        let written = read!(self.written_type(levels));
+        self.push(Node::Piece(Piece::Variable(token.place, name, written)))
+    }
+
+    /// Name [":" exp]
+    #[cycle(parser)]
+    #[tactic(auto, using(crate::proofs::Failing::failing), unfolding(crate::specs::TerraStatements::named_variable_at))]
+    fn named_variable(&mut self, levels: u32) -> Result<NodeId, SyntaxError>
+        ensures ok { IfOk result (λ r. TookTree self.old self.new (named_variable_at levels (tokens_left self.old)) r) }
+        ensures err { IfErr result (λ e. Fails self.old (named_variable_at levels (tokens_left self.old)) e) }
+    {
         let token = read!(self.take(Symbol::Name));
         let name = read!(self.push(Node::Name(token.place, token.offset, token.text)));
         let written = read!(self.written_type(levels));
         self.push(Node::Piece(Piece::Variable(token.place, name, written)))
     }
 
+    /// tvar = tname [":" exp]
+    #[cycle(parser)]
+    #[tactic(auto, using(crate::proofs::Failing::failing), unfolding(crate::specs::TerraStatements::terra_variable_at))]
+    fn terra_variable(&mut self, levels: u32) -> Result<NodeId, SyntaxError>
+        ensures ok { IfOk result (λ r. TookTree self.old self.new (terra_variable_at levels (tokens_left self.old)) r) }
+        ensures err { IfErr result (λ e. Fails self.old (terra_variable_at levels (tokens_left self.old)) e) }
+    {
+        if self.next_is(Symbol::OpenBracket) {
+            return self.spliced_variable(levels);
+        }
+        self.named_variable(levels)
+    }
+
     /// "," tvar
     #[cycle(parser)]
     #[tactic(auto, using(crate::proofs::Failing::failing), unfolding(crate::specs::TerraStatements::next_terra_variable_at))]
     fn next_terra_variable(&mut self, levels: u32) -> Result<NodeId, SyntaxError>
-        requires { Ready self.old }
         ensures ok { IfOk result (λ r. TookTree self.old self.new (next_terra_variable_at levels (tokens_left self.old)) r) }
         ensures err { IfErr result (λ e. Fails self.old (next_terra_variable_at levels (tokens_left self.old)) e) }
     {
@@ -226,7 +239,6 @@ impl<'a> Parser<'a> {
     #[cycle(parser)]
     #[tactic(auto, using(crate::proofs::TerraStatementTurns::variables), unfolding(crate::specs::TerraStatements::terra_variables_at))]
     fn terra_variables(&mut self, levels: u32) -> Result<NodeList, SyntaxError>
-        requires { Ready self.old }
         ensures ok { IfOk result (λ r. TookList self.old self.new (terra_variables_at levels (tokens_left self.old)) r) }
         ensures err { IfErr result (λ e. Fails self.old (terra_variables_at levels (tokens_left self.old)) e) }
     {
@@ -244,7 +256,6 @@ impl<'a> Parser<'a> {
     #[cycle(parser)]
     #[tactic(auto, using(crate::proofs::Failing::failing), unfolding(crate::specs::TerraStatements::terra_initial_values_at))]
     fn terra_initial_values(&mut self, levels: u32) -> Result<NodeList, SyntaxError>
-        requires { Ready self.old }
         ensures ok { IfOk result (λ r. TookList self.old self.new (terra_initial_values_at levels (tokens_left self.old)) r) }
         ensures err { IfErr result (λ e. Fails self.old (terra_initial_values_at levels (tokens_left self.old)) e) }
     {
@@ -259,7 +270,6 @@ impl<'a> Parser<'a> {
     #[cycle(parser)]
     #[tactic(auto, using(crate::proofs::Failing::failing), unfolding(crate::specs::TerraStatements::terra_returned_values_at))]
     fn terra_returned_values(&mut self, levels: u32) -> Result<NodeList, SyntaxError>
-        requires { Ready self.old }
         ensures ok { IfOk result (λ r. TookList self.old self.new (terra_returned_values_at levels (tokens_left self.old)) r) }
         ensures err { IfErr result (λ e. Fails self.old (terra_returned_values_at levels (tokens_left self.old)) e) }
     {
@@ -273,7 +283,6 @@ impl<'a> Parser<'a> {
     #[cycle(parser)]
     #[tactic(auto, using(crate::proofs::Failing::failing), unfolding(crate::specs::TerraStatements::terra_target_at))]
     fn terra_target(&mut self, levels: u32) -> Result<Operand, SyntaxError>
-        requires { Ready self.old }
         ensures ok { IfOk result (λ r. TookOperand self.old self.new (terra_target_at levels (tokens_left self.old)) r) }
         ensures err { IfErr result (λ e. Fails self.old (terra_target_at levels (tokens_left self.old)) e) }
     {
@@ -292,8 +301,7 @@ impl<'a> Parser<'a> {
     #[cycle(parser)]
     #[tactic(auto, using(crate::proofs::TerraStatementTurns::targets), unfolding(crate::specs::TerraStatements::terra_simple_statement_at))]
     fn terra_simple_statement(&mut self, levels: u32) -> Result<NodeId, SyntaxError>
-        requires ready { Ready self.old }
-        requires next { HasNext (tokens_left self.old) }
+        requires { HasNext (tokens_left self.old) }
         ensures ok { IfOk result (λ r. TookTree self.old self.new (terra_simple_statement_at levels (tokens_left self.old)) r) }
         ensures err { IfErr result (λ e. Fails self.old (terra_simple_statement_at levels (tokens_left self.old)) e) }
     {
@@ -320,7 +328,6 @@ impl<'a> Parser<'a> {
     #[cycle(parser)]
     #[tactic(auto, using(crate::proofs::Failing::failing), unfolding(crate::specs::TerraStatements::terra_do_at))]
     fn terra_do(&mut self, levels: u32) -> Result<NodeId, SyntaxError>
-        requires { Ready self.old }
         ensures ok { IfOk result (λ r. TookTree self.old self.new (terra_do_at levels (tokens_left self.old)) r) }
         ensures err { IfErr result (λ e. Fails self.old (terra_do_at levels (tokens_left self.old)) e) }
     {
@@ -334,7 +341,6 @@ impl<'a> Parser<'a> {
     #[cycle(parser)]
     #[tactic(auto, using(crate::proofs::Failing::failing), unfolding(crate::specs::TerraStatements::terra_while_at))]
     fn terra_while(&mut self, levels: u32) -> Result<NodeId, SyntaxError>
-        requires { Ready self.old }
         ensures ok { IfOk result (λ r. TookTree self.old self.new (terra_while_at levels (tokens_left self.old)) r) }
         ensures err { IfErr result (λ e. Fails self.old (terra_while_at levels (tokens_left self.old)) e) }
     {
@@ -348,7 +354,6 @@ impl<'a> Parser<'a> {
     #[cycle(parser)]
     #[tactic(auto, using(crate::proofs::Failing::failing), unfolding(crate::specs::TerraStatements::terra_repeat_at))]
     fn terra_repeat(&mut self, levels: u32) -> Result<NodeId, SyntaxError>
-        requires { Ready self.old }
         ensures ok { IfOk result (λ r. TookTree self.old self.new (terra_repeat_at levels (tokens_left self.old)) r) }
         ensures err { IfErr result (λ e. Fails self.old (terra_repeat_at levels (tokens_left self.old)) e) }
     {
@@ -363,7 +368,6 @@ impl<'a> Parser<'a> {
     #[cycle(parser)]
     #[tactic(auto, using(crate::proofs::Failing::failing), unfolding(crate::specs::TerraStatements::terra_if_at))]
     fn terra_if(&mut self, levels: u32) -> Result<NodeId, SyntaxError>
-        requires { Ready self.old }
         ensures ok { IfOk result (λ r. TookTree self.old self.new (terra_if_at levels (tokens_left self.old)) r) }
         ensures err { IfErr result (λ e. Fails self.old (terra_if_at levels (tokens_left self.old)) e) }
     {
@@ -378,7 +382,6 @@ impl<'a> Parser<'a> {
     #[cycle(parser)]
     #[tactic(auto, using(crate::proofs::Failing::failing), unfolding(crate::specs::TerraStatements::terra_for_at))]
     fn terra_for(&mut self, levels: u32) -> Result<NodeId, SyntaxError>
-        requires { Ready self.old }
         ensures ok { IfOk result (λ r. TookTree self.old self.new (terra_for_at levels (tokens_left self.old)) r) }
         ensures err { IfErr result (λ e. Fails self.old (terra_for_at levels (tokens_left self.old)) e) }
     {
@@ -400,7 +403,6 @@ impl<'a> Parser<'a> {
     #[cycle(parser)]
     #[tactic(auto, using(crate::proofs::Failing::failing), unfolding(crate::specs::TerraStatements::terra_var_at))]
     fn terra_var(&mut self, levels: u32) -> Result<NodeId, SyntaxError>
-        requires { Ready self.old }
         ensures ok { IfOk result (λ r. TookTree self.old self.new (terra_var_at levels (tokens_left self.old)) r) }
         ensures err { IfErr result (λ e. Fails self.old (terra_var_at levels (tokens_left self.old)) e) }
     {
@@ -414,7 +416,6 @@ impl<'a> Parser<'a> {
     #[cycle(parser)]
     #[tactic(auto, using(crate::proofs::Failing::failing), unfolding(crate::specs::TerraStatements::escape_block_at))]
     fn escape_block(&mut self, levels: u32) -> Result<NodeId, SyntaxError>
-        requires { Ready self.old }
         ensures ok { IfOk result (λ r. TookTree self.old self.new (escape_block_at levels (tokens_left self.old)) r) }
         ensures err { IfErr result (λ e. Fails self.old (escape_block_at levels (tokens_left self.old)) e) }
     {
@@ -428,7 +429,6 @@ impl<'a> Parser<'a> {
     #[cycle(parser)]
     #[tactic(auto, using(crate::proofs::Failing::failing), unfolding(crate::specs::TerraStatements::terra_return_at))]
     fn terra_return(&mut self, levels: u32) -> Result<NodeId, SyntaxError>
-        requires { Ready self.old }
         ensures ok { IfOk result (λ r. TookTree self.old self.new (terra_return_at levels (tokens_left self.old)) r) }
         ensures err { IfErr result (λ e. Fails self.old (terra_return_at levels (tokens_left self.old)) e) }
     {
@@ -440,7 +440,6 @@ impl<'a> Parser<'a> {
     /// "break"
     #[tactic(auto, using(crate::proofs::Failing::failing), unfolding(crate::specs::TerraStatements::terra_break_at))]
     fn terra_break(&mut self) -> Result<NodeId, SyntaxError>
-        requires { Ready self.old }
         ensures ok { IfOk result (λ r. TookTree self.old self.new (terra_break_at (tokens_left self.old)) r) }
         ensures err { IfErr result (λ e. Fails self.old (terra_break_at (tokens_left self.old)) e) }
     {
@@ -452,8 +451,7 @@ impl<'a> Parser<'a> {
     #[cycle(parser)]
     #[tactic(auto, using(crate::proofs::Failing::failing), unfolding(crate::specs::TerraStatements::terra_statement_at))]
     fn terra_statement(&mut self, levels: u32) -> Result<NodeId, SyntaxError>
-        requires ready { Ready self.old }
-        requires next { HasNext (tokens_left self.old) }
+        requires { HasNext (tokens_left self.old) }
         ensures ok { IfOk result (λ r. TookTree self.old self.new (terra_statement_at levels (tokens_left self.old)) r) }
         ensures err { IfErr result (λ e. Fails self.old (terra_statement_at levels (tokens_left self.old)) e) }
     {
@@ -491,8 +489,7 @@ impl<'a> Parser<'a> {
     #[cycle(parser)]
     #[tactic(auto, using(crate::proofs::Failing::failing), unfolding(crate::specs::TerraStatements::next_terra_statement_at))]
     fn next_terra_statement(&mut self, levels: u32) -> Result<(NodeId, bool), SyntaxError>
-        requires next { HasNext (tokens_left self.old) }
-        requires ready { Ready self.old }
+        requires { HasNext (tokens_left self.old) }
         ensures ok { IfOk result (λ r. TookStatement self.old self.new (next_terra_statement_at levels (tokens_left self.old)) r.0 r.1) }
         ensures err { IfErr result (λ e. Fails self.old (next_terra_statement_at levels (tokens_left self.old)) e) }
     {
@@ -520,7 +517,6 @@ impl<'a> Parser<'a> {
     #[cycle(parser)]
     #[tactic(auto, using(crate::proofs::TerraStatementTurns::blocks), unfolding(crate::specs::TerraStatements::terra_block_at))]
     pub(crate) fn terra_block(&mut self, levels: u32) -> Result<NodeId, SyntaxError>
-        requires { Ready self.old }
         ensures ok { IfOk result (λ r. TookTree self.old self.new (part_at levels parts.TerraStatements (tokens_left self.old)) r) }
         ensures err { IfErr result (λ e. Fails self.old (part_at levels parts.TerraStatements (tokens_left self.old)) e) }
     {
@@ -534,22 +530,28 @@ impl<'a> Parser<'a> {
         self.push(Node::Piece(Piece::Block(list)))
     }
 
-    /// param = Name ":" exp | "[" exp "]"
+    /// "[" exp "]"
     #[cycle(parser)]
-    #[tactic(auto, using(crate::proofs::Failing::failing), unfolding(crate::specs::TerraStatements::terra_parameter_at))]
-    fn terra_parameter(&mut self, levels: u32) -> Result<NodeId, SyntaxError>
-        requires { Ready self.old }
-        ensures ok { IfOk result (λ r. TookTree self.old self.new (terra_parameter_at levels (tokens_left self.old)) r) }
-        ensures err { IfErr result (λ e. Fails self.old (terra_parameter_at levels (tokens_left self.old)) e) }
+    #[tactic(auto, using(crate::proofs::Failing::failing), unfolding(crate::specs::TerraStatements::spliced_parameter_at))]
+    fn spliced_parameter(&mut self, levels: u32) -> Result<NodeId, SyntaxError>
+        ensures ok { IfOk result (λ r. TookTree self.old self.new (spliced_parameter_at levels (tokens_left self.old)) r) }
+        ensures err { IfErr result (λ e. Fails self.old (spliced_parameter_at levels (tokens_left self.old)) e) }
     {
-        if self.next_is(Symbol::OpenBracket) {
-            let token = read!(self.open(Symbol::OpenBracket, levels));
-            let code = read!(self.expression(Mode::Plain, levels - 1));
-            read!(self.take(Symbol::CloseBracket));
-            let escape = Node::TerraExpression(token.place, TerraExpression::Escape(code));
-            let name = read!(self.push(escape));
-            return self.push(Node::Piece(Piece::SpliceParameter(token.place, name)));
-        }
+        let token = read!(self.open(Symbol::OpenBracket, levels));
+        let code = read!(self.expression(Mode::Plain, levels - 1));
+        read!(self.take(Symbol::CloseBracket));
+        let escape = Node::TerraExpression(token.place, TerraExpression::Escape(code));
+        let name = read!(self.push(escape));
+        self.push(Node::Piece(Piece::SpliceParameter(token.place, name)))
+    }
+
+    /// Name ":" exp
+    #[cycle(parser)]
+    #[tactic(auto, using(crate::proofs::Failing::failing), unfolding(crate::specs::TerraStatements::named_parameter_at))]
+    fn named_parameter(&mut self, levels: u32) -> Result<NodeId, SyntaxError>
+        ensures ok { IfOk result (λ r. TookTree self.old self.new (named_parameter_at levels (tokens_left self.old)) r) }
+        ensures err { IfErr result (λ e. Fails self.old (named_parameter_at levels (tokens_left self.old)) e) }
+    {
         let token = read!(self.take(Symbol::Name));
         let name = read!(self.push(Node::Name(token.place, token.offset, token.text)));
         read!(self.take(Symbol::Colon));
@@ -557,11 +559,23 @@ impl<'a> Parser<'a> {
         self.push(Node::Piece(Piece::Parameter(token.place, name, written)))
     }
 
+    /// param = Name ":" exp | "[" exp "]"
+    #[cycle(parser)]
+    #[tactic(auto, using(crate::proofs::Failing::failing), unfolding(crate::specs::TerraStatements::terra_parameter_at))]
+    fn terra_parameter(&mut self, levels: u32) -> Result<NodeId, SyntaxError>
+        ensures ok { IfOk result (λ r. TookTree self.old self.new (terra_parameter_at levels (tokens_left self.old)) r) }
+        ensures err { IfErr result (λ e. Fails self.old (terra_parameter_at levels (tokens_left self.old)) e) }
+    {
+        if self.next_is(Symbol::OpenBracket) {
+            return self.spliced_parameter(levels);
+        }
+        self.named_parameter(levels)
+    }
+
     /// "," param
     #[cycle(parser)]
     #[tactic(auto, using(crate::proofs::Failing::failing), unfolding(crate::specs::TerraStatements::next_terra_parameter_at))]
     fn next_terra_parameter(&mut self, levels: u32) -> Result<NodeId, SyntaxError>
-        requires { Ready self.old }
         ensures ok { IfOk result (λ r. TookTree self.old self.new (next_terra_parameter_at levels (tokens_left self.old)) r) }
         ensures err { IfErr result (λ e. Fails self.old (next_terra_parameter_at levels (tokens_left self.old)) e) }
     {
@@ -573,7 +587,6 @@ impl<'a> Parser<'a> {
     #[cycle(parser)]
     #[tactic(auto, using(crate::proofs::TerraStatementTurns::parameters), unfolding(crate::specs::TerraStatements::terra_parameters_at))]
     fn terra_parameters(&mut self, levels: u32) -> Result<NodeList, SyntaxError>
-        requires { Ready self.old }
         ensures ok { IfOk result (λ r. TookList self.old self.new (terra_parameters_at levels (tokens_left self.old)) r) }
         ensures err { IfErr result (λ e. Fails self.old (terra_parameters_at levels (tokens_left self.old)) e) }
     {
@@ -594,7 +607,6 @@ impl<'a> Parser<'a> {
     #[cycle(parser)]
     #[tactic(auto, using(crate::proofs::Failing::failing), unfolding(crate::specs::TerraStatements::terra_function_body_at))]
     fn terra_body(&mut self, place: Place, levels: u32) -> Result<NodeId, SyntaxError>
-        requires { Ready self.old }
         ensures ok { IfOk result (λ r. TookTree self.old self.new (terra_function_body_at levels place (tokens_left self.old)) r) }
         ensures err { IfErr result (λ e. Fails self.old (terra_function_body_at levels place (tokens_left self.old)) e) }
     {
@@ -614,7 +626,6 @@ impl<'a> Parser<'a> {
         place: Place,
         levels: u32,
     ) -> Result<NodeId, SyntaxError>
-        requires { Ready self.old }
         ensures ok { IfOk result (λ r.
             TookTree self.old self.new (part_at levels (parts.TerraFunctionBody place) (tokens_left self.old)) r) }
         ensures err { IfErr result (λ e. Fails self.old (part_at levels (parts.TerraFunctionBody place) (tokens_left self.old)) e) }
@@ -626,7 +637,6 @@ impl<'a> Parser<'a> {
     #[cycle(parser)]
     #[tactic(auto, using(crate::proofs::Failing::failing), unfolding(crate::specs::TerraStatements::quoted_expression_at))]
     fn quoted_expression(&mut self, levels: u32) -> Result<Option<NodeId>, SyntaxError>
-        requires { Ready self.old }
         ensures ok { IfOk result (λ r. TookOption self.old self.new (quoted_expression_at levels (tokens_left self.old)) r) }
         ensures err { IfErr result (λ e. Fails self.old (quoted_expression_at levels (tokens_left self.old)) e) }
     {
@@ -642,7 +652,6 @@ impl<'a> Parser<'a> {
     #[cycle(parser)]
     #[tactic(auto, using(crate::proofs::TerraStatementParts::quoted_code), unfolding(crate::specs::TerraStatements::quoted_code_at))]
     pub(crate) fn quoted_code(&mut self, levels: u32) -> Result<NodeId, SyntaxError>
-        requires { Ready self.old }
         ensures ok { IfOk result (λ r. TookTree self.old self.new (part_at levels parts.QuotedCode (tokens_left self.old)) r) }
         ensures err { IfErr result (λ e. Fails self.old (part_at levels parts.QuotedCode (tokens_left self.old)) e) }
     {

@@ -19,7 +19,7 @@ use Rattle.tl_parse.specs.TerraStatements.{terra_parameter_at, terra_parameters_
 use Rattle.tl_parse.specs.TerraStatements.{more_terra_statements_at}
 use Rattle.tl_parse.specs.Entries.{more_entries_at, entry_at}
 use Rattle.tl_parse.proofs.Uses.{operator_with}
-use Rattle.tl_parse.proofs.Turns.{suffix_shorter, suffixes_go, expressions_go, expressions_end, expression_shorter, fields_go, fields_end}
+use Rattle.tl_parse.proofs.Turns.{suffix_shorter, suffixes_go, expressions_go, expressions_end, expression_shorter, fields_go, fields_end, field_shorter}
 use Rattle.tl_parse.proofs.Failing.{fails_same, fails_bind, fails_from}
 use Rattle.tl_parse.proofs.Parts.{fields_part}
 use Rattle.tl_parse.proofs.Climbing.{ranked_below, one_more_shorter}
@@ -28,7 +28,7 @@ use Rattle.tl_parse.proofs.TerraParts as terra_parts
 use Rattle.tl_parse.proofs.StatementTurns.{arms_go, block_goes, settles_on, arms_end, arm_shorter, statement_shorter}
 use Rattle.tl_parse.proofs.Looping.{listing_first, listing_next, listing_stops, listing_ends, numbers_next, targets_begin, targets_next, names_begin, names_next}
 use Rattle.tl_parse.proofs.Looping.{body_fails}
-use Rattle.tl_parse.proofs.TerraTurns.{terra_suffix_shorter, terra_suffixes_go, terra_operation_shorter, terra_operations_go, terra_expressions_end, terra_expression_shorter, initialisers_end, entries_end, entry_shorter}
+use Rattle.tl_parse.proofs.TerraTurns.{terra_suffix_shorter, terra_suffixes_go, terra_operation_shorter, terra_operations_go, terra_expressions_end, terra_expression_shorter, initialisers_end, entries_end, entry_shorter, initialiser_shorter}
 use Rattle.tl_parse.proofs.TerraTurns.{terra_expressions_go, initialisers_go, entries_go}
 use Rattle.tl_parse.proofs.TerraStatementTurns.{terra_block_goes, terra_arms_go, terra_variables_go, terra_parameters_go, terra_targets_go, terra_arms_end, terra_arm_shorter, terra_variables_end, terra_variable_shorter, terra_parameters_end, terra_parameter_shorter, terra_target_shorter, terra_statement_shorter}
 use Rattle.tl_parse.proofs.parser.Parser.+parser.Goals as goal
@@ -49,7 +49,7 @@ binary-more-smaller t c =
     let below = ranked_below c.more.from c.args.ranks (tokens_left c.more.self) (sym c.next_is_ranked.ensures ∙ c.more-test.true) in
     let high : rank_at (tokens_left c.more.self) < c.args.ranks = below.1 in
     let same : rank ≡ rank_at (tokens_left c.more.self) = c.next_rank-rank.ensures in
-    let most : c.args.ranks ≤ 6 = c.requires.some in
+    let most : c.args.ranks ≤ 6 = c.requires in
     let small : rank < 6 = omega arith in
     subst (λ (ts : List Token). length ts < length (tokens_left c.more.self)) (sym c.in-Ok-operation.ensures.ok.pushed.rest)
     (one_more_shorter c.args.levels rank c.args.mode c.more.a.left (operator_with (token_of x.0) (chained o.tree x.1.left x.1.shape)) (tokens_left c.more.self) (tokens_left c.one_more.new.self) small o.took)
@@ -59,26 +59,26 @@ call_or_assignment-more-init t c =
     let a = c.in-Ok.ensures.ok in
     let x = c.in-Ok.x in
     listing_first c.args.self.now c.applied.new.self _ _ a.tree x.node c.add.new.list (targets_begin c.args.levels c.args.mode (tokens_left c.args.self.now) (tokens_left c.applied.new.self) a.tree x.left x.shape a.took (sym c.is_call.ensures ∙ c.if-is_call.false))
-    a.finish a.ready a.items a.is_last (c.in-Ok-add.ensures.ok ∙ ap (λ (ns : List NodeId). ns ++ x.node ∷ []) c.no_nodes-targets.ensures)
+    a.finish a.items a.is_last (c.in-Ok-add.ensures.ok ∙ ap (λ (ns : List NodeId). ns ++ x.node ∷ []) c.no_nodes-targets.ensures)
 
 pub call_or_assignment-more-preserved : goal.call_or_assignment-more-preserved
 call_or_assignment-more-preserved t c =
     let e = c.in-Ok-next_target.ensures.ok in
     listing_next c.args.self.now c.more.self c.next_target.new.self _ _ e.tree c.in-Ok-next_target.x c.more.targets c.add-in-more.new.list c.more.invariant
-    (targets_next c.args.levels c.args.mode _ c.more.invariant.tree e.tree (tokens_left c.more.self) (tokens_left c.next_target.new.self) (sym c.next_is.ensures ∙ c.more-test.true) e.took) e.finish e.ready e.items e.is_last c.in-Ok-add-2.ensures.ok
+    (targets_next c.args.levels c.args.mode _ c.more.invariant.tree e.tree (tokens_left c.more.self) (tokens_left c.next_target.new.self) (sym c.next_is.ensures ∙ c.more-test.true) e.took) e.finish e.items e.is_last c.in-Ok-add-2.ensures.ok
 
 pub for_statement-more-init : goal.for_statement-more-init
 for_statement-more-init t c =
     let s = c.in-Ok.ensures.ok in
     let n = c.in-Ok-name.ensures.ok in
     listing_first c.args.self.now c.name.new.self _ _ n.tree c.in-Ok-name.x c.add.new.list (names_begin c.args.levels c.args.context (tokens_left c.args.self.now) (tokens_left c.take.new.self) (tokens_left c.name.new.self) (token_of c.in-Ok.x) n.tree s.took n.took (sym c.next_is.ensures ∙ c.if-next_is.false))
-    (n.finish ∙ s.finish) n.ready (n.items ∙ ap (λ (i : List Item). (laid n.tree i).items) s.items) n.is_last (c.in-Ok-add.ensures.ok ∙ ap (λ (ns : List NodeId). ns ++ c.in-Ok-name.x ∷ []) c.no_nodes-names.ensures)
+    (n.finish ∙ s.finish) (n.items ∙ ap (λ (i : List Item). (laid n.tree i).items) s.items) n.is_last (c.in-Ok-add.ensures.ok ∙ ap (λ (ns : List NodeId). ns ++ c.in-Ok-name.x ∷ []) c.no_nodes-names.ensures)
 
 pub for_statement-more-preserved : goal.for_statement-more-preserved
 for_statement-more-preserved t c =
     let e = c.in-Ok-next_name.ensures.ok in
     listing_next c.args.self.now c.more.self c.next_name.new.self _ _ e.tree c.in-Ok-next_name.x c.more.names c.add-in-more.new.list c.more.invariant
-    (names_next c.args.levels c.args.context _ c.more.invariant.tree e.tree (tokens_left c.more.self) (tokens_left c.next_name.new.self) (sym c.next_is-in-more.ensures ∙ c.more-test.true) e.took) e.finish e.ready e.items e.is_last c.in-Ok-add-2.ensures.ok
+    (names_next c.args.levels c.args.context _ c.more.invariant.tree e.tree (tokens_left c.more.self) (tokens_left c.next_name.new.self) (sym c.next_is-in-more.ensures ∙ c.more-test.true) e.took) e.finish e.items e.is_last c.in-Ok-add-2.ensures.ok
 
 pub function_body-returns-in-Err-block-clause-err : goal.function_body-returns-in-Err-block-clause-err
 function_body-returns-in-Err-block-clause-err t c =
@@ -102,65 +102,65 @@ unfolding expressions_at
 expressions-more-init t c =
     let e = c.in-Ok.ensures.ok in
     listing_first c.args.self.now c.expression.new.self _ _ e.tree c.in-Ok.x c.add.new.list (ap (λ (o : Outcome Tree). o >>= λ e rest. more_expressions_at c.args.levels c.args.mode (More Nothing e) rest) e.took)
-    e.finish e.ready e.items e.is_last (c.in-Ok-add.ensures.ok ∙ ap (λ (ns : List NodeId). ns ++ c.in-Ok.x ∷ []) c.no_nodes-list.ensures)
+    e.finish e.items e.is_last (c.in-Ok-add.ensures.ok ∙ ap (λ (ns : List NodeId). ns ++ c.in-Ok.x ∷ []) c.no_nodes-list.ensures)
 
 pub expressions-more-preserved : goal.expressions-more-preserved
 expressions-more-preserved t c =
     let e = c.in-Ok-next_expression.ensures.ok in
     listing_next c.args.self.now c.more.self c.next_expression.new.self _ _ e.tree c.in-Ok-next_expression.x c.more.list c.add-in-more.new.list c.more.invariant
-    (expressions_go c.args.levels c.args.mode c.more.invariant.tree (tokens_left c.more.self) (sym c.next_is.ensures ∙ c.more-test.true) ∙ ap (λ (o : Outcome Tree). o >>= λ e rest. more_expressions_at c.args.levels c.args.mode (More c.more.invariant.tree e) rest) e.took) e.finish e.ready e.items e.is_last c.in-Ok-add-2.ensures.ok
+    (expressions_go c.args.levels c.args.mode c.more.invariant.tree (tokens_left c.more.self) (sym c.next_is.ensures ∙ c.more-test.true) ∙ ap (λ (o : Outcome Tree). o >>= λ e rest. more_expressions_at c.args.levels c.args.mode (More c.more.invariant.tree e) rest) e.took) e.finish e.items e.is_last c.in-Ok-add-2.ensures.ok
 
 pub arms-more-init : goal.arms-more-init
 unfolding arms_at
 arms-more-init t c =
     let e = c.in-Ok.ensures.ok in
     listing_first c.args.self.now c.arm.new.self _ _ e.tree c.in-Ok.x c.add.new.list (ap (λ (o : Outcome Tree). o >>= λ e rest. more_arms_at c.args.levels c.args.context (More Nothing e) rest) e.took)
-    e.finish e.ready e.items e.is_last (c.in-Ok-add.ensures.ok ∙ ap (λ (ns : List NodeId). ns ++ c.in-Ok.x ∷ []) c.no_nodes-list.ensures)
+    e.finish e.items e.is_last (c.in-Ok-add.ensures.ok ∙ ap (λ (ns : List NodeId). ns ++ c.in-Ok.x ∷ []) c.no_nodes-list.ensures)
 
 pub arms-more-preserved : goal.arms-more-preserved
 arms-more-preserved t c =
     let e = c.in-Ok-next_arm.ensures.ok in
     listing_next c.args.self.now c.more.self c.next_arm.new.self _ _ e.tree c.in-Ok-next_arm.x c.more.list c.add-in-more.new.list c.more.invariant
-    (arms_go c.args.levels c.args.context c.more.invariant.tree (tokens_left c.more.self) (sym c.next_is.ensures ∙ c.more-test.true) ∙ ap (λ (o : Outcome Tree). o >>= λ e rest. more_arms_at c.args.levels c.args.context (More c.more.invariant.tree e) rest) e.took) e.finish e.ready e.items e.is_last c.in-Ok-add-2.ensures.ok
+    (arms_go c.args.levels c.args.context c.more.invariant.tree (tokens_left c.more.self) (sym c.next_is.ensures ∙ c.more-test.true) ∙ ap (λ (o : Outcome Tree). o >>= λ e rest. more_arms_at c.args.levels c.args.context (More c.more.invariant.tree e) rest) e.took) e.finish e.items e.is_last c.in-Ok-add-2.ensures.ok
 
 pub terra_arms-more-init : goal.terra_arms-more-init
 unfolding terra_arms_at
 terra_arms-more-init t c =
     let e = c.in-Ok.ensures.ok in
     listing_first c.args.self.now c.terra_arm.new.self _ _ e.tree c.in-Ok.x c.add.new.list (ap (λ (o : Outcome Tree). o >>= λ e rest. more_terra_arms_at c.args.levels (More Nothing e) rest) e.took)
-    e.finish e.ready e.items e.is_last (c.in-Ok-add.ensures.ok ∙ ap (λ (ns : List NodeId). ns ++ c.in-Ok.x ∷ []) c.no_nodes-arms.ensures)
+    e.finish e.items e.is_last (c.in-Ok-add.ensures.ok ∙ ap (λ (ns : List NodeId). ns ++ c.in-Ok.x ∷ []) c.no_nodes-arms.ensures)
 
 pub terra_arms-more-preserved : goal.terra_arms-more-preserved
 terra_arms-more-preserved t c =
     let e = c.in-Ok-next_terra_arm.ensures.ok in
     listing_next c.args.self.now c.more.self c.next_terra_arm.new.self _ _ e.tree c.in-Ok-next_terra_arm.x c.more.arms c.add-in-more.new.list c.more.invariant
-    (terra_arms_go c.args.levels c.more.invariant.tree (tokens_left c.more.self) (sym c.next_is.ensures ∙ c.more-test.true) ∙ ap (λ (o : Outcome Tree). o >>= λ e rest. more_terra_arms_at c.args.levels (More c.more.invariant.tree e) rest) e.took) e.finish e.ready e.items e.is_last c.in-Ok-add-2.ensures.ok
+    (terra_arms_go c.args.levels c.more.invariant.tree (tokens_left c.more.self) (sym c.next_is.ensures ∙ c.more-test.true) ∙ ap (λ (o : Outcome Tree). o >>= λ e rest. more_terra_arms_at c.args.levels (More c.more.invariant.tree e) rest) e.took) e.finish e.items e.is_last c.in-Ok-add-2.ensures.ok
 
 pub terra_expressions-more-init : goal.terra_expressions-more-init
 unfolding terra_expressions_at
 terra_expressions-more-init t c =
     let e = c.in-Ok.ensures.ok in
     listing_first c.args.self.now c.terra_expression.new.self _ _ e.tree c.in-Ok.x c.add.new.list (ap (λ (o : Outcome Tree). o >>= λ e rest. more_terra_expressions_at c.args.levels (More Nothing e) rest) e.took)
-    e.finish e.ready e.items e.is_last (c.in-Ok-add.ensures.ok ∙ ap (λ (ns : List NodeId). ns ++ c.in-Ok.x ∷ []) c.no_nodes-list.ensures)
+    e.finish e.items e.is_last (c.in-Ok-add.ensures.ok ∙ ap (λ (ns : List NodeId). ns ++ c.in-Ok.x ∷ []) c.no_nodes-list.ensures)
 
 pub terra_expressions-more-preserved : goal.terra_expressions-more-preserved
 terra_expressions-more-preserved t c =
     let e = c.in-Ok-next_terra_expression.ensures.ok in
     listing_next c.args.self.now c.more.self c.next_terra_expression.new.self _ _ e.tree c.in-Ok-next_terra_expression.x c.more.list c.add-in-more.new.list c.more.invariant
-    (terra_expressions_go c.args.levels c.more.invariant.tree (tokens_left c.more.self) (sym c.next_is.ensures ∙ c.more-test.true) ∙ ap (λ (o : Outcome Tree). o >>= λ e rest. more_terra_expressions_at c.args.levels (More c.more.invariant.tree e) rest) e.took) e.finish e.ready e.items e.is_last c.in-Ok-add-2.ensures.ok
+    (terra_expressions_go c.args.levels c.more.invariant.tree (tokens_left c.more.self) (sym c.next_is.ensures ∙ c.more-test.true) ∙ ap (λ (o : Outcome Tree). o >>= λ e rest. more_terra_expressions_at c.args.levels (More c.more.invariant.tree e) rest) e.took) e.finish e.items e.is_last c.in-Ok-add-2.ensures.ok
 
 pub terra_variables-more-init : goal.terra_variables-more-init
 unfolding terra_variables_at
 terra_variables-more-init t c =
     let e = c.in-Ok.ensures.ok in
     listing_first c.args.self.now c.terra_variable.new.self _ _ e.tree c.in-Ok.x c.add.new.list (ap (λ (o : Outcome Tree). o >>= λ e rest. more_terra_variables_at c.args.levels (More Nothing e) rest) e.took)
-    e.finish e.ready e.items e.is_last (c.in-Ok-add.ensures.ok ∙ ap (λ (ns : List NodeId). ns ++ c.in-Ok.x ∷ []) c.no_nodes-list.ensures)
+    e.finish e.items e.is_last (c.in-Ok-add.ensures.ok ∙ ap (λ (ns : List NodeId). ns ++ c.in-Ok.x ∷ []) c.no_nodes-list.ensures)
 
 pub terra_variables-more-preserved : goal.terra_variables-more-preserved
 terra_variables-more-preserved t c =
     let e = c.in-Ok-next_terra_variable.ensures.ok in
     listing_next c.args.self.now c.more.self c.next_terra_variable.new.self _ _ e.tree c.in-Ok-next_terra_variable.x c.more.list c.add-in-more.new.list c.more.invariant
-    (terra_variables_go c.args.levels c.more.invariant.tree (tokens_left c.more.self) (sym c.next_is.ensures ∙ c.more-test.true) ∙ ap (λ (o : Outcome Tree). o >>= λ e rest. more_terra_variables_at c.args.levels (More c.more.invariant.tree e) rest) e.took) e.finish e.ready e.items e.is_last c.in-Ok-add-2.ensures.ok
+    (terra_variables_go c.args.levels c.more.invariant.tree (tokens_left c.more.self) (sym c.next_is.ensures ∙ c.more-test.true) ∙ ap (λ (o : Outcome Tree). o >>= λ e rest. more_terra_variables_at c.args.levels (More c.more.invariant.tree e) rest) e.took) e.finish e.items e.is_last c.in-Ok-add-2.ensures.ok
 
 pub terra_parameters-more-init : goal.terra_parameters-more-init
 unfolding terra_parameters_at
@@ -170,13 +170,13 @@ terra_parameters-more-init t c =
     listing_first c.args.self.now c.terra_parameter.new.self _ _ e.tree c.in-Ok.x c.add.new.list
     (ap (λ (b : Bool). cond b (Took Nothing ts) (terra_parameter_at c.args.levels ts >>= λ p rest. more_terra_parameters_at c.args.levels (More Nothing p) rest)) (sym c.next_is.ensures ∙ c.if-next_is.false)
     ∙ ap (λ (o : Outcome Tree). o >>= λ p rest. more_terra_parameters_at c.args.levels (More Nothing p) rest) e.took)
-    e.finish e.ready e.items e.is_last (c.in-Ok-add.ensures.ok ∙ ap (λ (ns : List NodeId). ns ++ c.in-Ok.x ∷ []) c.no_nodes-list.ensures)
+    e.finish e.items e.is_last (c.in-Ok-add.ensures.ok ∙ ap (λ (ns : List NodeId). ns ++ c.in-Ok.x ∷ []) c.no_nodes-list.ensures)
 
 pub terra_parameters-more-preserved : goal.terra_parameters-more-preserved
 terra_parameters-more-preserved t c =
     let e = c.in-Ok-next_terra_parameter.ensures.ok in
     listing_next c.args.self.now c.more.self c.next_terra_parameter.new.self _ _ e.tree c.in-Ok-next_terra_parameter.x c.more.list c.add-in-more.new.list c.more.invariant
-    (terra_parameters_go c.args.levels c.more.invariant.tree (tokens_left c.more.self) (sym c.next_is-in-more.ensures ∙ c.more-test.true) ∙ ap (λ (o : Outcome Tree). o >>= λ e rest. more_terra_parameters_at c.args.levels (More c.more.invariant.tree e) rest) e.took) e.finish e.ready e.items e.is_last c.in-Ok-add-2.ensures.ok
+    (terra_parameters_go c.args.levels c.more.invariant.tree (tokens_left c.more.self) (sym c.next_is-in-more.ensures ∙ c.more-test.true) ∙ ap (λ (o : Outcome Tree). o >>= λ e rest. more_terra_parameters_at c.args.levels (More c.more.invariant.tree e) rest) e.took) e.finish e.items e.is_last c.in-Ok-add-2.ensures.ok
 
 pub applied-more-preserved : goal.applied-more-preserved
 applied-more-preserved t c =
@@ -193,7 +193,6 @@ applied-more-preserved t c =
           ∙ ap (λ (left : ℕ). suffixes_at c.args.levels c.args.mode (chained made left (shape_of s.suffix)) rest) (sym s.left)
           ∙ ap (λ (shape : Shape). suffixes_at c.args.levels c.args.mode (chained made r.left shape) rest) (sym s.shape);
       finish = s.finish ∙ i.finish;
-      ready = s.ready;
       items = s.items i.tree (items_of c.args.self.now) i.items i.is_last;
       is_last = s.is_last;
     }
@@ -213,7 +212,6 @@ terra_applied-more-preserved t c =
           ∙ ap (λ (left : ℕ). terra_suffixes_at c.args.levels (chained made left (terra_shape_of s.suffix)) rest) (sym s.left)
           ∙ ap (λ (shape : Shape). terra_suffixes_at c.args.levels (chained made r.left shape) rest) (sym s.shape);
       finish = s.finish ∙ i.finish;
-      ready = s.ready;
       items = s.items i.tree (items_of c.args.self.now) i.items i.is_last;
       is_last = s.is_last;
     }
@@ -229,7 +227,6 @@ terra_binary-more-init t c =
       tree = o.tree;
       goes_on = ap (λ (o : Outcome Chained). o >>= λ a rest. terra_more_at c.args.levels c.args.precedence a rest) o.took;
       finish = o.finish;
-      ready = o.ready;
       items = o.items;
       is_last = o.is_last;
     }
@@ -242,7 +239,6 @@ terra_applied-more-init t c =
       tree = o.tree;
       goes_on = ap (λ (o : Outcome Chained). o >>= λ a rest. terra_suffixes_at c.args.levels a rest) o.took;
       finish = o.finish;
-      ready = o.ready;
       items = o.items;
       is_last = o.is_last;
     }
@@ -251,13 +247,13 @@ pub entries-more-preserved : goal.entries-more-preserved
 entries-more-preserved t c =
     let e = c.in-Ok.ensures.ok in
     listing_next c.args.self.now c.more.self c.entry.new.self _ _ e.tree c.in-Ok.x c.more.list c.add.new.list c.more.invariant
-    (entries_go c.args.levels c.args.mode c.more.invariant.tree (tokens_left c.more.self) (sym c.next_is.ensures ∙ c.more-test.true) ∙ ap (λ (o : Outcome Tree). o >>= λ e rest. more_entries_at c.args.levels c.args.mode (More c.more.invariant.tree e) rest) e.took) e.finish e.ready e.items e.is_last c.in-Ok-add.ensures.ok
+    (entries_go c.args.levels c.args.mode c.more.invariant.tree (tokens_left c.more.self) (sym c.next_is.ensures ∙ c.more-test.true) ∙ ap (λ (o : Outcome Tree). o >>= λ e rest. more_entries_at c.args.levels c.args.mode (More c.more.invariant.tree e) rest) e.took) e.finish e.items e.is_last c.in-Ok-add.ensures.ok
 
 pub terra_simple_statement-more-preserved : goal.terra_simple_statement-more-preserved
 terra_simple_statement-more-preserved t c =
     let e = c.in-Ok-next_terra_expression.ensures.ok in
     listing_next c.args.self.now c.more.self c.next_terra_expression.new.self _ _ e.tree c.in-Ok-next_terra_expression.x c.more.targets c.add-in-more.new.list c.more.invariant
-    (terra_targets_go c.args.levels c.next_place-place.result c.more.invariant.tree (tokens_left c.more.self) (sym c.next_is.ensures ∙ c.more-test.true) ∙ ap (λ (o : Outcome Tree). o >>= λ e rest. terra_assignment_at c.args.levels c.next_place-place.result (More c.more.invariant.tree e) rest) e.took) e.finish e.ready e.items e.is_last c.in-Ok-add-2.ensures.ok
+    (terra_targets_go c.args.levels c.next_place-place.result c.more.invariant.tree (tokens_left c.more.self) (sym c.next_is.ensures ∙ c.more-test.true) ∙ ap (λ (o : Outcome Tree). o >>= λ e rest. terra_assignment_at c.args.levels c.next_place-place.result (More c.more.invariant.tree e) rest) e.took) e.finish e.items e.is_last c.in-Ok-add-2.ensures.ok
 
 pub block-more-preserved : goal.block-more-preserved
 block-more-preserved t c =
@@ -270,7 +266,6 @@ block-more-preserved t c =
           ∙ ap (λ (o : Outcome Sequence). o >>= λ a rest. Took (Block a.statements) rest)
           (block_goes c.args.levels c.args.context i.tree c.more.ended (tokens_left c.more.self) (sym c.next_goes_on.ensures ∙ c.more-test.true) ∙ ap (λ (o : Outcome Sequence). o >>= λ s rest. more_statements_at c.args.levels c.args.context (More i.tree s.statements) s.ended rest) s.took);
       finish = s.finish ∙ i.finish;
-      ready = s.ready;
       items = s.items ∙ ap (λ (x : List Item). (laid s.tree x).items) i.items;
       list = numbers_next c.args.self.now c.more.self _ i.tree s.tree c.in-Ok.x.0 c.more.list c.add.new.list i.items i.list s.items s.is_last c.in-Ok-add.ensures.ok;
     }
@@ -286,7 +281,6 @@ terra_block-more-preserved t c =
           ∙ ap (λ (o : Outcome Sequence). o >>= λ a rest. Took (Block a.statements) rest)
           (terra_block_goes c.args.levels i.tree c.more.ended (tokens_left c.more.self) (sym c.next_goes_on_with_terra.ensures ∙ c.more-test.true) ∙ ap (λ (o : Outcome Sequence). o >>= λ s rest. more_terra_statements_at c.args.levels (More i.tree s.statements) s.ended rest) s.took);
       finish = s.finish ∙ i.finish;
-      ready = s.ready;
       items = s.items ∙ ap (λ (x : List Item). (laid s.tree x).items) i.items;
       list = numbers_next c.args.self.now c.more.self _ i.tree s.tree c.in-Ok.x.0 c.more.list c.add.new.list i.items i.list s.items s.is_last c.in-Ok-add.ensures.ok;
     }
@@ -299,7 +293,6 @@ variable-more-init t c =
       tree = o.tree;
       goes_on = ap (λ (o : Outcome Chained). o >>= λ b mid. settle_at c.args.levels c.args.mode b mid >>= λ a rest. Took a.tree rest) o.took;
       finish = o.finish;
-      ready = o.ready;
       items = o.items;
       is_last = o.is_last;
     }
@@ -321,7 +314,6 @@ variable-more-preserved t c =
           ∙ ap (λ (left : ℕ). settle_at c.args.levels c.args.mode (chained made left (shape_of s.suffix)) rest) (sym s.left)
           ∙ ap (λ (shape : Shape). settle_at c.args.levels c.args.mode (chained made r.left shape) rest) (sym s.shape));
       finish = s.finish ∙ i.finish;
-      ready = s.ready;
       items = s.items i.tree (items_of c.args.self.now) i.items i.is_last;
       is_last = s.is_last;
     }
@@ -335,10 +327,19 @@ fields-more-init t c =
     (fields_part c.args.levels c.args.mode ts
     ∙ ap (λ (b : Bool). cond b (Took Nothing ts) (field_at c.args.levels c.args.mode ts >>= λ f rest. more_fields_at c.args.levels c.args.mode (More Nothing f) rest)) (sym c.next_is.ensures ∙ c.if-next_is.false)
     ∙ ap (λ (o : Outcome Tree). o >>= λ f rest. more_fields_at c.args.levels c.args.mode (More Nothing f) rest) e.took)
-    e.finish e.ready e.items e.is_last (c.in-Ok-add.ensures.ok ∙ ap (λ (ns : List NodeId). ns ++ c.in-Ok.x ∷ []) c.no_nodes-list.ensures)
+    e.finish e.items e.is_last (c.in-Ok-add.ensures.ok ∙ ap (λ (ns : List NodeId). ns ++ c.in-Ok.x ∷ []) c.no_nodes-list.ensures)
+
+pub fields-more-smaller : goal.fields-more-smaller
+fields-more-smaller t c = grind (arith, field_shorter)
 
 pub fields-more-preserved : goal.fields-more-preserved
 fields-more-preserved t c = grind (arith, fields_go)
+
+pub initialisers-more-smaller-in-Ok-add-2 : goal.initialisers-more-smaller-in-Ok-add-2
+initialisers-more-smaller-in-Ok-add-2 t c = grind (arith, initialiser_shorter)
+
+pub initialisers-more-smaller : goal.initialisers-more-smaller
+initialisers-more-smaller t c = grind (arith, initialiser_shorter)
 
 pub initialisers-more-preserved : goal.initialisers-more-preserved
 initialisers-more-preserved t c = grind (arith, initialisers_go)
@@ -346,18 +347,18 @@ initialisers-more-preserved t c = grind (arith, initialisers_go)
 pub binary-more-preserved : goal.binary-more-preserved
 binary-more-preserved t c =
     binding_next c.args.levels c.more.from c.rank_behind-from.result c.args.ranks c.next_rank-rank.result c.args.mode c.args.self.now c.more.self c.one_more.new.self c.operation.new.self _ c.more.a c.in-Ok-one_more.x.1 c.in-Ok-operation.x c.in-Ok-one_more.x.0
-    c.requires.some (sym c.next_is_ranked.ensures ∙ c.more-test.true) c.next_rank-rank.ensures c.rank_behind-from.ensures c.more.invariant c.in-Ok-one_more.ensures.ok c.in-Ok-operation.ensures.ok
+    c.requires (sym c.next_is_ranked.ensures ∙ c.more-test.true) c.next_rank-rank.ensures c.rank_behind-from.ensures c.more.invariant c.in-Ok-one_more.ensures.ok c.in-Ok-operation.ensures.ok
 
 pub binary-returns-in-Err-clause-err : goal.binary-returns-in-Err-clause-err
 binary-returns-in-Err-clause-err t c = binding_none c.args.levels c.args.ranks c.args.mode c.args.left c.args.self.now c.in-Err.e c.in-Err.ensures.err
 
 pub binary-returns-in-Err-one_more-clause-err : goal.binary-returns-in-Err-one_more-clause-err
 binary-returns-in-Err-one_more-clause-err t c =
-    binding_fails c.args.levels c.more.from c.args.ranks c.next_rank-rank.result c.args.mode c.args.self.now c.more.self _ c.more.a c.in-Err-one_more.e c.requires.some (sym c.next_is_ranked.ensures ∙ c.more-test.true) c.next_rank-rank.ensures c.more.invariant c.in-Err-one_more.ensures.err
+    binding_fails c.args.levels c.more.from c.args.ranks c.next_rank-rank.result c.args.mode c.args.self.now c.more.self _ c.more.a c.in-Err-one_more.e c.requires (sym c.next_is_ranked.ensures ∙ c.more-test.true) c.next_rank-rank.ensures c.more.invariant c.in-Err-one_more.ensures.err
 
 pub binary-returns-clause-ok : goal.binary-returns-clause-ok
 binary-returns-clause-ok t c =
-    binding_ends c.args.levels c.more.from c.args.ranks c.args.mode c.args.self.now c.more.self _ c.more.a c.requires.some (sym c.next_is_ranked.ensures ∙ c.more-test.false) c.more.invariant
+    binding_ends c.args.levels c.more.from c.args.ranks c.args.mode c.args.self.now c.more.self _ c.more.a c.requires (sym c.next_is_ranked.ensures ∙ c.more-test.false) c.more.invariant
 
 pub terra_binary-more-preserved : goal.terra_binary-more-preserved
 terra_binary-more-preserved t c = grind (arith, terra_operations_go)

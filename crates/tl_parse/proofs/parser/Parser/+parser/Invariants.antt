@@ -105,6 +105,12 @@ decreases-local_statement l = 64 * l.levels + 41
 abbrev pub decreases-loop_block : goal.decreases-loop_block
 decreases-loop_block l = 64 * l.levels + 10
 
+abbrev pub decreases-listed_arguments : goal.decreases-listed_arguments
+decreases-listed_arguments l = 64 * l.levels + 9
+
+abbrev pub decreases-table_argument : goal.decreases-table_argument
+decreases-table_argument l = 64 * l.levels + 9
+
 abbrev pub decreases-method_arguments : goal.decreases-method_arguments
 decreases-method_arguments l = 64 * l.levels + 10
 
@@ -388,7 +394,7 @@ abbrev pub decreases-entries-more : goal.decreases-entries-more
 decreases-entries-more l = length (tokens_left l.self)
 
 abbrev pub decreases-written_type : goal.decreases-written_type
-decreases-written_type l = 64 * l.levels + 40
+decreases-written_type l = 64 * l.levels + 36
 
 abbrev pub decreases-terra_loop : goal.decreases-terra_loop
 decreases-terra_loop l = 64 * l.levels + 40
@@ -407,6 +413,12 @@ decreases-terra_otherwise l = 64 * l.levels + 40
 
 abbrev pub decreases-terra_step : goal.decreases-terra_step
 decreases-terra_step l = 64 * l.levels + 40
+
+abbrev pub decreases-spliced_variable : goal.decreases-spliced_variable
+decreases-spliced_variable l = 64 * l.levels + 40
+
+abbrev pub decreases-named_variable : goal.decreases-named_variable
+decreases-named_variable l = 64 * l.levels + 40
 
 abbrev pub decreases-terra_variable : goal.decreases-terra_variable
 decreases-terra_variable l = 64 * l.levels + 41
@@ -461,6 +473,12 @@ decreases-next_terra_statement l = 64 * l.levels + 46
 
 abbrev pub decreases-terra_block : goal.decreases-terra_block
 decreases-terra_block l = 64 * l.levels + 47
+
+abbrev pub decreases-spliced_parameter : goal.decreases-spliced_parameter
+decreases-spliced_parameter l = 64 * l.levels + 39
+
+abbrev pub decreases-named_parameter : goal.decreases-named_parameter
+decreases-named_parameter l = 64 * l.levels + 39
 
 abbrev pub decreases-terra_parameter : goal.decreases-terra_parameter
 decreases-terra_parameter l = 64 * l.levels + 40

@@ -27,10 +27,7 @@ returns-in-Ok-clause-chain c =
     chain_left true c.args.levels c.args.left c.args.self.now c.advance.new.self c.in-Ok.x (next_of (is c.args.symbol) (tokens_left c.args.self.now) (sym c.next_is.ensures ∙ c.if-next_is.true)) c.in-Ok.ensures.ok
 
 pub next_is-requires : goal.next_is-requires
-next_is-requires c = c.requires.first
+next_is-requires c = c.requires
 
 pub advance-requires : goal.advance-requires
-advance-requires c = record { next = next_of (is c.args.symbol) (tokens_left c.args.self.now) (sym c.next_is.ensures ∙ c.if-next_is.true); ready = c.requires.ready; sized = refl }
-
-pub refusal-requires : goal.refusal-requires
-refusal-requires c = c.requires.ready
+advance-requires c = record { next = next_of (is c.args.symbol) (tokens_left c.args.self.now) (sym c.next_is.ensures ∙ c.if-next_is.true); sized = refl }

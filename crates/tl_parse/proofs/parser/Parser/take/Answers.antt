@@ -19,10 +19,7 @@ unfolding sign_at
 returns-else-next_is-clause-err c = refused_there (is c.args.symbol) false 0 Plain c.args.self.now c.refusal.result (sym c.next_is.ensures ∙ c.if-next_is.false) c.refusal.ensures
 
 pub next_is-requires : goal.next_is-requires
-next_is-requires c = c.requires.first
+next_is-requires c = c.requires
 
 pub advance-requires : goal.advance-requires
-advance-requires c = record { next = next_of (is c.args.symbol) (tokens_left c.args.self.now) (sym c.next_is.ensures ∙ c.if-next_is.true); ready = c.requires.ready; sized = refl }
-
-pub refusal-requires : goal.refusal-requires
-refusal-requires c = c.requires.ready
+advance-requires c = record { next = next_of (is c.args.symbol) (tokens_left c.args.self.now) (sym c.next_is.ensures ∙ c.if-next_is.true); sized = refl }
