@@ -1,5 +1,13 @@
--- How frames go on, and the language of bodies.
+-- The promise: what remains of the typing of a body that is suspended, by the meaning of typing in check_model.
+pub mod Rest
+-- What later worlds keep of earlier ones. A reader can stop here.
+pub mod Keeping
+-- That it is kept by one step and the next.
+pub mod Kept
+-- Views of the code, which private contracts cite. How frames go on, and the language of bodies.
 pub mod Frames
+-- What the steps do.
+pub mod Steps
 -- Definitions of functions.
 pub mod Functions
 -- What forms of types say.
@@ -8,10 +16,3 @@ pub mod Forms
 pub mod Callees
 -- Comparisons with `nil`.
 pub mod Retyping
--- What the steps do.
-pub mod Steps
--- What later worlds keep of earlier ones.
-pub mod Keeping
-pub mod Kept
--- What remains of what is suspended.
-pub mod Rest

@@ -1,14 +1,19 @@
--- What statements do with the values of the calls that they make.
-pub mod Waits
--- How frames go on, and the language of a tree.
+-- The promise: what remains of an evaluation that is suspended, by the meaning of Lua code in lua_model.
+pub mod Rest
+-- Where the uses of locals find their cells, which an evaluation needs. A reader can stop here.
+pub mod Slots
+-- Views of the code, which private contracts cite. How frames go on, and the language of a tree.
 pub mod Frames
 -- What the steps do.
 pub mod Steps
--- Where the uses of locals find their cells.
-pub mod Slots
+-- What is done at once, without a frame.
+pub mod AtOnce
+-- Texts in a heap.
 pub mod Texts
 -- The environment of a call in progress.
 pub mod Calls
+-- Calls, whose function is evaluated first.
+pub mod CallPlans
 -- The fields of a constructor.
 pub mod Fields
 -- Paths of function definitions.
@@ -17,16 +22,10 @@ pub mod Paths
 pub mod Operands
 -- The numbers of a numeric `for`.
 pub mod Numbers
--- What remains of an evaluation that is suspended.
-pub mod Rest
 -- Stores in names.
 pub mod Stores
 -- What values are read from.
 pub mod Reads
--- What is done at once, without a frame.
-pub mod AtOnce
--- Calls, whose function is evaluated first.
-pub mod CallPlans
 -- What is left of an `if`.
 pub mod Choices
 -- Where assignments store.
@@ -37,6 +36,8 @@ pub mod Storing
 pub mod Running
 -- What is left of calls, of which some was done at once.
 pub mod Called
+-- What statements do with the values of the calls that they make.
+pub mod Waits
 -- What is left of statements, with the calls that they make.
 pub mod Waiting
 -- What is left of a numeric `for`, of which some turns were done at once.

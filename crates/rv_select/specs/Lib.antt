@@ -1,15 +1,9 @@
--- Which comparisons have one code with their branch.
-pub mod Pairs
--- What stands behind the end of a block.
-pub mod Settings
--- Which temporaries need a home.
-pub mod Asked
--- Where an activation's words stand in the machine.
+-- The promise: runs of a whole program in the machine, and how many steps they take.
+pub mod Whole
+-- A program of several functions, and what the machine holds for the calls that wait.
+pub mod Waiting
+-- Where an activation's words stand in the machine. A reader can stop here.
 pub mod Places
--- Numbers as operands of instructions, and code that loads them.
-pub mod Numbers
--- Operators of a constant that instructions hold.
-pub mod Folded
 -- Which instructions carry out those of three-address code.
 pub mod Shapes
 -- What these instructions promise.
@@ -20,9 +14,15 @@ pub mod Entering
 pub mod Calls
 -- What the code that enters and leaves functions promises.
 pub mod Frames
+-- Numbers as operands of instructions, and code that loads them.
+pub mod Numbers
+-- Operators of a constant that instructions hold.
+pub mod Folded
+-- Which comparisons have one code with their branch.
+pub mod Pairs
 -- A comparison and its branch as one.
 pub mod Compared
--- A program of several functions, and what the machine holds for the calls that wait.
-pub mod Waiting
--- Runs of a whole program, and how many steps they take.
-pub mod Whole
+-- Which temporaries need a home.
+pub mod Asked
+-- What stands behind the end of a block.
+pub mod Settings

@@ -1,13 +1,11 @@
--- Code in a line.
-pub mod Items
--- Pieces of code.
-pub mod Pieces
--- The code of a typed term.
+-- What is promised of lowered code. A reader can stop here.
+pub mod Laws
+-- The code of a typed term, its pieces, and code in a line.
 pub mod Lowering
+pub mod Pieces
+pub mod Items
 -- What lowering needs of a typed term.
 pub mod Needs
--- What is promised of lowered code.
-pub mod Laws
 -- What the code has of all this.
 pub mod Data
 pub mod Works
