@@ -41,7 +41,7 @@ pub enum End {
 #[derive(Drop)]
 pub struct Outcome {
     pub end: End,
-    pub world: World,
+    pub world: Box<World>,
     pub left: u64,
 }
 
@@ -57,7 +57,7 @@ pub fn larger_changes_nothing()
 pub fn stage(alloc: Global, tree: &Tree<'_>, units: u64, memory: u64) -> Result<Outcome, NoMemory>
     requires { memory ≤ MAX_MEMORY }
     ensures means { IfOk result (λ it. (n : ℕ) × (outcome (items_of tree.now) (finish_of tree.now) n units memory
-        ≡ Some (ending it.end (state it.world it.left)))) }
+        ≡ Some (ending it.end (state it.world.value it.left)))) }
     ensures paid { IfOk result (λ it. it.left ≤ units) }
 {
     let slots = resolve(alloc, tree)?;
@@ -68,10 +68,10 @@ pub fn stage(alloc: Global, tree: &Tree<'_>, units: u64, memory: u64) -> Result<
         alloc,
         &stages,
         Task::Evaluate(LuaJob::Chunk),
-        &mut world,
+        &mut *world,
         &mut budget,
     )?;
-    let exported = export(&mut world, &mut budget, staging, tree.finish())?;
+    let exported = export(&mut *world, &mut budget, staging, tree.finish())?;
     let end = end_of(&world.heap, &exported)?;
     Ok(Outcome {
         end,
@@ -81,11 +81,11 @@ pub fn stage(alloc: Global, tree: &Tree<'_>, units: u64, memory: u64) -> Result<
 }
 
 /// The world with which a source begins.
-fn open(alloc: Global, memory: u64) -> Result<World, NoMemory>
+fn open(alloc: Global, memory: u64) -> Result<Box<World>, NoMemory>
     requires { memory ≤ MAX_MEMORY }
-    ensures { IfOk result (λ world. world ≡ opened memory) }
+    ensures { IfOk result (λ world. world.value ≡ opened memory) }
 {
-    let mut world = World::new(alloc, Types::new(alloc)?, memory);
+    let mut world = Box::new(alloc, World::new(alloc, Types::new(alloc)?, memory))?;
     world.heap = terra_lib::opening(alloc)?;
     Ok(world)
 }

@@ -40,9 +40,9 @@ pub fn stage_terms(
 
 /// What is written of an outcome.
 fn terms_of(outcome: Outcome) -> Result<Terms, NoMemory>
-    ensures printed { IfOk result (λ it. it.printed ≡ outcome.world.heap.printed) }
+    ensures printed { IfOk result (λ it. it.printed ≡ outcome.world.value.heap.printed) }
     ensures end { IfOk result (λ it. it.end ≡ outcome.end) }
-    ensures lines { IfOk result (λ it. it.lines ≡ terms_text outcome.world.store outcome.world.exports.list) }
+    ensures lines { IfOk result (λ it. it.lines ≡ terms_text outcome.world.value.store outcome.world.value.exports.list) }
 {
     let printed = outcome.world.printed()?;
     let lines = lines_of(&outcome.world)?;

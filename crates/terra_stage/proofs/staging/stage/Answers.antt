@@ -18,23 +18,28 @@ returns-clause-means c =
     let a = c.args in
     let ran = c.in_ok-staging.ensures.means in
     let n = ran.0 in
-    let world = c.in_ok-world.world in
-    let units = c.new-budget.result in
+    let world = c.in_ok-world.world.value in
+    let budget = c.new-budget.result in
+    let lent = c.deref_mut.result.now in
     let place = finish_of a.tree.now in
-    let there = state c.run.new.world c.run.new.budget in
+    let staging = c.in_ok-staging.staging in
     let left = c.export.new.budget in
     let out = c.export.new.world in
     let closed = c.in_ok-exported.exported in
     let at : Items → StageState → ℕ → Option Ending =
     λ items w u. ending_if_any place (staged (terra_stage items) n (Evaluate Chunk) (state w u)) in
     let end_is =
-    ap (λ (w : StageState). end_in w.heap closed) (sym c.world-2.view_is) ∙ sym c.in_ok-end.ensures in (
+    ap (λ (w : StageState). end_in w.heap closed) (sym c.deref.ensures ∙ sym c.behind-world.view_is) ∙ sym c.in_ok-end.ensures in (
       n,
       ap (λ (w : StageState). at (items_of a.tree.now) w a.units) (sym c.in_ok-world.ensures)
           ∙ ap (λ (u : ℕ). at (items_of a.tree.now) world u) (sym c.new-budget.ensures)
-          ∙ ap (λ t. at (items_of t) world units) (sym c.new-stages.ensures)
+          ∙ ap (λ (w : StageState). at (items_of a.tree.now) w budget) (sym c.deref_mut.ensures.value)
+          ∙ ap (λ t. at (items_of t) lent budget) (sym c.new-stages.ensures)
           ∙ ap (λ f. ending_if_any place f) ran.1
-          ∙ ap (λ (p : Place). Some (ending_of (exported p (final_of c.in_ok-staging.staging there)))) (sym c.finish.ensures)
+          ∙ ap (λ (p : Place). Some (ending_of (exported p (final_of staging (state c.run.new.world c.run.new.budget)))))
+          (sym c.finish.ensures)
+          ∙ ap (λ (w : StageState). Some (ending_of (exported c.finish.result (final_of staging (state w c.run.new.budget)))))
+          (sym c.deref_mut-2.ensures.value)
           ∙ ap (λ f. Some (ending_of f)) (sym c.in_ok-exported.ensures.means)
           ∙ ap Some (sym (ending_by closed out left))
           ∙ ap (λ (e : End). Some (ending e (state out left))) end_is
