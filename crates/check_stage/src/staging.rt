@@ -63,7 +63,7 @@ pub enum End {
 pub struct Outcome {
     pub end: End,
     pub checks: Vec<CheckLine>,
-    pub typing: Typing,
+    pub typing: Box<Typing>,
     pub left: u64,
 }
 
@@ -84,7 +84,7 @@ pub fn stage(
 ) -> Result<Outcome, NoMemory>
     requires { memory ≤ MAX_MEMORY }
     ensures means { IfOk result (λ it. (n : ℕ) × (outcome (items_of tree.now) (finish_of tree.now) mode n units memory
-        ≡ Some (ending it.end it.checks.items (state it.typing it.left)))) }
+        ≡ Some (ending it.end it.checks.items (state it.typing.value it.left)))) }
     ensures paid { IfOk result (λ it. it.left ≤ units) }
 {
     let slots = resolve(alloc, tree)?;
@@ -98,13 +98,13 @@ pub fn stage(
 fn stage_from(
     alloc: Global,
     stages: &CheckStage<'_>,
-    mut typing: Typing,
+    mut typing: Box<Typing>,
     units: u64,
     mode: Mode,
     place: Place,
 ) -> Result<Outcome, NoMemory>
-    ensures means { IfOk result (λ it. (n : ℕ) × (outcome_from (items_of stages.now.inner.tree.now) place mode n (state typing units)
-        ≡ Some (ending it.end it.checks.items (state it.typing it.left)))) }
+    ensures means { IfOk result (λ it. (n : ℕ) × (outcome_from (items_of stages.now.inner.tree.now) place mode n (state typing.value units)
+        ≡ Some (ending it.end it.checks.items (state it.typing.value it.left)))) }
     ensures paid { IfOk result (λ it. it.left ≤ units) }
 {
     let mut budget = Budget::new(units);
@@ -113,13 +113,13 @@ fn stage_from(
         alloc,
         stages,
         Job::Stage(Task::Evaluate(LuaJob::Chunk)),
-        &mut typing,
+        &mut *typing,
         &mut budget,
     )?;
     let staging = behind_chunk(
         alloc,
         stages,
-        &mut typing,
+        &mut *typing,
         &mut budget,
         chunk,
         &mut lines,
@@ -137,13 +137,14 @@ fn stage_from(
 }
 
 /// What bodies are typed in at the begin of a source.
-fn open(alloc: Global, memory: u64) -> Result<Typing, NoMemory>
+fn open(alloc: Global, memory: u64) -> Result<Box<Typing>, NoMemory>
     requires { memory ≤ MAX_MEMORY }
-    ensures { IfOk result (λ typing. typing ≡ begun memory) }
+    ensures { IfOk result (λ typing. typing.value ≡ begun memory) }
 {
-    let mut world = World::new(alloc, Types::new(alloc)?, memory);
-    world.heap = terra_lib::opening(alloc)?;
-    Ok(Typing::new(alloc, world))
+    let world = World::new(alloc, Types::new(alloc)?, memory);
+    let mut typing = Box::new(alloc, Typing::new(alloc, world))?;
+    typing.world.heap = terra_lib::opening(alloc)?;
+    Ok(typing)
 }
 
 /// Goes on behind a chunk, as the mode says.

@@ -72,9 +72,9 @@ pub fn stage_terms(
 
 /// What is written of an outcome with checks.
 fn checks_of(outcome: Outcome) -> Result<Checks, NoMemory>
-    ensures printed { IfOk result (λ it. it.printed ≡ outcome.typing.stage.heap.printed) }
+    ensures printed { IfOk result (λ it. it.printed ≡ outcome.typing.value.stage.heap.printed) }
     ensures end { IfOk result (λ it. it.end ≡ outcome.end) }
-    ensures lines { IfOk result (λ it. it.lines ≡ checks_text outcome.typing.stage outcome.checks.items) }
+    ensures lines { IfOk result (λ it. it.lines ≡ checks_text outcome.typing.value.stage outcome.checks.items) }
 {
     let printed = outcome.typing.world.printed()?;
     let lines = check_lines(&outcome.typing.world, &outcome.checks)?;
@@ -87,10 +87,10 @@ fn checks_of(outcome: Outcome) -> Result<Checks, NoMemory>
 
 /// What is written of an outcome with exports.
 fn terms_of(outcome: Outcome) -> Result<Terms, NoMemory>
-    ensures printed { IfOk result (λ it. it.printed ≡ outcome.typing.stage.heap.printed) }
+    ensures printed { IfOk result (λ it. it.printed ≡ outcome.typing.value.stage.heap.printed) }
     ensures end { IfOk result (λ it. it.end ≡ outcome.end) }
     ensures lines { IfOk result (λ it. it.lines
-        ≡ terms_text outcome.typing.stage.store outcome.typing.stage.exports.list) }
+        ≡ terms_text outcome.typing.value.stage.store outcome.typing.value.stage.exports.list) }
 {
     let printed = outcome.typing.world.printed()?;
     let lines = export_lines(&outcome.typing.world)?;

@@ -11,7 +11,7 @@ returns-clause-means c =
     let a = c.args in
     let came = c.in_ok-outcome.ensures.means in
     let n = came.0 in
-    let typing = c.in_ok-typing.typing in
+    let typing = c.in_ok-typing.typing.value in
     let items = items_of a.tree.now in (
       n,
       ap (λ (w : TypingState). outcome_from items (finish_of a.tree.now) a.mode n (state w a.units)) (sym c.in_ok-typing.ensures)

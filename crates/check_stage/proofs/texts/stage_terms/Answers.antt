@@ -9,7 +9,7 @@ returns c =
     let written = c.in_ok-terms.ensures in
     record {
       n = means.0;
-      ending = ending out.end out.checks.items (state out.typing out.left);
+      ending = ending out.end out.checks.items (state out.typing.value out.left);
       comes = means.1;
       printed = written.printed;
       end = written.end;
