@@ -200,21 +200,15 @@ fn number_or_zero(text: &str) -> u64
 fn command_line<'a>(alloc: Global) -> Result<Command<'a>, AllocError>
     ensures { IfOk result (λ command. app_of command ≡ command_line) }
 {
-    let run = run_command(alloc)?;
-    let emit = emit_command(alloc)?;
-    let exec = exec_command(alloc)?;
-    let check = check_command(alloc)?;
-    let terms = terms_command(alloc)?;
-    let generator = gen_command(alloc)?;
     let command = Command::new(alloc, "terrac")
         .about("A compiler of Terra for RISC-V RV64IM.")
         .subcommand_required(true)
-        .subcommand(run)?
-        .subcommand(emit)?
-        .subcommand(exec)?
-        .subcommand(check)?
-        .subcommand(terms)?
-        .subcommand(generator)?;
+        .subcommand(run_command(alloc)?)?
+        .subcommand(emit_command(alloc)?)?
+        .subcommand(exec_command(alloc)?)?
+        .subcommand(check_command(alloc)?)?
+        .subcommand(terms_command(alloc)?)?
+        .subcommand(gen_command(alloc)?)?;
     Ok(command)
 }
 
