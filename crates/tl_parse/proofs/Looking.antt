@@ -282,9 +282,9 @@ begins_varargs _ ts = never ts
         go false = refl
 
 -- the refusal of the end
-pub refuses_end : (p : Parser) → p.current.is_end ≡ true → errors.Refused why.Unexpected p.current.place ≡ errors.Refused (blame_of (tokens_left p)) (place_of (tokens_left p) (end_of p))
+pub end_blame : (p : Parser) → p.current.is_end ≡ true → errors.Refused why.Unexpected p.current.place ≡ errors.Refused (blame_of (tokens_left p)) (place_of (tokens_left p) (end_of p))
 unfolding tokens_left end_of lexing.answers_from
-refuses_end p h =
+end_blame p h =
     ap (λ (x : Place). errors.Refused why.Unexpected x) (p.ends h)
     ∙ sym (ap (λ (e : Bool). errors.Refused (blame_of (with_token e (token_of p.current) (tokens_in (answers_left p.lexer)).tokens)) (place_of (with_token e (token_of p.current) (tokens_in (answers_left p.lexer)).tokens) (tokens_in (answers_left p.lexer)).finish)) h)
 

@@ -267,7 +267,7 @@ impl<'a> Parser<'a> {
     }
 
     /// The refusal of the next token, where the grammar does not go on with it.
-    #[tactic(auto, using(crate::proofs::Looking::blames, crate::proofs::Looking::refuses_end), unfolding(crate::specs::Parsing::tokens_left))]
+    #[tactic(auto, using(crate::proofs::Looking::blames, crate::proofs::Looking::end_blame), unfolding(crate::specs::Parsing::tokens_left))]
     pub(crate) fn refusal(&self) -> SyntaxError
         ensures { Refuses self.now result }
     {
