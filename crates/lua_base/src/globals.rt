@@ -2,6 +2,7 @@
 
 ghost use Rattle.std.specs.Prelude.{◌≡◌, ◌≤◌, length, IfOk, OnOk};
 ghost use Rattle.tl_base.specs.declared.text.TheConstants.Text.{MAX_LEN};
+ghost use Rattle.lua_table.specs.Heap.{empty};
 ghost use Rattle.lua_base.specs.Opening.{opening, with_functions, with_globals, with_named, bare};
 
 use lua_table::Heap;
@@ -15,12 +16,21 @@ pub fn opening(alloc: Global) -> Result<Heap, NoMemory>
     ensures { IfOk result (λ heap. heap ≡ opening) }
 {
     let mut heap = Heap::new(alloc);
+    fill(&mut heap)?;
+    Ok(heap)
+}
+
+/// Makes the tables with which a source begins in a heap that has nothing, and fills them.
+fn fill(heap: &mut Heap) -> Result<(), NoMemory>
+    requires { heap.old ≡ empty }
+    ensures { OnOk result (heap.new ≡ opening) }
+{
     let globals = heap.new_table()?;
     let texts = heap.new_table()?;
     let tables = heap.new_table()?;
-    name_globals(&mut heap, globals, texts, tables)?;
+    name_globals(heap, globals, texts, tables)?;
     name_functions(
-        &mut heap,
+        heap,
         texts,
         &[
             LibFn::Byte,
@@ -32,11 +42,11 @@ pub fn opening(alloc: Global) -> Result<Heap, NoMemory>
         ],
     )?;
     name_functions(
-        &mut heap,
+        heap,
         tables,
         &[LibFn::Concat, LibFn::TableInsert, LibFn::Remove],
     )?;
-    Ok(heap)
+    Ok(())
 }
 
 #[tactic(auto, unfolding(crate::specs::Opening::with_globals))]
