@@ -13,8 +13,8 @@ use Rattle.tl_lex.specs.Lexing.{answers_left}
 use Rattle.tl_tree.specs.Symbols.{is_bad}
 use Rattle.tl_tree.specs.Tokens.{tokens_in}
 use Rattle.tl_tree.specs.Tree.{FunctionBody}
-use Rattle.tl_tree.specs.Grammar.{Took, Stop, begins, is_of, blame, unless, is_none_left, opens_too_deep, down}
-use Rattle.tl_parse.specs.Parsing.{token_of, with_token_by, tokens_left, end_of, blame_of, Refuses, Stops, Fails, HasNext, TookToken}
+use Rattle.tl_tree.specs.Grammar.{Outcome, Took, Stop, begins, is_of, blame, unless, is_none_left, opens_too_deep, down}
+use Rattle.tl_parse.specs.Parsing.{token_of, with_token_by, tokens_left, end_of, blame_of, Refuses, Stops, Fails, HasNext, TookToken, TookPlace}
 use Rattle.tl_parse.specs.Looking.{Advanced}
 use Rattle.tl_parse.specs.Using.{barred, used, is_number}
 use Rattle.tl_parse.specs.Taking.{barred_next, Uses, Barred}
@@ -116,6 +116,14 @@ next_of class ts h = sound_next class ts h
 pub taken : (class : Token → Bool) (opens : Bool) (levels : ℕ) (extra : Extra) (old new : Parser) (t : code.Next) → begins class (tokens_left old) ≡ true → Uses opens levels extra old new t → TookToken old new (used class opens levels extra (tokens_left old)) t
 taken class opens levels extra old new t h u = record { took = u.took class h; finish = u.finish; items = u.items }
 
+-- where a token is taken, its place is
+pub place_taken : (old new : Parser) (o : Outcome Token) (t : code.Next) → TookToken old new o t → TookPlace old new o t.place
+place_taken old new o t k = record { token = token_of t; took = k.took; finish = k.finish; items = k.items }
+
+-- the place of the token is taken where the grammar takes it
+pub taken_place : (class : Token → Bool) (opens : Bool) (levels : ℕ) (extra : Extra) (old new : Parser) (t : code.Next) → begins class (tokens_left old) ≡ true → Uses opens levels extra old new t → TookPlace old new (used class opens levels extra (tokens_left old)) t.place
+taken_place class opens levels extra old new t h u = place_taken old new (used class opens levels extra (tokens_left old)) t (taken class opens levels extra old new t h u)
+
 -- the limits refuse the token
 pub barred_there : (class : Token → Bool) (opens : Bool) (levels : ℕ) (extra : Extra) (p : Parser) (e : SyntaxError) → begins class (tokens_left p) ≡ true → Barred opens levels extra p e → Fails p (used class opens levels extra (tokens_left p)) e
 barred_there class opens levels extra p e h b = b.fails class h
@@ -173,6 +181,8 @@ pub ruleset shorter = (fails_bind, fails_after, less)
 
 pub ruleset taking = (taken, barred_there, refused_there, next_of)
 
+pub ruleset taking_place = (taken_place, barred_there, refused_there, next_of)
+
 pub ruleset advancing = (takes, bars, barred_next_is, next_place)
 
-pub ruleset calling = (taken, barred_there, refused_there, next_of, level_left, calls_left)
+pub ruleset calling = (taken_place, barred_there, refused_there, next_of, level_left, calls_left)

@@ -87,6 +87,17 @@ pub record TookToken (old new : Parser) (o : Outcome Token) (t : code.Next) : Ty
   pub finish : end_of new ≡ end_of old
   pub items : items_of new ≡ items_of old
 
+-- a token at this place, with all else that another has
+abbrev pub placed : Token → Place → Token
+placed t place = record { symbol = t.symbol; text = t.text; place = place; offset = t.offset; first_on_line = t.first_on_line }
+
+-- the code took a token at this place where the outcome does
+pub record TookPlace (old new : Parser) (o : Outcome Token) (place : Place) : Type 0 where
+  pub token : Token
+  pub took : o ≡ Took (placed token place) (tokens_left new)
+  pub finish : end_of new ≡ end_of old
+  pub items : items_of new ≡ items_of old
+
 -- the code made the nodes of the tree that the outcome has
 pub record TookTree (old new : Parser) (o : Outcome Tree) (number : NodeId) : Type 0 where
   pub tree : Tree

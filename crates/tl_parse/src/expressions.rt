@@ -82,7 +82,7 @@ impl<'a> Parser<'a> {
         ensures ok { IfOk result (λ r. TookTree self.old self.new (name_at (tokens_left self.old)) r) }
         ensures err { IfErr result (λ e. Fails self.old (name_at (tokens_left self.old)) e) }
     {
-        let token = read!(self.take(Symbol::Name));
+        let token = read!(self.take_token(Symbol::Name));
         self.push(Node::Name(token.place, token.offset, token.text))
     }
 
@@ -102,7 +102,7 @@ impl<'a> Parser<'a> {
         ensures ok { IfOk result (λ r. TookTree self.old self.new (literal_at (tokens_left self.old)) r) }
         ensures err { IfErr result (λ e. Fails self.old (literal_at (tokens_left self.old)) e) }
     {
-        let token = read!(self.take(Symbol::Literal));
+        let token = read!(self.take_token(Symbol::Literal));
         self.push(Node::Literal(token.place, token.text))
     }
 
@@ -112,8 +112,8 @@ impl<'a> Parser<'a> {
         ensures ok { IfOk result (λ r. TookTree self.old self.new (constant_at Symbol.Nil (tokens_left self.old)) r) }
         ensures err { IfErr result (λ e. Fails self.old (constant_at Symbol.Nil (tokens_left self.old)) e) }
     {
-        let token = read!(self.take(Symbol::Nil));
-        self.push(Node::Expression(token.place, Expression::Nil))
+        let place = read!(self.take(Symbol::Nil));
+        self.push(Node::Expression(place, Expression::Nil))
     }
 
     /// "false"
@@ -122,8 +122,8 @@ impl<'a> Parser<'a> {
         ensures ok { IfOk result (λ r. TookTree self.old self.new (constant_at Symbol.False (tokens_left self.old)) r) }
         ensures err { IfErr result (λ e. Fails self.old (constant_at Symbol.False (tokens_left self.old)) e) }
     {
-        let token = read!(self.take(Symbol::False));
-        self.push(Node::Expression(token.place, Expression::False))
+        let place = read!(self.take(Symbol::False));
+        self.push(Node::Expression(place, Expression::False))
     }
 
     /// "true"
@@ -132,8 +132,8 @@ impl<'a> Parser<'a> {
         ensures ok { IfOk result (λ r. TookTree self.old self.new (constant_at Symbol.True (tokens_left self.old)) r) }
         ensures err { IfErr result (λ e. Fails self.old (constant_at Symbol.True (tokens_left self.old)) e) }
     {
-        let token = read!(self.take(Symbol::True));
-        self.push(Node::Expression(token.place, Expression::True))
+        let place = read!(self.take(Symbol::True));
+        self.push(Node::Expression(place, Expression::True))
     }
 
     /// "..."
@@ -142,8 +142,8 @@ impl<'a> Parser<'a> {
         ensures ok { IfOk result (λ r. TookTree self.old self.new (constant_at Symbol.Ellipsis (tokens_left self.old)) r) }
         ensures err { IfErr result (λ e. Fails self.old (constant_at Symbol.Ellipsis (tokens_left self.old)) e) }
     {
-        let token = read!(self.take(Symbol::Ellipsis));
-        self.push(Node::Expression(token.place, Expression::Varargs))
+        let place = read!(self.take(Symbol::Ellipsis));
+        self.push(Node::Expression(place, Expression::Varargs))
     }
 
     /// exp
@@ -210,9 +210,8 @@ impl<'a> Parser<'a> {
         ensures ok { IfOk result (λ r. TookList self.old self.new (expressions_at levels mode (tokens_left self.old)) r) }
         ensures err { IfErr result (λ e. Fails self.old (expressions_at levels mode (tokens_left self.old)) e) }
     {
-        let mut list = self.no_nodes();
         let first = read!(self.expression(mode, levels));
-        read!(add(&mut list, first));
+        let mut list = read!(self.one_node(first));
         'more: while self.next_is(Symbol::Comma) {
             let next = read!(self.next_expression(mode, levels));
             read!(add(&mut list, next));
@@ -227,15 +226,14 @@ impl<'a> Parser<'a> {
         ensures ok { IfOk result (λ r. TookOperand self.old self.new (paren_at levels mode (tokens_left self.old)) r) }
         ensures err { IfErr result (λ e. Fails self.old (paren_at levels mode (tokens_left self.old)) e) }
     {
-        let token = read!(self.open(Symbol::OpenParen, levels));
+        let place = read!(self.open(Symbol::OpenParen, levels));
         let inner = read!(self.expression(mode, levels - 1));
         read!(self.take(Symbol::CloseParen));
-        let node = read!(self.push(Node::Expression(token.place, Expression::Paren(inner))));
-        Ok(Operand {
-            node,
-            left: CHAIN,
-            shape: Shape::Other,
-        })
+        self.push_operand(
+            Node::Expression(place, Expression::Paren(inner)),
+            CHAIN,
+            Shape::Other,
+        )
     }
 
     /// Name | "(" exp ")"
@@ -264,18 +262,14 @@ impl<'a> Parser<'a> {
         ensures ok { IfOk result (λ r. TookSuffix self.old self.new (call_suffix_at levels mode a.left (tokens_left self.old)) a r) }
         ensures err { IfErr result (λ e. Fails self.old (call_suffix_at levels mode a.left (tokens_left self.old)) e) }
     {
-        let token = read!(self.open_call(levels, a.left));
+        let place = read!(self.open_call(levels, a.left));
         let arguments = read!(self.arguments(mode, levels - 1));
         read!(self.take(Symbol::CloseParen));
-        let node = read!(self.push(Node::Expression(
-            token.place,
-            Expression::Call(a.node, arguments)
-        )));
-        Ok(Operand {
-            node,
-            left: a.left - 1,
-            shape: Shape::Call,
-        })
+        self.push_operand(
+            Node::Expression(place, Expression::Call(a.node, arguments)),
+            a.left - 1,
+            Shape::Call,
+        )
     }
 
     /// "[" exp "]"
@@ -285,15 +279,14 @@ impl<'a> Parser<'a> {
         ensures ok { IfOk result (λ r. TookSuffix self.old self.new (index_suffix_at levels mode a.left (tokens_left self.old)) a r) }
         ensures err { IfErr result (λ e. Fails self.old (index_suffix_at levels mode a.left (tokens_left self.old)) e) }
     {
-        let token = read!(self.raise(Symbol::OpenBracket, levels, a.left));
+        let place = read!(self.open_suffix(Symbol::OpenBracket, levels, a.left));
         let key = read!(self.expression(mode, levels - 1));
         read!(self.take(Symbol::CloseBracket));
-        let node = read!(self.push(Node::Expression(token.place, Expression::Index(a.node, key))));
-        Ok(Operand {
-            node,
-            left: a.left - 1,
-            shape: Shape::Variable,
-        })
+        self.push_operand(
+            Node::Expression(place, Expression::Index(a.node, key)),
+            a.left - 1,
+            Shape::Variable,
+        )
     }
 
     /// "." Name
@@ -302,17 +295,13 @@ impl<'a> Parser<'a> {
         ensures ok { IfOk result (λ r. TookSuffix self.old self.new (select_suffix_at a.left (tokens_left self.old)) a r) }
         ensures err { IfErr result (λ e. Fails self.old (select_suffix_at a.left (tokens_left self.old)) e) }
     {
-        let token = read!(self.operator(&DOT, a.left));
+        let place = read!(self.suffix_sign(&DOT, a.left));
         let name = read!(self.name());
-        let node = read!(self.push(Node::Expression(
-            token.place,
-            Expression::Select(a.node, name)
-        )));
-        Ok(Operand {
-            node,
-            left: a.left - 1,
-            shape: Shape::Variable,
-        })
+        self.push_operand(
+            Node::Expression(place, Expression::Select(a.node, name)),
+            a.left - 1,
+            Shape::Variable,
+        )
     }
 
     /// ":" Name args
@@ -322,18 +311,14 @@ impl<'a> Parser<'a> {
         ensures ok { IfOk result (λ r. TookSuffix self.old self.new (method_suffix_at levels mode a.left (tokens_left self.old)) a r) }
         ensures err { IfErr result (λ e. Fails self.old (method_suffix_at levels mode a.left (tokens_left self.old)) e) }
     {
-        let token = read!(self.operator(&COLON, a.left));
+        let place = read!(self.suffix_sign(&COLON, a.left));
         let name = read!(self.name());
         let arguments = read!(self.method_arguments(mode, levels));
-        let node = read!(self.push(Node::Expression(
-            token.place,
-            Expression::Method(a.node, name, arguments)
-        )));
-        Ok(Operand {
-            node,
-            left: a.left - 1,
-            shape: Shape::Call,
-        })
+        self.push_operand(
+            Node::Expression(place, Expression::Method(a.node, name, arguments)),
+            a.left - 1,
+            Shape::Call,
+        )
     }
 
     /// args = table
@@ -368,15 +353,11 @@ impl<'a> Parser<'a> {
         let token = read!(self.operator(&LITERAL, a.left));
         let text = read!(self.push(Node::Literal(token.place, token.text)));
         let arguments = read!(self.one_node(text));
-        let node = read!(self.push(Node::Expression(
-            token.place,
-            Expression::Call(a.node, arguments)
-        )));
-        Ok(Operand {
-            node,
-            left: a.left - 1,
-            shape: Shape::Call,
-        })
+        self.push_operand(
+            Node::Expression(token.place, Expression::Call(a.node, arguments)),
+            a.left - 1,
+            Shape::Call,
+        )
     }
 
     /// "(" [exps] ")"
@@ -399,10 +380,10 @@ impl<'a> Parser<'a> {
         ensures ok { IfOk result (λ r. TookList self.old self.new (table_argument_at levels mode (tokens_left self.old)) r) }
         ensures err { IfErr result (λ e. Fails self.old (table_argument_at levels mode (tokens_left self.old)) e) }
     {
-        let token = read!(self.open(Symbol::OpenBrace, levels));
+        let place = read!(self.open(Symbol::OpenBrace, levels));
         let fields = read!(self.fields(mode, levels - 1));
         read!(self.take(Symbol::CloseBrace));
-        let table = read!(self.push(Node::Expression(token.place, Expression::Table(fields))));
+        let table = read!(self.push(Node::Expression(place, Expression::Table(fields))));
         self.one_node(table)
     }
 
@@ -419,7 +400,7 @@ impl<'a> Parser<'a> {
         if self.next_is(Symbol::OpenBrace) {
             return self.table_argument(mode, levels);
         }
-        let token = read!(self.take(Symbol::Literal));
+        let token = read!(self.take_token(Symbol::Literal));
         let text = read!(self.push(Node::Literal(token.place, token.text)));
         self.one_node(text)
     }
@@ -499,10 +480,10 @@ impl<'a> Parser<'a> {
         ensures ok { IfOk result (λ r. TookTree self.old self.new (function_at levels (tokens_left self.old)) r) }
         ensures err { IfErr result (λ e. Fails self.old (function_at levels (tokens_left self.old)) e) }
     {
-        let token = read!(self.take(Symbol::Function));
+        let place = read!(self.take(Symbol::Function));
         read!(self.open(Symbol::OpenParen, levels));
         let body = read!(self.function_body(levels - 1));
-        self.push(Node::Expression(token.place, Expression::Function(body)))
+        self.push(Node::Expression(place, Expression::Function(body)))
     }
 
     /// "nil" | "false" | "true" | Numeral | Text | "..." | "function" body | table | Terra code
@@ -583,15 +564,14 @@ impl<'a> Parser<'a> {
         if self.next_is_prefix() {
             let token = read!(self.open_among(&PREFIX, levels));
             let operand = read!(self.operand(mode, levels - 1));
-            let node = read!(self.push(Node::Expression(
-                token.place,
-                Expression::Unary(unary_of(token.symbol), operand)
-            )));
-            return Ok(Operand {
-                node,
+            return self.push_operand(
+                Node::Expression(
+                    token.place,
+                    Expression::Unary(unary_of(token.symbol), operand),
+                ),
                 left,
-                shape: Shape::Other,
-            });
+                Shape::Other,
+            );
         }
         self.power(mode, levels, left)
     }

@@ -164,7 +164,7 @@ fn is_end(kind: TokenKind) -> bool
 }
 
 impl<'a> Parser<'a> {
-    ghost use Rattle.tl_parse.specs.Parsing.{tokens_left, end_of, items_of, Refuses, Pushed, HasNext, Fails, TookToken};
+    ghost use Rattle.tl_parse.specs.Parsing.{tokens_left, end_of, items_of, Refuses, Pushed, HasNext, Fails, TookToken, TookPlace};
     ghost use Rattle.tl_parse.specs.Looking.{BeginsAt, Advanced};
     ghost use Rattle.tl_parse.specs.Taking.{Uses, Barred};
     ghost use Rattle.tl_parse.specs.Joining.{Joined};
@@ -290,6 +290,23 @@ impl<'a> Parser<'a> {
         Ok(NodeId((self.nodes.len() - 1) as u64))
     }
 
+    /// Adds a node, and gives it as an operand in a chain that so many tokens may continue.
+    #[inline(always)]
+    pub(crate) fn push_operand(
+        &mut self,
+        node: Node<'a>,
+        left: u32,
+        shape: Shape,
+    ) -> Result<Operand, SyntaxError>
+        ensures ok { IfOk result (λ r. Pushed self.old self.new node.entry r.node) }
+        ensures left { IfOk result (λ r. r.left ≡ left) }
+        ensures shape { IfOk result (λ r. r.shape ≡ shape) }
+        ensures err { IfErr result (λ e. e ≡ SyntaxError.NoMemory) }
+    {
+        let node = read!(self.push(node));
+        Ok(Operand { node, left, shape })
+    }
+
     /// Passes over the next token.
     #[tactic(auto, using(crate::proofs::Looking::advanced))]
     #[inline(never)]
@@ -330,7 +347,7 @@ impl<'a> Parser<'a> {
     }
 
     /// Takes this token, which has no other use.
-    pub(crate) fn take(&mut self, symbol: Symbol) -> Result<Next<'a>, SyntaxError>
+    pub(crate) fn take_token(&mut self, symbol: Symbol) -> Result<Next<'a>, SyntaxError>
         requires { is_bad symbol ≡ false }
         ensures ok { IfOk result (λ t. TookToken self.old self.new (sign_at symbol (tokens_left self.old)) t) }
         ensures err { IfErr result (λ e. Fails self.old (sign_at symbol (tokens_left self.old)) e) }
@@ -342,29 +359,43 @@ impl<'a> Parser<'a> {
         }
     }
 
-    /// Takes this token, which opens a level of nesting where so many are left.
-    pub(crate) fn open(&mut self, symbol: Symbol, levels: u32) -> Result<Next<'a>, SyntaxError>
+    /// Takes this token, which has no other use, and gives its place.
+    #[tactic(auto, using(crate::proofs::Taking::place_taken))]
+    #[inline(always)]
+    pub(crate) fn take(&mut self, symbol: Symbol) -> Result<Place, SyntaxError>
         requires { is_bad symbol ≡ false }
-        ensures ok { IfOk result (λ t. TookToken self.old self.new (open_at symbol levels (tokens_left self.old)) t) }
+        ensures ok { IfOk result (λ place. TookPlace self.old self.new (sign_at symbol (tokens_left self.old)) place) }
+        ensures err { IfErr result (λ e. Fails self.old (sign_at symbol (tokens_left self.old)) e) }
+    {
+        let token = read!(self.take_token(symbol));
+        Ok(token.place)
+    }
+
+    /// Takes this token, which opens a level of nesting where so many are left, and gives its place.
+    pub(crate) fn open(&mut self, symbol: Symbol, levels: u32) -> Result<Place, SyntaxError>
+        requires { is_bad symbol ≡ false }
+        ensures ok { IfOk result (λ place. TookPlace self.old self.new (open_at symbol levels (tokens_left self.old)) place) }
         ensures level { IfOk result (λ _. 0 < levels) }
         ensures err { IfErr result (λ e. Fails self.old (open_at symbol levels (tokens_left self.old)) e) }
     {
         if self.next_is(symbol) {
-            Ok(read!(self.advance(true, levels, Extra::Plain)))
+            let token = read!(self.advance(true, levels, Extra::Plain));
+            Ok(token.place)
         } else {
             Err(self.refusal())
         }
     }
 
-    /// Takes one of these tokens, which has no other use.
-    #[tactic(auto, using(crate::proofs::Taking::taking), unfolding(crate::specs::Using::sign_among_at))]
-    pub(crate) fn take_among(&mut self, symbols: &[Symbol]) -> Result<Next<'a>, SyntaxError>
+    /// Takes one of these tokens, which has no other use, and gives its place.
+    #[tactic(auto, using(crate::proofs::Taking::taking_place), unfolding(crate::specs::Using::sign_among_at))]
+    pub(crate) fn take_among(&mut self, symbols: &[Symbol]) -> Result<Place, SyntaxError>
         requires { has symbols.now 65 ≡ false }
-        ensures ok { IfOk result (λ t. TookToken self.old self.new (sign_among_at symbols.now (tokens_left self.old)) t) }
+        ensures ok { IfOk result (λ place. TookPlace self.old self.new (sign_among_at symbols.now (tokens_left self.old)) place) }
         ensures err { IfErr result (λ e. Fails self.old (sign_among_at symbols.now (tokens_left self.old)) e) }
     {
         if self.next_is_among(symbols) {
-            Ok(read!(self.advance(false, 0, Extra::Plain)))
+            let token = read!(self.advance(false, 0, Extra::Plain));
+            Ok(token.place)
         } else {
             Err(self.refusal())
         }
@@ -408,6 +439,23 @@ impl<'a> Parser<'a> {
         }
     }
 
+    /// Takes the sign of a suffix, one of these, which continues a chain that so many may continue, and gives its place.
+    #[tactic(auto, using(crate::proofs::Taking::place_taken))]
+    #[inline(always)]
+    pub(crate) fn suffix_sign(
+        &mut self,
+        symbols: &[Symbol],
+        left: u32,
+    ) -> Result<Place, SyntaxError>
+        requires { has symbols.now 65 ≡ false }
+        ensures ok { IfOk result (λ place. TookPlace self.old self.new (operator_at symbols.now left (tokens_left self.old)) place) }
+        ensures chain { IfOk result (λ _. 0 < left) }
+        ensures err { IfErr result (λ e. Fails self.old (operator_at symbols.now left (tokens_left self.old)) e) }
+    {
+        let token = read!(self.operator(symbols, left));
+        Ok(token.place)
+    }
+
     /// Takes an operator of this rank, which continues a chain that so many may continue.
     #[tactic(auto, using(crate::proofs::Taking::taking, crate::proofs::Taking::chain_left), unfolding(crate::specs::Ranks::ranked_at))]
     pub(crate) fn ranked_operator(&mut self, rank: u8, left: u32) -> Result<Next<'a>, SyntaxError>
@@ -443,16 +491,36 @@ impl<'a> Parser<'a> {
         }
     }
 
-    /// Takes the bracket that calls what is before it.
+    /// Takes the bracket of a suffix, which opens a level and continues a chain, and gives its place.
+    #[tactic(auto, using(crate::proofs::Taking::place_taken))]
+    #[inline(always)]
+    pub(crate) fn open_suffix(
+        &mut self,
+        symbol: Symbol,
+        levels: u32,
+        left: u32,
+    ) -> Result<Place, SyntaxError>
+        requires { is_bad symbol ≡ false }
+        ensures ok { IfOk result (λ place. TookPlace self.old self.new (raise_at symbol levels left (tokens_left self.old)) place) }
+        ensures level { IfOk result (λ _. 0 < levels) }
+        ensures chain { IfOk result (λ _. 0 < left) }
+        ensures err { IfErr result (λ e. Fails self.old (raise_at symbol levels left (tokens_left self.old)) e) }
+    {
+        let token = read!(self.raise(symbol, levels, left));
+        Ok(token.place)
+    }
+
+    /// Takes the bracket that calls what is before it, and gives its place.
     #[tactic(auto, using(crate::proofs::Taking::calling), unfolding(crate::specs::Using::call_at))]
-    pub(crate) fn open_call(&mut self, levels: u32, left: u32) -> Result<Next<'a>, SyntaxError>
-        ensures ok { IfOk result (λ t. TookToken self.old self.new (call_at levels left (tokens_left self.old)) t) }
+    pub(crate) fn open_call(&mut self, levels: u32, left: u32) -> Result<Place, SyntaxError>
+        ensures ok { IfOk result (λ place. TookPlace self.old self.new (call_at levels left (tokens_left self.old)) place) }
         ensures level { IfOk result (λ _. 0 < levels) }
         ensures chain { IfOk result (λ _. 0 < left) }
         ensures err { IfErr result (λ e. Fails self.old (call_at levels left (tokens_left self.old)) e) }
     {
         if self.next_is(Symbol::OpenParen) {
-            Ok(read!(self.advance(true, levels, Extra::Calls(left))))
+            let token = read!(self.advance(true, levels, Extra::Calls(left)));
+            Ok(token.place)
         } else {
             Err(self.refusal())
         }
@@ -620,15 +688,14 @@ impl<'a> Parser<'a> {
         ensures ok { IfOk result (λ r. Joined self.old self.new token.entry a right left r) }
         ensures err { IfErr result (λ e. e ≡ SyntaxError.NoMemory) }
     {
-        let node = read!(self.push(Node::Expression(
-            token.place,
-            Expression::Binary(binary_of(token.symbol), a.node, right)
-        )));
-        Ok(Operand {
-            node,
+        self.push_operand(
+            Node::Expression(
+                token.place,
+                Expression::Binary(binary_of(token.symbol), a.node, right),
+            ),
             left,
-            shape: Shape::Other,
-        })
+            Shape::Other,
+        )
     }
 }
 

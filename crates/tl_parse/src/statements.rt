@@ -125,9 +125,8 @@ impl<'a> Parser<'a> {
         ensures ok { IfOk result (λ r. TookList self.old self.new (names_at levels (tokens_left self.old)) r) }
         ensures err { IfErr result (λ e. Fails self.old (names_at levels (tokens_left self.old)) e) }
     {
-        let mut list = self.no_nodes();
         let first = read!(self.name());
-        read!(add(&mut list, first));
+        let mut list = read!(self.one_node(first));
         'more: while self.next_is(Symbol::Comma) {
             let next = read!(self.next_name());
             read!(add(&mut list, next));
@@ -142,9 +141,9 @@ impl<'a> Parser<'a> {
         ensures ok { IfOk result (λ r. TookTree self.old self.new (behind_sign_at symbol (tokens_left self.old)) r) }
         ensures err { IfErr result (λ e. Fails self.old (behind_sign_at symbol (tokens_left self.old)) e) }
     {
-        let token = read!(self.take(symbol));
-        let name = read!(self.take(Symbol::Name));
-        self.push(Node::Name(token.place, name.offset, name.text))
+        let place = read!(self.take(symbol));
+        let name = read!(self.take_token(Symbol::Name));
+        self.push(Node::Name(place, name.offset, name.text))
     }
 
     /// [":" Name]
@@ -166,9 +165,8 @@ impl<'a> Parser<'a> {
         ensures ok { IfOk result (λ r. TookTree self.old self.new (path_at levels (tokens_left self.old)) r) }
         ensures err { IfErr result (λ e. Fails self.old (path_at levels (tokens_left self.old)) e) }
     {
-        let mut list = self.no_nodes();
         let first = read!(self.name());
-        read!(add(&mut list, first));
+        let mut list = read!(self.one_node(first));
         'more: while self.next_is(Symbol::Dot) {
             let next = read!(self.behind_sign(Symbol::Dot));
             read!(add(&mut list, next));
@@ -229,8 +227,7 @@ impl<'a> Parser<'a> {
         if is_call(a.shape) {
             return self.push(Node::Statement(place, Statement::Call(a.node)));
         }
-        let mut targets = self.no_nodes();
-        read!(add(&mut targets, a.node));
+        let mut targets = read!(self.one_node(a.node));
         'more: while self.next_is(Symbol::Comma) {
             let next = read!(self.next_target(mode, levels));
             read!(add(&mut targets, next));
@@ -246,10 +243,10 @@ impl<'a> Parser<'a> {
         ensures ok { IfOk result (λ r. TookTree self.old self.new (do_at levels context (tokens_left self.old)) r) }
         ensures err { IfErr result (λ e. Fails self.old (do_at levels context (tokens_left self.old)) e) }
     {
-        let token = read!(self.open(Symbol::Do, levels));
+        let place = read!(self.open(Symbol::Do, levels));
         let block = read!(self.block(context, levels - 1));
         read!(self.take(Symbol::End));
-        self.push(Node::Statement(token.place, Statement::Do(block)))
+        self.push(Node::Statement(place, Statement::Do(block)))
     }
 
     /// "do" block "end", of a loop
@@ -272,10 +269,10 @@ impl<'a> Parser<'a> {
         ensures ok { IfOk result (λ r. TookTree self.old self.new (while_at levels context (tokens_left self.old)) r) }
         ensures err { IfErr result (λ e. Fails self.old (while_at levels context (tokens_left self.old)) e) }
     {
-        let token = read!(self.take(Symbol::While));
+        let place = read!(self.take(Symbol::While));
         let condition = read!(self.expression(context.mode, levels));
         let block = read!(self.loop_block(context, levels));
-        self.push(Node::Statement(token.place, Statement::While(condition, block)))
+        self.push(Node::Statement(place, Statement::While(condition, block)))
     }
 
     /// stat = "repeat" block "until" exp
@@ -285,11 +282,11 @@ impl<'a> Parser<'a> {
         ensures ok { IfOk result (λ r. TookTree self.old self.new (repeat_at levels context (tokens_left self.old)) r) }
         ensures err { IfErr result (λ e. Fails self.old (repeat_at levels context (tokens_left self.old)) e) }
     {
-        let token = read!(self.open(Symbol::Repeat, levels));
+        let place = read!(self.open(Symbol::Repeat, levels));
         let block = read!(self.block(looped(context), levels - 1));
         read!(self.take(Symbol::Until));
         let condition = read!(self.expression(context.mode, levels));
-        self.push(Node::Statement(token.place, Statement::Repeat(block, condition)))
+        self.push(Node::Statement(place, Statement::Repeat(block, condition)))
     }
 
     /// exp "then" block
@@ -323,9 +320,8 @@ impl<'a> Parser<'a> {
         ensures ok { IfOk result (λ r. TookList self.old self.new (arms_at levels context (tokens_left self.old)) r) }
         ensures err { IfErr result (λ e. Fails self.old (arms_at levels context (tokens_left self.old)) e) }
     {
-        let mut list = self.no_nodes();
         let first = read!(self.arm(context, levels));
-        read!(add(&mut list, first));
+        let mut list = read!(self.one_node(first));
         'more: while self.next_is(Symbol::Elseif) {
             let next = read!(self.next_arm(context, levels));
             read!(add(&mut list, next));
@@ -355,11 +351,11 @@ impl<'a> Parser<'a> {
         ensures ok { IfOk result (λ r. TookTree self.old self.new (if_at levels context (tokens_left self.old)) r) }
         ensures err { IfErr result (λ e. Fails self.old (if_at levels context (tokens_left self.old)) e) }
     {
-        let token = read!(self.take(Symbol::If));
+        let place = read!(self.take(Symbol::If));
         let arms = read!(self.arms(context, levels));
         let otherwise = read!(self.otherwise(context, levels));
         read!(self.take(Symbol::End));
-        self.push(Node::Statement(token.place, Statement::If(arms, otherwise)))
+        self.push(Node::Statement(place, Statement::If(arms, otherwise)))
     }
 
     /// ["," exp]
@@ -418,23 +414,22 @@ impl<'a> Parser<'a> {
         ensures ok { IfOk result (λ r. TookTree self.old self.new (for_at levels context (tokens_left self.old)) r) }
         ensures err { IfErr result (λ e. Fails self.old (for_at levels context (tokens_left self.old)) e) }
     {
-        let token = read!(self.take(Symbol::For));
+        let place = read!(self.take(Symbol::For));
         let name = read!(self.name());
         if self.next_is(Symbol::Equal) {
             let r = read!(self.numeric(context, levels));
             return self.push(Node::Statement(
-                token.place,
+                place,
                 Statement::NumericFor(name, r.from, r.limit, r.step, r.block),
             ));
         }
-        let mut names = self.no_nodes();
-        read!(add(&mut names, name));
+        let mut names = read!(self.one_node(name));
         'more: while self.next_is(Symbol::Comma) {
             let next = read!(self.next_name());
             read!(add(&mut names, next));
         }
         let (values, block) = read!(self.generic(context, levels));
-        self.push(Node::Statement(token.place, Statement::GenericFor(names, values, block)))
+        self.push(Node::Statement(place, Statement::GenericFor(names, values, block)))
     }
 
     /// stat = "function" path body
@@ -444,11 +439,11 @@ impl<'a> Parser<'a> {
         ensures ok { IfOk result (λ r. TookTree self.old self.new (function_statement_at levels (tokens_left self.old)) r) }
         ensures err { IfErr result (λ e. Fails self.old (function_statement_at levels (tokens_left self.old)) e) }
     {
-        let token = read!(self.take(Symbol::Function));
+        let place = read!(self.take(Symbol::Function));
         let path = read!(self.path(levels));
         read!(self.open(Symbol::OpenParen, levels));
         let body = read!(self.function_body(levels - 1));
-        self.push(Node::Statement(token.place, Statement::Function(path, body)))
+        self.push(Node::Statement(place, Statement::Function(path, body)))
     }
 
     /// stat = "local" "function" Name body, behind "local"
@@ -497,14 +492,14 @@ impl<'a> Parser<'a> {
         ensures ok { IfOk result (λ r. TookTree self.old self.new (local_at levels context (tokens_left self.old)) r) }
         ensures err { IfErr result (λ e. Fails self.old (local_at levels context (tokens_left self.old)) e) }
     {
-        let token = read!(self.take(Symbol::Local));
+        let place = read!(self.take(Symbol::Local));
         if self.next_is(Symbol::Function) {
-            return self.local_function(levels, token.place);
+            return self.local_function(levels, place);
         }
         if self.next_is_among(&DEFINITION) {
-            return self.local_terra(context.mode, token.place, levels);
+            return self.local_terra(context.mode, place, levels);
         }
-        self.local_names(context.mode, levels, token.place)
+        self.local_names(context.mode, levels, place)
     }
 
     /// [exps], behind "return"
@@ -527,9 +522,9 @@ impl<'a> Parser<'a> {
         ensures ok { IfOk result (λ r. TookTree self.old self.new (return_at levels mode (tokens_left self.old)) r) }
         ensures err { IfErr result (λ e. Fails self.old (return_at levels mode (tokens_left self.old)) e) }
     {
-        let token = read!(self.take(Symbol::Return));
+        let place = read!(self.take(Symbol::Return));
         let values = read!(self.returned_values(mode, levels));
-        self.push(Node::Statement(token.place, Statement::Return(values)))
+        self.push(Node::Statement(place, Statement::Return(values)))
     }
 
     /// "break"
@@ -538,8 +533,8 @@ impl<'a> Parser<'a> {
         ensures ok { IfOk result (λ r. TookTree self.old self.new (break_at (tokens_left self.old)) r) }
         ensures err { IfErr result (λ e. Fails self.old (break_at (tokens_left self.old)) e) }
     {
-        let token = read!(self.take(Symbol::Break));
-        self.push(Node::Statement(token.place, Statement::Break))
+        let place = read!(self.take(Symbol::Break));
+        self.push(Node::Statement(place, Statement::Break))
     }
 
     /// stat = "emit" exp
@@ -549,9 +544,9 @@ impl<'a> Parser<'a> {
         ensures ok { IfOk result (λ r. TookTree self.old self.new (emit_at levels mode (tokens_left self.old)) r) }
         ensures err { IfErr result (λ e. Fails self.old (emit_at levels mode (tokens_left self.old)) e) }
     {
-        let token = read!(self.take(Symbol::Emit));
+        let place = read!(self.take(Symbol::Emit));
         let value = read!(self.expression(mode, levels));
-        self.push(Node::Statement(token.place, Statement::Emit(value)))
+        self.push(Node::Statement(place, Statement::Emit(value)))
     }
 
     /// stat, "return" [exps] or "break"

@@ -21,10 +21,10 @@ impl<'a> Parser<'a> {
         ensures ok { IfOk result (λ r. TookTree self.old self.new (table_at levels mode (tokens_left self.old)) r) }
         ensures err { IfErr result (λ e. Fails self.old (table_at levels mode (tokens_left self.old)) e) }
     {
-        let token = read!(self.open(Symbol::OpenBrace, levels));
+        let place = read!(self.open(Symbol::OpenBrace, levels));
         let fields = read!(self.fields(mode, levels - 1));
         read!(self.take(Symbol::CloseBrace));
-        self.push(Node::Expression(token.place, Expression::Table(fields)))
+        self.push(Node::Expression(place, Expression::Table(fields)))
     }
 
     /// "[" exp "]" "=" exp
@@ -85,12 +85,11 @@ impl<'a> Parser<'a> {
         ensures ok { IfOk result (λ r. TookList self.old self.new (part_at levels (parts.Fields mode) (tokens_left self.old)) r) }
         ensures err { IfErr result (λ e. Fails self.old (part_at levels (parts.Fields mode) (tokens_left self.old)) e) }
     {
-        let mut list = self.no_nodes();
         if self.next_is(Symbol::CloseBrace) {
-            return Ok(list);
+            return Ok(self.no_nodes());
         }
         let first = read!(self.field(mode, levels));
-        read!(add(&mut list, first));
+        let mut list = read!(self.one_node(first));
         'more: while self.next_is_among(&SEPARATOR) {
             if let Some(next) = read!(self.next_field(mode, levels)) {
                 read!(add(&mut list, next));

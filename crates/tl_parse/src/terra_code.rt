@@ -23,10 +23,10 @@ impl<'a> Parser<'a> {
         ensures ok { IfOk result (λ r. TookTree self.old self.new (terra_function_at levels (tokens_left self.old)) r) }
         ensures err { IfErr result (λ e. Fails self.old (terra_function_at levels (tokens_left self.old)) e) }
     {
-        let token = read!(self.take(Symbol::Terra));
+        let place = read!(self.take(Symbol::Terra));
         let paren = read!(self.open(Symbol::OpenParen, levels));
-        let body = read!(self.terra_function_body(paren.place, levels - 1));
-        self.push(Node::Expression(token.place, Expression::Terra(body)))
+        let body = read!(self.terra_function_body(paren, levels - 1));
+        self.push(Node::Expression(place, Expression::Terra(body)))
     }
 
     /// sbody = "{" {Name ":" exp ["," | ";"]} "}"
@@ -49,9 +49,9 @@ impl<'a> Parser<'a> {
         ensures ok { IfOk result (λ r. TookTree self.old self.new (struct_at levels mode (tokens_left self.old)) r) }
         ensures err { IfErr result (λ e. Fails self.old (struct_at levels mode (tokens_left self.old)) e) }
     {
-        let token = read!(self.take(Symbol::Struct));
+        let place = read!(self.take(Symbol::Struct));
         let entries = read!(self.struct_body(mode, levels));
-        self.push(Node::Expression(token.place, Expression::Struct(entries)))
+        self.push(Node::Expression(place, Expression::Struct(entries)))
     }
 
     /// exp = "quote" tblock ["in" texp] "end"
@@ -61,10 +61,10 @@ impl<'a> Parser<'a> {
         ensures ok { IfOk result (λ r. TookTree self.old self.new (quote_at levels (tokens_left self.old)) r) }
         ensures err { IfErr result (λ e. Fails self.old (quote_at levels (tokens_left self.old)) e) }
     {
-        let token = read!(self.open(Symbol::Quote, levels));
+        let place = read!(self.open(Symbol::Quote, levels));
         let code = read!(self.quoted_code(levels - 1));
         read!(self.take(Symbol::End));
-        self.push(Node::Expression(token.place, Expression::Quote(code)))
+        self.push(Node::Expression(place, Expression::Quote(code)))
     }
 
     /// exp = "`" texp
@@ -74,9 +74,9 @@ impl<'a> Parser<'a> {
         ensures ok { IfOk result (λ r. TookTree self.old self.new (backtick_at levels (tokens_left self.old)) r) }
         ensures err { IfErr result (λ e. Fails self.old (backtick_at levels (tokens_left self.old)) e) }
     {
-        let token = read!(self.open(Symbol::Backtick, levels));
+        let place = read!(self.open(Symbol::Backtick, levels));
         let code = read!(self.terra_expression(levels - 1));
-        self.push(Node::Expression(token.place, Expression::Backtick(code)))
+        self.push(Node::Expression(place, Expression::Backtick(code)))
     }
 
     /// "terra" tbody | "struct" sbody | "quote" .. "end" | "`" texp

@@ -16,9 +16,8 @@ impl<'a> Parser<'a> {
         ensures ok { IfOk result (λ r. TookTree self.old self.new (struct_path_at levels (tokens_left self.old)) r) }
         ensures err { IfErr result (λ e. Fails self.old (struct_path_at levels (tokens_left self.old)) e) }
     {
-        let mut names = self.no_nodes();
         let first = read!(self.name());
-        read!(add(&mut names, first));
+        let mut names = read!(self.one_node(first));
         'more: while self.next_is(Symbol::Dot) {
             let next = read!(self.behind_sign(Symbol::Dot));
             read!(add(&mut names, next));
@@ -33,16 +32,16 @@ impl<'a> Parser<'a> {
         ensures ok { IfOk result (λ r. TookTree self.old self.new (define_terra_at levels mode (tokens_left self.old)) r) }
         ensures err { IfErr result (λ e. Fails self.old (define_terra_at levels mode (tokens_left self.old)) e) }
     {
-        let token = read!(self.take(Symbol::Terra));
+        let place = read!(self.take(Symbol::Terra));
         let path = read!(self.path(levels));
         if self.next_is(Symbol::DoubleColon) {
             read!(self.take(Symbol::DoubleColon));
             let declared = read!(self.expression(mode, levels));
-            return self.push(Node::Statement(token.place, Statement::DeclareTerra(path, declared)));
+            return self.push(Node::Statement(place, Statement::DeclareTerra(path, declared)));
         }
         let paren = read!(self.open(Symbol::OpenParen, levels));
-        let body = read!(self.terra_function_body(paren.place, levels - 1));
-        self.push(Node::Statement(token.place, Statement::Terra(path, body)))
+        let body = read!(self.terra_function_body(paren, levels - 1));
+        self.push(Node::Statement(place, Statement::Terra(path, body)))
     }
 
     /// stat = "local" "terra" Name (tbody | "::" exp), behind "local" at this place
@@ -57,19 +56,19 @@ impl<'a> Parser<'a> {
         ensures ok { IfOk result (λ r. TookTree self.old self.new (local_terra_function_at levels mode place (tokens_left self.old)) r) }
         ensures err { IfErr result (λ e. Fails self.old (local_terra_function_at levels mode place (tokens_left self.old)) e) }
     {
-        let token = read!(self.take(Symbol::Terra));
+        let start = read!(self.take(Symbol::Terra));
         let name = read!(self.name());
         if self.next_is(Symbol::DoubleColon) {
             read!(self.take(Symbol::DoubleColon));
             let declared = read!(self.expression(mode, levels));
             return self.push(Node::Statement(
                 place,
-                Statement::LocalDeclareTerra(token.place, name, declared),
+                Statement::LocalDeclareTerra(start, name, declared),
             ));
         }
         let paren = read!(self.open(Symbol::OpenParen, levels));
-        let body = read!(self.terra_function_body(paren.place, levels - 1));
-        self.push(Node::Statement(place, Statement::LocalTerra(token.place, name, body)))
+        let body = read!(self.terra_function_body(paren, levels - 1));
+        self.push(Node::Statement(place, Statement::LocalTerra(start, name, body)))
     }
 
     /// stat = "local" "struct" Name sbody, behind "local" at this place
@@ -79,10 +78,10 @@ impl<'a> Parser<'a> {
         ensures ok { IfOk result (λ r. TookTree self.old self.new (local_struct_at levels mode place (tokens_left self.old)) r) }
         ensures err { IfErr result (λ e. Fails self.old (local_struct_at levels mode place (tokens_left self.old)) e) }
     {
-        let token = read!(self.take(Symbol::Struct));
+        let start = read!(self.take(Symbol::Struct));
         let name = read!(self.name());
         let entries = read!(self.struct_body(mode, levels));
-        self.push(Node::Statement(place, Statement::LocalStruct(token.place, name, entries)))
+        self.push(Node::Statement(place, Statement::LocalStruct(start, name, entries)))
     }
 
     /// "terra" .. | "struct" .., behind "local" at this place
@@ -110,9 +109,9 @@ impl<'a> Parser<'a> {
         ensures ok { IfOk result (λ r. TookTree self.old self.new (define_struct_at levels mode (tokens_left self.old)) r) }
         ensures err { IfErr result (λ e. Fails self.old (define_struct_at levels mode (tokens_left self.old)) e) }
     {
-        let token = read!(self.take(Symbol::Struct));
+        let place = read!(self.take(Symbol::Struct));
         let path = read!(self.struct_path(levels));
         let entries = read!(self.struct_body(mode, levels));
-        self.push(Node::Statement(token.place, Statement::Struct(path, entries)))
+        self.push(Node::Statement(place, Statement::Struct(path, entries)))
     }
 }

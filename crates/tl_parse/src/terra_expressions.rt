@@ -119,8 +119,8 @@ impl<'a> Parser<'a> {
         ensures ok { IfOk result (λ r. TookTree self.old self.new (terra_constant_at Symbol.Nil (tokens_left self.old)) r) }
         ensures err { IfErr result (λ e. Fails self.old (terra_constant_at Symbol.Nil (tokens_left self.old)) e) }
     {
-        let token = read!(self.take(Symbol::Nil));
-        self.push(Node::TerraExpression(token.place, TerraExpression::Nil))
+        let place = read!(self.take(Symbol::Nil));
+        self.push(Node::TerraExpression(place, TerraExpression::Nil))
     }
 
     /// "false"
@@ -129,8 +129,8 @@ impl<'a> Parser<'a> {
         ensures ok { IfOk result (λ r. TookTree self.old self.new (terra_constant_at Symbol.False (tokens_left self.old)) r) }
         ensures err { IfErr result (λ e. Fails self.old (terra_constant_at Symbol.False (tokens_left self.old)) e) }
     {
-        let token = read!(self.take(Symbol::False));
-        self.push(Node::TerraExpression(token.place, TerraExpression::False))
+        let place = read!(self.take(Symbol::False));
+        self.push(Node::TerraExpression(place, TerraExpression::False))
     }
 
     /// "true"
@@ -139,8 +139,8 @@ impl<'a> Parser<'a> {
         ensures ok { IfOk result (λ r. TookTree self.old self.new (terra_constant_at Symbol.True (tokens_left self.old)) r) }
         ensures err { IfErr result (λ e. Fails self.old (terra_constant_at Symbol.True (tokens_left self.old)) e) }
     {
-        let token = read!(self.take(Symbol::True));
-        self.push(Node::TerraExpression(token.place, TerraExpression::True))
+        let place = read!(self.take(Symbol::True));
+        self.push(Node::TerraExpression(place, TerraExpression::True))
     }
 
     /// "nil" | "false" | "true" | Numeral | Text
@@ -175,15 +175,14 @@ impl<'a> Parser<'a> {
         ensures ok { IfOk result (λ r. TerraJoined self.old self.new token.entry a right left r) }
         ensures err { IfErr result (λ e. e ≡ SyntaxError.NoMemory) }
     {
-        let node = read!(self.push(Node::TerraExpression(
-            token.place,
-            TerraExpression::Binary(binary_of(token.symbol), a.node, right)
-        )));
-        Ok(Operand {
-            node,
+        self.push_operand(
+            Node::TerraExpression(
+                token.place,
+                TerraExpression::Binary(binary_of(token.symbol), a.node, right),
+            ),
             left,
-            shape: Shape::Other,
-        })
+            Shape::Other,
+        )
     }
 
     /// "[" exp "]", where an expression stands and where a name does
@@ -193,10 +192,10 @@ impl<'a> Parser<'a> {
         ensures ok { IfOk result (λ r. TookTree self.old self.new (escape_at levels (tokens_left self.old)) r) }
         ensures err { IfErr result (λ e. Fails self.old (escape_at levels (tokens_left self.old)) e) }
     {
-        let token = read!(self.open(Symbol::OpenBracket, levels));
+        let place = read!(self.open(Symbol::OpenBracket, levels));
         let code = read!(self.expression(Mode::Plain, levels - 1));
         read!(self.take(Symbol::CloseBracket));
-        self.push(Node::TerraExpression(token.place, TerraExpression::Escape(code)))
+        self.push(Node::TerraExpression(place, TerraExpression::Escape(code)))
     }
 
     /// tname = Name | "[" exp "]"
@@ -219,18 +218,14 @@ impl<'a> Parser<'a> {
         ensures ok { IfOk result (λ r. TookOperand self.old self.new (terra_paren_at levels (tokens_left self.old)) r) }
         ensures err { IfErr result (λ e. Fails self.old (terra_paren_at levels (tokens_left self.old)) e) }
     {
-        let token = read!(self.open(Symbol::OpenParen, levels));
+        let place = read!(self.open(Symbol::OpenParen, levels));
         let inner = read!(self.terra_expression(levels - 1));
         read!(self.take(Symbol::CloseParen));
-        let node = read!(self.push(Node::TerraExpression(
-            token.place,
-            TerraExpression::Paren(inner)
-        )));
-        Ok(Operand {
-            node,
-            left: CHAIN,
-            shape: Shape::Other,
-        })
+        self.push_operand(
+            Node::TerraExpression(place, TerraExpression::Paren(inner)),
+            CHAIN,
+            Shape::Other,
+        )
     }
 
     /// Name | "[" exp "]" | "(" texp ")"
@@ -266,18 +261,14 @@ impl<'a> Parser<'a> {
         ensures ok { IfOk result (λ r. TookTerraSuffix self.old self.new (terra_call_suffix_at levels a.left (tokens_left self.old)) a r) }
         ensures err { IfErr result (λ e. Fails self.old (terra_call_suffix_at levels a.left (tokens_left self.old)) e) }
     {
-        let token = read!(self.open_call(levels, a.left));
+        let place = read!(self.open_call(levels, a.left));
         let arguments = read!(self.terra_arguments(levels - 1));
         read!(self.take(Symbol::CloseParen));
-        let node = read!(self.push(Node::TerraExpression(
-            token.place,
-            TerraExpression::Call(a.node, arguments)
-        )));
-        Ok(Operand {
-            node,
-            left: a.left - 1,
-            shape: Shape::Call,
-        })
+        self.push_operand(
+            Node::TerraExpression(place, TerraExpression::Call(a.node, arguments)),
+            a.left - 1,
+            Shape::Call,
+        )
     }
 
     /// "[" texp "]"
@@ -287,18 +278,14 @@ impl<'a> Parser<'a> {
         ensures ok { IfOk result (λ r. TookTerraSuffix self.old self.new (terra_index_suffix_at levels a.left (tokens_left self.old)) a r) }
         ensures err { IfErr result (λ e. Fails self.old (terra_index_suffix_at levels a.left (tokens_left self.old)) e) }
     {
-        let token = read!(self.raise(Symbol::OpenBracket, levels, a.left));
+        let place = read!(self.open_suffix(Symbol::OpenBracket, levels, a.left));
         let key = read!(self.terra_expression(levels - 1));
         read!(self.take(Symbol::CloseBracket));
-        let node = read!(self.push(Node::TerraExpression(
-            token.place,
-            TerraExpression::Index(a.node, key)
-        )));
-        Ok(Operand {
-            node,
-            left: a.left - 1,
-            shape: Shape::Variable,
-        })
+        self.push_operand(
+            Node::TerraExpression(place, TerraExpression::Index(a.node, key)),
+            a.left - 1,
+            Shape::Variable,
+        )
     }
 
     /// "." tname
@@ -309,17 +296,13 @@ impl<'a> Parser<'a> {
             TookTerraSuffix self.old self.new (terra_select_suffix_at levels a.left (tokens_left self.old)) a r) }
         ensures err { IfErr result (λ e. Fails self.old (terra_select_suffix_at levels a.left (tokens_left self.old)) e) }
     {
-        let token = read!(self.operator(&DOT, a.left));
+        let place = read!(self.suffix_sign(&DOT, a.left));
         let name = read!(self.terra_name(levels));
-        let node = read!(self.push(Node::TerraExpression(
-            token.place,
-            TerraExpression::Select(a.node, name)
-        )));
-        Ok(Operand {
-            node,
-            left: a.left - 1,
-            shape: Shape::Variable,
-        })
+        self.push_operand(
+            Node::TerraExpression(place, TerraExpression::Select(a.node, name)),
+            a.left - 1,
+            Shape::Variable,
+        )
     }
 
     /// ":" tname "(" [texps] ")"
@@ -330,20 +313,16 @@ impl<'a> Parser<'a> {
             TookTerraSuffix self.old self.new (terra_method_suffix_at levels a.left (tokens_left self.old)) a r) }
         ensures err { IfErr result (λ e. Fails self.old (terra_method_suffix_at levels a.left (tokens_left self.old)) e) }
     {
-        let token = read!(self.operator(&COLON, a.left));
+        let place = read!(self.suffix_sign(&COLON, a.left));
         let name = read!(self.terra_name(levels));
         read!(self.open(Symbol::OpenParen, levels));
         let arguments = read!(self.terra_arguments(levels - 1));
         read!(self.take(Symbol::CloseParen));
-        let node = read!(self.push(Node::TerraExpression(
-            token.place,
-            TerraExpression::Method(a.node, name, arguments)
-        )));
-        Ok(Operand {
-            node,
-            left: a.left - 1,
-            shape: Shape::Call,
-        })
+        self.push_operand(
+            Node::TerraExpression(place, TerraExpression::Method(a.node, name, arguments)),
+            a.left - 1,
+            Shape::Call,
+        )
     }
 
     /// "{" [init {("," | ";") init} ["," | ";"]] "}"
@@ -353,18 +332,14 @@ impl<'a> Parser<'a> {
         ensures ok { IfOk result (λ r. TookTerraSuffix self.old self.new (construct_suffix_at levels a.left (tokens_left self.old)) a r) }
         ensures err { IfErr result (λ e. Fails self.old (construct_suffix_at levels a.left (tokens_left self.old)) e) }
     {
-        let token = read!(self.raise(Symbol::OpenBrace, levels, a.left));
+        let place = read!(self.open_suffix(Symbol::OpenBrace, levels, a.left));
         let initialisers = read!(self.initialisers(levels - 1));
         read!(self.take(Symbol::CloseBrace));
-        let node = read!(self.push(Node::TerraExpression(
-            token.place,
-            TerraExpression::Construct(a.node, initialisers)
-        )));
-        Ok(Operand {
-            node,
-            left: a.left - 1,
-            shape: Shape::Other,
-        })
+        self.push_operand(
+            Node::TerraExpression(place, TerraExpression::Construct(a.node, initialisers)),
+            a.left - 1,
+            Shape::Other,
+        )
     }
 
     /// "(" [texps] ")" | "[" texp "]" | "." tname | ":" tname "(" [texps] ")" | "{" .. "}"
@@ -435,15 +410,14 @@ impl<'a> Parser<'a> {
     {
         let token = read!(self.open_among(&PREFIX, levels));
         let operand = read!(self.terra_operand(levels - 1));
-        let node = read!(self.push(Node::TerraExpression(
-            token.place,
-            TerraExpression::Unary(unary_of(token.symbol), operand)
-        )));
-        Ok(Operand {
-            node,
+        self.push_operand(
+            Node::TerraExpression(
+                token.place,
+                TerraExpression::Unary(unary_of(token.symbol), operand),
+            ),
             left,
-            shape: Shape::Other,
-        })
+            Shape::Other,
+        )
     }
 
     /// texp "^" texp: its right operand
@@ -602,9 +576,8 @@ impl<'a> Parser<'a> {
         ensures ok { IfOk result (λ r. TookList self.old self.new (terra_expressions_at levels (tokens_left self.old)) r) }
         ensures err { IfErr result (λ e. Fails self.old (terra_expressions_at levels (tokens_left self.old)) e) }
     {
-        let mut list = self.no_nodes();
         let first = read!(self.terra_expression(levels));
-        read!(add(&mut list, first));
+        let mut list = read!(self.one_node(first));
         'more: while self.next_is(Symbol::Comma) {
             let next = read!(self.next_terra_expression(levels));
             read!(add(&mut list, next));
@@ -692,12 +665,11 @@ impl<'a> Parser<'a> {
         ensures ok { IfOk result (λ r. TookList self.old self.new (part_at levels parts.Initialisers (tokens_left self.old)) r) }
         ensures err { IfErr result (λ e. Fails self.old (part_at levels parts.Initialisers (tokens_left self.old)) e) }
     {
-        let mut list = self.no_nodes();
         if self.next_is(Symbol::CloseBrace) {
-            return Ok(list);
+            return Ok(self.no_nodes());
         }
         let (first, named) = read!(self.first_initialiser(levels));
-        read!(add(&mut list, first));
+        let mut list = read!(self.one_node(first));
         'more: while self.next_is_among(&SEPARATOR) {
             if let Some(next) = read!(self.next_initialiser(named, levels)) {
                 read!(add(&mut list, next));

@@ -142,9 +142,8 @@ impl<'a> Parser<'a> {
         ensures ok { IfOk result (λ r. TookList self.old self.new (terra_arms_at levels (tokens_left self.old)) r) }
         ensures err { IfErr result (λ e. Fails self.old (terra_arms_at levels (tokens_left self.old)) e) }
     {
-        let mut arms = self.no_nodes();
         let first = read!(self.terra_arm(levels));
-        read!(add(&mut arms, first));
+        let mut arms = read!(self.one_node(first));
         'more: while self.next_is(Symbol::Elseif) {
             let next = read!(self.next_terra_arm(levels));
             read!(add(&mut arms, next));
@@ -189,13 +188,13 @@ impl<'a> Parser<'a> {
         ensures ok { IfOk result (λ r. TookTree self.old self.new (spliced_variable_at levels (tokens_left self.old)) r) }
         ensures err { IfErr result (λ e. Fails self.old (spliced_variable_at levels (tokens_left self.old)) e) }
     {
-        let token = read!(self.open(Symbol::OpenBracket, levels));
+        let place = read!(self.open(Symbol::OpenBracket, levels));
         let code = read!(self.expression(Mode::Plain, levels - 1));
         read!(self.take(Symbol::CloseBracket));
-        let escape = Node::TerraExpression(token.place, TerraExpression::Escape(code));
+        let escape = Node::TerraExpression(place, TerraExpression::Escape(code));
         let name = read!(self.push(escape));
         let written = read!(self.written_type(levels));
-        self.push(Node::Piece(Piece::Variable(token.place, name, written)))
+        self.push(Node::Piece(Piece::Variable(place, name, written)))
     }
 
     /// Name [":" exp]
@@ -205,7 +204,7 @@ impl<'a> Parser<'a> {
         ensures ok { IfOk result (λ r. TookTree self.old self.new (named_variable_at levels (tokens_left self.old)) r) }
         ensures err { IfErr result (λ e. Fails self.old (named_variable_at levels (tokens_left self.old)) e) }
     {
-        let token = read!(self.take(Symbol::Name));
+        let token = read!(self.take_token(Symbol::Name));
         let name = read!(self.push(Node::Name(token.place, token.offset, token.text)));
         let written = read!(self.written_type(levels));
         self.push(Node::Piece(Piece::Variable(token.place, name, written)))
@@ -242,9 +241,8 @@ impl<'a> Parser<'a> {
         ensures ok { IfOk result (λ r. TookList self.old self.new (terra_variables_at levels (tokens_left self.old)) r) }
         ensures err { IfErr result (λ e. Fails self.old (terra_variables_at levels (tokens_left self.old)) e) }
     {
-        let mut list = self.no_nodes();
         let first = read!(self.terra_variable(levels));
-        read!(add(&mut list, first));
+        let mut list = read!(self.one_node(first));
         'more: while self.next_is(Symbol::Comma) {
             let next = read!(self.next_terra_variable(levels));
             read!(add(&mut list, next));
@@ -313,8 +311,7 @@ impl<'a> Parser<'a> {
         if is_escape(first.shape) && !self.next_is_among(&ASSIGNMENT) {
             return self.push(Node::TerraStatement(place, TerraStatement::Splice(first.node)));
         }
-        let mut targets = self.no_nodes();
-        read!(add(&mut targets, first.node));
+        let mut targets = read!(self.one_node(first.node));
         'more: while self.next_is(Symbol::Comma) {
             let next = read!(self.next_terra_expression(levels));
             read!(add(&mut targets, next));
@@ -331,10 +328,10 @@ impl<'a> Parser<'a> {
         ensures ok { IfOk result (λ r. TookTree self.old self.new (terra_do_at levels (tokens_left self.old)) r) }
         ensures err { IfErr result (λ e. Fails self.old (terra_do_at levels (tokens_left self.old)) e) }
     {
-        let token = read!(self.open(Symbol::Do, levels));
+        let place = read!(self.open(Symbol::Do, levels));
         let block = read!(self.terra_block(levels - 1));
         read!(self.take(Symbol::End));
-        self.push(Node::TerraStatement(token.place, TerraStatement::Do(block)))
+        self.push(Node::TerraStatement(place, TerraStatement::Do(block)))
     }
 
     /// tstat = "while" texp "do" tblock "end"
@@ -344,10 +341,10 @@ impl<'a> Parser<'a> {
         ensures ok { IfOk result (λ r. TookTree self.old self.new (terra_while_at levels (tokens_left self.old)) r) }
         ensures err { IfErr result (λ e. Fails self.old (terra_while_at levels (tokens_left self.old)) e) }
     {
-        let token = read!(self.take(Symbol::While));
+        let place = read!(self.take(Symbol::While));
         let condition = read!(self.terra_expression(levels));
         let block = read!(self.terra_loop(levels));
-        self.push(Node::TerraStatement(token.place, TerraStatement::While(condition, block)))
+        self.push(Node::TerraStatement(place, TerraStatement::While(condition, block)))
     }
 
     /// tstat = "repeat" tblock "until" texp; the condition is read at the level of the statement
@@ -357,11 +354,11 @@ impl<'a> Parser<'a> {
         ensures ok { IfOk result (λ r. TookTree self.old self.new (terra_repeat_at levels (tokens_left self.old)) r) }
         ensures err { IfErr result (λ e. Fails self.old (terra_repeat_at levels (tokens_left self.old)) e) }
     {
-        let token = read!(self.open(Symbol::Repeat, levels));
+        let place = read!(self.open(Symbol::Repeat, levels));
         let block = read!(self.terra_block(levels - 1));
         read!(self.take(Symbol::Until));
         let condition = read!(self.terra_expression(levels));
-        self.push(Node::TerraStatement(token.place, TerraStatement::Repeat(block, condition)))
+        self.push(Node::TerraStatement(place, TerraStatement::Repeat(block, condition)))
     }
 
     /// tstat = "if" texp "then" tblock {"elseif" texp "then" tblock} ["else" tblock] "end"
@@ -371,11 +368,11 @@ impl<'a> Parser<'a> {
         ensures ok { IfOk result (λ r. TookTree self.old self.new (terra_if_at levels (tokens_left self.old)) r) }
         ensures err { IfErr result (λ e. Fails self.old (terra_if_at levels (tokens_left self.old)) e) }
     {
-        let token = read!(self.take(Symbol::If));
+        let place = read!(self.take(Symbol::If));
         let arms = read!(self.terra_arms(levels));
         let otherwise = read!(self.terra_otherwise(levels));
         read!(self.take(Symbol::End));
-        self.push(Node::TerraStatement(token.place, TerraStatement::If(arms, otherwise)))
+        self.push(Node::TerraStatement(place, TerraStatement::If(arms, otherwise)))
     }
 
     /// tstat = "for" tname "=" texp "," texp ["," texp] "do" tblock "end"
@@ -385,7 +382,7 @@ impl<'a> Parser<'a> {
         ensures ok { IfOk result (λ r. TookTree self.old self.new (terra_for_at levels (tokens_left self.old)) r) }
         ensures err { IfErr result (λ e. Fails self.old (terra_for_at levels (tokens_left self.old)) e) }
     {
-        let token = read!(self.take(Symbol::For));
+        let place = read!(self.take(Symbol::For));
         let name = read!(self.terra_name(levels));
         read!(self.take(Symbol::Equal));
         let first = read!(self.terra_expression(levels));
@@ -393,10 +390,7 @@ impl<'a> Parser<'a> {
         let limit = read!(self.terra_expression(levels));
         let step = read!(self.terra_step(levels));
         let block = read!(self.terra_loop(levels));
-        self.push(Node::TerraStatement(
-            token.place,
-            TerraStatement::For(name, first, limit, step, block),
-        ))
+        self.push(Node::TerraStatement(place, TerraStatement::For(name, first, limit, step, block)))
     }
 
     /// tstat = "var" tvar {"," tvar} ["=" texps]
@@ -406,10 +400,10 @@ impl<'a> Parser<'a> {
         ensures ok { IfOk result (λ r. TookTree self.old self.new (terra_var_at levels (tokens_left self.old)) r) }
         ensures err { IfErr result (λ e. Fails self.old (terra_var_at levels (tokens_left self.old)) e) }
     {
-        let token = read!(self.take(Symbol::Var));
+        let place = read!(self.take(Symbol::Var));
         let variables = read!(self.terra_variables(levels));
         let values = read!(self.terra_initial_values(levels));
-        self.push(Node::TerraStatement(token.place, TerraStatement::Var(variables, values)))
+        self.push(Node::TerraStatement(place, TerraStatement::Var(variables, values)))
     }
 
     /// tstat = "escape" block "end"
@@ -419,10 +413,10 @@ impl<'a> Parser<'a> {
         ensures ok { IfOk result (λ r. TookTree self.old self.new (escape_block_at levels (tokens_left self.old)) r) }
         ensures err { IfErr result (λ e. Fails self.old (escape_block_at levels (tokens_left self.old)) e) }
     {
-        let token = read!(self.open(Symbol::Escape, levels));
+        let place = read!(self.open(Symbol::Escape, levels));
         let block = read!(self.block(EMITTING, levels - 1));
         read!(self.take(Symbol::End));
-        self.push(Node::TerraStatement(token.place, TerraStatement::Escape(block)))
+        self.push(Node::TerraStatement(place, TerraStatement::Escape(block)))
     }
 
     /// "return" [texps]
@@ -432,9 +426,9 @@ impl<'a> Parser<'a> {
         ensures ok { IfOk result (λ r. TookTree self.old self.new (terra_return_at levels (tokens_left self.old)) r) }
         ensures err { IfErr result (λ e. Fails self.old (terra_return_at levels (tokens_left self.old)) e) }
     {
-        let token = read!(self.take(Symbol::Return));
+        let place = read!(self.take(Symbol::Return));
         let values = read!(self.terra_returned_values(levels));
-        self.push(Node::TerraStatement(token.place, TerraStatement::Return(values)))
+        self.push(Node::TerraStatement(place, TerraStatement::Return(values)))
     }
 
     /// "break"
@@ -443,8 +437,8 @@ impl<'a> Parser<'a> {
         ensures ok { IfOk result (λ r. TookTree self.old self.new (terra_break_at (tokens_left self.old)) r) }
         ensures err { IfErr result (λ e. Fails self.old (terra_break_at (tokens_left self.old)) e) }
     {
-        let token = read!(self.take(Symbol::Break));
-        self.push(Node::TerraStatement(token.place, TerraStatement::Break))
+        let place = read!(self.take(Symbol::Break));
+        self.push(Node::TerraStatement(place, TerraStatement::Break))
     }
 
     /// tstat, "return" [texps] or "break"
@@ -537,12 +531,12 @@ impl<'a> Parser<'a> {
         ensures ok { IfOk result (λ r. TookTree self.old self.new (spliced_parameter_at levels (tokens_left self.old)) r) }
         ensures err { IfErr result (λ e. Fails self.old (spliced_parameter_at levels (tokens_left self.old)) e) }
     {
-        let token = read!(self.open(Symbol::OpenBracket, levels));
+        let place = read!(self.open(Symbol::OpenBracket, levels));
         let code = read!(self.expression(Mode::Plain, levels - 1));
         read!(self.take(Symbol::CloseBracket));
-        let escape = Node::TerraExpression(token.place, TerraExpression::Escape(code));
+        let escape = Node::TerraExpression(place, TerraExpression::Escape(code));
         let name = read!(self.push(escape));
-        self.push(Node::Piece(Piece::SpliceParameter(token.place, name)))
+        self.push(Node::Piece(Piece::SpliceParameter(place, name)))
     }
 
     /// Name ":" exp
@@ -552,7 +546,7 @@ impl<'a> Parser<'a> {
         ensures ok { IfOk result (λ r. TookTree self.old self.new (named_parameter_at levels (tokens_left self.old)) r) }
         ensures err { IfErr result (λ e. Fails self.old (named_parameter_at levels (tokens_left self.old)) e) }
     {
-        let token = read!(self.take(Symbol::Name));
+        let token = read!(self.take_token(Symbol::Name));
         let name = read!(self.push(Node::Name(token.place, token.offset, token.text)));
         read!(self.take(Symbol::Colon));
         let written = read!(self.expression(Mode::Types, levels));
@@ -590,12 +584,11 @@ impl<'a> Parser<'a> {
         ensures ok { IfOk result (λ r. TookList self.old self.new (terra_parameters_at levels (tokens_left self.old)) r) }
         ensures err { IfErr result (λ e. Fails self.old (terra_parameters_at levels (tokens_left self.old)) e) }
     {
-        let mut list = self.no_nodes();
         if self.next_is(Symbol::CloseParen) {
-            return Ok(list);
+            return Ok(self.no_nodes());
         }
         let first = read!(self.terra_parameter(levels));
-        read!(add(&mut list, first));
+        let mut list = read!(self.one_node(first));
         'more: while self.next_is(Symbol::Comma) {
             let next = read!(self.next_terra_parameter(levels));
             read!(add(&mut list, next));

@@ -8,7 +8,7 @@ use Rattle.tl_tree.specs.Tree.{Tree, Nothing, More, Block}
 use Rattle.tl_tree.specs.Grammar.{Outcome, Took, ◌>>=◌, down}
 use Rattle.tl_tree.specs.Forms.{Chained, chained}
 use Rattle.tl_tree.specs.LuaStatements.{Sequence, sequence}
-use Rattle.tl_parse.specs.Parsing.{token_of, tokens_left, items_of}
+use Rattle.tl_parse.specs.Parsing.{token_of, placed, tokens_left, items_of}
 use Rattle.tl_parse.specs.Expressions.{Suffixed, attached, shape_of, suffixes_at, expressions_at, more_expressions_at, next_expression_at, field_at, fields_at, more_fields_at, suffix_at, next_field_at, more_if}
 use Rattle.tl_parse.specs.Ranks.{rank_at}
 use Rattle.tl_parse.specs.Statements.{arms_at, more_arms_at, variable_at, settle_at, more_statements_at, next_arm_at, next_statement_at}
@@ -58,33 +58,33 @@ pub call_or_assignment-more-init : goal.call_or_assignment-more-init
 call_or_assignment-more-init t c =
     let a = c.in-Ok.ensures.ok in
     let x = c.in-Ok.x in
-    listing_first c.args.self.now c.applied.new.self _ _ a.tree x.node c.add.new.list (targets_begin c.args.levels c.args.mode (tokens_left c.args.self.now) (tokens_left c.applied.new.self) a.tree x.left x.shape a.took (sym c.is_call.ensures ∙ c.if-is_call.false))
-    a.finish a.items a.is_last (c.in-Ok-add.ensures.ok ∙ ap (λ (ns : List NodeId). ns ++ x.node ∷ []) c.no_nodes-targets.ensures)
+    listing_first c.args.self.now c.applied.new.self _ _ a.tree x.node c.in-Ok-one_node.x (targets_begin c.args.levels c.args.mode (tokens_left c.args.self.now) (tokens_left c.applied.new.self) a.tree x.left x.shape a.took (sym c.is_call.ensures ∙ c.if-is_call.false))
+    a.finish a.items a.is_last c.in-Ok-one_node.ensures.ok
 
 pub call_or_assignment-more-preserved : goal.call_or_assignment-more-preserved
 call_or_assignment-more-preserved t c =
     let e = c.in-Ok-next_target.ensures.ok in
-    listing_next c.args.self.now c.more.self c.next_target.new.self _ _ e.tree c.in-Ok-next_target.x c.more.targets c.add-in-more.new.list c.more.invariant
-    (targets_next c.args.levels c.args.mode _ c.more.invariant.tree e.tree (tokens_left c.more.self) (tokens_left c.next_target.new.self) (sym c.next_is.ensures ∙ c.more-test.true) e.took) e.finish e.items e.is_last c.in-Ok-add-2.ensures.ok
+    listing_next c.args.self.now c.more.self c.next_target.new.self _ _ e.tree c.in-Ok-next_target.x c.more.targets c.add.new.list c.more.invariant
+    (targets_next c.args.levels c.args.mode _ c.more.invariant.tree e.tree (tokens_left c.more.self) (tokens_left c.next_target.new.self) (sym c.next_is.ensures ∙ c.more-test.true) e.took) e.finish e.items e.is_last c.in-Ok-add.ensures.ok
 
 pub for_statement-more-init : goal.for_statement-more-init
 for_statement-more-init t c =
     let s = c.in-Ok.ensures.ok in
     let n = c.in-Ok-name.ensures.ok in
-    listing_first c.args.self.now c.name.new.self _ _ n.tree c.in-Ok-name.x c.add.new.list (names_begin c.args.levels c.args.context (tokens_left c.args.self.now) (tokens_left c.take.new.self) (tokens_left c.name.new.self) (token_of c.in-Ok.x) n.tree s.took n.took (sym c.next_is.ensures ∙ c.if-next_is.false))
-    (n.finish ∙ s.finish) (n.items ∙ ap (λ (i : List Item). (laid n.tree i).items) s.items) n.is_last (c.in-Ok-add.ensures.ok ∙ ap (λ (ns : List NodeId). ns ++ c.in-Ok-name.x ∷ []) c.no_nodes-names.ensures)
+    listing_first c.args.self.now c.name.new.self _ _ n.tree c.in-Ok-name.x c.in-Ok-one_node.x (names_begin c.args.levels c.args.context (tokens_left c.args.self.now) (tokens_left c.take.new.self) (tokens_left c.name.new.self) (placed s.token c.in-Ok.x) n.tree s.took n.took (sym c.next_is.ensures ∙ c.if-next_is.false))
+    (n.finish ∙ s.finish) (n.items ∙ ap (λ (i : List Item). (laid n.tree i).items) s.items) n.is_last c.in-Ok-one_node.ensures.ok
 
 pub for_statement-more-preserved : goal.for_statement-more-preserved
 for_statement-more-preserved t c =
     let e = c.in-Ok-next_name.ensures.ok in
-    listing_next c.args.self.now c.more.self c.next_name.new.self _ _ e.tree c.in-Ok-next_name.x c.more.names c.add-in-more.new.list c.more.invariant
-    (names_next c.args.levels c.args.context _ c.more.invariant.tree e.tree (tokens_left c.more.self) (tokens_left c.next_name.new.self) (sym c.next_is-in-more.ensures ∙ c.more-test.true) e.took) e.finish e.items e.is_last c.in-Ok-add-2.ensures.ok
+    listing_next c.args.self.now c.more.self c.next_name.new.self _ _ e.tree c.in-Ok-next_name.x c.more.names c.add.new.list c.more.invariant
+    (names_next c.args.levels c.args.context _ c.more.invariant.tree e.tree (tokens_left c.more.self) (tokens_left c.next_name.new.self) (sym c.next_is-in-more.ensures ∙ c.more-test.true) e.took) e.finish e.items e.is_last c.in-Ok-add.ensures.ok
 
 pub function_body-returns-in-Err-block-clause-err : goal.function_body-returns-in-Err-block-clause-err
 function_body-returns-in-Err-block-clause-err t c =
     let p = c.in-Ok.ensures.ok in
     let s = c.in-Ok-take.ensures.ok in
-    body_fails c.args.self.now c.take.new.self c.args.levels (tokens_left c.parameters.new.self) p.tree c.in-Ok.x.1 (token_of c.in-Ok-take.x) c.fresh.result c.in-Err-block.e p.took s.took c.fresh.ensures (s.finish ∙ p.finish) c.in-Err-block.ensures.err
+    body_fails c.args.self.now c.take.new.self c.args.levels (tokens_left c.parameters.new.self) p.tree c.in-Ok.x.1 (placed s.token c.in-Ok-take.x) c.fresh.result c.in-Err-block.e p.took s.took c.fresh.ensures (s.finish ∙ p.finish) c.in-Err-block.ensures.err
 
 pub terra_applied-more-smaller : goal.terra_applied-more-smaller
 terra_applied-more-smaller t c =
@@ -101,82 +101,82 @@ pub expressions-more-init : goal.expressions-more-init
 unfolding expressions_at
 expressions-more-init t c =
     let e = c.in-Ok.ensures.ok in
-    listing_first c.args.self.now c.expression.new.self _ _ e.tree c.in-Ok.x c.add.new.list (ap (λ (o : Outcome Tree). o >>= λ e rest. more_expressions_at c.args.levels c.args.mode (More Nothing e) rest) e.took)
-    e.finish e.items e.is_last (c.in-Ok-add.ensures.ok ∙ ap (λ (ns : List NodeId). ns ++ c.in-Ok.x ∷ []) c.no_nodes-list.ensures)
+    listing_first c.args.self.now c.expression.new.self _ _ e.tree c.in-Ok.x c.in-Ok-one_node.x (ap (λ (o : Outcome Tree). o >>= λ e rest. more_expressions_at c.args.levels c.args.mode (More Nothing e) rest) e.took)
+    e.finish e.items e.is_last c.in-Ok-one_node.ensures.ok
 
 pub expressions-more-preserved : goal.expressions-more-preserved
 expressions-more-preserved t c =
     let e = c.in-Ok-next_expression.ensures.ok in
-    listing_next c.args.self.now c.more.self c.next_expression.new.self _ _ e.tree c.in-Ok-next_expression.x c.more.list c.add-in-more.new.list c.more.invariant
-    (expressions_go c.args.levels c.args.mode c.more.invariant.tree (tokens_left c.more.self) (sym c.next_is.ensures ∙ c.more-test.true) ∙ ap (λ (o : Outcome Tree). o >>= λ e rest. more_expressions_at c.args.levels c.args.mode (More c.more.invariant.tree e) rest) e.took) e.finish e.items e.is_last c.in-Ok-add-2.ensures.ok
+    listing_next c.args.self.now c.more.self c.next_expression.new.self _ _ e.tree c.in-Ok-next_expression.x c.more.list c.add.new.list c.more.invariant
+    (expressions_go c.args.levels c.args.mode c.more.invariant.tree (tokens_left c.more.self) (sym c.next_is.ensures ∙ c.more-test.true) ∙ ap (λ (o : Outcome Tree). o >>= λ e rest. more_expressions_at c.args.levels c.args.mode (More c.more.invariant.tree e) rest) e.took) e.finish e.items e.is_last c.in-Ok-add.ensures.ok
 
 pub arms-more-init : goal.arms-more-init
 unfolding arms_at
 arms-more-init t c =
     let e = c.in-Ok.ensures.ok in
-    listing_first c.args.self.now c.arm.new.self _ _ e.tree c.in-Ok.x c.add.new.list (ap (λ (o : Outcome Tree). o >>= λ e rest. more_arms_at c.args.levels c.args.context (More Nothing e) rest) e.took)
-    e.finish e.items e.is_last (c.in-Ok-add.ensures.ok ∙ ap (λ (ns : List NodeId). ns ++ c.in-Ok.x ∷ []) c.no_nodes-list.ensures)
+    listing_first c.args.self.now c.arm.new.self _ _ e.tree c.in-Ok.x c.in-Ok-one_node.x (ap (λ (o : Outcome Tree). o >>= λ e rest. more_arms_at c.args.levels c.args.context (More Nothing e) rest) e.took)
+    e.finish e.items e.is_last c.in-Ok-one_node.ensures.ok
 
 pub arms-more-preserved : goal.arms-more-preserved
 arms-more-preserved t c =
     let e = c.in-Ok-next_arm.ensures.ok in
-    listing_next c.args.self.now c.more.self c.next_arm.new.self _ _ e.tree c.in-Ok-next_arm.x c.more.list c.add-in-more.new.list c.more.invariant
-    (arms_go c.args.levels c.args.context c.more.invariant.tree (tokens_left c.more.self) (sym c.next_is.ensures ∙ c.more-test.true) ∙ ap (λ (o : Outcome Tree). o >>= λ e rest. more_arms_at c.args.levels c.args.context (More c.more.invariant.tree e) rest) e.took) e.finish e.items e.is_last c.in-Ok-add-2.ensures.ok
+    listing_next c.args.self.now c.more.self c.next_arm.new.self _ _ e.tree c.in-Ok-next_arm.x c.more.list c.add.new.list c.more.invariant
+    (arms_go c.args.levels c.args.context c.more.invariant.tree (tokens_left c.more.self) (sym c.next_is.ensures ∙ c.more-test.true) ∙ ap (λ (o : Outcome Tree). o >>= λ e rest. more_arms_at c.args.levels c.args.context (More c.more.invariant.tree e) rest) e.took) e.finish e.items e.is_last c.in-Ok-add.ensures.ok
 
 pub terra_arms-more-init : goal.terra_arms-more-init
 unfolding terra_arms_at
 terra_arms-more-init t c =
     let e = c.in-Ok.ensures.ok in
-    listing_first c.args.self.now c.terra_arm.new.self _ _ e.tree c.in-Ok.x c.add.new.list (ap (λ (o : Outcome Tree). o >>= λ e rest. more_terra_arms_at c.args.levels (More Nothing e) rest) e.took)
-    e.finish e.items e.is_last (c.in-Ok-add.ensures.ok ∙ ap (λ (ns : List NodeId). ns ++ c.in-Ok.x ∷ []) c.no_nodes-arms.ensures)
+    listing_first c.args.self.now c.terra_arm.new.self _ _ e.tree c.in-Ok.x c.in-Ok-one_node.x (ap (λ (o : Outcome Tree). o >>= λ e rest. more_terra_arms_at c.args.levels (More Nothing e) rest) e.took)
+    e.finish e.items e.is_last c.in-Ok-one_node.ensures.ok
 
 pub terra_arms-more-preserved : goal.terra_arms-more-preserved
 terra_arms-more-preserved t c =
     let e = c.in-Ok-next_terra_arm.ensures.ok in
-    listing_next c.args.self.now c.more.self c.next_terra_arm.new.self _ _ e.tree c.in-Ok-next_terra_arm.x c.more.arms c.add-in-more.new.list c.more.invariant
-    (terra_arms_go c.args.levels c.more.invariant.tree (tokens_left c.more.self) (sym c.next_is.ensures ∙ c.more-test.true) ∙ ap (λ (o : Outcome Tree). o >>= λ e rest. more_terra_arms_at c.args.levels (More c.more.invariant.tree e) rest) e.took) e.finish e.items e.is_last c.in-Ok-add-2.ensures.ok
+    listing_next c.args.self.now c.more.self c.next_terra_arm.new.self _ _ e.tree c.in-Ok-next_terra_arm.x c.more.arms c.add.new.list c.more.invariant
+    (terra_arms_go c.args.levels c.more.invariant.tree (tokens_left c.more.self) (sym c.next_is.ensures ∙ c.more-test.true) ∙ ap (λ (o : Outcome Tree). o >>= λ e rest. more_terra_arms_at c.args.levels (More c.more.invariant.tree e) rest) e.took) e.finish e.items e.is_last c.in-Ok-add.ensures.ok
 
 pub terra_expressions-more-init : goal.terra_expressions-more-init
 unfolding terra_expressions_at
 terra_expressions-more-init t c =
     let e = c.in-Ok.ensures.ok in
-    listing_first c.args.self.now c.terra_expression.new.self _ _ e.tree c.in-Ok.x c.add.new.list (ap (λ (o : Outcome Tree). o >>= λ e rest. more_terra_expressions_at c.args.levels (More Nothing e) rest) e.took)
-    e.finish e.items e.is_last (c.in-Ok-add.ensures.ok ∙ ap (λ (ns : List NodeId). ns ++ c.in-Ok.x ∷ []) c.no_nodes-list.ensures)
+    listing_first c.args.self.now c.terra_expression.new.self _ _ e.tree c.in-Ok.x c.in-Ok-one_node.x (ap (λ (o : Outcome Tree). o >>= λ e rest. more_terra_expressions_at c.args.levels (More Nothing e) rest) e.took)
+    e.finish e.items e.is_last c.in-Ok-one_node.ensures.ok
 
 pub terra_expressions-more-preserved : goal.terra_expressions-more-preserved
 terra_expressions-more-preserved t c =
     let e = c.in-Ok-next_terra_expression.ensures.ok in
-    listing_next c.args.self.now c.more.self c.next_terra_expression.new.self _ _ e.tree c.in-Ok-next_terra_expression.x c.more.list c.add-in-more.new.list c.more.invariant
-    (terra_expressions_go c.args.levels c.more.invariant.tree (tokens_left c.more.self) (sym c.next_is.ensures ∙ c.more-test.true) ∙ ap (λ (o : Outcome Tree). o >>= λ e rest. more_terra_expressions_at c.args.levels (More c.more.invariant.tree e) rest) e.took) e.finish e.items e.is_last c.in-Ok-add-2.ensures.ok
+    listing_next c.args.self.now c.more.self c.next_terra_expression.new.self _ _ e.tree c.in-Ok-next_terra_expression.x c.more.list c.add.new.list c.more.invariant
+    (terra_expressions_go c.args.levels c.more.invariant.tree (tokens_left c.more.self) (sym c.next_is.ensures ∙ c.more-test.true) ∙ ap (λ (o : Outcome Tree). o >>= λ e rest. more_terra_expressions_at c.args.levels (More c.more.invariant.tree e) rest) e.took) e.finish e.items e.is_last c.in-Ok-add.ensures.ok
 
 pub terra_variables-more-init : goal.terra_variables-more-init
 unfolding terra_variables_at
 terra_variables-more-init t c =
     let e = c.in-Ok.ensures.ok in
-    listing_first c.args.self.now c.terra_variable.new.self _ _ e.tree c.in-Ok.x c.add.new.list (ap (λ (o : Outcome Tree). o >>= λ e rest. more_terra_variables_at c.args.levels (More Nothing e) rest) e.took)
-    e.finish e.items e.is_last (c.in-Ok-add.ensures.ok ∙ ap (λ (ns : List NodeId). ns ++ c.in-Ok.x ∷ []) c.no_nodes-list.ensures)
+    listing_first c.args.self.now c.terra_variable.new.self _ _ e.tree c.in-Ok.x c.in-Ok-one_node.x (ap (λ (o : Outcome Tree). o >>= λ e rest. more_terra_variables_at c.args.levels (More Nothing e) rest) e.took)
+    e.finish e.items e.is_last c.in-Ok-one_node.ensures.ok
 
 pub terra_variables-more-preserved : goal.terra_variables-more-preserved
 terra_variables-more-preserved t c =
     let e = c.in-Ok-next_terra_variable.ensures.ok in
-    listing_next c.args.self.now c.more.self c.next_terra_variable.new.self _ _ e.tree c.in-Ok-next_terra_variable.x c.more.list c.add-in-more.new.list c.more.invariant
-    (terra_variables_go c.args.levels c.more.invariant.tree (tokens_left c.more.self) (sym c.next_is.ensures ∙ c.more-test.true) ∙ ap (λ (o : Outcome Tree). o >>= λ e rest. more_terra_variables_at c.args.levels (More c.more.invariant.tree e) rest) e.took) e.finish e.items e.is_last c.in-Ok-add-2.ensures.ok
+    listing_next c.args.self.now c.more.self c.next_terra_variable.new.self _ _ e.tree c.in-Ok-next_terra_variable.x c.more.list c.add.new.list c.more.invariant
+    (terra_variables_go c.args.levels c.more.invariant.tree (tokens_left c.more.self) (sym c.next_is.ensures ∙ c.more-test.true) ∙ ap (λ (o : Outcome Tree). o >>= λ e rest. more_terra_variables_at c.args.levels (More c.more.invariant.tree e) rest) e.took) e.finish e.items e.is_last c.in-Ok-add.ensures.ok
 
 pub terra_parameters-more-init : goal.terra_parameters-more-init
 unfolding terra_parameters_at
 terra_parameters-more-init t c =
     let e = c.in-Ok.ensures.ok in
     let ts = tokens_left c.args.self.now in
-    listing_first c.args.self.now c.terra_parameter.new.self _ _ e.tree c.in-Ok.x c.add.new.list
+    listing_first c.args.self.now c.terra_parameter.new.self _ _ e.tree c.in-Ok.x c.in-Ok-one_node.x
     (ap (λ (b : Bool). cond b (Took Nothing ts) (terra_parameter_at c.args.levels ts >>= λ p rest. more_terra_parameters_at c.args.levels (More Nothing p) rest)) (sym c.next_is.ensures ∙ c.if-next_is.false)
     ∙ ap (λ (o : Outcome Tree). o >>= λ p rest. more_terra_parameters_at c.args.levels (More Nothing p) rest) e.took)
-    e.finish e.items e.is_last (c.in-Ok-add.ensures.ok ∙ ap (λ (ns : List NodeId). ns ++ c.in-Ok.x ∷ []) c.no_nodes-list.ensures)
+    e.finish e.items e.is_last c.in-Ok-one_node.ensures.ok
 
 pub terra_parameters-more-preserved : goal.terra_parameters-more-preserved
 terra_parameters-more-preserved t c =
     let e = c.in-Ok-next_terra_parameter.ensures.ok in
-    listing_next c.args.self.now c.more.self c.next_terra_parameter.new.self _ _ e.tree c.in-Ok-next_terra_parameter.x c.more.list c.add-in-more.new.list c.more.invariant
-    (terra_parameters_go c.args.levels c.more.invariant.tree (tokens_left c.more.self) (sym c.next_is-in-more.ensures ∙ c.more-test.true) ∙ ap (λ (o : Outcome Tree). o >>= λ e rest. more_terra_parameters_at c.args.levels (More c.more.invariant.tree e) rest) e.took) e.finish e.items e.is_last c.in-Ok-add-2.ensures.ok
+    listing_next c.args.self.now c.more.self c.next_terra_parameter.new.self _ _ e.tree c.in-Ok-next_terra_parameter.x c.more.list c.add.new.list c.more.invariant
+    (terra_parameters_go c.args.levels c.more.invariant.tree (tokens_left c.more.self) (sym c.next_is-in-more.ensures ∙ c.more-test.true) ∙ ap (λ (o : Outcome Tree). o >>= λ e rest. more_terra_parameters_at c.args.levels (More c.more.invariant.tree e) rest) e.took) e.finish e.items e.is_last c.in-Ok-add.ensures.ok
 
 pub applied-more-preserved : goal.applied-more-preserved
 applied-more-preserved t c =
@@ -252,8 +252,8 @@ entries-more-preserved t c =
 pub terra_simple_statement-more-preserved : goal.terra_simple_statement-more-preserved
 terra_simple_statement-more-preserved t c =
     let e = c.in-Ok-next_terra_expression.ensures.ok in
-    listing_next c.args.self.now c.more.self c.next_terra_expression.new.self _ _ e.tree c.in-Ok-next_terra_expression.x c.more.targets c.add-in-more.new.list c.more.invariant
-    (terra_targets_go c.args.levels c.next_place-place.result c.more.invariant.tree (tokens_left c.more.self) (sym c.next_is.ensures ∙ c.more-test.true) ∙ ap (λ (o : Outcome Tree). o >>= λ e rest. terra_assignment_at c.args.levels c.next_place-place.result (More c.more.invariant.tree e) rest) e.took) e.finish e.items e.is_last c.in-Ok-add-2.ensures.ok
+    listing_next c.args.self.now c.more.self c.next_terra_expression.new.self _ _ e.tree c.in-Ok-next_terra_expression.x c.more.targets c.add.new.list c.more.invariant
+    (terra_targets_go c.args.levels c.next_place-place.result c.more.invariant.tree (tokens_left c.more.self) (sym c.next_is.ensures ∙ c.more-test.true) ∙ ap (λ (o : Outcome Tree). o >>= λ e rest. terra_assignment_at c.args.levels c.next_place-place.result (More c.more.invariant.tree e) rest) e.took) e.finish e.items e.is_last c.in-Ok-add.ensures.ok
 
 pub block-more-preserved : goal.block-more-preserved
 block-more-preserved t c =
@@ -323,11 +323,11 @@ unfolding fields_at
 fields-more-init t c =
     let e = c.in-Ok.ensures.ok in
     let ts = tokens_left c.args.self.now in
-    listing_first c.args.self.now c.field.new.self _ _ e.tree c.in-Ok.x c.add.new.list
+    listing_first c.args.self.now c.field.new.self _ _ e.tree c.in-Ok.x c.in-Ok-one_node.x
     (fields_part c.args.levels c.args.mode ts
     ∙ ap (λ (b : Bool). cond b (Took Nothing ts) (field_at c.args.levels c.args.mode ts >>= λ f rest. more_fields_at c.args.levels c.args.mode (More Nothing f) rest)) (sym c.next_is.ensures ∙ c.if-next_is.false)
     ∙ ap (λ (o : Outcome Tree). o >>= λ f rest. more_fields_at c.args.levels c.args.mode (More Nothing f) rest) e.took)
-    e.finish e.items e.is_last (c.in-Ok-add.ensures.ok ∙ ap (λ (ns : List NodeId). ns ++ c.in-Ok.x ∷ []) c.no_nodes-list.ensures)
+    e.finish e.items e.is_last c.in-Ok-one_node.ensures.ok
 
 pub fields-more-smaller : goal.fields-more-smaller
 fields-more-smaller t c = grind (arith, field_shorter)
@@ -335,8 +335,8 @@ fields-more-smaller t c = grind (arith, field_shorter)
 pub fields-more-preserved : goal.fields-more-preserved
 fields-more-preserved t c = grind (arith, fields_go)
 
-pub initialisers-more-smaller-in-Ok-add-2 : goal.initialisers-more-smaller-in-Ok-add-2
-initialisers-more-smaller-in-Ok-add-2 t c = grind (arith, initialiser_shorter)
+pub initialisers-more-smaller-in-Ok-add : goal.initialisers-more-smaller-in-Ok-add
+initialisers-more-smaller-in-Ok-add t c = grind (arith, initialiser_shorter)
 
 pub initialisers-more-smaller : goal.initialisers-more-smaller
 initialisers-more-smaller t c = grind (arith, initialiser_shorter)

@@ -241,7 +241,7 @@ abbrev pub decreases-arms-more : goal.decreases-arms-more
 decreases-arms-more l = length (tokens_left l.self)
 
 abbrev pub invariant-for_statement-more : goal.invariant-for_statement-more
-invariant-for_statement-more l = Listing l.fn.self l.self (for_at l.fn.levels l.fn.context (tokens_left l.fn.self)) (λ (before : Tree) (ts : List Token). more_names_at l.fn.levels before ts >>= λ ns d. generic_at l.fn.levels l.fn.context d >>= λ r rest. Took (GenericFor l.token.place ns r.values r.block) rest) l.names
+invariant-for_statement-more l = Listing l.fn.self l.self (for_at l.fn.levels l.fn.context (tokens_left l.fn.self)) (λ (before : Tree) (ts : List Token). more_names_at l.fn.levels before ts >>= λ ns d. generic_at l.fn.levels l.fn.context d >>= λ r rest. Took (GenericFor l.place ns r.values r.block) rest) l.names
 
 abbrev pub decreases-for_statement-more : goal.decreases-for_statement-more
 decreases-for_statement-more l = length (tokens_left l.self)

@@ -14,14 +14,14 @@ pub more-init : goal.more-init
 unfolding names_at
 more-init c =
     let n = c.in-Ok.ensures.ok in
-    listing_first c.args.self.now c.name.new.self _ _ n.tree c.in-Ok.x c.add.new.list (ap (λ (o : Outcome Tree). o >>= λ e rest. more_names_at c.args.levels (More Nothing e) rest) n.took)
-    n.finish n.items n.is_last (c.in-Ok-add.ensures.ok ∙ ap (λ (ns : List NodeId). ns ++ c.in-Ok.x ∷ []) c.no_nodes-list.ensures)
+    listing_first c.args.self.now c.name.new.self _ _ n.tree c.in-Ok.x c.in-Ok-one_node.x (ap (λ (o : Outcome Tree). o >>= λ e rest. more_names_at c.args.levels (More Nothing e) rest) n.took)
+    n.finish n.items n.is_last c.in-Ok-one_node.ensures.ok
 
 pub more-preserved : goal.more-preserved
 more-preserved c =
     let e = c.in-Ok-next_name.ensures.ok in
-    listing_next c.args.self.now c.more.self c.next_name.new.self _ _ e.tree c.in-Ok-next_name.x c.more.list c.add-in-more.new.list c.more.invariant
-    (names_go c.args.levels c.more.invariant.tree (tokens_left c.more.self) (sym c.next_is.ensures ∙ c.more-test.true) ∙ ap (λ (o : Outcome Tree). o >>= λ e rest. more_names_at c.args.levels (More c.more.invariant.tree e) rest) e.took) e.finish e.items e.is_last c.in-Ok-add-2.ensures.ok
+    listing_next c.args.self.now c.more.self c.next_name.new.self _ _ e.tree c.in-Ok-next_name.x c.more.list c.add.new.list c.more.invariant
+    (names_go c.args.levels c.more.invariant.tree (tokens_left c.more.self) (sym c.next_is.ensures ∙ c.more-test.true) ∙ ap (λ (o : Outcome Tree). o >>= λ e rest. more_names_at c.args.levels (More c.more.invariant.tree e) rest) e.took) e.finish e.items e.is_last c.in-Ok-add.ensures.ok
 
 pub more-smaller : goal.more-smaller
 more-smaller c = let e = c.in-Ok-next_name.ensures.ok in name_shorter e.tree (tokens_left c.more.self) (tokens_left c.next_name.new.self) e.took

@@ -3,12 +3,12 @@ use Rattle.tl_tree.specs.Tokens.{is}
 use Rattle.tl_tree.specs.declared.mode.Extra.TheVariants.{Plain}
 use Rattle.tl_parse.specs.Parsing.{tokens_left}
 use Rattle.tl_parse.specs.Using.{open_at}
-use Rattle.tl_parse.proofs.Taking.{taken, barred_there, refused_there, next_of, level_left}
+use Rattle.tl_parse.proofs.Taking.{taken_place, barred_there, refused_there, next_of, level_left}
 use Rattle.tl_parse.proofs.parser.Parser.open.Goals as goal
 
 pub returns-in-Ok-clause-ok : goal.returns-in-Ok-clause-ok
 unfolding open_at
-returns-in-Ok-clause-ok c = taken (is c.args.symbol) true c.args.levels Plain c.args.self.now c.advance.new.self c.in-Ok.x (sym c.next_is.ensures ∙ c.if-next_is.true) c.in-Ok.ensures.ok
+returns-in-Ok-clause-ok c = taken_place (is c.args.symbol) true c.args.levels Plain c.args.self.now c.advance.new.self c.in-Ok.x (sym c.next_is.ensures ∙ c.if-next_is.true) c.in-Ok.ensures.ok
 
 pub returns-in-Ok-clause-level : goal.returns-in-Ok-clause-level
 returns-in-Ok-clause-level c =

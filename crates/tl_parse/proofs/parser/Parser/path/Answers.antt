@@ -19,15 +19,15 @@ pub more-init : goal.more-init
 unfolding path_at
 more-init c =
     let n = c.in-Ok.ensures.ok in
-    listing_first c.args.self.now c.name.new.self _ _ n.tree c.in-Ok.x c.add.new.list (ap (λ (o : Outcome Tree). o >>= λ n a. path_names_at c.args.levels (More Nothing n) a >>= λ ns b. behind ns b) n.took)
-    n.finish n.items n.is_last (c.in-Ok-add.ensures.ok ∙ ap (λ (ns : List NodeId). ns ++ c.in-Ok.x ∷ []) c.no_nodes-list.ensures)
+    listing_first c.args.self.now c.name.new.self _ _ n.tree c.in-Ok.x c.in-Ok-one_node.x (ap (λ (o : Outcome Tree). o >>= λ n a. path_names_at c.args.levels (More Nothing n) a >>= λ ns b. behind ns b) n.took)
+    n.finish n.items n.is_last c.in-Ok-one_node.ensures.ok
 
 pub more-preserved : goal.more-preserved
 more-preserved c =
     let e = c.in-Ok-behind_sign.ensures.ok in
-    listing_next c.args.self.now c.more.self c.behind_sign.new.self _ _ e.tree c.in-Ok-behind_sign.x c.more.list c.add-in-more.new.list c.more.invariant
+    listing_next c.args.self.now c.more.self c.behind_sign.new.self _ _ e.tree c.in-Ok-behind_sign.x c.more.list c.add.new.list c.more.invariant
     (ap (λ (o : Outcome Tree). o >>= λ ns b. behind ns b) (path_goes c.args.levels c.more.invariant.tree (tokens_left c.more.self) (sym c.next_is.ensures ∙ c.more-test.true) ∙ ap (λ (o : Outcome Tree). o >>= λ e rest. path_names_at c.args.levels (More c.more.invariant.tree e) rest) e.took))
-    e.finish e.items e.is_last c.in-Ok-add-2.ensures.ok
+    e.finish e.items e.is_last c.in-Ok-add.ensures.ok
 
 pub more-smaller : goal.more-smaller
 more-smaller c = let e = c.in-Ok-behind_sign.ensures.ok in path_shorter e.tree (tokens_left c.more.self) (tokens_left c.behind_sign.new.self) e.took

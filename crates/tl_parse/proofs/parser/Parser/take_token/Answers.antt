@@ -4,7 +4,7 @@ use Rattle.tl_tree.specs.declared.mode.Extra.TheVariants.{Plain}
 use Rattle.tl_parse.specs.Parsing.{tokens_left}
 use Rattle.tl_parse.specs.Using.{sign_at}
 use Rattle.tl_parse.proofs.Taking.{taken, barred_there, refused_there, next_of}
-use Rattle.tl_parse.proofs.parser.Parser.take.Goals as goal
+use Rattle.tl_parse.proofs.parser.Parser.take_token.Goals as goal
 
 pub returns-in-Ok-clause-ok : goal.returns-in-Ok-clause-ok
 unfolding sign_at
