@@ -1,20 +1,13 @@
 -- The text of a refusal is short.
-use Rattle.std.proofs.Common.{◌≡◌, ℕ, ◌≤◌, ◌<◌, ◌^◌, List, length, codes, ◌++◌, refl, arith}
-use Rattle.std.specs.Fmt.{decimal}
-use Rattle.std.proofs.lemmas.Fmt.{length-decimal-le}
+use Rattle.std.proofs.Common.{ℕ, ◌≤◌, ◌<◌, ◌^◌, length, arith}
 use Rattle.std.proofs.lemmas.List.{length-append}
 use Rattle.terra_term.specs.declared.refusal.RefusalKind.{RefusalKind}
 use Rattle.terra_term.specs.declared.refusal.RefusalKind.TheVariants.{Undefined, Mismatch, NotCallable, NoField, NoMethod, BadOperand}
 use Rattle.terra_term.specs.declared.refusal.RefusalKind.TheVariants.{NotPlace, WrongCount, OutOfScope, Misplaced, RecursiveNeedsType}
 use Rattle.terra_term.specs.declared.refusal.RefusalKind.TheVariants.{Incomplete, BadEntries, TooWide, TooLarge, NotConstant}
 use Rattle.terra_term.specs.declared.refusal.RefusalKind.TheVariants.{CallbackRaised, FunctionValue, NotBuilt}
+use Rattle.lua_ops.proofs.Placing.{ten_digits}
 use Rattle.check_library.specs.Answers.{kind_text, refusal_text}
-
-ten_digits : (n : ℕ) → n < 2 ^ 32 → length (decimal n) ≤ 10
-ten_digits n h =
-    let few : n < 10 ^ 10 = omega arith in
-    let wide : n < 2 ^ 64 = omega arith in
-    length-decimal-le 10 n (omega arith) few wide
 
 kind_is_short : (k : RefusalKind) → length (kind_text k) ≤ 100
 kind_is_short Undefined = omega arith

@@ -1,7 +1,6 @@
 -- A text that says which argument isn't of its form is short.
-use Rattle.std.proofs.Common.{◌≡◌, ℕ, ◌≤◌, ◌<◌, ◌^◌, List, [], length, codes, ◌++◌, refl, arith}
+use Rattle.std.proofs.Common.{◌≡◌, ℕ, ◌≤◌, ◌<◌, ◌^◌, List, length, codes, ◌++◌, refl, arith}
 use Rattle.std.specs.Fmt.{decimal}
-use Rattle.std.proofs.lemmas.Fmt.{length-decimal-le}
 use Rattle.std.proofs.lemmas.List.{length-append, append_assoc}
 use Rattle.lua_value.specs.declared.library.LibFn.{LibFn}
 use Rattle.lua_value.specs.declared.library.LibFn.TheVariants.{Assert, Error, GetMetatable, Ipairs, IpairsNext, Next, Pairs, Pcall, Print}
@@ -12,13 +11,8 @@ use Rattle.lua_value.specs.declared.library.LibFn.TheVariants.{Macro, Global, Co
 use Rattle.lua_value.specs.declared.library.LibFn.TheVariants.{NewStruct, Pointer, Array, SaveObj, Compile, IsDefined, GetType, IsIntegral}
 use Rattle.lua_value.specs.declared.library.LibFn.TheVariants.{IsLogical, IsPointer, IsArray, IsStruct}
 use Rattle.lua_value.specs.Library.{library_text}
-use Rattle.lua_base.specs.Calls.{placed, bad_argument_text}
-
-ten_digits : (n : ℕ) → n < 2 ^ 32 → length (decimal n) ≤ 10
-ten_digits n h =
-    let few : n < 10 ^ 10 = omega arith in
-    let wide : n < 2 ^ 64 = omega arith in
-    length-decimal-le 10 n (omega arith) few wide
+use Rattle.lua_ops.proofs.Placing.{ten_digits}
+use Rattle.lua_base.specs.Calls.{bad_argument_text}
 
 pub name_is_short : (f : LibFn) → length (library_text f) ≤ 100
 name_is_short Assert = omega arith
@@ -97,9 +91,3 @@ text_by_name line word position f name e =
     rw (append_assoc (a ++ codes ":" ++ b) (codes ": bad argument ") (c ++ (codes " to " ++ library_text f))) (
     rw (append_assoc (a ++ codes ":") b (codes ": bad argument " ++ (c ++ (codes " to " ++ library_text f)))) (
     rw (append_assoc a (codes ":") (b ++ (codes ": bad argument " ++ (c ++ (codes " to " ++ library_text f))))) refl)))))
-
-pub place_is_short : (line word : ℕ) → line < 2 ^ 32 → word < 2 ^ 32 → length (placed line word []) ≤ 30
-place_is_short line word l w =
-    let a = ten_digits line l in
-    let b = ten_digits word w in
-    grind (length-append, arith)

@@ -12,6 +12,7 @@ use Rattle.lua_table.specs.LuaState.{LuaState}
 use Rattle.lua_table.specs.Heap.{with_text, interned_id}
 use Rattle.lua_table.specs.declared.call.LibTurn.{LibTurn}
 use Rattle.lua_table.specs.declared.call.LibTurn.TheVariants as turns
+use Rattle.lua_ops.specs.Placed.{placed}
 pub use Rattle.lua_table.specs.Heap.{text_units}
 
 -- what a function answers, with the heap and the units that it leaves
@@ -47,13 +48,9 @@ bad_argument s place position f = with_made s (bad_argument_text place.line plac
 abbrev pub gives : State LuaState → List Value → Turned
 gives s vs = turned (turns.Values vs) s
 
--- a text with a place before it
-abbrev pub placed : ℕ → ℕ → List ℕ → List ℕ
-placed line word text = decimal line ++ codes ":" ++ decimal word ++ codes ": " ++ text
-
 -- raises a text, with the place of the call before it
 abbrev pub raised : State LuaState → Place → List ℕ → Turned
-raised s place text = with_made s (placed place.line place.word text) (λ v. turns.Raise v place)
+raised s place text = with_made s (placed place text) (λ v. turns.Raise v place)
 
 -- Answers with the text of these bytes, which is paid for. One that is longer than texts can be is not made and not paid: that it is
 -- too long is raised.

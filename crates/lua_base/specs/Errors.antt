@@ -14,7 +14,8 @@ use Rattle.lua_table.specs.declared.call.Back.{Back}
 use Rattle.lua_table.specs.declared.call.Back.TheVariants as backs
 use Rattle.lua_table.specs.declared.call.LibNext.TheVariants as nexts
 use Rattle.lua_table.specs.declared.call.LibTurn.TheVariants as turns
-use Rattle.lua_base.specs.Calls.{Turned, turned, gives, with_made, making, placed, bad_argument}
+use Rattle.lua_base.specs.Calls.{Turned, turned, gives, with_made, making, bad_argument}
+use Rattle.lua_ops.specs.Placed.{placed}
 use Rattle.lua_base.specs.Arguments.{argument, number_or}
 
 -- ---- assert
@@ -36,7 +37,7 @@ assert_turned s (v ∷ vs) place = if is_true v then gives s (v ∷ vs) else ass
 -- raises a value at a call; a text gets a place before it, where there is one to put there
 abbrev pub raised_with : State LuaState → Value → Place → Option Place → Turned
 raised_with s (values.Text id) place (Some at) =
-    making s place (placed at.line at.word (text_at s.world id)) (λ v. turns.Raise v place)
+    making s place (placed at (text_at s.world id)) (λ v. turns.Raise v place)
 raised_with s v place at = turned (turns.Raise v place) s
 
 -- Level 1 puts the place of the call of `error` before a text, level 2 that of the call of the function that called it, and level 0

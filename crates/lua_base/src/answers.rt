@@ -4,12 +4,13 @@ ghost use Rattle.std.specs.Prelude.{◌≡◌, [], ◌∷◌, ◌≤◌, ◌+◌
 ghost use Rattle.std.specs.String.{string_bytes};
 ghost use Rattle.tl_base.specs.Layer.{state};
 ghost use Rattle.lua_table.specs.Keeping.{KeepsHeap};
-ghost use Rattle.lua_base.specs.Calls.{turned, gives, making, placed, raised, with_made, bad_argument, bad_argument_text};
+ghost use Rattle.lua_base.specs.Calls.{turned, gives, making, raised, with_made, bad_argument, bad_argument_text};
 
+use lua_ops::placed;
 use lua_table::{Heap, LibTurn, text_units};
 use lua_value::{LibFn, Value, Values};
 use std::alloc::Global;
-use tl_base::{Budget, Bytes, NoMemory, Place, Text};
+use tl_base::{Budget, NoMemory, Place, Text};
 
 /// Gives values, for nothing.
 pub fn give(heap: &Heap, values: &[Value]) -> Result<LibTurn, NoMemory>
@@ -74,7 +75,7 @@ pub fn raise(
     ensures kept { OnOk result (KeepsHeap heap.old heap.new) }
     ensures paid { OnOk result (budget.new ≤ budget.old) }
 {
-    let whole = placed(heap, place, text)?;
+    let whole = placed(heap.allocator(), place, text)?;
     raise_short(heap, budget, place, whole.as_slice())
 }
 
@@ -113,27 +114,6 @@ fn raise_short(
     }
     let made = heap.intern(bytes)?;
     Ok(LibTurn::Raise(Value::Text(made), place))
-}
-
-/// A text with a place before it.
-pub fn placed(heap: &Heap, place: Place, text: &[u8]) -> Result<Bytes, NoMemory>
-    ensures whole { IfOk result (λ whole. whole ≡ placed place.line place.word text.now) }
-    ensures longer { IfOk result (λ whole. length whole ≤ length text.now + 30) }
-{
-    let mut whole = front(heap.allocator(), place.line, place.word)?;
-    whole.push_all(text)?;
-    Ok(whole)
-}
-
-/// A place, as it stands before a text.
-fn front(alloc: Global, line: u32, word: u32) -> Result<Bytes, NoMemory>
-    ensures front { IfOk result (λ front. front ≡ placed line word []) }
-    ensures short { IfOk result (λ front. length front ≤ 30) }
-{
-    let written = format!(in alloc; "{line}:{word}: ")?;
-    let mut front = Bytes::new(alloc);
-    front.push_all(written.as_bytes())?;
-    Ok(front)
 }
 
 /// The text of an argument that isn't of its form, with the place of the call before it.

@@ -6,8 +6,9 @@ ghost use Rattle.lua_table.specs.Keeping.{KeepsHeap};
 ghost use Rattle.lua_base.specs.Calls.{turned};
 ghost use Rattle.lua_base.specs.Errors.{assert_turned, assertion_failed, error_turned, error_at, raised_with, pcall_turned, pcall_back};
 
-use crate::answers::{bad_argument, give, placed, raise_text};
+use crate::answers::{bad_argument, give, raise_text};
 use crate::arguments::{argument, number_or};
+use lua_ops::placed;
 use lua_table::{Back, Heap, LibNext, LibTurn};
 use lua_value::{LibFn, Value, Values};
 use tl_base::{Budget, NoMemory, Place};
@@ -120,7 +121,7 @@ fn raise_with(
     match value {
         Value::Text(id) => match at {
             Some(at) => {
-                let text = placed(heap, at, heap.text(id))?;
+                let text = placed(heap.allocator(), at, heap.text(id))?;
                 raise_text(heap, budget, place, text.as_slice())
             }
             None => Ok(LibTurn::Raise(value, place)),

@@ -8,7 +8,7 @@ ghost use Rattle.lua_eval.specs.Steps.{Does};
 ghost use Rattle.lua_eval.specs.Texts.{text_value, text_state};
 
 use lua_model::{End, Job, LuaQuestion};
-use lua_ops::Fault;
+use lua_ops::{Fault, placed};
 use lua_table::{Heap, text_units};
 use lua_value::Value;
 use tl_base::{Budget, Bytes, NoMemory, Place, Step, Text};
@@ -20,15 +20,8 @@ pub type LuaStep = Step<Job, End, LuaQuestion>;
 fn error_text(heap: &Heap, place: Place, fault: Fault) -> Result<Bytes, NoMemory>
     ensures { IfOk result (λ text. text ≡ error_text place fault) }
 {
-    let alloc = heap.allocator();
-    let line = place.line;
-    let word = place.word;
-    let before = format!(in alloc; "{line}:{word}: ")?;
-    let behind = fault.text(alloc)?;
-    let mut text = Bytes::new(alloc);
-    text.push_all(before.as_bytes())?;
-    text.push_all(behind.as_bytes())?;
-    Ok(text)
+    let text = fault.text(heap.allocator())?;
+    placed(heap.allocator(), place, text.as_bytes())
 }
 
 /// The text of these bytes, and nil where they are more than texts have.

@@ -1,5 +1,5 @@
 -- What plans are made of: how they go on with ends, how they raise, and how they make and find texts.
-use Rattle.std.specs.Prelude.{ℕ, ◌+◌, pos, List, [], ◌∷◌, ◌++◌, length, codes, decimal, nat_le, Some, None, if◌then◌else◌}
+use Rattle.std.specs.Prelude.{ℕ, ◌+◌, pos, List, [], ◌∷◌, ◌++◌, length, nat_le, Some, None, if◌then◌else◌}
 use Rattle.tl_base.specs.declared.ids.NodeId.{NodeId}
 use Rattle.tl_base.specs.declared.ids.EnvId.{EnvId}
 use Rattle.tl_base.specs.declared.place.Place.{Place}
@@ -13,6 +13,7 @@ use Rattle.lua_table.specs.Heap.{interned_id, with_text, next_env, with_env}
 use Rattle.lua_table.specs.Cells.{first_value}
 use Rattle.lua_ops.specs.declared.fault.Fault.{Fault}
 use Rattle.lua_ops.specs.Faults.{fault_text}
+use Rattle.lua_ops.specs.Placed.{placed}
 use Rattle.lua_model.specs.declared.scope.Scope.{Scope}
 use Rattle.lua_model.specs.declared.job.Job.{Job}
 use Rattle.lua_model.specs.declared.job.Job.TheVariants as jobs
@@ -133,8 +134,7 @@ whole n = whole_from (number_from (pos n))
 -- ---- errors
 
 abbrev pub error_text : Place → Fault → List ℕ
-error_text place fault =
-    decimal place.line ++ codes ":" ++ decimal place.word ++ codes ": " ++ fault_text fault
+error_text place fault = placed place (fault_text fault)
 
 -- raises a fault, with its place before its text, which is paid for
 abbrev pub raise : Place → Fault → LuaPlan

@@ -8,6 +8,7 @@ ghost use Rattle.spec_machine.specs.Steps.{Gets, Does};
 
 use crate::reached::SpecStep;
 use exotype::{Fault, World};
+use lua_ops::placed;
 use lua_table::text_units;
 use lua_value::Value;
 use spec_model::End;
@@ -18,14 +19,8 @@ use tl_base::{Budget, Bytes, NoMemory, Place, Step, Text, TextId};
 fn error_text(alloc: Global, place: Place, fault: Fault) -> Result<Bytes, NoMemory>
     ensures { IfOk result (λ text. text ≡ error_text place fault) }
 {
-    let line = place.line;
-    let word = place.word;
-    let before = format!(in alloc; "{line}:{word}: ")?;
-    let behind = fault.text(alloc)?;
-    let mut text = Bytes::new(alloc);
-    text.push_all(before.as_bytes())?;
-    text.push_all(behind.as_bytes())?;
-    Ok(text)
+    let text = fault.text(alloc)?;
+    placed(alloc, place, text.as_bytes())
 }
 
 /// The text of these bytes. No source makes more of them than texts have.

@@ -1,5 +1,5 @@
 -- What plans are made of: how they go on with ends and answers, how they raise, and how values become terms.
-use Rattle.std.specs.Prelude.{ℕ, zero, suc, ◌+◌, List, [], ◌∷◌, ◌++◌, length, codes, decimal, nat_le, if◌then◌else◌, Some}
+use Rattle.std.specs.Prelude.{ℕ, zero, suc, ◌+◌, List, [], ◌∷◌, ◌++◌, length, nat_le, if◌then◌else◌, Some}
 use Rattle.tl_base.specs.declared.ids.EnvId.{EnvId}
 use Rattle.tl_base.specs.declared.ids.NodeId.{NodeId}
 use Rattle.tl_base.specs.declared.ids.TextId.{TextId}
@@ -12,6 +12,7 @@ use Rattle.lua_value.specs.declared.value.Value.TheVariants as values
 use Rattle.lua_table.specs.Pairs.{Pairs, value_at, border_of}
 use Rattle.lua_table.specs.Heap.{interned_id, with_text, table_at, next_env, with_env}
 use Rattle.lua_table.specs.Cells.{first_value, declare}
+use Rattle.lua_ops.specs.Placed.{placed}
 use Rattle.lua_model.specs.Plans.{text_units}
 use Rattle.terra_term.specs.declared.term.Expression.{Expression}
 use Rattle.terra_term.specs.declared.term.Statement.{Statement}
@@ -46,7 +47,7 @@ with_text_of bytes go =
     else go (record { 0 = 0 })
 
 abbrev pub error_text : Place → Fault → List ℕ
-error_text place fault = decimal place.line ++ codes ":" ++ decimal place.word ++ codes ": " ++ fault_text fault
+error_text place fault = placed place (fault_text fault)
 
 -- raises a fault, with its place before its text, which is paid for
 abbrev pub raise : Place → Fault → SpecPlan
