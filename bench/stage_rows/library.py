@@ -7,6 +7,8 @@ BASIC = (
 ).split()
 ON_TEXTS = "byte char format len rep sub".split()
 ON_TABLES = "concat insert remove".split()
+TERRA_TYPES = "int8 int16 int32 int64 uint8 uint16 uint32 uint64 int uint intptr ptrdiff bool rawstring".split()
+TERRA_FUNCTIONS = "symbol macro global constant sizeof".split()
 MOST_RESULTS = 4096
 
 

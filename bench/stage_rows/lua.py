@@ -91,6 +91,10 @@ class Scope:
         self.variables = [name, value, self.variables]
 
 
+class TerraType:
+    """A type of Terra."""
+
+
 def is_number(v):
     return isinstance(v, int) and not isinstance(v, bool)
 
@@ -104,6 +108,8 @@ def kind(v):
         return "number"
     if isinstance(v, bytes):
         return "string"
+    if isinstance(v, TerraType):
+        return "terratype"
     return "table" if isinstance(v, Table) else "function"
 
 
@@ -143,8 +149,18 @@ class Machine:
         for table, names in ((self.texts, library.ON_TEXTS), (tables, library.ON_TABLES)):
             for name in names:
                 table.set(name.encode(), Library(name))
+        self.open_terra()
         self.next = self.globals.get(b"next")
         self.ipairs_next = Library("ipairs")
+
+    def open_terra(self):
+        """The globals of Terra, which Lua code alone doesn't use: their names, and the tables that they take."""
+        terralib, types, methods = self.new_table(), self.new_table(), self.new_table()
+        for name in library.TERRA_TYPES:
+            self.globals.set(name.encode(), TerraType())
+        for name in library.TERRA_FUNCTIONS:
+            self.globals.set(name.encode(), Library(name))
+        self.globals.set(b"terralib", terralib)
 
     def pay(self, units):
         if units > self.left:

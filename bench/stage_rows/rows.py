@@ -8,7 +8,7 @@ has to give what they expect: `=> ` a line that is printed, `=< ` one that is pr
 error, behind its place or with the place alone behind `=@ `, `=- ` why there is no tree, `=s ` units that don't suffice.
 The rows behind them are programs: those of a file of JSON objects with `name`, `source`, and what is expected of each
 as `out`, `notes` and `units`; where no file is given, those that stand in `stdin`. What is written to `stdout` is what
-`lua.py` gives.
+`lua.py` gives. The rows of Terra code, with what `terms` and `check` write of them, stay behind these as they are.
 """
 
 import json
@@ -24,6 +24,7 @@ HERE = Path(__file__).resolve().parent
 CRATE = HERE.parents[1] / "crates" / "stage_rows"
 MANY = 4_000_000
 PROGRAM = "program "
+TERMS = "== terms "
 
 
 def parts(text):
@@ -119,8 +120,15 @@ class Rows:
             sure(runs[0][2] == 0 and runs[1][1][0] == "spent", name, runs)
 
 
+def of_lua(text):
+    """The rows before those of Terra code."""
+    return text[: text.find("\n" + TERMS) + 1]
+
+
 def main():
     rows = Rows()
+    stdin = (CRATE / "stdin").read_text()
+    stdout = (CRATE / "stdout").read_bytes().decode("latin-1")
     for file in ("by_hand.txt", "by_library.txt", "by_rule.txt"):
         for head, lines in parts((HERE / file).read_text()):
             rows.expected("? " + head if file == "by_rule.txt" else head, lines)
@@ -129,13 +137,14 @@ def main():
             program = json.loads(line)
             rows.program(program["units"], PROGRAM + program["name"], program["source"].splitlines(), program)
     else:
-        for head, lines in parts((CRATE / "stdin").read_text()):
+        for head, lines in parts(of_lua(stdin)):
             units, name = head.split(" ", 1)
             if name.startswith(PROGRAM):
                 rows.program(int(units), name, lines)
     if not failures:
-        (CRATE / "stdin").write_text("".join(rows.into))
-        (CRATE / "stdout").write_bytes(b"".join(rows.out))
+        (CRATE / "stdin").write_text("".join(rows.into) + stdin[len(of_lua(stdin)) :])
+        terms = stdout[len(of_lua(stdout)) :].encode("latin-1")
+        (CRATE / "stdout").write_bytes(b"".join(rows.out) + terms)
     print("%d rows" % len(rows.into), *failures, sep="\n")
 
 

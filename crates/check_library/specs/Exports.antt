@@ -23,8 +23,8 @@ use Rattle.exotype.specs.World.{StageState}
 use Rattle.terra_lib.specs.Answers.{bad_argument, raised, gives}
 use Rattle.terra_lib.specs.Exports.{is_free, takes_scalars, gives_scalar, parameters_in, result_in, term_of_function, may_be_exported}
 use Rattle.terra_lib.specs.Exports.{with_exported, marked, is_text}
-use Rattle.terra_lib.specs.declared.exports.Fate.{Fate}
-use Rattle.terra_lib.specs.declared.exports.Fate.TheVariants.{Exported, Refused, LeftOut}
+use Rattle.check_library.specs.declared.exports.Fate.{Fate}
+use Rattle.check_library.specs.declared.exports.Fate.TheVariants.{Exported, Refused, LeftOut}
 use Rattle.check_model.specs.Calls.{result_of}
 use Rattle.check_model.specs.Typing.{function_at}
 use Rattle.check_model.specs.declared.known.KnownResult.{KnownResult}

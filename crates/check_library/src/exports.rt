@@ -22,11 +22,22 @@ use exotype::{Fault, World};
 use lua_base::{argument, table_in};
 use lua_value::{LibFn, Value};
 use terra_lib::exports::{
-    Fate, export, gives_scalar, is_free, is_text, is_unit, may_be_exported, takes_scalars,
+    export, gives_scalar, is_free, is_text, is_unit, may_be_exported, takes_scalars,
 };
 use terra_lib::symbols::is_scalar;
 use terra_term::RefusalKind;
 use tl_base::{Budget, FnId, List, NoMemory, Place, TableId, TextId};
+
+/// How an entry of a table fares.
+#[derive(Clone, Copy, Debug, PartialEq, Eq)]
+pub enum Fate {
+    /// The function is exported under the text.
+    Exported(TextId, FnId),
+    /// It can't be exported.
+    Refused,
+    /// It is left out.
+    LeftOut,
+}
 
 /// The table of globals, which is made first.
 const GLOBALS: TableId = TableId(0);

@@ -1,5 +1,7 @@
 -- The outcome of a source's staging with checks: what it printed, and how it ended, with the lines of the checks that were asked for.
-use Rattle.std.specs.Prelude.{ℕ, zero, suc, ◌+◌, Bool, true, false, nat_lt, if◌then◌else◌, List, [], ◌∷◌, ◌++◌, length, Option, Some, None}
+use Rattle.std.specs.Prelude.{ℕ, zero, suc, ◌+◌, Bool, true, false, nat_lt, if◌then◌else◌, List, [], ◌∷◌, ◌++◌, length, codes}
+use Rattle.std.specs.Prelude.{Option, Some, None}
+use Rattle.std.specs.Fmt.{signed_decimal}
 use Rattle.tl_base.specs.declared.ids.FnId.{FnId}
 use Rattle.tl_base.specs.declared.place.Place.{Place}
 use Rattle.tl_base.specs.Layer.{State, state}
@@ -7,12 +9,17 @@ use Rattle.stage_form.specs.declared.staging.Outcome.{Outcome as Staging}
 use Rattle.stage_form.specs.declared.staging.Outcome.TheVariants as stagings
 use Rattle.stage_form.specs.Stage.{Final, Finished, Exhausted, staged}
 use Rattle.tl_tree.specs.Code.{Items}
+use Rattle.lua_value.specs.declared.value.Value.{Value}
+use Rattle.lua_value.specs.declared.value.Value.TheVariants as values
 use Rattle.lua_table.specs.LuaState.{LuaState}
+use Rattle.lua_table.specs.Heap.{text_at}
 use Rattle.lua_model.specs.declared.job.LuaJob.TheVariants.{Chunk}
+use Rattle.terra_types.specs.Opening.{opening_types}
+use Rattle.exotype.specs.World.{StageState, with_heap}
+use Rattle.exotype.specs.World as worlds
 use Rattle.spec_model.specs.Making.{is_undefined}
-use Rattle.stage_loop.specs.Staging.{raised_text}
 use Rattle.stage_library.specs.declared.tasks.Task.TheVariants.{Evaluate}
-use Rattle.terra_stage.specs.Staging.{opened}
+use Rattle.terra_lib.specs.Opening as library
 use Rattle.check_model.specs.Typing.{TypingState}
 use Rattle.check_stage.specs.declared.jobs.Job.TheVariants as jobs
 use Rattle.check_stage.specs.declared.jobs.JobEnd.{JobEnd}
@@ -90,6 +97,12 @@ pub record Ending : Type 0 where
 abbrev pub ending : End → List CheckLine → State TypingState → Ending
 ending end lines left = record { end = end; lines = lines; left = left }
 
+-- the text of an error: a text, or a number in decimal; other values have one in place of it
+abbrev pub raised_text : LuaState → Value → List ℕ
+raised_text heap (values.Text id) = text_at heap id
+raised_text heap (values.Number n) = signed_decimal n
+raised_text heap _ = codes "(error object is not a string)"
+
 abbrev pub end_of : LuaState → JobEnd → End
 end_of heap (ends.Raised v place) = Raised (raised_text heap v) place
 end_of heap end = Done
@@ -110,6 +123,10 @@ ending_of (Exhausted s) = ending Spent [] s
 abbrev pub ending_if_any : Option (Final TypingState Checked) → Option Ending
 ending_if_any (Some final) = Some (ending_of final)
 ending_if_any None = None
+
+-- the world with which a source begins, whose program has so many bytes of memory
+abbrev pub opened : ℕ → StageState
+opened memory = with_heap (worlds.opening opening_types memory) library.opening
 
 -- what bodies are typed in at the begin of a source, whose program has so many bytes of memory
 abbrev pub begun : ℕ → TypingState

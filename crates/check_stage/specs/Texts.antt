@@ -19,8 +19,7 @@ use Rattle.check_library.specs.Answers.{kind_text}
 use Rattle.stage_text.specs.Terms.{terms_text}
 use Rattle.check_stage.specs.declared.staging.CheckLine.{CheckLine}
 use Rattle.check_stage.specs.declared.staging.Mode.TheVariants.{Exports, CheckAll}
-use Rattle.check_stage.specs.declared.texts.Checks.{Checks}
-use Rattle.check_stage.specs.declared.texts.Terms.{Terms}
+use Rattle.check_stage.specs.declared.texts.Written.{Written}
 use Rattle.check_stage.specs.Staging.{Ending, outcome}
 
 -- ---- the lines of checks
@@ -70,7 +69,7 @@ checks_text w (line ∷ lines) = check_text w line ++ checks_text w lines
 
 -- The texts are those of the ending to which the staging comes: what was printed until then, how it ended, and the lines
 -- of the checks that were made, with types as they are known then.
-pub record AreChecks (items : Items) (place : Place) (units memory : ℕ) (it : Checks) : Type 0 where
+pub record AreChecks (items : Items) (place : Place) (units memory : ℕ) (it : Written) : Type 0 where
   pub n : ℕ
   pub ending : Ending
   pub comes : outcome items place CheckAll n units memory ≡ Some ending
@@ -79,7 +78,7 @@ pub record AreChecks (items : Items) (place : Place) (units memory : ℕ) (it : 
   pub lines : it.lines ≡ checks_text ending.left.world.stage ending.lines
 
 -- the same where exports are made: the lines are those of the exports that there are then and of their terms
-pub record AreTerms (items : Items) (place : Place) (units memory : ℕ) (it : Terms) : Type 0 where
+pub record AreTerms (items : Items) (place : Place) (units memory : ℕ) (it : Written) : Type 0 where
   pub n : ℕ
   pub ending : Ending
   pub comes : outcome items place Exports n units memory ≡ Some ending

@@ -17,4 +17,4 @@ pub mod staging;
 pub mod texts;
 
 pub use staging::{CheckLine, End, Mode, Outcome, stage};
-pub use texts::{Checks, Terms, stage_checks, stage_terms};
+pub use texts::{Written, stage_checks, stage_terms};

@@ -30,7 +30,7 @@ use lua_value::Values;
 use stage_form::Stages;
 use stage_library::Task;
 use std::alloc::Global;
-use terra_stage::staged::{Staged as WithoutChecks, TerraStage};
+use terra_stage::{Staged as WithoutChecks, TerraStage};
 use tl_base::{Budget, Layer, NoMemory, Turn};
 use tl_rename::Slots;
 use tl_tree::Tree;

@@ -12,17 +12,17 @@ ghost use Rattle.check_model.specs.Typing.{TypingState};
 ghost use Rattle.check_stage.specs.declared.staging.Mode.{Mode as ModeOf};
 ghost use Rattle.check_stage.specs.Keeping.{KeepsChecking};
 ghost use Rattle.check_stage.specs.Staging.{Ending, ending, begun, after_check, by_mode, checks};
-ghost use Rattle.check_stage.specs.Staging.{checked_final, gave_values, line_of, lines_in, end_in, outcome, outcome_from};
+ghost use Rattle.check_stage.specs.Staging.{checked_final, gave_values, line_of, lines_in, raised_text, end_in, outcome, outcome_from};
 
 use crate::jobs::{Job, JobEnd};
 use crate::staged::CheckStage;
 use check_model::Typing;
 use exotype::World;
 use lua_model::LuaJob;
+use lua_table::Heap;
 use lua_value::{Value, Values};
 use stage_form::{Outcome as Staging, run};
 use stage_library::Task;
-use stage_loop::raised_text;
 use std::alloc::Global;
 use terra_term::{FunctionState, Refusal};
 use terra_types::Types;
@@ -274,5 +274,20 @@ fn end_of(typing: &Typing, staging: &Staging<JobEnd>) -> Result<End, NoMemory>
             })
         }
         Staging::Ends(_) => Ok(End::Done),
+    }
+}
+
+/// The text of an error: that of a text or a number, and one in place of any other value's.
+fn raised_text(heap: &Heap, value: Value) -> Result<Bytes, NoMemory>
+    ensures { IfOk result (λ text. text ≡ raised_text heap.now value) }
+{
+    match value {
+        Value::Text(id) => Bytes::from_slice(heap.allocator(), heap.text(id)),
+        Value::Number(number) => {
+            let number = number.get();
+            let written = format!(in heap.allocator(); "{number}")?;
+            Bytes::from_slice(heap.allocator(), written.as_bytes())
+        }
+        _ => Bytes::from_slice(heap.allocator(), b"(error object is not a string)"),
     }
 }

@@ -20,32 +20,22 @@ use terra_term::Refusal;
 use tl_base::{Bytes, FnId, NoMemory, Place, TypeId};
 use tl_tree::Tree;
 
-/// What is written of a staging that checks each function: what was printed, how it ended, and a line for each check that was
-/// made: `function N at L:W: ok TYPE` or `function N at L:W: refused KIND at L:W in function M`.
+/// What is written of a staging: what was printed, how it ended, and lines of what it came to.
 #[derive(Debug, Drop)]
-pub struct Checks {
+pub struct Written {
     pub printed: Bytes,
     pub end: End,
     pub lines: Bytes,
 }
 
-/// What is written of a staging that makes exports: what was printed, how it ended, and a line for each export with the lines
-/// of the exported terms, as they were at that end.
-#[derive(Debug, Drop)]
-pub struct Terms {
-    pub printed: Bytes,
-    pub end: End,
-    pub lines: Bytes,
-}
-
-/// Stages a source as [`stage`] does, checks each function that is defined, and writes the lines of the checks. No check is told
-/// of a staging that failed.
+/// Stages a source as [`stage`] does, checks each function that is defined, and writes a line for each check that was made:
+/// `function N at L:W: ok TYPE` or `function N at L:W: refused KIND at L:W in function M`. No check is told of a staging that failed.
 pub fn stage_checks(
     alloc: Global,
     tree: &Tree<'_>,
     units: u64,
     memory: u64,
-) -> Result<Checks, NoMemory>
+) -> Result<Written, NoMemory>
     requires { memory ≤ MAX_MEMORY }
     ensures { IfOk result (λ it. AreChecks (items_of tree.now) (finish_of tree.now) units memory it) }
 {
@@ -54,14 +44,14 @@ pub fn stage_checks(
     Ok(checks)
 }
 
-/// Stages a source as [`stage`] does, makes its exports, and writes their lines and those of their terms. They are written after
-/// each end: those of a staging that failed are the ones that were exported until then.
+/// Stages a source as [`stage`] does, makes its exports, and writes a line for each export with the lines of the exported terms. They are
+/// written after each end: those of a staging that failed are the ones that were exported until then.
 pub fn stage_terms(
     alloc: Global,
     tree: &Tree<'_>,
     units: u64,
     memory: u64,
-) -> Result<Terms, NoMemory>
+) -> Result<Written, NoMemory>
     requires { memory ≤ MAX_MEMORY }
     ensures { IfOk result (λ it. AreTerms (items_of tree.now) (finish_of tree.now) units memory it) }
 {
@@ -71,14 +61,14 @@ pub fn stage_terms(
 }
 
 /// What is written of an outcome with checks.
-fn checks_of(outcome: Outcome) -> Result<Checks, NoMemory>
+fn checks_of(outcome: Outcome) -> Result<Written, NoMemory>
     ensures printed { IfOk result (λ it. it.printed ≡ outcome.typing.value.stage.heap.printed) }
     ensures end { IfOk result (λ it. it.end ≡ outcome.end) }
     ensures lines { IfOk result (λ it. it.lines ≡ checks_text outcome.typing.value.stage outcome.checks.items) }
 {
     let printed = outcome.typing.world.printed()?;
     let lines = check_lines(&outcome.typing.world, &outcome.checks)?;
-    Ok(Checks {
+    Ok(Written {
         printed,
         end: outcome.end,
         lines,
@@ -86,7 +76,7 @@ fn checks_of(outcome: Outcome) -> Result<Checks, NoMemory>
 }
 
 /// What is written of an outcome with exports.
-fn terms_of(outcome: Outcome) -> Result<Terms, NoMemory>
+fn terms_of(outcome: Outcome) -> Result<Written, NoMemory>
     ensures printed { IfOk result (λ it. it.printed ≡ outcome.typing.value.stage.heap.printed) }
     ensures end { IfOk result (λ it. it.end ≡ outcome.end) }
     ensures lines { IfOk result (λ it. it.lines
@@ -94,7 +84,7 @@ fn terms_of(outcome: Outcome) -> Result<Terms, NoMemory>
 {
     let printed = outcome.typing.world.printed()?;
     let lines = export_lines(&outcome.typing.world)?;
-    Ok(Terms {
+    Ok(Written {
         printed,
         end: outcome.end,
         lines,

@@ -35,8 +35,8 @@ use Rattle.exotype.specs.Types.{is_type, pointer_id}
 use Rattle.spec_model.specs.Making.{undefined_state, is_undefined}
 use Rattle.terra_lib.specs.Answers.{Turned, bad_argument, raised, gives, type_in}
 use Rattle.terra_lib.specs.Exports.{with_exported, marked, is_free, takes_scalars, gives_scalar, parameters_in, term_of_function, is_text}
-use Rattle.terra_lib.specs.declared.exports.Fate.{Fate}
-use Rattle.terra_lib.specs.declared.exports.Fate.TheVariants as fates
+use Rattle.check_library.specs.declared.exports.Fate.{Fate}
+use Rattle.check_library.specs.declared.exports.Fate.TheVariants as fates
 use Rattle.check_model.specs.declared.known.KnownResult.{KnownResult}
 use Rattle.check_model.specs.declared.known.KnownResult.TheVariants as results
 use Rattle.check_model.specs.declared.question.CheckAnswer.{CheckAnswer}

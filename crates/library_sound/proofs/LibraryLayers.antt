@@ -14,13 +14,13 @@ use Rattle.lua_model.specs.declared.end.LuaEnd.{LuaEnd}
 use Rattle.lua_model.specs.declared.question.LuaAnswer.{LuaAnswer}
 use Rattle.lua_base.specs.Basic as basic
 use Rattle.lua_base.specs.Calls as base
-use Rattle.stage_loop.specs.Library as lua
 use Rattle.terra_term.specs.TermText.{type_text}
 use Rattle.exotype.specs.World.{StageState}
 use Rattle.terra_lib.specs.Answers.{on_heap}
 use Rattle.terra_lib.specs.Calls as terra
 use Rattle.stage_library.specs.declared.tasks.Task.{Task}
-use Rattle.stage_library.specs.Library.{is_terra, library_called, is_of_terra, library_backed, turn_seen, library_seen, library}
+use Rattle.stage_library.specs.Library.{is_terra, lua_called, library_called, is_of_terra, back_of, library_backed, turn_seen}
+use Rattle.stage_library.specs.Library.{library_seen, library}
 use Rattle.stage_library.specs.Types.{text_turned, type_turned, type_asked}
 use Rattle.check_sound.specs.Sound.{IsSound}
 use Rattle.check_library.specs.Calls.{asks}
@@ -35,8 +35,8 @@ use Rattle.library_sound.proofs.TerraCalls.{terra-called, terra-backed}
 called-good : (s : State StageState) → IsSound s.world → (call : LibCall) → asks call.function ≡ false →
     Good s (library_called s call)
 called-good s old call h =
-    either-way (Good s) (is_terra call.function) (terra.called s call) (on_heap s (λ h. lua.library_called h call))
-    (λ e. terra-called s old call h) (λ e. heap-good s old (λ h. lua.library_called h call))
+    either-way (Good s) (is_terra call.function) (terra.called s call) (on_heap s (λ h. lua_called h call))
+    (λ e. terra-called s old call h) (λ e. heap-good s old (λ h. lua_called h call))
 
 backed-good : (s : State StageState) → IsSound s.world → (next : LibNext) (answer : Back) →
     Good s (library_backed s next answer)
@@ -58,8 +58,6 @@ turn-sound place first (turns.Raise v at) s h = h
 turn-sound place first turns.Spent s h = tt
 turn-sound place first (turns.CallBack f vs next) s h = h.0
 turn-sound place first (turns.TypeText t next) s h = h.0
-turn-sound place first (turns.Check f next) s h = h
-turn-sound place first (turns.Layout t next) s h = h
 
 -- each answer is back for what shows before it
 abbrev AllBack : (List (Given StageState LuaAnswer) → Seen StageState Task LuaEnd) → List (Given StageState LuaAnswer) → Type 0
@@ -77,16 +75,16 @@ seen-sound : (place : Place) (first : Given StageState LuaAnswer) (later : List 
 seen-sound place first [] turn s h back = turn-sound place first turn s h
 seen-sound place first (g ∷ later) (turns.CallBack f vs next) s h back =
     let answered = back [] later g refl in
-    let left = library_backed g.state next (lua.back_of g.answer) in
-    let good = backed-good g.state answered.0 next (lua.back_of g.answer) in
+    let left = library_backed g.state next (back_of g.answer) in
+    let good = backed-good g.state answered.0 next (back_of g.answer) in
     seen-sound place first later left.turn left.left
     (leaves-twice first.state.world s.world left.left.world h
     (leaves-twice s.world g.state.world left.left.world answered good))
     (later-back (λ before. library_seen place before (turns.CallBack f vs next) s) g later back)
 seen-sound place first (g ∷ later) (turns.TypeText t next) s h back =
     let answered = back [] later g refl in
-    let left = library_backed g.state next (lua.back_of g.answer) in
-    let good = backed-good g.state answered.0 next (lua.back_of g.answer) in
+    let left = library_backed g.state next (back_of g.answer) in
+    let good = backed-good g.state answered.0 next (back_of g.answer) in
     seen-sound place first later left.turn left.left
     (leaves-twice first.state.world s.world left.left.world h
     (leaves-twice s.world g.state.world left.left.world answered good))
@@ -94,8 +92,6 @@ seen-sound place first (g ∷ later) (turns.TypeText t next) s h back =
 seen-sound place first (g ∷ later) (turns.Values vs) s h back = h
 seen-sound place first (g ∷ later) (turns.Raise v at) s h back = h
 seen-sound place first (g ∷ later) turns.Spent s h back = tt
-seen-sound place first (g ∷ later) (turns.Check f next) s h back = h
-seen-sound place first (g ∷ later) (turns.Layout t next) s h back = h
 
 -- ---- the layers
 

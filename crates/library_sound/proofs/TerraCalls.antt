@@ -1,5 +1,5 @@
 -- Each call of a function of Terra's library that needs no check and no layout leaves a sound world.
-use Rattle.std.proofs.Common.{◌≡◌, ℕ, pos, false, List, [], Option, Some, None, sym}
+use Rattle.std.proofs.Common.{◌≡◌, ℕ, pos, false, List, [], Option, Some, None}
 use Rattle.tl_base.specs.declared.place.Place.{Place}
 use Rattle.tl_base.specs.declared.ids.TypeId.{TypeId}
 use Rattle.tl_base.specs.Layer.{State}
@@ -27,11 +27,10 @@ use Rattle.terra_lib.specs.Lists.{list_of, insert_turned, insertall_turned, map_
 use Rattle.terra_lib.specs.Calls.{told, answered, called, backed}
 use Rattle.check_library.specs.Calls.{asks}
 use Rattle.check_sound.specs.Sound.{IsSound}
-use Rattle.check_sound.proofs.Tests.{no}
 use Rattle.library_sound.proofs.Writes.{leaves-itself, heap-leaves, struct-leaves, symbol-leaves, constant-leaves}
 use Rattle.library_sound.proofs.Words.{constant-fits}
 use Rattle.library_sound.proofs.OfTypes.{pointer-leaves, array-leaves, function-leaves}
-use Rattle.library_sound.proofs.Turns.{either-way, if-given, Good, bad-good, raised-good, not-built-good, paying-good}
+use Rattle.library_sound.proofs.Turns.{either-way, if-given, Good, bad-good, raised-good, paying-good}
 
 module _ (s : State StageState) (old : IsSound s.world) where
   -- ---- symbols, macros and constants
@@ -155,11 +154,6 @@ module _ (s : State StageState) (old : IsSound s.world) where
   told-good library.ArrayType vs place = array-type-good (argument vs 0) (argument vs 1) place
   told-good library.FunctionType vs place =
       function-good (parameters_in s.world (argument vs 0)) (result_in s.world (argument vs 1)) place
-  told-good library.Global vs place = not-built-good s old place
-  told-good library.SizeOf vs place = not-built-good s old place
-  told-good library.OffsetOf vs place = not-built-good s old place
-  told-good library.Compile vs place = not-built-good s old place
-  told-good library.GetType vs place = not-built-good s old place
   told-good _ vs place = leaves-itself s.world old
 
   answered-good : (f : LibFn) (vs : List Value) (place : Place) → asks f ≡ false → Good s (answered s f vs place)
@@ -173,7 +167,6 @@ module _ (s : State StageState) (old : IsSound s.world) where
   answered-good library.NewStruct vs place h = struct-leaves s.world old place
   answered-good library.Pointer vs place h = pointers-good vs place
   answered-good library.Array vs place h = arrays-good vs place
-  answered-good library.SaveObj vs place h = absurd (no (sym h))
   answered-good f vs place h = told-good f vs place
 
   pub terra-called : (call : LibCall) → asks call.function ≡ false → Good s (called s call)

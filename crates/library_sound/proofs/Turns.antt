@@ -1,6 +1,6 @@
 -- What holds of each way to answer holds of an answer; and answers that change the heap alone.
 use Rattle.std.proofs.Common.{◌≡◌, ℕ, ◌-◌, Bool, true, false, Option, Some, None, refl}
-use Rattle.std.specs.Prelude.{codes, nat_le, if◌then◌else◌}
+use Rattle.std.specs.Prelude.{nat_le, if◌then◌else◌}
 use Rattle.tl_base.specs.declared.place.Place.{Place}
 use Rattle.tl_base.specs.Layer.{State, state}
 use Rattle.lua_value.specs.declared.library.LibFn.{LibFn}
@@ -10,7 +10,7 @@ use Rattle.lua_base.specs.Calls as base
 use Rattle.exotype.specs.declared.fault.Fault.{Fault}
 use Rattle.exotype.specs.Faults.{fault_text}
 use Rattle.exotype.specs.World.{StageState}
-use Rattle.terra_lib.specs.Answers.{Turned, turned, on_heap, bad_argument, raised, not_built, paying, given}
+use Rattle.terra_lib.specs.Answers.{Turned, turned, on_heap, bad_argument, raised, paying, given}
 use Rattle.check_sound.specs.Sound.{IsSound}
 use Rattle.library_sound.specs.Leaving.{Leaves}
 use Rattle.library_sound.proofs.Writes.{leaves-itself, heap-leaves}
@@ -42,9 +42,6 @@ bad-good s old place position f = heap-good s old (λ h. base.bad_argument h pla
 
 pub raised-good : (s : State StageState) → IsSound s.world → (place : Place) (fault : Fault) → Good s (raised s place fault)
 raised-good s old place fault = heap-good s old (λ h. base.raised h place (fault_text fault))
-
-pub not-built-good : (s : State StageState) → IsSound s.world → (place : Place) → Good s (not_built s place)
-not-built-good s old place = heap-good s old (λ h. base.raised h place (codes "not built"))
 
 pub paying-good : (s : State StageState) → IsSound s.world → (units : ℕ) (go : State StageState → Turned) →
     ((n : ℕ) → Good s (go (state s.world n))) → Good s (paying s units go)

@@ -17,8 +17,6 @@ ended_alone place (turns.Values vs) s end (next ∷ later) e = e
 ended_alone place (turns.Raise v at) s end (next ∷ later) e = e
 ended_alone place turns.Spent s end (next ∷ later) e = e
 ended_alone place (turns.CallBack f vs on) s end (next ∷ later) e = cc
-ended_alone place (turns.Check f on) s end (next ∷ later) e = e
-ended_alone place (turns.Layout t on) s end (next ∷ later) e = e
 ended_alone place (turns.TypeText t on) s end (next ∷ later) e = cc
 
 pub spent_alone : (place : Place) (s : State StageState) (later : List (Given StageState LuaAnswer))

@@ -7,7 +7,10 @@ use Rattle.lua_value.specs.declared.library.LibFn.TheVariants.{Symbol, Macro, Gl
 use Rattle.lua_value.specs.declared.library.LibFn.TheVariants.{InsertAll, Map, NewStruct, Pointer, Array, SaveObj, Compile, IsDefined}
 use Rattle.lua_value.specs.declared.library.LibFn.TheVariants.{GetType, IsIntegral, IsLogical, IsPointer, IsArray, IsStruct, Field}
 use Rattle.lua_value.specs.declared.library.LibFn.TheVariants.{ArrayType, PointerType, FunctionType}
+use Rattle.lua_value.specs.declared.library.LibFn.TheVariants.{Byte, Char, Format, Len, Rep, Sub, Concat, TableInsert, Remove}
+use Rattle.lua_table.specs.LuaState.{LuaState}
 use Rattle.lua_table.specs.declared.call.Back.{Back}
+use Rattle.lua_table.specs.declared.call.Back.TheVariants as backs
 use Rattle.lua_table.specs.declared.call.LibCall.{LibCall}
 use Rattle.lua_table.specs.declared.call.LibNext.{LibNext}
 use Rattle.lua_table.specs.declared.call.LibNext.TheVariants as nexts
@@ -17,8 +20,10 @@ use Rattle.lua_model.specs.declared.end.LuaEnd.{LuaEnd}
 use Rattle.lua_model.specs.declared.end.LuaEnd.TheVariants.{Done, Raised}
 use Rattle.lua_model.specs.declared.job.LuaJob.TheVariants.{Call}
 use Rattle.lua_model.specs.declared.question.LuaAnswer.{LuaAnswer}
+use Rattle.lua_model.specs.declared.question.LuaAnswer.TheVariants as answers
 use Rattle.lua_base.specs.Basic as basic
-use Rattle.stage_loop.specs.Library as lua
+use Rattle.lua_base.specs.Calls as base
+use Rattle.lua_textlib.specs.Calls as textlib
 use Rattle.exotype.specs.World.{StageState}
 use Rattle.terra_lib.specs.Answers.{Turned, on_heap}
 use Rattle.terra_lib.specs.Calls as terra
@@ -56,29 +61,49 @@ is_terra ArrayType = true
 is_terra FunctionType = true
 is_terra _ = false
 
+-- the functions of Lua on texts and on tables; all others of Lua's are basic ones
+abbrev pub is_on_texts_or_tables : LibFn → Bool
+is_on_texts_or_tables Byte = true
+is_on_texts_or_tables Char = true
+is_on_texts_or_tables Format = true
+is_on_texts_or_tables Len = true
+is_on_texts_or_tables Rep = true
+is_on_texts_or_tables Sub = true
+is_on_texts_or_tables Concat = true
+is_on_texts_or_tables TableInsert = true
+is_on_texts_or_tables Remove = true
+is_on_texts_or_tables _ = false
+
+abbrev pub lua_called : State LuaState → LibCall → base.Turned
+lua_called s call = if is_on_texts_or_tables call.function then textlib.called s call else basic.called s call
+
 -- what a call comes to; Lua's functions have the heap alone
 abbrev pub library_called : State StageState → LibCall → Turned
-library_called s call = if is_terra call.function then terra.called s call else on_heap s (λ h. lua.library_called h call)
+library_called s call = if is_terra call.function then terra.called s call else on_heap s (λ h. lua_called h call)
 
 -- the functions of Terra's library that wait
 abbrev pub is_of_terra : LibNext → Bool
 is_of_terra (nexts.Map source count result function at) = true
 is_of_terra _ = false
 
+-- an answer, as a function of the library is given it; none of them is answered with what begins a layer
+abbrev pub back_of : LuaAnswer → Back
+back_of answers.Go = backs.Values []
+back_of (answers.Values vs) = backs.Values vs
+back_of (answers.Raise v place) = backs.Raised v place
+
 -- what a function comes to that goes on with an answer
 abbrev pub library_backed : State StageState → LibNext → Back → Turned
 library_backed s next answer = if is_of_terra next then terra.backed s next answer else on_heap s (λ h. basic.backed h next answer)
 
 -- What shows of what a function comes to. What it calls is Lua's call of a value, and what it asks about is the text of a type, both at
--- the place of the function's own call. No function asks for a check or a layout yet.
+-- the place of the function's own call.
 abbrev pub turn_seen : Place → LibTurn → State StageState → Seen StageState Task LuaEnd
 turn_seen place (turns.Values vs) s = Ended (Done vs) s
 turn_seen place (turns.Raise v at) s = Ended (Raised v at) s
 turn_seen place turns.Spent s = SpentAt s
 turn_seen place (turns.CallBack f vs next) s = Asks (Evaluate (Call f vs place)) s
 turn_seen place (turns.TypeText t next) s = Asks (TypeText t place) s
-turn_seen place (turns.Check f next) s = Ended (Done []) s
-turn_seen place (turns.Layout t next) s = Ended (Done []) s
 
 -- a function that asks goes on; of another one, so much shows
 abbrev pub on_question : LibTurn → Seen StageState Task LuaEnd → (LibNext → Seen StageState Task LuaEnd) → Seen StageState Task LuaEnd
@@ -91,12 +116,12 @@ abbrev pub library_seen : Place → List (Given StageState LuaAnswer) → LibTur
 library_seen place [] turn s = turn_seen place turn s
 library_seen place (given ∷ later) turn s =
     on_question turn (turn_seen place turn s) (λ next.
-    let left = library_backed given.state next (lua.back_of given.answer) in library_seen place later left.turn left.left)
+    let left = library_backed given.state next (back_of given.answer) in library_seen place later left.turn left.left)
 
 -- what a call that is to begin, or that waits, comes to with an answer
 abbrev pub library_turned : LibCall → Option LibNext → Given StageState LuaAnswer → Turned
 library_turned call None first = library_called first.state call
-library_turned call (Some next) first = library_backed first.state next (lua.back_of first.answer)
+library_turned call (Some next) first = library_backed first.state next (back_of first.answer)
 
 -- what remains to be done by it
 abbrev pub library_going : LibCall → Option LibNext → Meaning StageState Task LuaAnswer LuaEnd

@@ -4,13 +4,12 @@ ghost use Rattle.std.specs.Prelude.{◌≡◌, ◌≤◌, List, [], ◌∷◌, I
 ghost use Rattle.tl_base.specs.Layer.{State, state, Given, given, seen, OnAsk, UnlessAsk};
 ghost use Rattle.exotype.specs.World.{StageState};
 ghost use Rattle.lua_base.specs.Basic as basic;
-ghost use Rattle.stage_loop.specs.Library.{is_on_texts_or_tables, back_of};
 ghost use Rattle.lua_textlib.specs.Calls as textlib;
 ghost use Rattle.terra_lib.specs.Answers.{turned, on_heap};
 ghost use Rattle.terra_lib.specs.Calls as terra;
 ghost use Rattle.stage_library.specs.Keeping.{KeepsStaging};
 ghost use Rattle.stage_library.specs.Library.{is_terra, library_called, library_backed, library_turned, turn_seen, library_seen};
-ghost use Rattle.stage_library.specs.Library.{is_of_terra, library_rest};
+ghost use Rattle.stage_library.specs.Library.{is_on_texts_or_tables, back_of, is_of_terra, library_rest};
 
 use crate::tasks::Task;
 use exotype::World;
@@ -57,7 +56,7 @@ impl Library {
         ensures paid { OnOk result (budget.new ≤ budget.old) }
     {
         let turn = self.go_on(world, budget, answer)?;
-        Ok(self.show(&world.heap, turn))
+        Ok(self.show(turn))
     }
 
     /// Begins, or goes on with an answer.
@@ -80,7 +79,7 @@ impl Library {
     }
 
     /// What shows of what a function comes to. Where it calls back or asks, it waits for that.
-    fn show(&mut self, heap: &Heap, turn: LibTurn) -> Turn<Task, LuaEnd>
+    fn show(&mut self, turn: LibTurn) -> Turn<Task, LuaEnd>
         ensures seen { (s : State StageState) → seen result s ≡ turn_seen self.old.call.place turn s }
         ensures reads_no_more { UnlessAsk result ((s : State StageState) (later : List (Given StageState LuaAnswer)) →
             library_seen self.old.call.place later turn s ≡ seen result s) }
@@ -103,10 +102,6 @@ impl Library {
             LibTurn::TypeText { of, next } => {
                 self.waiting = Some(next);
                 Turn::Ask(Task::TypeText(of, self.call.place))
-            }
-            // No function asks for a check or a layout yet.
-            LibTurn::Check { .. } | LibTurn::Layout { .. } => {
-                Turn::End(LuaEnd::Done(Values::new(heap.allocator())))
             }
         }
     }

@@ -1,31 +1,68 @@
 // What comes of a row.
 
+use check_stage::{End, Mode, Written, stage, stage_checks, stage_terms};
 use row_words::SourceRow;
-use stage_loop::{End, Outcome, stage};
 use std::alloc::Global;
 use tl_base::{Bytes, NoMemory};
 use tl_lex::LONGEST_TEXT;
 use tl_parse::{SyntaxError, parse};
 use tl_tree::Tree;
 
-/// What comes of a row, behind a line with its name: of its source with all its units, and where it has units, with one
-/// less.
-pub fn answer(alloc: Global, row: &SourceRow) -> Result<Bytes, NoMemory> {
+/// The bytes of memory that a program has.
+const MEMORY: u64 = 1_048_576;
+
+/// What is written of a row.
+#[derive(Clone, Copy, Debug, PartialEq, Eq)]
+pub enum Kind {
+    /// What it prints, how it ends and the units that are left, and the same with one unit less.
+    Ends,
+    /// What `terms` writes.
+    Terms,
+    /// What `check` writes.
+    Checks,
+}
+
+/// A row: a source, and what is written of it.
+#[derive(Debug, Drop)]
+pub struct Row {
+    pub kind: Kind,
+    pub source: SourceRow,
+}
+
+impl Row {
+    /// The row of a line `UNITS NAME`, `terms UNITS NAME` or `check UNITS NAME`, without a source.
+    pub fn new(alloc: Global, head: &str) -> Result<Row, NoMemory> {
+        let (kind, head) = match head.split_once(' ') {
+            Some(("terms", rest)) => (Kind::Terms, rest),
+            Some(("check", rest)) => (Kind::Checks, rest),
+            _ => (Kind::Ends, head),
+        };
+        Ok(Row {
+            kind,
+            source: SourceRow::new(alloc, head)?,
+        })
+    }
+}
+
+/// What comes of a row, behind a line with its kind and its name.
+pub fn answer(alloc: Global, row: &Row) -> Result<Bytes, NoMemory> {
     let mut out = Bytes::new(alloc);
-    let name = row.name.as_str();
-    let line = format!(in alloc; "== {name}\n")?;
+    let name = row.source.name.as_str();
+    let kind = match row.kind {
+        Kind::Ends => "",
+        Kind::Terms => "terms ",
+        Kind::Checks => "check ",
+    };
+    let line = format!(in alloc; "== {kind}{name}\n")?;
     out.push_all(line.as_bytes())?;
-    let source = row.source.as_str();
+    let source = row.source.source.as_str();
     if source.len() > LONGEST_TEXT {
         out.push_all(b"-- too long\n")?;
         return Ok(out);
     }
     match parse(alloc, source) {
         Ok(tree) => {
-            push_staging(alloc, &mut out, &tree, row.units)?;
-            if row.units > 0 {
-                push_staging(alloc, &mut out, &tree, row.units - 1)?;
-            }
+            push_runs(alloc, &mut out, &tree, row)?;
             Ok(out)
         }
         Err(SyntaxError::NoMemory) => Err(NoMemory),
@@ -37,6 +74,24 @@ pub fn answer(alloc: Global, row: &SourceRow) -> Result<Bytes, NoMemory> {
     }
 }
 
+/// Puts what comes of a row's tree behind other text: with all its units, and where it has units, with one less.
+fn push_runs(alloc: Global, out: &mut Bytes, tree: &Tree<'_>, row: &Row) -> Result<(), NoMemory> {
+    let units = row.source.units;
+    match row.kind {
+        Kind::Ends => push_staging(alloc, out, tree, units)?,
+        Kind::Terms => push_written(alloc, out, &stage_terms(alloc, tree, units, MEMORY)?)?,
+        Kind::Checks => push_written(alloc, out, &stage_checks(alloc, tree, units, MEMORY)?)?,
+    }
+    if units == 0 {
+        return Ok(());
+    }
+    match row.kind {
+        Kind::Ends => push_staging(alloc, out, tree, units - 1),
+        Kind::Terms => push_less(out, &stage_terms(alloc, tree, units - 1, MEMORY)?.end),
+        Kind::Checks => push_less(out, &stage_checks(alloc, tree, units - 1, MEMORY)?.end),
+    }
+}
+
 /// Stages a source with so many units, and puts what it prints and a line with its end behind other text.
 fn push_staging(
     alloc: Global,
@@ -44,9 +99,11 @@ fn push_staging(
     tree: &Tree<'_>,
     units: u64,
 ) -> Result<(), NoMemory> {
-    let Outcome { printed, end, left } = stage(alloc, tree, units)?;
+    let outcome = stage(alloc, tree, units, MEMORY, Mode::Exports)?;
+    let printed = outcome.typing.world.printed()?;
     out.push_all(printed.as_slice())?;
-    match end {
+    let left = outcome.left;
+    match &outcome.end {
         End::Done => {
             let line = format!(in alloc; "-- {units} units: done, {left} left\n")?;
             out.push_all(line.as_bytes())
@@ -62,5 +119,33 @@ fn push_staging(
             out.push_all(text.as_slice())?;
             out.push_all(b"\n")
         }
+    }
+}
+
+/// Puts what is written of a staging, and a line with its end, behind other text.
+fn push_written(alloc: Global, out: &mut Bytes, written: &Written) -> Result<(), NoMemory> {
+    out.push_all(written.printed.as_slice())?;
+    match &written.end {
+        End::Done => {
+            out.push_all(written.lines.as_slice())?;
+            out.push_all(b"-- done\n")
+        }
+        End::Raised { text, place } => {
+            out.push_all(b"-- raised ")?;
+            out.push_all(text.as_slice())?;
+            let line = place.line;
+            let word = place.word;
+            let line = format!(in alloc; " at {line}:{word}\n")?;
+            out.push_all(line.as_bytes())
+        }
+        End::Spent => out.push_all(b"-- spent\n"),
+    }
+}
+
+/// Puts a line with how a staging with one unit less ends behind other text.
+fn push_less(out: &mut Bytes, end: &End) -> Result<(), NoMemory> {
+    match end {
+        End::Spent => out.push_all(b"-- one unit less: spent\n"),
+        _ => out.push_all(b"-- one unit less: not spent\n"),
     }
 }

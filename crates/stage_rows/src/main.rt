@@ -1,15 +1,16 @@
-//! Stages the sources of standard input, each with the units that its row gives and once more with one unit less, and
-//! writes what each staging prints, how it ends and the units that are left. `stdin` and `stdout` are written by
-//! `bench/stage_rows`, by its own reading of the rules.
+//! Stages the sources of standard input as `check_stage` does, and writes what comes of each.
 //!
-//! A row is a line `== UNITS NAME` and the lines of its source. In a source, a line `%% COUNT PIECE` stands for the
-//! piece so many times, without a line end.
+//! A row is a line `== UNITS NAME` and the lines of its source: it is staged with these units and once more with one unit less, and
+//! written are what each staging prints, how it ends and the units that are left. For a row `== terms UNITS NAME` or `== check UNITS NAME`
+//! what `terms` or `check` writes is written, how it ends, and whether it is spent with one unit less. In a source, a line
+//! `%% COUNT PIECE` stands for the piece so many times, without a line end.
+//!
+//! `bench/stage_rows` writes the rows of the first kind in `stdin` and `stdout`, by its own reading of the rules.
 #![tactic(auto)]
 
 mod answers;
 
-use answers::answer;
-use row_words::SourceRow;
+use answers::{Row, answer};
 use std::io::Write;
 
 fn main(rt: HostRuntime) -> anyhow::Result<()> {
@@ -21,9 +22,9 @@ fn main(rt: HostRuntime) -> anyhow::Result<()> {
             if let Some(row) = &last {
                 rt.stdout().write_all(answer(alloc, row)?.as_slice())?;
             }
-            last = Some(SourceRow::new(alloc, head)?);
+            last = Some(Row::new(alloc, head)?);
         } else if let Some(row) = &mut last {
-            row.push_line(line.as_str())?;
+            row.source.push_line(line.as_str())?;
         }
     }
     if let Some(row) = &last {

@@ -96,8 +96,6 @@ module _ (items : Items) (k : LayersKeep items) where
   end-shows w turns.Spent s h = tt
   end-shows w (turns.CallBack f vs next) s h = (tt, h)
   end-shows w (turns.TypeText t next) s h = (tt, h)
-  end-shows w (turns.Check f next) s h = (tt, h)
-  end-shows w (turns.Layout t next) s h = (tt, h)
 
   turn-shows : (w : StageState) (place : Place) (turn : AskTurn) (s : State StageState) → Led w s.world →
       Shows IsAsked (Ends w) (turn_seen place turn s)

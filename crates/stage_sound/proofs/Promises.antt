@@ -13,7 +13,7 @@ use Rattle.spec_sound.proofs.Whole.{specialising-keeps}
 use Rattle.library_sound.proofs.Writes.{heap-leaves}
 use Rattle.library_sound.proofs.LibraryLayers.{library-sound, texts-sound}
 use Rattle.library_sound.proofs.AskedCalls.{called-fine, chunk-fine, answer-fine}
-use Rattle.terra_stage.specs.Staging.{opened}
+use Rattle.check_stage.specs.Staging.{opened}
 use Rattle.terra_lib.specs.Opening as library
 use Rattle.stage_sound.specs.Promises.{JobsKeepSound, StagingsEndSound}
 use Rattle.stage_sound.proofs.Layers.{LayersKeep}

@@ -1,3 +1,2 @@
 pub mod Lifted
 pub mod Kept
-pub mod Exporting

@@ -1,5 +1,5 @@
 -- What a call of Terra's library answers, and what it pays: the words in which the functions are defined.
-use Rattle.std.specs.Prelude.{ℕ, ◌-◌, nat_le, if◌then◌else◌, List, [], ◌∷◌, codes, Option, Some, None}
+use Rattle.std.specs.Prelude.{ℕ, ◌-◌, nat_le, if◌then◌else◌, List, [], ◌∷◌, Option, Some, None}
 use Rattle.tl_base.specs.declared.place.Place.{Place}
 use Rattle.tl_base.specs.Layer.{State, state}
 use Rattle.lua_value.specs.declared.library.LibFn.{LibFn}
@@ -36,10 +36,6 @@ bad_argument s place position f = on_heap s (λ h. base.bad_argument h place pos
 -- raises a fault in the same way
 abbrev pub raised : State StageState → Place → Fault → Turned
 raised s place fault = on_heap s (λ h. base.raised h place (fault_text fault))
-
--- raises that a function isn't built yet
-abbrev pub not_built : State StageState → Place → Turned
-not_built s place = on_heap s (λ h. base.raised h place (codes "not built"))
 
 -- gives values, for nothing, and leaves a world
 abbrev pub gives : State StageState → StageState → List Value → Turned

@@ -6,7 +6,7 @@ pub mod Symbols
 pub mod Types
 -- Lists.
 pub mod Lists
--- Exports.
+-- What may be exported.
 pub mod Exports
 -- Fields of Terra values, and types made by operators.
 pub mod Fields

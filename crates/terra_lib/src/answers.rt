@@ -3,7 +3,7 @@
 ghost use Rattle.std.specs.Prelude.{◌≡◌, ◌≤◌, [], ◌∷◌, length, IfOk, OnOk};
 ghost use Rattle.tl_base.specs.Layer.{state};
 ghost use Rattle.exotype.specs.Faults.{fault_text};
-ghost use Rattle.terra_lib.specs.Answers.{turned, bad_argument, raised, not_built, type_in};
+ghost use Rattle.terra_lib.specs.Answers.{turned, bad_argument, raised, type_in};
 ghost use Rattle.terra_lib.specs.Keeping.{KeepsWorld};
 
 use exotype::{Fault, World};
@@ -56,16 +56,6 @@ pub fn raise(
 {
     let text = fault.text(world.heap.allocator())?;
     lua_base::raise(&mut world.heap, budget, place, text.as_bytes())
-}
-
-/// Raises that a function isn't built yet.
-pub fn not_built(world: &mut World, budget: &mut Budget, place: Place) -> Result<LibTurn, NoMemory>
-    ensures does { IfOk result (λ turn.
-        turned turn (state world.new budget.new) ≡ not_built (state world.old budget.old) place) }
-    ensures kept { OnOk result (KeepsWorld world.old world.new) }
-    ensures paid { OnOk result (budget.new ≤ budget.old) }
-{
-    lua_base::raise(&mut world.heap, budget, place, b"not built")
 }
 
 /// The type that an argument is.

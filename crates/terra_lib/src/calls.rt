@@ -6,8 +6,7 @@ ghost use Rattle.terra_lib.specs.Answers.{turned};
 ghost use Rattle.terra_lib.specs.Keeping.{KeepsWorld};
 ghost use Rattle.terra_lib.specs.Calls.{called, backed, told};
 
-use crate::answers::{give_nothing, not_built};
-use crate::exports::save_object;
+use crate::answers::give_nothing;
 use crate::fields::{array_type, field, function_type, pointer_type};
 use crate::lists::{insert, insert_all, map, map_back, new_list};
 use crate::symbols::{constant, make_macro, symbol};
@@ -19,8 +18,8 @@ use lua_value::{LibFn, Value};
 use tl_base::{Budget, NoMemory, Place};
 
 /// Begins a call of a function of Terra's library, which pays for the texts of errors that it raises and for the values that it moves. No
-/// value is moved where the payment is larger than what is left. A function that is not of Terra's library gives no values; one that needs
-/// a check or a layout raises that it isn't built.
+/// value is moved where the payment is larger than what is left. A function that is not of Terra's library gives no values, and so does
+/// one that needs a check or a layout, which `check_library` calls.
 pub fn call(world: &mut World, call: &LibCall, budget: &mut Budget) -> Result<LibTurn, NoMemory>
     ensures does { IfOk result (λ turn.
         turned turn (state world.new budget.new) ≡ called (state world.old budget.old) call.now) }
@@ -40,12 +39,11 @@ pub fn call(world: &mut World, call: &LibCall, budget: &mut Budget) -> Result<Li
         LibFn::NewStruct => new_struct(world, place),
         LibFn::Pointer => pointer(world, budget, args, place),
         LibFn::Array => array(world, budget, args, place),
-        LibFn::SaveObj => save_object(world, budget, args, place),
         function => tell(world, budget, function, args, place),
     }
 }
 
-/// The functions that tell of types and functions, what the language itself calls, and those that aren't built.
+/// The functions that tell of types and functions, and those that the language itself calls.
 fn tell(
     world: &mut World,
     budget: &mut Budget,
@@ -71,11 +69,6 @@ fn tell(
         LibFn::FunctionType => {
             function_type(world, budget, argument(args, 0), argument(args, 1), place)
         }
-        LibFn::Global => not_built(world, budget, place),
-        LibFn::SizeOf => not_built(world, budget, place),
-        LibFn::OffsetOf => not_built(world, budget, place),
-        LibFn::Compile => not_built(world, budget, place),
-        LibFn::GetType => not_built(world, budget, place),
         _ => Ok(give_nothing(&world.heap)),
     }
 }

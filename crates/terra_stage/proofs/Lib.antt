@@ -1,4 +1,3 @@
 pub mod Answering
 pub mod Keeping
-pub mod Outcomes
 pub mod Turning

@@ -1,9 +1,8 @@
--- The layers as one stage: how Lua code and the specialisation of Terra code stand in it, and what each question means.
-use Rattle.std.specs.Prelude.{◌≡◌, [], ◌∷◌, false, refl}
+-- How Lua code and the specialisation of Terra code stand in a stage, and what each task means.
+use Rattle.std.specs.Prelude.{[], ◌∷◌}
 use Rattle.tl_base.specs.declared.turn.Turn.{Turn}
 use Rattle.tl_base.specs.declared.turn.Turn.TheVariants as turns
 use Rattle.tl_base.specs.Layer.{Meaning, Given}
-use Rattle.stage_form.specs.Stage.{Stage}
 use Rattle.stage_form.specs.Within.{Fitting, given_part, within}
 use Rattle.tl_tree.specs.Code.{Items}
 use Rattle.lua_table.specs.LuaState.{LuaState}
@@ -15,7 +14,6 @@ use Rattle.lua_model.specs.declared.question.LuaQuestion.TheVariants as question
 use Rattle.lua_model.specs.declared.question.LuaAnswer.{LuaAnswer}
 use Rattle.lua_model.specs.declared.question.LuaAnswer.TheVariants as answers
 use Rattle.lua_model.specs.Meaning.{lua}
-use Rattle.lua_eval.specs.Frames.{is_go}
 use Rattle.lua_eval.specs.Rest.{lua_rest, LuaFits}
 use Rattle.exotype.specs.World.{StageState, with_heap}
 use Rattle.spec_model.specs.declared.end.SpecEnd.{SpecEnd}
@@ -32,8 +30,6 @@ use Rattle.stage_library.specs.declared.tasks.Task.{Task}
 use Rattle.stage_library.specs.declared.tasks.Task.TheVariants.{Evaluate, Specialise, Library, TypeText}
 use Rattle.terra_stage.specs.declared.staged.Staged.{Staged}
 use Rattle.terra_stage.specs.declared.staged.Staged.TheVariants as layers
--- an end as an answer to the layer that asked
-pub use Rattle.stage_loop.specs.Layers.{answer_of}
 
 -- ---- Lua code
 
@@ -76,7 +72,7 @@ turn_within f (turns.End e) = turns.End (f.end e)
 turn_within f (turns.Ask q) = turns.Ask (f.question q)
 turn_within f turns.Spent = turns.Spent
 
--- ---- the stage
+-- ---- tasks
 
 -- what each task means, over the nodes of a tree
 abbrev pub task_meaning : Items → Task → Meaning StageState Task LuaAnswer LuaEnd
@@ -84,9 +80,6 @@ task_meaning items (Evaluate job) = within lua_fitting (lua items job)
 task_meaning items (Specialise n env) = within spec_fitting (spec items (record { node = n; env = env }))
 task_meaning items (Library call) = library call
 task_meaning items (TypeText t place) = type_asked t place
-
-abbrev pub terra_stage : Items → Stage StageState Task LuaAnswer LuaEnd
-terra_stage items = record { meaning = task_meaning items; go = answers.Go; answer_of = answer_of }
 
 -- ---- layers that are suspended
 
@@ -105,8 +98,3 @@ StagedFits (layers.Lua lua) next = LuaFits lua (given_part lua_fitting next)
 StagedFits (layers.Spec spec) next = SpecFits spec (given_part spec_fitting next)
 StagedFits (layers.Library call) next = Unit {0}
 StagedFits (layers.TypeText t place) next = Unit {0}
-
--- no end begins a layer
-pub ends_follow : (end : LuaEnd) → is_go (answer_of end) ≡ false
-ends_follow (Done vs) = refl
-ends_follow (Raised v place) = refl

@@ -1,6 +1,2 @@
--- The promise: the outcome of a source's staging.
-pub mod Staging
--- The promise for what is written of a staging.
-pub mod Terms
--- The layers as one stage.
+-- What each task means, and what remains of it.
 pub mod Layers

@@ -1,14 +1,7 @@
-//! The staging of a source of Lua and Terra code: the layers of its evaluation in one loop, the exports at its end, and
-//! the outcome.
-//!
-//! - `staged`: the layers as one stage;
-//! - `staging`: the call, and its outcome;
-//! - `terms`: the same call for its texts alone.
+//! The layers of a staging that need no check and no layout by themselves: Lua code, the specialisation of Terra code, and the functions of
+//! the library. `check_stage` puts them beside those that check.
 #![tactic(auto)]
 
 pub mod staged;
-pub mod staging;
-pub mod terms;
 
-pub use staging::{End, Outcome, stage};
-pub use terms::{Terms, stage_terms};
+pub use staged::{Staged, TerraStage};

@@ -1,17 +1,18 @@
-// The layers as one stage: Lua code, the specialisation of Terra code, and the functions of the library.
+// The layers: Lua code, the specialisation of Terra code, and the functions of the library.
 
 ghost use Rattle.std.specs.Prelude.{◌≡◌, ◌≤◌, List, [], ◌∷◌, false, IfOk, OnOk};
-ghost use Rattle.tl_base.specs.Layer.{given, state, seen, OnAsk, UnlessAsk};
+ghost use Rattle.tl_base.specs.Layer.{State, state, given, at, seen, OnAsk, UnlessAsk};
 ghost use Rattle.stage_form.specs.Within.{given_part, within};
 ghost use Rattle.tl_tree.specs.Arena.{items_of};
 ghost use Rattle.lua_eval.specs.Frames.{is_go};
 ghost use Rattle.lua_eval.specs.Rest.{lua_rest, LuaFits};
 ghost use Rattle.lua_eval.specs.Slots.{ArePaths};
+ghost use Rattle.exotype.specs.World.{StageState};
 ghost use Rattle.spec_machine.specs.Rest.{spec_rest, SpecFits};
 ghost use Rattle.stage_library.specs.Keeping.{KeepsStaging};
 ghost use Rattle.stage_library.specs.Types.{type_asked};
 ghost use Rattle.terra_stage.specs.Layers.{lua_asks, spec_asks, spec_answer, spec_end, lua_fitting, spec_fitting};
-ghost use Rattle.terra_stage.specs.Layers.{turn_within, StageGiven};
+ghost use Rattle.terra_stage.specs.Layers.{turn_within, task_meaning, staged_rest, StageGiven, StagedFits};
 
 use exotype::World;
 use lua_eval::Lua;
@@ -19,7 +20,6 @@ use lua_model::{LuaAnswer, LuaEnd, LuaJob, LuaQuestion};
 use lua_value::Values;
 use spec_machine::Spec;
 use spec_model::{SpecAnswer, SpecEnd, SpecQuestion};
-use stage_form::Stages;
 use stage_library::{Library, Task, give_type_text};
 use std::alloc::Global;
 use tl_base::{Budget, Layer, NoMemory, Place, Turn, TypeId};
@@ -184,8 +184,6 @@ pub enum Staged<'a> {
 }
 
 impl Layer for Staged<'_> {
-    ghost use Rattle.terra_stage.specs.Layers.{staged_rest, StagedFits};
-
     type World = World;
 
     type Question = Task;
@@ -217,7 +215,7 @@ impl Layer for Staged<'_> {
     }
 }
 
-/// The stage of these layers, over a tree whose uses of locals have these slots.
+/// What begins these layers, over a tree whose uses of locals have these slots.
 #[derive(Drop)]
 pub struct TerraStage<'a> {
     tree: &'a Tree<'a>,
@@ -226,56 +224,27 @@ pub struct TerraStage<'a> {
 }
 
 impl<'a> TerraStage<'a> {
-    /// The stage over a tree, with the slots that `tl_rename::resolve` gives for it.
+    /// What begins layers over a tree, with the slots that `tl_rename::resolve` gives for it.
     pub fn new(tree: &'a Tree<'a>, slots: &'a Slots) -> TerraStage<'a>
         requires { ArePaths (items_of tree.now) slots.now }
         ensures { result.tree.now ≡ tree.now }
     {
         TerraStage { tree, slots }
     }
-}
 
-impl<'a> Stages for TerraStage<'a> {
-    ghost use Rattle.stage_library.proofs.Keeping.{keeps_itself, keeps_then};
-    ghost use Rattle.terra_stage.specs.Layers.{terra_stage, ends_follow};
-
-    type World = World;
-
-    type Question = Task;
-
-    type Answer = LuaAnswer;
-
-    type End = LuaEnd;
-
-    type Staged = Staged<'a>;
-
-    ghost stage = { λ stages. terra_stage (items_of stages.tree.now) };
-
-    ghost ends_follow = { λ stages question asked now end kept paid. ends_follow end };
-
-    ghost keeps_self = { keeps_itself };
-
-    ghost keeps_on = { keeps_then };
-
-    fn start(&self, alloc: Global, question: Task) -> Staged<'a> {
-        match question {
+    /// The layer of a task, which is to begin.
+    pub fn start(&self, alloc: Global, task: Task) -> Staged<'a>
+        ensures means { (first : StageGiven) (later : List StageGiven) →
+            staged_rest result first later ≡ task_meaning (items_of self.now.tree.now) task first later }
+        ensures fits { (s : State StageState) → StagedFits result (at LuaAnswer.Go s) }
+    {
+        match task {
             Task::Evaluate(job) => Staged::Lua(Lua::start(alloc, self.tree, self.slots, job)),
             Task::Specialise(node, env) => {
                 Staged::Spec(Spec::start(alloc, self.tree, self.slots, node, env))
             }
             Task::Library(call) => Staged::Library(Library::new(call)),
             Task::TypeText(of, place) => Staged::TypeText(of, place),
-        }
-    }
-
-    fn go(&self) -> LuaAnswer {
-        LuaAnswer::Go
-    }
-
-    fn answer(&self, end: LuaEnd) -> LuaAnswer {
-        match end {
-            LuaEnd::Done(values) => LuaAnswer::Values(values),
-            LuaEnd::Raised(value, place) => LuaAnswer::Raise(value, place),
         }
     }
 }

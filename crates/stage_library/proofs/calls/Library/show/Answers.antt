@@ -14,7 +14,3 @@ returns-in-Raise-clause-reads_no_more c = λ s later.
 pub returns-in-Spent-clause-reads_no_more : goal.returns-in-Spent-clause-reads_no_more
 returns-in-Spent-clause-reads_no_more c = λ s later.
     rw c.in-Spent.is (spent_alone c.args.self.now.call.place s later)
-
-pub returns-clause-reads_no_more : goal.returns-clause-reads_no_more
-returns-clause-reads_no_more c = λ s later.
-    ended_alone c.args.self.now.call.place c.args.turn s (Done c.new.result) later (search rules)

@@ -9,7 +9,7 @@ use Rattle.lua_eval.specs.Rest.{lua_rest}
 use Rattle.spec_model.specs.Meaning.{spec}
 use Rattle.spec_machine.specs.Rest.{spec_rest}
 use Rattle.terra_stage.specs.Layers.{lua_fitting, spec_fitting}
-use Rattle.terra_stage.proofs.staged.TerraStageStages.start.Goals as goal
+use Rattle.terra_stage.proofs.staged.TerraStage.start.Goals as goal
 
 -- each layer means what its task does, and begins with `Go`
 pub returns-in-Evaluate-clause-means : goal.returns-in-Evaluate-clause-means

@@ -1,6 +1,0 @@
--- The promise: the outcome of a source's staging.
-pub mod Staging
--- The layers as one stage.
-pub mod Layers
--- Calls of functions of the library.
-pub mod Library

@@ -1,8 +1,0 @@
-use Rattle.std.proofs.Common.{refl}
-use Rattle.exotype.specs.contracts.world.World.{the_view}
-use Rattle.terra_lib.proofs.Kept.{heap_on}
-use Rattle.terra_lib.proofs.answers.not_built.Goals as goal
-
-pub returns-clause-kept : goal.returns-clause-kept
-returns-clause-kept c =
-    heap_on c.raise.result _ (the_view c.world.inside) _ c.world.view_is refl c.raise.ensures.kept
