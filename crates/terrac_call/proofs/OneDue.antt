@@ -16,7 +16,7 @@ use Rattle.rv_machine.proofs.ImageRuns.{one_run}
 use Rattle.terrac_call.specs.declared.status.ImageFault.TheVariants.{Refused}
 use Rattle.terrac_call.specs.Words.{Call, Limits, Job, Run, Emit, Exec, Check, Terms, Gen, job_of}
 use Rattle.terrac_call.specs.Arguments.{Arguments, Good, Bad, arguments_of}
-use Rattle.terrac_call.specs.Due.{Due, Reading, IsRefused, IsTree, after, noting}
+use Rattle.terrac_call.specs.Due.{Due, Reading, IsReadingDue, IsRefused, IsTree, after, noting}
 use Rattle.terrac_call.specs.Exec.{Manner, plain, shown_file, due_of_bad_image, due_of_stop, IsRunDue, IsCallDue, IsExecDue, IsLong}
 use Rattle.terrac_call.specs.Exec.{IsBad, IsImage}
 use Rattle.terrac_call.specs.Staged.{bytes_of}
@@ -79,8 +79,8 @@ one_ending settled items place mode n m units memory one other p q =
     ∙ settled items place mode m (n + m) units memory other q (omega arith) in
     cc
 
-one_of_check : Settled → (limits : Limits) (reading : Reading) (one other : Due) → checks.IsReadingDue limits reading one
-    → checks.IsReadingDue limits reading other → one ≡ other
+one_of_check : Settled → (limits : Limits) (reading : Reading) (one other : Due) → IsReadingDue (checks.IsTreeDue limits) reading one
+    → IsReadingDue (checks.IsTreeDue limits) reading other → one ≡ other
 one_of_check settled limits (IsRefused kind place) one other p q = p ∙ sym q
 one_of_check settled limits (IsTree tree finish) one other p q =
     p.is
@@ -88,8 +88,8 @@ one_of_check settled limits (IsTree tree finish) one other p q =
     (one_ending settled (lay tree []) finish CheckAll p.n q.n limits.budget (bytes_of limits.memory) p.ending q.ending p.comes q.comes)
     ∙ sym q.is
 
-one_of_terms : Settled → (limits : Limits) (reading : Reading) (one other : Due) → terms.IsReadingDue limits reading one
-    → terms.IsReadingDue limits reading other → one ≡ other
+one_of_terms : Settled → (limits : Limits) (reading : Reading) (one other : Due) → IsReadingDue (terms.IsTreeDue limits) reading one
+    → IsReadingDue (terms.IsTreeDue limits) reading other → one ≡ other
 one_of_terms settled limits (IsRefused kind place) one other p q = p ∙ sym q
 one_of_terms settled limits (IsTree tree finish) one other p q =
     p.is
@@ -106,10 +106,10 @@ one_of_job settled (Some (Gen count running)) bytes one other none p q = absurd 
 one_of_job settled (Some (Exec call steps)) bytes one other none p q = one_of_exec call steps bytes one other p q
 one_of_job settled (Some (Check limits)) bytes one other none p q =
     one_of_check settled limits p.0 one other p.2
-    (subst (λ (r : Reading). checks.IsReadingDue limits r other) (one_reading bytes q.0 p.0 q.1 p.1) q.2)
+    (subst (λ (r : Reading). IsReadingDue (checks.IsTreeDue limits) r other) (one_reading bytes q.0 p.0 q.1 p.1) q.2)
 one_of_job settled (Some (Terms limits)) bytes one other none p q =
     one_of_terms settled limits p.0 one other p.2
-    (subst (λ (r : Reading). terms.IsReadingDue limits r other) (one_reading bytes q.0 p.0 q.1 p.1) q.2)
+    (subst (λ (r : Reading). IsReadingDue (terms.IsTreeDue limits) r other) (one_reading bytes q.0 p.0 q.1 p.1) q.2)
 
 pub one_due : Settled → OneDue
 one_due settled words bytes one other none p q = one_of_job settled (job_of words) bytes one other none p q

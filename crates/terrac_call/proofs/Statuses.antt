@@ -12,7 +12,7 @@ use Rattle.terrac_call.specs.declared.status.Status.{Status}
 use Rattle.terrac_call.specs.declared.status.Status.TheVariants as statuses
 use Rattle.terrac_call.specs.Words.{Call, Limits, Job, Run, Emit, Exec, Check, Terms, Gen}
 use Rattle.terrac_call.specs.Arguments.{Arguments, Good, Bad, arguments_of}
-use Rattle.terrac_call.specs.Due.{Due, Reading, IsRefused, IsTree}
+use Rattle.terrac_call.specs.Due.{Due, Reading, IsReadingDue, IsRefused, IsTree}
 use Rattle.terrac_call.specs.Exec.{Manner, due_of_stop, plain, IsRunDue, IsCallDue, IsExecDue, IsLong, IsBad, IsImage}
 use Rattle.terrac_call.specs.Staged.{due_of_end}
 use Rattle.exotype.specs.World.{StageState}
@@ -74,11 +74,11 @@ of_ending Done lines = refl
 of_ending (Raised text place) lines = refl
 of_ending Spent lines = refl
 
-of_check : (limits : Limits) (reading : Reading) (due : Due) → checks.IsReadingDue limits reading due → EndsJob due
+of_check : (limits : Limits) (reading : Reading) (due : Due) → IsReadingDue (checks.IsTreeDue limits) reading due → EndsJob due
 of_check limits (IsRefused kind place) due is = as_that due _ is refl
 of_check limits (IsTree tree finish) due is = as_that due _ is.is (of_ending is.ending.end _)
 
-of_terms : (limits : Limits) (reading : Reading) (due : Due) → terms.IsReadingDue limits reading due → EndsJob due
+of_terms : (limits : Limits) (reading : Reading) (due : Due) → IsReadingDue (terms.IsTreeDue limits) reading due → EndsJob due
 of_terms limits (IsRefused kind place) due is = as_that due _ is refl
 of_terms limits (IsTree tree finish) due is = as_that due _ is.is (of_ending is.ending.end _)
 
@@ -87,7 +87,7 @@ of_end_run it w Done due is = of_call is.image it.call _ (symbol_named it.call.e
 of_end_run it w (Raised text place) due is = as_that due _ is refl
 of_end_run it w Spent due is = as_that due _ is refl
 
-of_run_reading : (it : runs.Asking) (reading : Reading) (due : Due) → runs.IsReadingDue it reading due → EndsJob due
+of_run_reading : (it : runs.Asking) (reading : Reading) (due : Due) → IsReadingDue (runs.IsTreeDue it) reading due → EndsJob due
 of_run_reading it (IsRefused kind place) due is = as_that due _ is refl
 of_run_reading it (IsTree tree finish) due is =
     as_that due _ is.is_due.is (of_end_run it is.ending.left.world.stage is.ending.end is.is_due.rest is.is_due.rest_is)
@@ -97,7 +97,7 @@ of_end_emit limits w Done due is = as_that due _ is.is refl
 of_end_emit limits w (Raised text place) due is = as_that due _ is refl
 of_end_emit limits w Spent due is = as_that due _ is refl
 
-of_emit_reading : (limits : Limits) (reading : Reading) (due : Due) → emits.IsReadingDue limits reading due → EndsJob due
+of_emit_reading : (limits : Limits) (reading : Reading) (due : Due) → IsReadingDue (emits.IsTreeDue limits) reading due → EndsJob due
 of_emit_reading limits (IsRefused kind place) due is = as_that due _ is refl
 of_emit_reading limits (IsTree tree finish) due is =
     as_that due _ is.is_due.is (of_end_emit limits is.ending.left.world.stage is.ending.end is.is_due.rest is.is_due.rest_is)

@@ -1,14 +1,13 @@
 -- What is due for `check`: a source is staged with a budget and a memory, and each function that is defined is checked.
 -- What was printed is told, and then a line for each check, or how the staging ended.
-use Rattle.std.specs.Prelude.{ℕ, ◌≡◌, List, [], Some}
+use Rattle.std.specs.Prelude.{ℕ, ◌≡◌, List, Some}
 use Rattle.tl_base.specs.declared.place.Place.{Place}
 use Rattle.tl_tree.specs.Code.{Items}
-use Rattle.tl_tree.specs.Nodes.{lay}
 use Rattle.check_stage.specs.declared.staging.Mode.TheVariants.{CheckAll}
 use Rattle.check_stage.specs.Staging.{Ending, outcome}
 use Rattle.check_stage.specs.Texts.{checks_text}
 use Rattle.terrac_call.specs.Words.{Limits}
-use Rattle.terrac_call.specs.Due.{Due, due_of_syntax, Reading, IsRefused, IsTree, IsReadAs}
+use Rattle.terrac_call.specs.Due.{Due, IsDueOfSource}
 use Rattle.terrac_call.specs.Staged.{bytes_of, due_of_staging}
 
 -- for what a staging comes to, with the lines of its checks
@@ -23,11 +22,6 @@ pub record IsTreeDue (limits : Limits) (items : Items) (finish : Place) (due : D
   pub comes : outcome items finish CheckAll n limits.budget (bytes_of limits.memory) ≡ Some ending
   pub is : due ≡ due_of_ending ending
 
--- for a source that reads so
-abbrev pub IsReadingDue : Limits → Reading → Due → Type 0
-IsReadingDue limits (IsRefused kind place) due = due ≡ due_of_syntax kind place
-IsReadingDue limits (IsTree tree finish) due = IsTreeDue limits (lay tree []) finish due
-
 -- for the bytes of a source
 abbrev pub IsCheckDue : Limits → List ℕ → Due → Type 0
-IsCheckDue limits bytes due = (reading : Reading) × IsReadAs bytes reading × IsReadingDue limits reading due
+IsCheckDue limits bytes due = IsDueOfSource (IsTreeDue limits) bytes due

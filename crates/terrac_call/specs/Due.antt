@@ -1,5 +1,5 @@
 -- What is due to the caller: the status, and what `out` and `notes` take.
-use Rattle.std.specs.Prelude.{ℕ, ◌<◌, ◌≤◌, List, [], ◌∷◌, ◌++◌, length, codes}
+use Rattle.std.specs.Prelude.{ℕ, ◌≡◌, ◌<◌, ◌≤◌, List, [], ◌∷◌, ◌++◌, length, codes}
 use Rattle.std.specs.declared.io.ErrorKind.{ErrorKind}
 use Rattle.std.specs.declared.io.ErrorKind.TheVariants.{OutOfMemory}
 use Rattle.std.specs.Str.{IsUtf8}
@@ -7,6 +7,8 @@ use Rattle.tl_base.specs.declared.place.Place.{Place}
 use Rattle.tl_lex.specs.declared.TheConstants.{LONGEST_TEXT}
 use Rattle.tl_lex.specs.declared.SyntaxKind.{SyntaxKind}
 use Rattle.tl_lex.specs.declared.SyntaxKind.TheVariants.{TooLong, NotUtf8}
+use Rattle.tl_tree.specs.Code.{Items}
+use Rattle.tl_tree.specs.Nodes.{lay}
 use Rattle.tl_tree.specs.Tree.{Tree}
 use Rattle.tl_tree.specs.Texts.{Reads, Refuses}
 use Rattle.tl_tree.specs.Tokens.{finish_of}
@@ -94,6 +96,15 @@ pub data IsReadAs (source : List ℕ) : Reading → Type 0 where
 -- for a source that is refused
 abbrev pub due_of_syntax : SyntaxKind → Place → Due
 due_of_syntax kind place = refused (statuses.Syntax kind place)
+
+-- for a source that reads so, by what is due for a tree of nodes whose text ends at a place
+abbrev pub IsReadingDue : (Items → Place → Due → Type 0) → Reading → Due → Type 0
+IsReadingDue IsTreeDue (IsRefused kind place) due = due ≡ due_of_syntax kind place
+IsReadingDue IsTreeDue (IsTree tree finish) due = IsTreeDue (lay tree []) finish due
+
+-- for the bytes of a source
+abbrev pub IsDueOfSource : (Items → Place → Due → Type 0) → List ℕ → Due → Type 0
+IsDueOfSource IsTreeDue bytes due = (reading : Reading) × IsReadAs bytes reading × IsReadingDue IsTreeDue reading due
 
 -- for words that could not be collected: memory ran out, or a word is no UTF-8, which names nothing
 abbrev pub due_of_unread : ErrorKind → Due

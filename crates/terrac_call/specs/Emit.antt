@@ -3,7 +3,6 @@
 use Rattle.std.specs.Prelude.{ℕ, ◌≡◌, List, [], Some}
 use Rattle.tl_base.specs.declared.place.Place.{Place}
 use Rattle.tl_tree.specs.Code.{Items}
-use Rattle.tl_tree.specs.Nodes.{lay}
 use Rattle.elf_image.specs.declared.image.Image.{Image}
 use Rattle.elf_image.specs.Written as files
 use Rattle.terra_term.specs.Stores.{contents_of}
@@ -14,7 +13,7 @@ use Rattle.check_stage.specs.declared.staging.Mode.TheVariants.{Exports}
 use Rattle.check_stage.specs.Staging.{Ending, outcome}
 use Rattle.back_end.specs.Compiled.{IsCompiled}
 use Rattle.terrac_call.specs.Words.{Limits}
-use Rattle.terrac_call.specs.Due.{Due, given, noting, due_of_syntax, Reading, IsRefused, IsTree, IsReadAs}
+use Rattle.terrac_call.specs.Due.{Due, given, noting, IsDueOfSource}
 use Rattle.terrac_call.specs.Staged.{bytes_of, units_of, due_of_end}
 
 -- the file of an image that compiling may give of the exports
@@ -41,11 +40,6 @@ pub record IsTreeDue (limits : Limits) (items : Items) (finish : Place) (due : D
   pub comes : outcome items finish Exports n (units_of limits.budget) (bytes_of limits.memory) ≡ Some ending
   pub is_due : IsPrintedDue limits ending.left.world.stage ending.end ending.left.world.stage.heap.printed due
 
--- for a source that reads so
-abbrev pub IsReadingDue : Limits → Reading → Due → Type 0
-IsReadingDue limits (IsRefused kind place) due = due ≡ due_of_syntax kind place
-IsReadingDue limits (IsTree tree finish) due = IsTreeDue limits (lay tree []) finish due
-
 -- for the bytes of a source
 abbrev pub IsEmitDue : Limits → List ℕ → Due → Type 0
-IsEmitDue limits bytes due = (reading : Reading) × IsReadAs bytes reading × IsReadingDue limits reading due
+IsEmitDue limits bytes due = IsDueOfSource (IsTreeDue limits) bytes due

@@ -4,7 +4,6 @@ use Rattle.std.specs.Prelude.{ℕ, ◌≡◌, ◌++◌, List, [], Option, Some, 
 use Rattle.std.specs.Fmt.{decimal}
 use Rattle.tl_base.specs.declared.place.Place.{Place}
 use Rattle.tl_tree.specs.Code.{Items}
-use Rattle.tl_tree.specs.Nodes.{lay}
 use Rattle.elf_image.specs.declared.image.Image.{Image}
 use Rattle.elf_image.specs.Calls.{symbol_named}
 use Rattle.terra_term.specs.Stores.{contents_of}
@@ -16,8 +15,8 @@ use Rattle.check_stage.specs.declared.staging.Mode.TheVariants.{Exports}
 use Rattle.check_stage.specs.Staging.{Ending, outcome}
 use Rattle.back_end.specs.Compiled.{IsCompiled}
 use Rattle.stage_image.specs.Emitted.{defined_count}
-use Rattle.terrac_call.specs.Words.{Call, Limits, Running}
-use Rattle.terrac_call.specs.Due.{Due, after, due_of_syntax, Reading, IsRefused, IsTree, IsReadAs}
+use Rattle.terrac_call.specs.Words.{Call, Running}
+use Rattle.terrac_call.specs.Due.{Due, after, IsDueOfSource}
 use Rattle.terrac_call.specs.Staged.{bytes_of, units_of, due_of_end}
 use Rattle.terrac_call.specs.Exec.{Manner, IsCallDue}
 
@@ -67,11 +66,6 @@ pub record IsTreeDue (it : Asking) (items : Items) (finish : Place) (due : Due) 
   pub comes : outcome items finish Exports n (units_of it.running.limits.budget) (bytes_of it.running.limits.memory) ≡ Some ending
   pub is_due : IsPrintedDue it ending.left.world.stage ending.end ending.left.world.stage.heap.printed due
 
--- for a source that reads so
-abbrev pub IsReadingDue : Asking → Reading → Due → Type 0
-IsReadingDue it (IsRefused kind place) due = due ≡ due_of_syntax kind place
-IsReadingDue it (IsTree tree finish) due = IsTreeDue it (lay tree []) finish due
-
 -- for the bytes of a source
 abbrev pub IsSourceDue : Asking → List ℕ → Due → Type 0
-IsSourceDue it bytes due = (reading : Reading) × IsReadAs bytes reading × IsReadingDue it reading due
+IsSourceDue it bytes due = IsDueOfSource (IsTreeDue it) bytes due

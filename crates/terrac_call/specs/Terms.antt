@@ -1,14 +1,13 @@
 -- What is due for `terms`: a source is staged with a budget and a memory, and its exports are made. What was printed is
 -- told, and then the exports with their terms, or how the staging ended.
-use Rattle.std.specs.Prelude.{ℕ, ◌≡◌, List, [], Some}
+use Rattle.std.specs.Prelude.{ℕ, ◌≡◌, List, Some}
 use Rattle.tl_base.specs.declared.place.Place.{Place}
 use Rattle.tl_tree.specs.Code.{Items}
-use Rattle.tl_tree.specs.Nodes.{lay}
 use Rattle.stage_text.specs.Terms.{terms_text}
 use Rattle.check_stage.specs.declared.staging.Mode.TheVariants.{Exports}
 use Rattle.check_stage.specs.Staging.{Ending, outcome}
 use Rattle.terrac_call.specs.Words.{Limits}
-use Rattle.terrac_call.specs.Due.{Due, due_of_syntax, Reading, IsRefused, IsTree, IsReadAs}
+use Rattle.terrac_call.specs.Due.{Due, IsDueOfSource}
 use Rattle.terrac_call.specs.Staged.{bytes_of, due_of_staging}
 
 -- for what a staging comes to, with the lines of the exports and of their terms
@@ -24,11 +23,6 @@ pub record IsTreeDue (limits : Limits) (items : Items) (finish : Place) (due : D
   pub comes : outcome items finish Exports n limits.budget (bytes_of limits.memory) ≡ Some ending
   pub is : due ≡ due_of_ending ending
 
--- for a source that reads so
-abbrev pub IsReadingDue : Limits → Reading → Due → Type 0
-IsReadingDue limits (IsRefused kind place) due = due ≡ due_of_syntax kind place
-IsReadingDue limits (IsTree tree finish) due = IsTreeDue limits (lay tree []) finish due
-
 -- for the bytes of a source
 abbrev pub IsTermsDue : Limits → List ℕ → Due → Type 0
-IsTermsDue limits bytes due = (reading : Reading) × IsReadAs bytes reading × IsReadingDue limits reading due
+IsTermsDue limits bytes due = IsDueOfSource (IsTreeDue limits) bytes due
