@@ -6,13 +6,8 @@ use Rattle.std.proofs.lemmas.Result.{on_ok_weaker}
 use Rattle.tl_base.specs.declared.ids.FnId.{FnId}
 use Rattle.tl_base.specs.declared.ids.TextId.{TextId}
 use Rattle.tl_base.specs.declared.ids.TypeId.{TypeId}
-use Rattle.tl_base.specs.declared.place.Place.{Place}
 use Rattle.lua_table.specs.Keeping.{IsFront, KeepsHeap}
 use Rattle.lua_table.proofs.Keeping as heaps
-use Rattle.terra_types.specs.declared.layout.Layout.{Layout}
-use Rattle.terra_types.specs.declared.types.TypeForm.{TypeForm}
-use Rattle.terra_types.specs.declared.types.TypeForm.TheVariants as forms
-use Rattle.terra_types.specs.Keeping.{KeepsForm, KeepsTypes}
 use Rattle.terra_term.specs.Held.{Held, state_of, room_for, next_static, with_static}
 use Rattle.terra_term.specs.Keeping.{Stays, AllStay}
 use Rattle.terra_term.proofs.Staying.{stays-same}
@@ -62,33 +57,6 @@ stays_defined a b k f = subst (λ (s : Held). Stays (state_of a.store f) (state_
 
 -- ---- one change and the next
 
-laid_then : (n : ℕ) (p : Place) (layout : Option Layout) (new : TypeForm) → KeepsForm (forms.Struct n p layout) new
-    → (l : Option Layout) × (new ≡ forms.Struct n p l)
-laid_then n p None new h = h
-laid_then n p (Some l) new h = (Some l, h)
-
-form_then : (a b c : TypeForm) → KeepsForm a b → KeepsForm b c → KeepsForm a c
-form_then (forms.Integer i) b c f g = subst (λ (x : TypeForm). KeepsForm x c) f g
-form_then forms.Bool b c f g = subst (λ (x : TypeForm). KeepsForm x c) f g
-form_then forms.Unit b c f g = subst (λ (x : TypeForm). KeepsForm x c) f g
-form_then (forms.Pointer t) b c f g = subst (λ (x : TypeForm). KeepsForm x c) f g
-form_then (forms.Array t n) b c f g = subst (λ (x : TypeForm). KeepsForm x c) f g
-form_then (forms.Function ps r) b c f g = subst (λ (x : TypeForm). KeepsForm x c) f g
-form_then (forms.Struct n p None) b c f g = laid_then n p f.0 c (subst (λ (x : TypeForm). KeepsForm x c) f.1 g)
-form_then (forms.Struct n p (Some l)) b c f g = subst (λ (x : TypeForm). KeepsForm x c) f g
-
-types_then : (a b c : List TypeForm) → KeepsTypes a b → KeepsTypes b c → KeepsTypes a c
-types_then a b c f g i form at =
-    let first = f i form at in
-    let later = g i first.0 first.1.0 in
-    (later.0, (later.1.0, form_then form first.0 later.0 first.1.1 later.1.1))
-
-exports_then : (a b c : ExportState) → KeepsExports a b → KeepsExports b c → KeepsExports a c
-exports_then a b c f g = record {
-  list = heaps.front_then a.list b.list c.list f.list g.list;
-  saved = λ h. g.saved (f.saved h);
-}
-
 store_then : (a b c : Held)
     → b ≡ record a { types = b.types; symbols = b.symbols; globals = b.globals; constants = b.constants; statics = b.statics }
     → c ≡ record b { types = c.types; symbols = c.symbols; globals = c.globals; constants = c.constants; statics = c.statics }
@@ -105,14 +73,14 @@ pub keeps_then : (a b c : StageState) → KeepsAsked a b → KeepsAsked b c → 
 keeps_then a b c f g = record {
   heap = heaps.keeps_then a.heap b.heap c.heap f.heap g.heap;
   store = store_then a.store b.store c.store f.store g.store;
-  types = types_then a.store.types b.store.types c.store.types f.types g.types;
+  types = library.types_then a.store.types b.store.types c.store.types f.types g.types;
   symbols = heaps.front_then a.store.symbols b.store.symbols c.store.symbols f.symbols g.symbols;
   globals = heaps.front_then a.store.globals b.store.globals c.store.globals f.globals g.globals;
   constants = heaps.front_then a.store.constants b.store.constants c.store.constants f.constants g.constants;
   statics = heaps.front_then a.store.statics b.store.statics c.store.statics f.statics g.statics;
   structs = heaps.front_then a.kept.structs b.kept.structs c.kept.structs f.structs g.structs;
   properties = g.properties ∙ f.properties;
-  exports = exports_then a.exports b.exports c.exports f.exports g.exports;
+  exports = library.exports_then a.exports b.exports c.exports f.exports g.exports;
   memory = g.memory ∙ f.memory;
 }
 

@@ -10,6 +10,7 @@ use Rattle.terra_term.specs.Keeping.{AllStay}
 use Rattle.terra_term.proofs.Staying.{stays-same}
 use Rattle.exotype.specs.World.{StageState, KeptState, ExportState}
 use Rattle.terra_lib.specs.Keeping.{KeepsExports}
+use Rattle.terra_lib.proofs.Kept.{exports_stay}
 use Rattle.stage_library.specs.Keeping.{KeepsStaging}
 use Rattle.stage_library.proofs.Keeping as stagings
 use Rattle.check_model.specs.Typing.{TypingState}
@@ -30,7 +31,7 @@ same_heap : (old new : LuaState) → new ≡ old → KeepsHeap old new
 same_heap old new same = subst (KeepsHeap old) (sym same) (heaps.keeps_itself old)
 
 same_exports : (old new : ExportState) → new ≡ old → KeepsExports old new
-same_exports old new same = subst (KeepsExports old) (sym same) (stagings.exports_stay old)
+same_exports old new same = subst (KeepsExports old) (sym same) (exports_stay old)
 
 same_structs : (old new : KeptState) → new ≡ old → IsFront old.structs new.structs
 same_structs old new same = subst (λ (k : KeptState). IsFront old.structs k.structs) (sym same) (heaps.front_self old.structs)

@@ -3,7 +3,7 @@ use Rattle.std.proofs.Common.{◌≡◌, ℕ, zero, suc, ◌+◌, ◌-◌, ◌*�
 use Rattle.std.proofs.Common.{append_assoc, refl, sym, ap, ◌∙◌, subst, arith}
 use Rattle.std.specs.Prelude.{get_or, map, nat_lt}
 use Rattle.std.specs.List.{list_all}
-use Rattle.std.proofs.lemmas.List.{drop-drop, drop_more, length-append, length-map}
+use Rattle.std.proofs.lemmas.List.{drop-drop, length-append, length-map}
 use Rattle.tl_base.specs.declared.ids.FnId.{FnId}
 use Rattle.rv_isa.specs.declared.instr.Instr.{Instr}
 use Rattle.rv_isa.specs.Table.{word_of}
@@ -18,16 +18,13 @@ use Rattle.rv_select.specs.declared.selected.Call.{Call as Site}
 use Rattle.rv_select.specs.Places.{Layout, frame_bytes, layout_of}
 use Rattle.rv_select.specs.Entering.{begun, entered, left, received, words_offset}
 use Rattle.rv_select.specs.Calls.{IsSelected, body_code, call_jump, function_calls, function_code, head_code}
+use Rattle.rv_select.proofs.Loops.{drop-item}
 use Rattle.rv_select.proofs.Stands.{both-true}
 use Rattle.rv_link.specs.declared.function.Function.{Function}
 use Rattle.rv_link.specs.Filling.{AreIn, entry_in, filled, words_in}
 use Rattle.rv_link.specs.Linked.{AreSelected, AreThere, block_there, blocks_there, exit_there, function_words, places_of, text_from}
 use Rattle.rv_link.proofs.Fills.{FilledFunction, fill-function}
 use Rattle.rv_link.proofs.Links.{entries-are, selected-length}
-
--- the item at which a loop stands
-pub drop-item : {X : Type 0} (xs : List X) (i : ℕ) (x : X) → x ≡ get_or xs i x → i < length xs → drop i xs ≡ x ∷ drop (i + 1) xs
-drop-item xs i x e h = drop_more xs i x h ∙ ap (λ y. y ∷ drop (i + 1) xs) (sym e)
 
 -- calls enter a function within its words
 pub entry-within : (x : Function) → IsSelected x.tac x.homes x.code → x.code.entry ≤ length x.code.words.items

@@ -34,7 +34,8 @@ use Rattle.rv_select.specs.Waiting.{Arrives, Image, IsLinked, IsPlaced, Stepped,
 use Rattle.rv_select.specs.Whole.{EntriesAreCarried, Starts, before_entry}
 use Rattle.rv_select.proofs.Arrivals.{InFunction, begin-holds, link-after}
 use Rattle.rv_select.proofs.Bytes.{stored-word}
-use Rattle.rv_select.proofs.Calling.{first-start, fresh_call, takes-is, widen}
+use Rattle.rv_select.proofs.Amounts.{top-is}
+use Rattle.rv_select.proofs.Calling.{first-start, fresh_call, slice-below, takes-is, widen}
 use Rattle.rv_select.proofs.Carries.{by-test, place-small}
 use Rattle.rv_select.proofs.Areas.{Saves}
 use Rattle.rv_select.proofs.Entrances.{functions-entered}
@@ -274,10 +275,6 @@ bytes-least h a q = omega arith
 args-room : (base h a q : ℕ) → 8 * 11 + 8 * h + 128 * a + 8 * q ≤ base → 8 * q ≤ base
 args-room base h a q g = omega (arith, g)
 
-top-is : (base h a q : ℕ) → 8 * 11 + 8 * h + 128 * a + 8 * q ≤ base →
-    base - (8 * 11 + 8 * h + 128 * a + 8 * q) + (8 * 11 + 8 * h + 128 * a + 8 * q) + 8 * 0 ≡ base
-top-is base h a q g = omega (arith, g)
-
 word-high : (base h a q k : ℕ) → 8 * 11 + 8 * h + 128 * a + 8 * q ≤ base → k < q →
     base - (8 * 11 + 8 * h + 128 * a + 8 * q) + 88 ≤ base - 8 * (0 + k + 1)
 word-high base h a q k g l = omega (arith, g, l)
@@ -323,11 +320,6 @@ steps-full k n q h = omega (arith, h)
 
 steps-in : (k a b n q : ℕ) → k ≤ n → a ≤ 36 → b ≤ q → k + a + b ≤ n + 36 + q
 steps-in k a b n q h g e = omega (arith, h, g, e)
-
-slice-below : {A : Type 0} (xs : List A) (k : ℕ) (x : A) → slice_get xs k ≡ Some x → k < length xs
-slice-below [] k x e = cc
-slice-below (y ∷ xs) zero x e = omega arith
-slice-below (y ∷ xs) (suc k) x e = omega (arith, slice-below xs k x e)
 
 not-lt : (a b : ℕ) → nat_lt a b ≡ false → b ≤ a
 not-lt a b e = ⊎_elim (λ l. let t : nat_lt a b ≡ true = lt-ltb a b l in let no : true ≡ false = sym t ∙ e in cc) (λ l. l) (cases_lt a b)

@@ -334,7 +334,7 @@ lands p image program most size bound linked s base m x block to place f argumen
           };
         }
 
-slice-below : {A : Type 0} (xs : List A) (k : ℕ) (x : A) → slice_get xs k ≡ Some x → k < length xs
+pub slice-below : {A : Type 0} (xs : List A) (k : ℕ) (x : A) → slice_get xs k ≡ Some x → k < length xs
 slice-below [] k x e = cc
 slice-below (y ∷ xs) zero x e = omega arith
 slice-below (y ∷ xs) (suc k) x e = omega (arith, slice-below xs k x e)

@@ -26,7 +26,7 @@ use Rattle.rv_select.proofs.Bytes.{other-than-word, private-place, stored-length
 use Rattle.rv_select.proofs.Numbers.{immediate-is, register-is}
 use Rattle.rv_select.proofs.Straight.{behind-both, goes-both, low-first, low-here, register-value, written-elsewhere, written-there}
 use Rattle.rv_select.proofs.Words.{low-are-bytes, overwritten-bytes}
-use Rattle.rv_select.proofs.Homes.{word_stored}
+use Rattle.rv_select.proofs.Homes.{frame-sum, word_stored}
 
 -- a store of a word in private memory, and a load
 pub store-word : (m : State) (a r : Register) (far : Immediate) (at v : ℕ) → low (value_at m a + word far.value) ≡ 2 ^ 32 + at → value_at m r ≡ v →
@@ -50,10 +50,6 @@ word-stored xs at x h =
 low-is-small : (q : ℕ) → low q < 2 ^ 64
 unfolding low
 low-is-small q = omega arith
-
-frame-sum : (x base offset size : ℕ) → x ≡ 2 ^ 32 + base → base + offset + 8 ≤ size → size ≤ 603979776 → low (x + offset) ≡ 2 ^ 32 + (base + offset)
-unfolding low
-frame-sum x base offset size e h k = omega arith
 
 -- Code that changes private memory alone, between two offsets.
 pub record Stored (code : List Instr) (first last : ℕ) (m after : State) : Type 0 where

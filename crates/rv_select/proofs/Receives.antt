@@ -43,17 +43,13 @@ use Rattle.rv_select.proofs.Granted.{asked-length, asked-own}
 use Rattle.rv_select.proofs.Lives.{housed}
 use Rattle.rv_select.proofs.Bytes.{private-place}
 use Rattle.rv_select.proofs.Frames.{framed-count, framed-loads, framed-some}
-use Rattle.rv_select.proofs.Homes.{region-small}
+use Rattle.rv_select.proofs.Homes.{frame-sum, region-small}
 use Rattle.rv_select.proofs.Moves.{fewer-holds, keeps-both, near-keeps, scratch-holds, straight-put, unused-holds}
 use Rattle.rv_select.proofs.Stands.{both-true}
 use Rattle.rv_select.proofs.Straight.{Loads, Scratch, behind-both, loads-five}
 use Rattle.rv_select.proofs.Transports.{later-comes}
 use Rattle.rv_select.proofs.Worded.{AreBelow, AreOwn, neither}
 use Rattle.rv_select.proofs.Ways.{Way, near-same, scratch-near, stands-back, stands-front, straight-way, way-both, way-none}
-
-frame-sum : (x base offset size : ℕ) → x ≡ 2 ^ 32 + base → base + offset + 8 ≤ size → size ≤ 603979776 → low (x + offset) ≡ 2 ^ 32 + (base + offset)
-unfolding low
-frame-sum x base offset size e h k = omega arith
 
 -- a word of private memory at an offset of the frame
 pub word-loads : (base offset : ℕ) (m : State) → m.pc < 2 ^ 64 → m.registers 2 ≡ 2 ^ 32 + base → base + offset + 8 ≤ length m.private → length m.private ≤ 603979776 → length m.region ≤ 67108864 →

@@ -1,53 +1,23 @@
 -- What is kept by nothing, by one turn and the next, and by each layer.
-use Rattle.std.proofs.Common.{◌≡◌, ◌++◌, List, Option, Some, None, refl, sym, ◌∙◌, ap, subst}
-use Rattle.std.specs.Prelude.{ℕ, slice_get, Result, Ok, Err, OnOk}
+use Rattle.std.proofs.Common.{◌≡◌, List, refl, sym, ◌∙◌, ap, subst}
+use Rattle.std.specs.Prelude.{slice_get, Result, OnOk}
 use Rattle.std.proofs.lemmas.Result.{on_ok_weaker}
 use Rattle.std.proofs.lemmas.Option.{slice_get_within}
-use Rattle.tl_base.specs.declared.place.Place.{Place}
 use Rattle.lua_table.specs.LuaState.{LuaState}
 use Rattle.lua_table.specs.Keeping.{IsFront, KeepsHeap}
 use Rattle.lua_table.proofs.Keeping as heaps
-use Rattle.terra_types.specs.declared.layout.Layout.{Layout}
 use Rattle.terra_types.specs.declared.types.TypeForm.{TypeForm}
-use Rattle.terra_types.specs.declared.types.TypeForm.TheVariants as forms
-use Rattle.terra_types.specs.Keeping.{KeepsForm, KeepsTypes}
+use Rattle.terra_types.specs.Keeping.{KeepsTypes}
 use Rattle.terra_types.proofs.Growing.{get-left}
 use Rattle.terra_term.specs.Held.{Held, state_of}
 use Rattle.terra_term.specs.Keeping.{AllStay}
 use Rattle.terra_term.proofs.Staying.{stays-same, stays-then}
-use Rattle.exotype.specs.World.{ExportState, StageState, with_heap}
-use Rattle.terra_lib.specs.Keeping.{KeepsExports, KeepsWorld}
+use Rattle.exotype.specs.World.{StageState, with_heap}
+use Rattle.terra_lib.specs.Keeping.{KeepsWorld}
+use Rattle.terra_lib.proofs.Kept.{form_stays, types_stay, types_then, exports_stay, exports_then}
 use Rattle.stage_library.specs.Keeping.{KeepsStaging}
 
 -- ---- types
-
-form_stays : (f : TypeForm) → KeepsForm f f
-form_stays (forms.Integer i) = refl
-form_stays forms.Bool = refl
-form_stays forms.Unit = refl
-form_stays (forms.Pointer t) = refl
-form_stays (forms.Array t n) = refl
-form_stays (forms.Function ps r) = refl
-form_stays (forms.Struct n p None) = (None, refl)
-form_stays (forms.Struct n p (Some l)) = refl
-
-laid_then : (n : ℕ) (p : Place) (layout : Option Layout) (new : TypeForm) → KeepsForm (forms.Struct n p layout) new
-    → (l : Option Layout) × (new ≡ forms.Struct n p l)
-laid_then n p None new h = h
-laid_then n p (Some l) new h = (Some l, h)
-
-form_then : (a b c : TypeForm) → KeepsForm a b → KeepsForm b c → KeepsForm a c
-form_then (forms.Integer i) b c f g = subst (λ (x : TypeForm). KeepsForm x c) f g
-form_then forms.Bool b c f g = subst (λ (x : TypeForm). KeepsForm x c) f g
-form_then forms.Unit b c f g = subst (λ (x : TypeForm). KeepsForm x c) f g
-form_then (forms.Pointer t) b c f g = subst (λ (x : TypeForm). KeepsForm x c) f g
-form_then (forms.Array t n) b c f g = subst (λ (x : TypeForm). KeepsForm x c) f g
-form_then (forms.Function ps r) b c f g = subst (λ (x : TypeForm). KeepsForm x c) f g
-form_then (forms.Struct n p None) b c f g = laid_then n p f.0 c (subst (λ (x : TypeForm). KeepsForm x c) f.1 g)
-form_then (forms.Struct n p (Some l)) b c f g = subst (λ (x : TypeForm). KeepsForm x c) f g
-
-types_stay : (types : List TypeForm) → KeepsTypes types types
-types_stay types i form at = (form, (at, form_stays form))
 
 pub types_front : (old new : List TypeForm) → IsFront old new → KeepsTypes old new
 types_front old new front i form at = (
@@ -58,23 +28,6 @@ types_front old new front i form at = (
     form_stays form,
   ),
 )
-
-types_then : (a b c : List TypeForm) → KeepsTypes a b → KeepsTypes b c → KeepsTypes a c
-types_then a b c f g i form at =
-    let first = f i form at in
-    let later = g i first.0 first.1.0 in
-    (later.0, (later.1.0, form_then form first.0 later.0 first.1.1 later.1.1))
-
--- ---- functions and exports
-
-pub exports_stay : (e : ExportState) → KeepsExports e e
-exports_stay e = record { list = heaps.front_self e.list; saved = λ h. h }
-
-exports_then : (a b c : ExportState) → KeepsExports a b → KeepsExports b c → KeepsExports a c
-exports_then a b c f g = record {
-  list = heaps.front_then a.list b.list c.list f.list g.list;
-  saved = λ h. g.saved (f.saved h);
-}
 
 -- ---- the world
 

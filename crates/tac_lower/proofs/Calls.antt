@@ -18,11 +18,12 @@ use Rattle.tac_form.specs.declared.tac.Destination.TheVariants as destinations
 use Rattle.tac_form.specs.declared.tac.Instruction.{Instruction}
 use Rattle.tac_form.specs.Flow as flow
 use Rattle.tac_form.specs.Flow.{Program, Activation, Caller, Moved, Goes, Stops, steps, act, area_size}
+use Rattle.tac_form.proofs.OneRun.{steps-add}
 use Rattle.tac_lower.specs.Items.{does}
 use Rattle.tac_lower.specs.Pieces.{Used, with_temp, with_area, Piece, Result, given, parts_of, Holders}
 use Rattle.tac_lower.specs.Lowering.{type_of_name, are_narrow, parameter_types}
 use Rattle.tac_lower.proofs.Places.{Point, step_on, DoesAt}
-use Rattle.tac_lower.proofs.Standing.{Setting, Private, stands, steps-add, one-step, Fine, Grown, Means, Comes, Leaves}
+use Rattle.tac_lower.proofs.Standing.{Setting, Private, stands, one-step, Fine, Grown, Means, Comes, Leaves}
 use Rattle.tac_lower.proofs.Simulates.{AllMean, whole}
 use Rattle.tac_lower.proofs.Writes.{put-same, put-below, with_word, with_bytes, holds-later, fresh-apart, grown-temp, grown-area, small-put}
 use Rattle.tac_lower.proofs.Loads.{area-size, is-value}

@@ -21,8 +21,8 @@ use Rattle.terra_term.specs.TypedTerms.{Element, Index, Address, Decay, Let, Exp
 use Rattle.terra_term.specs.Stores.{Contents}
 use Rattle.terra_term.specs.Events.{declares_all, declared_in}
 use Rattle.terra_term.specs.WellTyped as typing
-use Rattle.terra_term.specs.WellTyped.{Within, same, is_typed, are_typed, one_typed, all_typed, are_same, types_in, types_of_names}
-use Rattle.terra_term.specs.WellTyped.{with_names, after_one, after_all}
+use Rattle.terra_term.specs.WellTyped.{Within, same, is_typed, are_typed, are_same, types_in, types_of_names}
+use Rattle.terra_term.specs.WellTyped.{with_names}
 use Rattle.terra_meaning.specs.Values.{form_at, bytes_at, is_aggregate}
 use Rattle.terra_meaning.specs.Frames.{Home, home_at}
 use Rattle.terra_meaning.specs.Meaning.{Wanted, the_value, the_address, constant, types_of, in_list}
@@ -45,7 +45,7 @@ use Rattle.tac_lower.proofs.Writes.{grown-temp}
 use Rattle.tac_lower.proofs.Keeps.{sizes}
 use Rattle.tac_lower.proofs.Words.{value-small}
 use Rattle.tac_lower.proofs.Homes.{Homes}
-use Rattle.tac_lower.proofs.Typing.{no, three, four, five, same-id, same-ids, types-are, Asked}
+use Rattle.tac_lower.proofs.Typing.{no, three, four, five, same-id, same-ids, types-are, points-pointer, Asked}
 use Rattle.tac_lower.proofs.Needing.{boolean-is, constant-value}
 use Rattle.tac_lower.proofs.Fitting as fits
 use Rattle.tac_lower.proofs.FitsOperations as operations_fit
@@ -61,15 +61,6 @@ pointer-plain forms.Unit h = absurd (no h)
 pointer-plain (forms.Array t n) h = absurd (no h)
 pointer-plain (forms.Function ps r) h = absurd (no h)
 pointer-plain (forms.Struct n p l) h = absurd (no h)
-
-points-pointer : (f : TypeForm) (t : TypeId) → typing.points_in f t ≡ true → typing.pointer_form f ≡ true
-points-pointer (forms.Pointer s) t h = refl
-points-pointer (forms.Integer i) t h = absurd (no h)
-points-pointer forms.Bool t h = absurd (no h)
-points-pointer forms.Unit t h = absurd (no h)
-points-pointer (forms.Array s n) t h = absurd (no h)
-points-pointer (forms.Function ps r) t h = absurd (no h)
-points-pointer (forms.Struct n p l) t h = absurd (no h)
 
 pointer-few : (f : TypeForm) (n : ℕ) → typing.pointer_form f ≡ true → SizedBy f n → n ≤ 128
 pointer-few (forms.Pointer t) n h s = omega (arith, s)

@@ -1,6 +1,6 @@
 -- Code in a line, as the code has it: what is counted, changed and passed in it.
 use Rattle.std.proofs.Common.{◌≡◌, refl, sym, ap, ◌∙◌, ℕ, zero, suc, ◌+◌, ◌-◌, ◌<◌, ◌≤◌, Bool, List, [], ◌∷◌, ◌++◌, Option, Some, None, map}
-use Rattle.std.proofs.Common.{length, take, drop, get_or, set, slice_get, arith, zero-add, append_assoc, append-nil, drop-cons, take_all}
+use Rattle.std.proofs.Common.{length, take, drop, get_or, set, slice_get, arith, zero-add, append_assoc, append-nil, take_all}
 use Rattle.std.specs.Prelude.{if◌then◌else◌}
 use Rattle.std.proofs.lemmas.Bool.{eq-eqb, ne_eqb}
 use Rattle.std.proofs.lemmas.List.{map-append, drop-map, length-map, take-append-drop}
@@ -12,7 +12,8 @@ use Rattle.tac_form.specs.declared.tac.Instruction.{Instruction}
 use Rattle.tac_form.specs.declared.tac.Block.{Block}
 use Rattle.tac_form.specs.declared.tac.Exit.{Exit}
 use Rattle.tac_lower.specs.Items as items
-use Rattle.tac_lower.specs.Items.{does, ends, skips, leaves, count_ends, exit_of, left_by, loop_of, Draft, empty_draft, with_item}
+use Rattle.terra_eval.proofs.Turns.{turn}
+use Rattle.tac_lower.specs.Items.{does, ends, leaves, count_ends, exit_of, left_by, loop_of, Draft, empty_draft, with_item}
 use Rattle.tac_lower.specs.Items.{with_items}
 use Rattle.tac_lower.specs.Pieces.{holder_of}
 use Rattle.tac_lower.specs.Data.{bound_of, ending_in, ending_of, held_of, item_of, reached, reached_by, reaching}
@@ -21,11 +22,6 @@ use Rattle.tac_lower.specs.declared.item.Item.{Item}
 use Rattle.tac_lower.specs.declared.item.Item.TheVariants as kinds
 use Rattle.tac_lower.specs.declared.value.Bound.{Bound}
 use Rattle.tac_lower.specs.declared.value.Holder.TheVariants as holders
-
-pub turn : {A : Type 0} (xs : List A) (i : ℕ) (d : A) → i < length xs → drop i xs ≡ get_or xs i d ∷ drop (i + 1) xs
-turn xs i d h =
-    let next : suc i ≡ i + 1 = omega arith in
-    drop-cons xs i d h ∙ ap (λ (n : ℕ). get_or xs i d ∷ drop n xs) next
 
 pub none-left : {A : Type 0} (xs : List A) (i : ℕ) → length xs ≤ i → drop i xs ≡ []
 none-left xs i h = drop_of_length-le xs h

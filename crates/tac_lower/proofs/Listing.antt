@@ -14,7 +14,8 @@ use Rattle.tac_lower.specs.Views.{all_of, around_of, one_of, piece_of, pieces_of
 use Rattle.tac_lower.specs.declared.around.Around.{Around}
 use Rattle.tac_lower.specs.declared.value.Value.{Value}
 use Rattle.tac_lower.specs.declared.value.Target as code_target
-use Rattle.tac_lower.proofs.Lines.{none-left, turn}
+use Rattle.terra_eval.proofs.Turns.{turn}
+use Rattle.tac_lower.proofs.Lines.{none-left}
 use Rattle.tac_lower.proofs.Adding.{past-known, past-then, scoped-known, scoped-then}
 use Rattle.tac_lower.proofs.Passing.{declared_append}
 

@@ -16,7 +16,8 @@ use Rattle.tac_lower.specs.Lowering.{all, are_narrow, ending, received, type_of_
 use Rattle.tac_lower.specs.Works.{Made, begun, behind, scoped}
 use Rattle.tac_lower.specs.Views.{all_of, around_of, destinations_of, parts_of_body}
 use Rattle.tac_lower.specs.declared.around.Around.{Around}
-use Rattle.tac_lower.proofs.Lines.{none-left, turn}
+use Rattle.terra_eval.proofs.Turns.{turn}
+use Rattle.tac_lower.proofs.Lines.{none-left}
 
 -- widths
 

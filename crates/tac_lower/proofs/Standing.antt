@@ -1,5 +1,5 @@
 -- A call of lowered code in progress, beside the state of the terms' meaning: where it stands, and what it leads to.
-use Rattle.std.proofs.Common.{◌≡◌, ℕ, zero, suc, ◌+◌, ◌<◌, ◌≤◌, List, [], ◌∷◌, ◌++◌, length, Some, refl, sym, ap, ◌∙◌, arith}
+use Rattle.std.proofs.Common.{◌≡◌, ℕ, ◌+◌, ◌<◌, ◌≤◌, List, [], ◌∷◌, ◌++◌, length, Some, refl, ap, ◌∙◌}
 use Rattle.std.specs.Prelude.{◌^◌, ◌≢◌}
 use Rattle.tl_base.specs.declared.ids.TypeId.{TypeId}
 use Rattle.tl_base.specs.declared.ids.FnId.{FnId}
@@ -18,8 +18,9 @@ use Rattle.tac_form.specs.declared.tac.Instruction.{Instruction}
 use Rattle.tac_form.specs.declared.tac.Exit.{Exit}
 use Rattle.tac_form.specs.declared.tac.Tac.{Tac}
 use Rattle.tac_form.specs.Flow as flow
-use Rattle.tac_form.specs.Flow.{Program, Temps, Areas, Caller, Moved, Goes, Stops, put, steps, step, act, leave, in_function, in_block}
+use Rattle.tac_form.specs.Flow.{Program, Temps, Areas, Caller, Moved, Goes, Stops, steps, act, leave, in_function, in_block}
 use Rattle.tac_form.specs.Flow.{step_in, area_size}
+use Rattle.tac_form.proofs.OneRun.{steps-add}
 use Rattle.tac_lower.specs.Pieces.{Used, Result, a_word, an_area, an_offset, Holder, in_temp, at_offset, Holders}
 use Rattle.tac_lower.proofs.Places.{Point, DoesAt, EndsAt}
 
@@ -77,17 +78,6 @@ abbrev pub Halts : Setting → Point → Private → State → Run → Type 0
 Halts z at k s r = (j : ℕ) × (steps z.program j (Goes (stands z at k s)) ≡ Stops r)
 
 -- steps
-
-stopped : (p : Program) (k : ℕ) (r : Run) → steps p k (Stops r) ≡ Stops r
-stopped p zero r = refl
-stopped p (suc k) r = refl
-
-pub steps-add : (p : Program) (k j : ℕ) (m : Moved) → steps p (k + j) m ≡ steps p j (steps p k m)
-steps-add p zero j m = let e : zero + j ≡ j = omega arith in ap (λ n. steps p n m) e
-steps-add p (suc k) j (Stops r) = stopped p (suc k + j) r ∙ sym (stopped p j r)
-steps-add p (suc k) j (Goes s) =
-    let e : suc k + j ≡ suc (k + j) = omega arith in
-    ap (λ n. steps p n (Goes s)) e ∙ steps-add p k j (step p s)
 
 pub leads-to : (z : Setting) (a : Point) (k : Private) (s : State) (b : Point) (k1 : Private) (s1 : State) (m : Moved) →
     Leads z a k s b k1 s1 → (j : ℕ) × (steps z.program j (Goes (stands z b k1 s1)) ≡ m) →

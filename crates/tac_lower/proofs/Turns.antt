@@ -17,7 +17,8 @@ use Rattle.tac_lower.specs.Data.{result_of, target_of}
 use Rattle.tac_lower.specs.declared.value.Value.{Value}
 use Rattle.tac_lower.specs.declared.value.Target.{Target}
 use Rattle.tac_lower.proofs.Adding.{behind-known, behind-then, scoped-known, scoped-then}
-use Rattle.tac_lower.proofs.Lines.{none-left, turn}
+use Rattle.terra_eval.proofs.Turns.{turn}
+use Rattle.tac_lower.proofs.Lines.{none-left}
 
 -- values by their positions
 

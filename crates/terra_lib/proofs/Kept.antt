@@ -10,6 +10,7 @@ use Rattle.lua_table.specs.LuaState.{LuaState}
 use Rattle.lua_table.specs.Heap.{with_table}
 use Rattle.lua_table.specs.Keeping.{IsFront, KeepsHeap}
 use Rattle.lua_table.proofs.Keeping as heaps
+use Rattle.terra_types.specs.declared.layout.Layout.{Layout}
 use Rattle.terra_types.specs.declared.types.TypeForm.{TypeForm}
 use Rattle.terra_types.specs.declared.types.TypeForm.TheVariants as forms
 use Rattle.terra_types.specs.Keeping.{KeepsForm, KeepsTypes}
@@ -26,7 +27,7 @@ use Rattle.terra_lib.specs.Lists.{appended, all_appended}
 use Rattle.terra_lib.specs.Symbols.{constant, with_constant}
 use Rattle.terra_lib.specs.Keeping.{KeepsExports, KeepsWorld}
 
-form_stays : (f : TypeForm) → KeepsForm f f
+pub form_stays : (f : TypeForm) → KeepsForm f f
 form_stays (forms.Integer i) = refl
 form_stays forms.Bool = refl
 form_stays forms.Unit = refl
@@ -36,11 +37,38 @@ form_stays (forms.Function ps r) = refl
 form_stays (forms.Struct n p None) = (None, refl)
 form_stays (forms.Struct n p (Some l)) = refl
 
-types_stay : (types : List TypeForm) → KeepsTypes types types
+pub types_stay : (types : List TypeForm) → KeepsTypes types types
 types_stay types i form at = (form, (at, form_stays form))
+
+laid_then : (n : ℕ) (p : Place) (layout : Option Layout) (new : TypeForm) → KeepsForm (forms.Struct n p layout) new
+    → (l : Option Layout) × (new ≡ forms.Struct n p l)
+laid_then n p None new h = h
+laid_then n p (Some l) new h = (Some l, h)
+
+form_then : (a b c : TypeForm) → KeepsForm a b → KeepsForm b c → KeepsForm a c
+form_then (forms.Integer i) b c f g = subst (λ (x : TypeForm). KeepsForm x c) f g
+form_then forms.Bool b c f g = subst (λ (x : TypeForm). KeepsForm x c) f g
+form_then forms.Unit b c f g = subst (λ (x : TypeForm). KeepsForm x c) f g
+form_then (forms.Pointer t) b c f g = subst (λ (x : TypeForm). KeepsForm x c) f g
+form_then (forms.Array t n) b c f g = subst (λ (x : TypeForm). KeepsForm x c) f g
+form_then (forms.Function ps r) b c f g = subst (λ (x : TypeForm). KeepsForm x c) f g
+form_then (forms.Struct n p None) b c f g = laid_then n p f.0 c (subst (λ (x : TypeForm). KeepsForm x c) f.1 g)
+form_then (forms.Struct n p (Some l)) b c f g = subst (λ (x : TypeForm). KeepsForm x c) f g
+
+pub types_then : (a b c : List TypeForm) → KeepsTypes a b → KeepsTypes b c → KeepsTypes a c
+types_then a b c f g i form at =
+    let first = f i form at in
+    let later = g i first.0 first.1.0 in
+    (later.0, (later.1.0, form_then form first.0 later.0 first.1.1 later.1.1))
 
 pub exports_stay : (e : ExportState) → KeepsExports e e
 exports_stay e = record { list = heaps.front_self e.list; saved = λ h. h }
+
+pub exports_then : (a b c : ExportState) → KeepsExports a b → KeepsExports b c → KeepsExports a c
+exports_then a b c f g = record {
+  list = heaps.front_then a.list b.list c.list f.list g.list;
+  saved = λ h. g.saved (f.saved h);
+}
 
 pub keeps_in_heap : (w : StageState) (heap : LuaState) → KeepsHeap w.heap heap → KeepsWorld w (with_heap w heap)
 keeps_in_heap w heap h = record {

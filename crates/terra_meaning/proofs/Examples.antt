@@ -40,34 +40,34 @@ use Rattle.terra_term.specs.TypedTerms.{then_one, statement, Var, Assign, If, Wh
 use Rattle.terra_words.specs.Runs.{Value, word, put_bytes, Returned, Fault, Run, Over, More}
 use Rattle.terra_meaning.specs.Meaning.{meaning}
 
-abbrev t : ℕ → TypeId
+abbrev pub t : ℕ → TypeId
 t n = record { 0 = n }
 
-abbrev f : ℕ → FnId
+abbrev pub f : ℕ → FnId
 f n = record { 0 = n }
 
-abbrev x : ℕ → SymId
+abbrev pub x : ℕ → SymId
 x n = record { 0 = n }
 
-abbrev at : (line word : ℕ) → Place
+abbrev pub at : (line word : ℕ) → Place
 at l w = record { line = l; word = w }
 
-abbrev e : (line word of : ℕ) → Form → Expression
+abbrev pub e : (line word of : ℕ) → Form → Expression
 e l w of form = typed (at l w) (t of) form
 
-abbrev name : (symbol of : ℕ) → TypedName
+abbrev pub name : (symbol of : ℕ) → TypedName
 name s of = record { symbol = x s; of = t of }
 
-abbrev laid : (field offset of : ℕ) → Laid
+abbrev pub laid : (field offset of : ℕ) → Laid
 laid n offset of = record { field = record { 0 = n }; offset = offset; of = t of }
 
-abbrev struct_of : (size align : ℕ) → List Laid → TypeForm
+abbrev pub struct_of : (size align : ℕ) → List Laid → TypeForm
 struct_of size align entries = forms.Struct 1 (at 1 1) (Some (record { size = size; align = align; entries = entries }))
 
-abbrev function : (line word body : ℕ) → Function
+abbrev pub function : (line word body : ℕ) → Function
 function l w b = record { place = at l w; declared = None; state = states.Typed (record { 0 = b }) (record { 0 = b }) }
 
-abbrev body_0 : Body
+abbrev pub body_0 : Body
 body_0 = record {
   parameters = name 0 2 ∷ [];
   result = t 2;
@@ -82,7 +82,7 @@ body_0 = record {
       (no_more))))))) (done)));
 }
 
-abbrev body_1 : Body
+abbrev pub body_1 : Body
 body_1 = record {
   parameters = name 1 2 ∷ [];
   result = t 2;
@@ -94,7 +94,7 @@ body_1 = record {
       (and_then (statement (at 3 27) (Return (e 3 28 2 (Variable (x 2))))) (done))));
 }
 
-abbrev body_2 : Body
+abbrev pub body_2 : Body
 body_2 = record {
   parameters = [];
   result = t 2;
@@ -105,7 +105,7 @@ body_2 = record {
       (and_then (statement (at 4 20) (Return (e 4 21 2 (Variable (x 4))))) (done)))));
 }
 
-abbrev body_3 : Body
+abbrev pub body_3 : Body
 body_3 = record {
   parameters = name 6 2 ∷ name 7 2 ∷ [];
   result = t 2;
@@ -113,7 +113,7 @@ body_3 = record {
       (e 5 15 2 (Variable (x 6))) (then_one (e 5 17 2 (Variable (x 7))) (no_more))))))) (done));
 }
 
-abbrev body_4 : Body
+abbrev pub body_4 : Body
 body_4 = record {
   parameters = [];
   result = t 9;
@@ -122,7 +122,7 @@ body_4 = record {
       (x 8))))) (no_more)) (then_one (e 6 18 2 (Constant' (constants.Number 1))) (no_more)))) (done)));
 }
 
-abbrev body_5 : Body
+abbrev pub body_5 : Body
 body_5 = record {
   parameters = name 9 3 ∷ [];
   result = t 3;
@@ -140,7 +140,7 @@ body_5 = record {
       (done)))))));
 }
 
-abbrev body_6 : Body
+abbrev pub body_6 : Body
 body_6 = record {
   parameters = [];
   result = t 9;
@@ -157,7 +157,7 @@ body_6 = record {
       (statement (at 8 33) (Break)) (done)))) (done)))))) (done)));
 }
 
-abbrev body_7 : Body
+abbrev pub body_7 : Body
 body_7 = record {
   parameters = [];
   result = t 3;
@@ -170,7 +170,7 @@ body_7 = record {
       (e 9 32 13 (Address (e 9 33 3 (Variable (x 13))))) (no_more)))) (no_more))))))) (done))));
 }
 
-abbrev body_8 : Body
+abbrev pub body_8 : Body
 body_8 = record {
   parameters = name 15 8 ∷ [];
   result = t 2;
@@ -178,7 +178,7 @@ body_8 = record {
       (e 10 14 2 (Constant' (constants.Number 1))))) (done)))) (done));
 }
 
-abbrev sample : Contents
+abbrev pub sample : Contents
 sample = record {
   types = opening_types ++ forms.Pointer (t 2) ∷ struct_of 16 8 (laid 0 0 3 ∷ laid 1 8 3 ∷ []) ∷ forms.Pointer (t 3) ∷
       [];
@@ -252,7 +252,7 @@ pub no_return : ran 0 8 (word 0 ∷ []) ≡ Over (Fault NoReturn (at 10 1)) []
 unfolding wrapped applied negated complemented number_of low_bytes range_of alloc_of put_bytes
 no_return = refl
 
-abbrev all : List Body
+abbrev pub all : List Body
 all = body_0 ∷ body_1 ∷ body_2 ∷ body_3 ∷ body_4 ∷ body_5 ∷ body_6 ∷ body_7 ∷ body_8 ∷ []
 
 -- all of them pass the test of typed terms

@@ -1,6 +1,6 @@
 pub mod Alike
 pub mod Counts
-mod Examples
+pub mod Examples
 pub mod Larger
 pub mod Leaves
 mod Limits

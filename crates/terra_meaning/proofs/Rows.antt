@@ -8,7 +8,8 @@ use Rattle.terra_words.specs.Words.{wrapped, applied, negated, complemented}
 use Rattle.terra_term.specs.WellTyped.{body_typed}
 use Rattle.terra_words.specs.Runs.{Value, word, put_bytes, Returned, Fault, Run, Over}
 use Rattle.terra_meaning.specs.Meaning.{meaning}
-use Rattle.terra_meaning.proofs.Sampled.{at, f, sample, all}
+use Rattle.terra_meaning.proofs.Examples.{at, f}
+use Rattle.terra_meaning.proofs.Sampled.{sample, all}
 
 -- the run of a function in a region of 1,024 bytes, where no function stands as a value
 abbrev ran : (count function : ℕ) → List Value → Run

@@ -46,54 +46,19 @@
 --     terra steps(n : uint8, k : uint8) : int var t = 0 for i = n, 10, k do t = t + 1 end return t end
 --     terra member() : &P var p : &P = nil return [&P](&p.c) end
 --     terra wildread(a : int64) : int64 return @[&int64](a) end
-use Rattle.std.specs.Prelude.{ℕ, false, List, [], ◌∷◌, ◌++◌, Some, None}
-use Rattle.tl_base.specs.declared.place.Place.{Place}
-use Rattle.tl_base.specs.declared.ids.SymId.{SymId}
-use Rattle.tl_base.specs.declared.ids.TypeId.{TypeId}
-use Rattle.tl_base.specs.declared.ids.FnId.{FnId}
+use Rattle.std.specs.Prelude.{false, List, [], ◌∷◌, ◌++◌}
 use Rattle.terra_words.specs.declared.words.BinaryOperator.TheVariants as operators
-use Rattle.terra_types.specs.declared.layout.Laid.{Laid}
-use Rattle.terra_types.specs.declared.types.TypeForm.{TypeForm}
 use Rattle.terra_types.specs.declared.types.TypeForm.TheVariants as forms
 use Rattle.terra_types.specs.Opening.{opening_types}
 use Rattle.terra_term.specs.declared.operators.Constant.TheVariants as constants
 use Rattle.terra_term.specs.declared.operators.Operation.TheVariants as operations
 use Rattle.lua_value.specs.declared.primitive.Primitive.TheVariants.{PutByte, Write, Alloc}
-use Rattle.terra_term.specs.declared.lists.TypedName.{TypedName}
-use Rattle.terra_term.specs.declared.store.Function.{Function}
-use Rattle.terra_term.specs.declared.store.FunctionState.TheVariants as states
 use Rattle.terra_term.specs.TypedTerms as items
 use Rattle.terra_term.specs.Stores.{Contents}
-use Rattle.terra_term.specs.TypedTerms.{Expression, typed, Form, Constant', Variable, Global, Operate, Both, Either, Dereference, Select}
+use Rattle.terra_term.specs.TypedTerms.{typed, Constant', Variable, Global, Operate, Both, Either, Dereference, Select}
 use Rattle.terra_term.specs.TypedTerms.{Follow, Element, Index, Address, Let, no_more, then_one, statement, Var, Assign, If, Repeat, For}
 use Rattle.terra_term.specs.TypedTerms.{Do, Break, Return, Perform, done, and_then, Body}
-
-abbrev t : ℕ → TypeId
-t n = record { 0 = n }
-
-abbrev pub f : ℕ → FnId
-f n = record { 0 = n }
-
-abbrev x : ℕ → SymId
-x n = record { 0 = n }
-
-abbrev pub at : (line word : ℕ) → Place
-at l w = record { line = l; word = w }
-
-abbrev e : (line word of : ℕ) → Form → Expression
-e l w of form = typed (at l w) (t of) form
-
-abbrev name : (symbol of : ℕ) → TypedName
-name s of = record { symbol = x s; of = t of }
-
-abbrev laid : (field offset of : ℕ) → Laid
-laid n offset of = record { field = record { 0 = n }; offset = offset; of = t of }
-
-abbrev struct_of : (size align : ℕ) → List Laid → TypeForm
-struct_of size align entries = forms.Struct 1 (at 1 1) (Some (record { size = size; align = align; entries = entries }))
-
-abbrev function : (line word body : ℕ) → Function
-function l w b = record { place = at l w; declared = None; state = states.Typed (record { 0 = b }) (record { 0 = b }) }
+use Rattle.terra_meaning.proofs.Examples.{t, f, x, at, e, name, laid, struct_of, function}
 
 abbrev pub body_0 : Body
 body_0 = record {

@@ -6,7 +6,8 @@ use Rattle.exotype.specs.World.{StageState}
 use Rattle.terra_lib.specs.Keeping.{KeepsExports}
 use Rattle.spec_machine.specs.Keeping.{KeepsStage}
 use Rattle.stage_library.specs.Keeping.{KeepsStaging}
-use Rattle.stage_library.proofs.Keeping.{types_front, exports_stay}
+use Rattle.terra_lib.proofs.Kept.{exports_stay}
+use Rattle.stage_library.proofs.Keeping.{types_front}
 
 pub keeps_spec : (old new : StageState) → KeepsStage old new → KeepsStaging old new
 keeps_spec old new k = record {

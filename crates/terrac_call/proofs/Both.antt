@@ -11,7 +11,7 @@ use Rattle.terrac_call.specs.DueView.{shown_due}
 use Rattle.terrac_call.specs.Answer.{IsDueOrCut, IsWhole, IsCut}
 use Rattle.terrac_call.specs.Delivery.{StopsShort}
 use Rattle.terrac_call.specs.Ending.{Ends, EndsBoth, RemainsBoth, StoppedBoth}
-use Rattle.terrac_call.proofs.Pieces.{with_back-none, with_back-both}
+use Rattle.rv_machine.proofs.Taken.{with_back-none, with_back-both}
 use Rattle.terrac_call.proofs.Endings.{front_none, back_none}
 
 -- from one predicate to another

@@ -34,7 +34,7 @@ use Rattle.terrac_call.specs.Answer.{IsDueOrCut, IsMadeOrUnmade, IsMade, IsUnmad
 use Rattle.terrac_call.specs.Delivery.{StopsShort}
 use Rattle.terrac_call.specs.Ending.{EndsBoth, IsNoMemory, RemainsBoth, StoppedBoth}
 use Rattle.terrac_call.specs.MadeView.{IsLawfulMade}
-use Rattle.terrac_call.proofs.Pieces.{with_back-none}
+use Rattle.rv_machine.proofs.Taken.{with_back-none}
 use Rattle.terrac_call.proofs.Calls.{not_fault}
 use Rattle.terrac_call.proofs.Endings.{cut_into}
 use Rattle.terrac_call.proofs.Both.{both_behind_out, notes_stopped, out_stopped}

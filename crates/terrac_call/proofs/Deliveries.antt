@@ -8,7 +8,7 @@ use Rattle.terrac_call.specs.Due.{line}
 use Rattle.terrac_call.specs.DueView.{due_with}
 use Rattle.terrac_call.specs.Answer.{TakesFront, Delivers}
 use Rattle.terrac_call.specs.Delivery.{StopsShort}
-use Rattle.terrac_call.proofs.Pieces.{with_back-none, with_back-both}
+use Rattle.rv_machine.proofs.Taken.{with_back-none, with_back-both}
 
 -- a refusal's line goes to `notes` alone
 pub due_with-refusal : (status : Status) (bytes : List ℕ) → status ≢ statuses.Ok

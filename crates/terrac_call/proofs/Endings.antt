@@ -21,7 +21,7 @@ use Rattle.terrac_call.specs.Exec.{due_of_stop, fault_kind, place_of, plain, IsG
 use Rattle.terrac_call.specs.Answer.{IsDueOrCut, IsWhole, IsCut}
 use Rattle.terrac_call.specs.Delivery.{StopsShort}
 use Rattle.terrac_call.specs.Ending.{Remains, Stopped, Ends}
-use Rattle.terrac_call.proofs.Pieces.{with_back-none}
+use Rattle.rv_machine.proofs.Taken.{with_back-none}
 
 pub front_none : (a b : List ℕ) → a ++ b ≡ [] → a ≡ []
 front_none [] b e = refl

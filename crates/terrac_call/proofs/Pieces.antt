@@ -1,19 +1,10 @@
 -- A piece that goes out, front by front.
-use Rattle.std.proofs.Common.{◌≡◌, ◌<◌, length, length-append, arith, ℕ, List, [], ◌++◌, take, drop, Option, Some, None, refl, sym, ap}
+use Rattle.std.proofs.Common.{◌≡◌, ◌<◌, length, length-append, arith, ℕ, List, [], ◌++◌, take, drop, Option, refl, sym, ap}
 use Rattle.std.proofs.Common.{◌∙◌, append_assoc, append-nil, subst}
 use Rattle.std.proofs.lemmas.List.{take-append-drop}
 use Rattle.tl_base.specs.Outside.{with_back, IsRisen}
+use Rattle.rv_machine.proofs.Taken.{with_back-none, with_back-both}
 use Rattle.terrac_call.specs.Delivery.{StopsShort}
-
--- a sink takes nothing
-pub with_back-none : (taken : Option (List ℕ)) → taken ≡ with_back taken []
-with_back-none None = refl
-with_back-none (Some bytes) = ap Some (sym (append-nil bytes))
-
--- a sink takes one front and then another
-pub with_back-both : (taken : Option (List ℕ)) (a b : List ℕ) → with_back (with_back taken a) b ≡ with_back taken (a ++ b)
-with_back-both None a b = refl
-with_back-both (Some bytes) a b = ap Some (append_assoc bytes a b)
 
 -- a piece went out up to the rest
 pub record Sent (piece rest : List ℕ) (old new : Option (List ℕ)) (faults_old faults_new : ℕ) : Type 0 where

@@ -1,4 +1,5 @@
-use Rattle.tac_lower.proofs.Lines.{turn, no-variable, found-here, found-later}
+use Rattle.terra_eval.proofs.Turns.{turn}
+use Rattle.tac_lower.proofs.Lines.{no-variable, found-here, found-later}
 use Rattle.tac_lower.proofs.work.find_in.Goals as goal
 
 pub returns-then-x-v : goal.returns-then-x-v

@@ -1,7 +1,7 @@
 use Rattle.std.proofs.Common.{◌≡◌, refl, ap, ◌∙◌}
 use Rattle.tl_base.specs.Outside.{with_back}
 use Rattle.elf_image.specs.Written.{bytes_of}
-use Rattle.terrac_call.proofs.Pieces.{with_back-none}
+use Rattle.rv_machine.proofs.Taken.{with_back-none}
 use Rattle.terrac_call.proofs.exec.show.Goals as goal
 
 pub returns-then-not-shows-clause-went : goal.returns-then-not-shows-clause-went
