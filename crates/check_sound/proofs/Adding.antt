@@ -44,7 +44,8 @@ use Rattle.check_sound.proofs.Passing.{Lies}
 use Rattle.check_sound.specs.Growing.{Leads}
 use Rattle.check_sound.proofs.Statics.{fits-same}
 use Rattle.check_sound.proofs.Leading.{leads-by}
-use Rattle.check_sound.proofs.Grows.{Grows, form-itself, trees-kept}
+use Rattle.check_sound.proofs.Grows.{Grows, trees-kept}
+use Rattle.terra_types.proofs.Staying.{keeps_itself}
 use Rattle.check_sound.proofs.Worlds.{Fair, fair-of, any-grows, body-grows, sound-from}
 use Rattle.check_sound.proofs.SameFunctions.{grows-same}
 
@@ -134,7 +135,7 @@ abbrev pub added : StageState → Typed → StageState
 added w n = with_store w (with_typed w.store n)
 
 pub keeps-types : (ts : List TypeForm) → KeepsTypes ts ts
-keeps-types ts i form at = (form, (at, form-itself form))
+keeps-types ts i form at = (form, (at, keeps_itself form))
 
 pub added-grows : (w : StageState) → IsSound w → (n : Typed) → Grows w (added w n)
 added-grows w old n =

@@ -1,5 +1,5 @@
 -- A world stays sound where a function's state changes.
-use Rattle.std.proofs.Common.{◌≡◌, ℕ, zero, suc, true, List, [], ◌∷◌, Option, Some, None, refl, sym, ap, ◌∙◌, subst, slice_get}
+use Rattle.std.proofs.Common.{◌≡◌, true, List, Option, Some, None, refl, sym, ap, ◌∙◌, subst}
 use Rattle.std.specs.Prelude.{◌⊎◌, slice_set}
 use mathlib.Core.Logic.{inl, inr}
 use Rattle.std.proofs.lemmas.Bool.{cases_eq}
@@ -13,31 +13,16 @@ use Rattle.terra_term.specs.Held.{term_in, with_state}
 use Rattle.terra_term.specs.Keeping.{Stays, AllStay}
 use Rattle.terra_term.specs.TypedTerms as typed
 use Rattle.terra_term.specs.WellTyped.{body_typed, is_placed}
-use Rattle.terra_term.proofs.Staying.{state-stays}
+use Rattle.terra_term.proofs.Staying.{get-set-same, get-set-other, state-stays}
 use Rattle.exotype.specs.World.{StageState, with_store}
 use Rattle.check_model.specs.declared.known.KnownResult.TheVariants.{Is}
 use Rattle.check_model.specs.Typing.{function_at}
 use Rattle.check_model.specs.Calls.{known_result, parameter_types, parameters_of, result_of, parameters_in_state, result_in_state}
 use Rattle.check_sound.specs.Sound.{foreseen, IsThereIfAny, TermIsThere, IsSound, HasBodyOf, typed_body}
-use Rattle.check_sound.proofs.Tests.{none-some, same-some}
+use Rattle.check_sound.proofs.Tests.{same-some}
 use Rattle.check_sound.proofs.Grows.{Grows, keeps-types-of}
 use Rattle.check_sound.proofs.Statics.{fits-same}
 use Rattle.check_sound.proofs.Worlds.{Fair, fair-of, sound-from, body-grows}
-
--- ---- lists with another element
-
-pub set-here : {A : Type 0} (xs : List A) (i : ℕ) (x y : A) → slice_get xs i ≡ Some x →
-    slice_get (slice_set xs i y) i ≡ Some y
-set-here [] i x y h = absurd (none-some x h)
-set-here (z ∷ zs) zero x y h = refl
-set-here (z ∷ zs) (suc i) x y h = set-here zs i x y h
-
-pub set-other : {A : Type 0} (xs : List A) (i j : ℕ) (y : A) → (i ≡ j → ⊥) → slice_get (slice_set xs i y) j ≡ slice_get xs j
-set-other [] i j y h = refl
-set-other (z ∷ zs) zero zero y h = absurd (h refl)
-set-other (z ∷ zs) zero (suc j) y h = refl
-set-other (z ∷ zs) (suc i) zero y h = refl
-set-other (z ∷ zs) (suc i) (suc j) y h = set-other zs i j y (λ e. h (ap suc e))
 
 -- ---- a function with another state
 
@@ -68,10 +53,10 @@ module _ (w : StageState) (old : IsSound w) (f : FnId) (g : Function) (at : func
   same-id h e = ap (λ n. record { 0 = n }) e
 
   here : function_at v f ≡ Some (record g { state = z })
-  here = set-here w.store.functions f.0 g (record g { state = z }) at
+  here = get-set-same w.store.functions f.0 g (record g { state = z }) at
 
   other : (h : FnId) → (f.0 ≡ h.0 → ⊥) → function_at v h ≡ function_at w h
-  other h apart = set-other w.store.functions f.0 h.0 (record g { state = z }) apart
+  other h apart = get-set-other w.store.functions f.0 h.0 (record g { state = z }) apart
 
   states-by : with_state w.store f z ≡ record w.store {
     functions = slice_set w.store.functions f.0

@@ -7,6 +7,7 @@ use Rattle.terra_types.specs.declared.types.TypeForm.{TypeForm}
 use Rattle.terra_types.specs.declared.types.TypeForm.TheVariants as forms
 use Rattle.terra_types.specs.Keeping.{KeepsForm, KeepsTypes}
 use Rattle.terra_types.proofs.Growing.{grown-more, grown-keeps}
+use Rattle.terra_types.proofs.Staying.{keeps_itself}
 use Rattle.terra_term.specs.declared.typed.Typed.{Typed}
 use Rattle.terra_term.specs.Held.{state_of}
 use Rattle.terra_term.specs.Keeping.{AreKept}
@@ -20,18 +21,8 @@ use Rattle.check_sound.proofs.Foreseen.{count-trees}
 
 -- ---- worlds that grow
 
-pub form-itself : (f : TypeForm) → KeepsForm f f
-form-itself (forms.Integer i) = refl
-form-itself forms.Bool = refl
-form-itself forms.Unit = refl
-form-itself (forms.Pointer t) = refl
-form-itself (forms.Array t n) = refl
-form-itself (forms.Function ps r) = refl
-form-itself (forms.Struct n p None) = (None, refl)
-form-itself (forms.Struct n p (Some l)) = refl
-
 pub keeps-types-of : (w : StageState) → KeepsTypes w.store.types w.store.types
-keeps-types-of w i form at = (form, (at, form-itself form))
+keeps-types-of w i form at = (form, (at, keeps_itself form))
 
 form-twice : (f g h : TypeForm) → KeepsForm f g → KeepsForm g h → KeepsForm f h
 form-twice (forms.Integer i) g h a b = subst (λ x. KeepsForm x h) a b
@@ -57,7 +48,7 @@ pub grows-itself : (w : StageState) → Grows w w
 grows-itself w = record {
   terms = λ i x h. h;
   typed_nodes = λ i x h. h;
-  types = λ i form at. (form, (at, form-itself form));
+  types = λ i form at. (form, (at, keeps_itself form));
   functions = λ f. stays-same (state_of w.store f);
   parameters = λ f ps h. h;
   results = λ f t h. h;

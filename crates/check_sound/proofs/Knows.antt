@@ -1,13 +1,13 @@
 -- What is known of a property once something is kept of it.
-use Rattle.std.proofs.Common.{◌≡◌, ℕ, Bool, true, false, cond, List, [], ◌∷◌, Some, refl, sym, ◌∙◌}
+use Rattle.std.proofs.Common.{◌≡◌, Bool, true, false, cond, List, [], ◌∷◌, Some, refl, sym, ◌∙◌}
 use Rattle.std.specs.Prelude.{◌==◌, ◌&&◌, unwrap_or}
 use Rattle.std.specs.Map.{lookup}
-use Rattle.std.proofs.lemmas.Bool.{eqb-true, eq-eqb}
+use Rattle.std.proofs.lemmas.Bool.{eq-eqb}
 use Rattle.exotype.specs.declared.property.Known.{Known}
 use Rattle.exotype.specs.declared.property.Known.TheVariants.{Unasked}
 use Rattle.exotype.specs.declared.property.Property.{Property}
 use Rattle.exotype.specs.Properties.{rank, type_number, name_number, same_property, known_in, with_known_in}
-use Rattle.check_sound.proofs.Tests.{three}
+use Rattle.exotype.proofs.Keeping.{alike}
 
 both : (a b c : Bool) → a ≡ true → b ≡ true → c ≡ true → (a && b && c) ≡ true
 both a b c e f g = rw (e, f, g) refl
@@ -16,19 +16,6 @@ same-itself : (p : Property) → same_property p p ≡ true
 same-itself p =
     both (rank p == rank p) (type_number p == type_number p) (name_number p == name_number p) (eq-eqb (rank p) (rank p) refl)
     (eq-eqb (type_number p) (type_number p) refl) (eq-eqb (name_number p) (name_number p) refl)
-
-alike-by : (q : Property) (r t n r2 t2 n2 : ℕ) → r ≡ r2 → t ≡ t2 → n ≡ n2 →
-    ((rank q == r) && (type_number q == t) && (name_number q == n)) ≡
-    ((rank q == r2) && (type_number q == t2) && (name_number q == n2))
-alike-by q r t n r2 t2 n2 a b c = rw (a, b, c) refl
-
--- what is the same as one of two that are the same is the same as the other
-alike : (q p r : Property) → same_property p r ≡ true → same_property q p ≡ same_property q r
-alike q p r h =
-    let each = three (rank p == rank r) (type_number p == type_number r) (name_number p == name_number r) h in
-    alike-by q (rank p) (type_number p) (name_number p) (rank r) (type_number r) (name_number r)
-    (eqb-true (rank p) (rank r) each.0) (eqb-true (type_number p) (type_number r) each.1)
-    (eqb-true (name_number p) (name_number r) each.2)
 
 there-by : (t : Bool) (e : Property × Known) (es inserted : List (Property × Known)) (p : Property) (k : Known) →
     same_property p e.0 ≡ t → known_in inserted p ≡ k → known_in (cond t ((e.0, k) ∷ es) (e ∷ inserted)) p ≡ k

@@ -1,8 +1,7 @@
 -- Types that come behind others: all are types still, and entries lie within their structs.
-use Rattle.std.proofs.Common.{◌≡◌, ℕ, ◌+◌, ◌<◌, ◌≤◌, Bool, true, false, List, [], ◌∷◌, ◌++◌, length, position, Option, Some, None, refl}
+use Rattle.std.proofs.Common.{◌≡◌, ℕ, ◌+◌, ◌≤◌, Bool, false, List, [], ◌∷◌, ◌++◌, length, position, Option, Some, None, refl}
 use Rattle.std.proofs.Common.{sym, ap, ◌∙◌, subst, arith, slice_get}
-use Rattle.std.specs.Prelude.{◌==◌, unwrap_or}
-use Rattle.std.proofs.lemmas.Bool.{eqb-true}
+use Rattle.std.specs.Prelude.{unwrap_or}
 use Rattle.std.proofs.lemmas.Option.{slice_get_within}
 use Rattle.tl_base.specs.declared.place.Place.{Place}
 use Rattle.tl_base.specs.declared.ids.TypeId.{TypeId}
@@ -18,11 +17,11 @@ use Rattle.terra_types.specs.Sizes.{size_of}
 use Rattle.terra_types.proofs.Growing.{get-left}
 use Rattle.terra_types.proofs.Held.{is_struct, plain-comes}
 use Rattle.terra_types.proofs.Pushing.{Comes, lawful-push, where-push, Where, before, last}
-use Rattle.terra_types.proofs.Structs.{structs-before, not_there}
+use Rattle.terra_types.proofs.Structs.{structs-before, not_there, differs}
+use Rattle.terra_types.proofs.Staying.{keeps_itself}
 use Rattle.check_sound.proofs.Tests.{no, none-some}
 use Rattle.check_sound.proofs.Shapes.{size-kept}
 use Rattle.check_sound.proofs.Passing.{Lies}
-use Rattle.check_sound.proofs.Grows.{form-itself}
 
 -- ---- a list of types behind another one
 
@@ -32,11 +31,11 @@ pub record Follows (ts us : List TypeForm) : Type 0 where
   pub keeps : KeepsTypes ts us
 
 pub keeps-types : (ts : List TypeForm) → KeepsTypes ts ts
-keeps-types ts i form at = (form, (at, form-itself form))
+keeps-types ts i form at = (form, (at, keeps_itself form))
 
 keeps-push : (ts : List TypeForm) (form : TypeForm) → KeepsTypes ts (ts ++ form ∷ [])
 keeps-push ts form i f at =
-    (f, (get-left ts (form ∷ []) i (slice_get_within ts i f at) ∙ at, form-itself f))
+    (f, (get-left ts (form ∷ []) i (slice_get_within ts i f at) ∙ at, keeps_itself f))
 
 pub follows-itself : (ts : List TypeForm) → AreTypes ts → Lies ts → Follows ts ts
 follows-itself ts a lies = record { types = a; lies = lies; keeps = keeps-types ts }
@@ -127,13 +126,6 @@ follows-form ts a lies form plain below = by (position (is_same form) ts) refl
     by None at = follows-push ts a lies form (plain-comes ts form plain below at) (plain-bare form plain)
 
 -- ---- a new struct
-
-differs : (n m : ℕ) → m < n → (n == m) ≡ false
-differs n m h = step (n == m) refl
-  where
-    step : (b : Bool) → (n == m) ≡ b → b ≡ false
-    step true e = absurd (omega (arith, h, eqb-true n m e))
-    step false e = refl
 
 new-number : (ts : List TypeForm) → AreTypes ts → (place : Place) (i : ℕ) (f : TypeForm) → slice_get ts i ≡ Some f →
     is_same (new_struct_form ts place) f ≡ false

@@ -51,7 +51,7 @@ some-snoc : (ns : List VarName) (n : VarName) (t : TypeId) → n.of ≡ Some t �
 some-snoc [] n t e = ap (λ o. unwrap_or o unit ∷ []) e
 some-snoc (x ∷ ns) n t e = ap (λ l. unwrap_or x.of unit ∷ l) (some-snoc ns n t e)
 
-there-snoc : (w : StageState) (ns : List VarName) (n : VarName) → NamesAreThere w ns → IsThereIfAny w n.of →
+pub there-snoc : (w : StageState) (ns : List VarName) (n : VarName) → NamesAreThere w ns → IsThereIfAny w n.of →
     NamesAreThere w (ns ++ n ∷ [])
 there-snoc w [] n h k = (k, tt)
 there-snoc w (x ∷ ns) n h k = (h.0, there-snoc w ns n h.1 k)

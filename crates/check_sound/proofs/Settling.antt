@@ -36,7 +36,7 @@ use Rattle.check_sound.proofs.Leading.{leads-by}
 use Rattle.check_sound.proofs.Worlds.{Fair, fair-of, any-grows, sound-from}
 use Rattle.check_sound.proofs.SameFunctions.{grows-same}
 use Rattle.check_sound.proofs.Beginning.{ArePlain}
-use Rattle.check_sound.proofs.Changing.{set-here, set-other}
+use Rattle.terra_term.proofs.Staying.{get-set-same, get-set-other}
 use Rattle.check_sound.proofs.Adding.{listed, listed-grows, listed-sound, keeps-types, still-typed}
 use Rattle.check_sound.proofs.Measuring.{Lawful, layout-lawful}
 use Rattle.check_sound.proofs.Knows.{known-there, known-elsewhere}
@@ -63,7 +63,7 @@ module _ (ts : List TypeForm) (a : AreTypes ts) (lies : Lies ts) (t : TypeId) (n
   set = slice_set ts t.0 form
 
   here : slice_get set t.0 ≡ Some form
-  here = set-here ts t.0 (forms.Struct n p None) form at
+  here = get-set-same ts t.0 (forms.Struct n p None) form at
 
   pub set-types : AreTypes set
   set-types =
@@ -124,7 +124,7 @@ module _ (ts : List TypeForm) (a : AreTypes ts) (lies : Lies ts) (t : TypeId) (n
           )
       by (inr apart) =
           let old : slice_get (entries_of ts u) i ≡ Some x =
-          ap (λ o. slice_get (entries_in (unwrap_or o forms.Unit)) i) (sym (set-other ts t.0 u.0 form apart)) ∙ h in
+          ap (λ o. slice_get (entries_in (unwrap_or o forms.Unit)) i) (sym (get-set-other ts t.0 u.0 form apart)) ∙ h in
           let f = lies u i x old in
           (f.0, (sized x.of f.0 f.1.0, old-lies (size_of ts u) f.0 (x.offset + f.0) u refl f.1.1))
 

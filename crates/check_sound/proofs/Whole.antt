@@ -24,7 +24,7 @@ use Rattle.terra_term.specs.Keeping.{Stays}
 use Rattle.terra_term.specs.Planted.{nowhere}
 use Rattle.terra_term.specs.TypedTerms as typed
 use Rattle.terra_term.specs.WellTyped.{body_typed}
-use Rattle.terra_term.proofs.Staying.{stays-same, stays-begun, stays-finished, stays-refused}
+use Rattle.terra_term.proofs.Staying.{get-set-same, get-set-other, stays-same, stays-begun, stays-finished, stays-refused}
 use Rattle.exotype.specs.World.{StageState, with_store}
 use Rattle.check_model.specs.declared.end.BodyEnd.{BodyEnd}
 use Rattle.check_model.specs.declared.end.PartEnd.{PartEnd}
@@ -47,7 +47,7 @@ use Rattle.check_sound.proofs.Grows.{grows-twice}
 use Rattle.check_sound.proofs.Leading.{StayDeclared, declared-twice, leads-itself, same-front, fine-grows, Moves}
 use Rattle.check_sound.proofs.Scopes.{take-front}
 use Rattle.check_sound.proofs.Running.{Holds, Shows, ends-so}
-use Rattle.check_sound.proofs.Changing.{changed, Restated, Changes, changed-next, set-here, set-other}
+use Rattle.check_sound.proofs.Changing.{changed, Restated, Changes, changed-next}
 use Rattle.check_sound.proofs.OfBodies.{holds-then, each-holds, Defined, IsSmall, Defines, holds-definition}
 
 -- ---- what a new state keeps
@@ -178,13 +178,13 @@ holds-map p q k (Pay n x) w h = holds-map p q k x w h
 -- the function has the new state, and each other one the state that it had
 state-here : (w : StageState) (f : FnId) (g : Function) (z : FunctionState) → function_at w f ≡ Some g →
     function_at (with_store w (with_state w.store f z)) f ≡ Some (record g { state = z })
-state-here w f g z at = rw at (set-here w.store.functions f.0 g (record g { state = z }) at)
+state-here w f g z at = rw at (get-set-same w.store.functions f.0 g (record g { state = z }) at)
 
 state-other : (w : StageState) (f h : FnId) (g : Function) (z : FunctionState) → function_at w f ≡ Some g →
     (f.0 ≡ h.0 → ⊥) → state_of (with_state w.store f z) h ≡ state_of w.store h
 state-other w f h g z at apart =
     rw at (ap (λ (o : Option Function). option_map_or (λ (x : Function). x.state) o standing.Undefined)
-    (set-other w.store.functions f.0 h.0 (record g { state = z }) apart))
+    (get-set-other w.store.functions f.0 h.0 (record g { state = z }) apart))
 
 -- what stays of a world in which one function has another state
 record LeadsBut (f : FnId) (w v : StageState) : Type 0 where
@@ -212,7 +212,7 @@ declared-but w f g z at h x there = by (cases_eq f.0 h.0)
     }
     by (inr apart) = record {
       now = x;
-      at = rw at (set-other w.store.functions f.0 h.0 (record g { state = z }) apart ∙ there);
+      at = rw at (get-set-other w.store.functions f.0 h.0 (record g { state = z }) apart ∙ there);
       declared = refl;
     }
 

@@ -33,7 +33,7 @@ alike_by : (q : Property) (r t n r2 t2 n2 : ℕ) → r ≡ r2 → t ≡ t2 → n
 alike_by q r t n r2 t2 n2 a b c = rw (a, b, c) refl
 
 -- what is the same as one of two that are the same is the same as the other
-alike : (q p r : Property) → same_property p r ≡ true → same_property q p ≡ same_property q r
+pub alike : (q p r : Property) → same_property p r ≡ true → same_property q p ≡ same_property q r
 alike q p r h =
     let each = parts (rank p == rank r) (type_number p == type_number r) (name_number p == name_number r) h in
     alike_by q (rank p) (type_number p) (name_number p) (rank r) (type_number r) (name_number r)

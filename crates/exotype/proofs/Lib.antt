@@ -1,2 +1,2 @@
-mod Keeping
+pub mod Keeping
 mod Ids

@@ -1,16 +1,16 @@
 -- What calls of the library write, each kind: a sound world stays sound, and keeps what was there.
 use Rattle.std.proofs.Common.{◌≡◌, ℕ, ◌+◌, ◌/◌, ◌<◌, ◌≤◌, Bool, true, false, List, [], ◌∷◌, ◌++◌, length, Option, Some, None, refl, sym, ap}
 use Rattle.std.proofs.Common.{◌∙◌, subst, arith, slice_get}
-use Rattle.std.specs.Prelude.{◌^◌, ◌⊎◌, if◌then◌else◌}
+use Rattle.std.specs.Prelude.{◌^◌, if◌then◌else◌}
 use Rattle.std.proofs.lemmas.List.{length-append}
-use mathlib.Core.Logic.{inl, inr}
+use mathlib.Core.Logic.{inl}
 use Rattle.std.proofs.lemmas.Bool.{leb-true}
 use Rattle.tl_base.specs.declared.ids.TypeId.{TypeId}
 use Rattle.tl_base.specs.declared.place.Place.{Place}
 use Rattle.lua_table.specs.LuaState.{LuaState}
 use Rattle.lua_table.proofs.Keeping.{front_self, front_then}
 use Rattle.terra_types.specs.declared.types.TypeForm.{TypeForm}
-use Rattle.terra_types.proofs.Pushing.{where-push, Where, before, last}
+use Rattle.terra_types.proofs.Pushing.{where-push, come, Where, before, last}
 use Rattle.terra_term.specs.declared.store.Export.{Export}
 use Rattle.terra_term.specs.declared.store.Static.{Static}
 use Rattle.terra_term.specs.declared.store.Symbol.{Symbol}
@@ -210,11 +210,6 @@ struct-leaves w old place =
     }) refl
 
 -- ---- symbols and constants
-
-come : {A : Type 0} (P : A → Type 0) (xs : List A) (x : A) → P x → (i : ℕ) (y : A) → Where xs x i y →
-    (slice_get xs i ≡ Some y) ⊎ P y
-come P xs x p i y (before lt at) = inl at
-come P xs x p i y (last same is) = inr (subst P is p)
 
 pub symbol-leaves : (w : StageState) → IsSound w → (of : Option TypeId) → IsThereIfAny w of →
     Leaves w (with_store w (with_symbol w.store of))

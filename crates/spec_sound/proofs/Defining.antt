@@ -33,7 +33,7 @@ use Rattle.check_sound.proofs.Leading.{StayDeclared, same-front, fine-grows}
 use Rattle.check_sound.proofs.Knowing.{known-some, not-yet}
 use Rattle.check_sound.proofs.Worlds.{Fair, fair-of, sound-from}
 use Rattle.check_sound.proofs.Adding.{still-typed}
-use Rattle.check_sound.proofs.Changing.{set-here, set-other}
+use Rattle.terra_term.proofs.Staying.{get-set-same, get-set-other}
 use Rattle.spec_model.specs.Making.{with_function, next_function, with_defined}
 use Rattle.spec_sound.proofs.Following.{Next}
 
@@ -221,10 +221,10 @@ module _ (w : StageState) (old : IsSound w) (f : FnId) (g : Function) (at : func
   same-id h e = ap (λ n. record { 0 = n }) e
 
   here : slice_get hs f.0 ≡ Some now
-  here = set-here w.store.functions f.0 g now at
+  here = get-set-same w.store.functions f.0 g now at
 
   other : (h : FnId) → (f.0 ≡ h.0 → ⊥) → slice_get hs h.0 ≡ function_at w h
-  other h apart = set-other w.store.functions f.0 h.0 now apart
+  other h apart = get-set-other w.store.functions f.0 h.0 now apart
 
   is-defined : with_defined w f place t ≡ functioned w hs
   is-defined = ap (λ o. functioned w (stores.defined o t place w.store.functions f.0)) at

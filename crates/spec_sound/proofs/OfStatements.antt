@@ -26,6 +26,7 @@ use Rattle.terra_term.specs.declared.term.Term.TheVariants as terms
 use Rattle.terra_term.specs.WellTyped.{is_placed}
 use Rattle.exotype.specs.World.{StageState}
 use Rattle.check_sound.specs.Sound.{IsSound, IsThereIfAny, NamesAreThere, AreStatements, AreStatementsIfAny}
+use Rattle.check_sound.proofs.OfVars.{there-snoc}
 use Rattle.spec_model.specs.Making.{next_symbol, with_symbol, symbol_type, type_of_symbol, quote_at}
 use Rattle.spec_model.specs.declared.wanted.Wanted.{Wanted}
 use Rattle.spec_model.specs.Nodes.{escaped_at, or_first, typing_at, Typing}
@@ -156,11 +157,6 @@ names-still : (w v : StageState) → IsSound w → Next w v → (ns : List VarNa
 names-still w v sound f [] h = tt
 names-still w v sound f (n ∷ ns) h = (any-still w v sound f n.of h.0, names-still w v sound f ns h.1)
 
-names-snoc : (w : StageState) (ns : List VarName) (n : VarName) → NamesAreThere w ns → IsThereIfAny w n.of →
-    NamesAreThere w (ns ++ n ∷ [])
-names-snoc w [] n h k = (k, tt)
-names-snoc w (x ∷ ns) n h k = (h.0, names-snoc w ns n h.1 k)
-
 -- the type of a symbol is there
 pub symbol-there : (w : StageState) → IsSound w → (i : ℕ) (o : Option Symbol) → slice_get w.store.symbols i ≡ o →
     IsThereIfAny w (type_of_symbol o)
@@ -178,7 +174,7 @@ fine-drawn-one : (w : StageState) → IsSound w → (x : Wanted) (o : Option Sym
 fine-drawn-one w sound x (Some y) env names go there are k =
     let name : VarName = record { symbol = y; of = or_own x.of (symbol_type w y); place = x.place } in
     k (names ++ name ∷ []) w (next-itself w sound)
-    (names-snoc w names name are
+    (there-snoc w names name are
     (own-there w x.of (symbol_type w y) there (symbol-there w sound y.0 (slice_get w.store.symbols y.0) refl)))
 fine-drawn-one w sound x None env names go there are k =
     let name : VarName = record { symbol = next_symbol w; of = x.of; place = x.place } in
@@ -189,7 +185,7 @@ fine-drawn-one w sound x None env names go there are k =
           (λ u g.
           let h = next-twice w v u f g in
           k (names ++ name ∷ []) u h
-          (names-snoc u names name (names-still w u sound h names are) (any-still w u sound h x.of there))),
+          (there-snoc u names name (names-still w u sound h names are) (any-still w u sound h x.of there))),
     )
 
 fine-drawn : (w : StageState) → IsSound w → (xs : List Wanted) (env : EnvId) (names : List VarName)

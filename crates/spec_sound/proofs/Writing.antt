@@ -1,5 +1,5 @@
 -- What plans write: each write goes to a sound world that follows.
-use Rattle.std.proofs.Common.{◌≡◌, ℕ, true, List, [], ◌∷◌, ◌++◌, length, Option, Some, None, refl, subst, arith, slice_get}
+use Rattle.std.proofs.Common.{◌≡◌, ℕ, true, List, [], ◌∷◌, ◌++◌, length, Option, Some, None, refl, arith, slice_get}
 use Rattle.std.specs.Prelude.{◌⊎◌}
 use mathlib.Core.Logic.{inl, inr}
 use Rattle.std.proofs.lemmas.Bool.{lt-ltb}
@@ -10,7 +10,7 @@ use Rattle.tl_base.specs.declared.ids.TextId.{TextId}
 use Rattle.tl_base.specs.declared.ids.TypeId.{TypeId}
 use Rattle.lua_table.specs.LuaState.{LuaState}
 use Rattle.terra_types.specs.Making as types
-use Rattle.terra_types.proofs.Pushing.{where-push, Where, before, last}
+use Rattle.terra_types.proofs.Pushing.{where-push, come}
 use Rattle.terra_term.specs.declared.store.Quote.{Quote}
 use Rattle.terra_term.specs.declared.store.Symbol.{Symbol}
 use Rattle.terra_term.specs.declared.store.TextBytes.{TextBytes}
@@ -129,11 +129,6 @@ name-follows w old text =
     beside-follows w old w.heap w.kept.structs w.store.symbols w.store.quotes (with_name w text).store.names
     (λ i x at. inl at)
     (λ i q at. inl at)
-
-come : {A : Type 0} (P : A → Type 0) (xs : List A) (x : A) → P x → (i : ℕ) (y : A) → Where xs x i y →
-    (slice_get xs i ≡ Some y) ⊎ P y
-come P xs x p i y (before lt at) = inl at
-come P xs x p i y (last same is) = inr (subst P is p)
 
 pub symbol-follows : (w : StageState) → IsSound w → (of : Option TypeId) → IsThereIfAny w of → Next w (with_symbol w of)
 symbol-follows w old of there =

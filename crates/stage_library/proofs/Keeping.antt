@@ -9,12 +9,13 @@ use Rattle.lua_table.proofs.Keeping as heaps
 use Rattle.terra_types.specs.declared.types.TypeForm.{TypeForm}
 use Rattle.terra_types.specs.Keeping.{KeepsTypes}
 use Rattle.terra_types.proofs.Growing.{get-left}
+use Rattle.terra_types.proofs.Staying.{keeps_itself}
 use Rattle.terra_term.specs.Held.{Held, state_of}
 use Rattle.terra_term.specs.Keeping.{AllStay}
 use Rattle.terra_term.proofs.Staying.{stays-same, stays-then}
 use Rattle.exotype.specs.World.{StageState, with_heap}
 use Rattle.terra_lib.specs.Keeping.{KeepsWorld}
-use Rattle.terra_lib.proofs.Kept.{form_stays, types_stay, types_then, exports_stay, exports_then}
+use Rattle.terra_lib.proofs.Kept.{types_stay, types_then, exports_stay, exports_then}
 use Rattle.stage_library.specs.Keeping.{KeepsStaging}
 
 -- ---- types
@@ -25,7 +26,7 @@ types_front old new front i form at = (
   (
     ap (λ (l : List TypeForm). slice_get l i) front.1
         ∙ get-left old front.0 i (slice_get_within old i form at) ∙ at,
-    form_stays form,
+    keeps_itself form,
   ),
 )
 

@@ -160,7 +160,7 @@ once-few code t e = each-few t code.blocks (one (blocks-times t code.blocks) (on
     one n e = omega (arith, e)
 
 -- blocks of the graph
-block-at : (bs : List Block) (c : ℕ) (b : Block) → slice_get bs c ≡ Some b → slice_get (map block_of bs) c ≡ Some (block_of b)
+pub block-at : (bs : List Block) (c : ℕ) (b : Block) → slice_get bs c ≡ Some b → slice_get (map block_of bs) c ≡ Some (block_of b)
 block-at bs c b e = slice_get-map block_of bs c ∙ ap (option_map block_of) e
 
 at-block : (bs : List Block) (c : ℕ) (f : FlowBlock) → slice_get (map block_of bs) c ≡ Some f →

@@ -22,6 +22,7 @@ use Rattle.tac_form.specs.Fits.{goes_to, receives}
 use Rattle.tac_copies.specs.Reached.{leads_to}
 use Rattle.tac_copies.specs.Taken.{block_reads, goes_instead, is_needed, is_needed_from}
 use Rattle.tac_copies.proofs.Lives.{Behind, OneOf, live-begins}
+use Rattle.tac_copies.proofs.LiveMade.{block-at}
 use Rattle.tac_copies.proofs.ReachedKeepsFits.{any-same, same-read}
 use Rattle.tac_copies.proofs.TakenShape.{Takes, block-with, goes-needed, instead, is-free, is-parameter, is-unread, none-back}
 use Rattle.tac_copies.proofs.TakenRuns.{none-at}
@@ -80,9 +81,6 @@ needed-behind t f L h (i ∷ is) e d =
     let q = and_parts (not (is_written (instruction_write i) t)) (is_needed t is e f) k in
     inr (not-true (is_written (instruction_write i) t) q.0, needed-behind t f L h is e q.1))
     (or_cases (has (instruction_reads i) t) (not (is_written (instruction_write i) t) && is_needed t is e f) d)
-
-block-at : (bs : List Block) (c : ℕ) (b : Block) → slice_get bs c ≡ Some b → slice_get (map block_of bs) c ≡ Some (block_of b)
-block-at bs c b e = slice_get-map block_of bs c ∙ ap (option_map block_of) e
 
 -- blocks from a number on stand so in all
 abbrev StandsFrom : (all : List Block) → (from : ℕ) → List Block → Type 0

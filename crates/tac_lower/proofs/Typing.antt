@@ -3,7 +3,7 @@ use Rattle.std.proofs.Common.{◌≡◌, ℕ, suc, ◌+◌, ◌<◌, ◌≤◌, 
 use Rattle.std.proofs.Common.{◌∙◌, subst, arith}
 use Rattle.std.specs.Prelude.{◌^◌, ◌%◌, ◌-◌, not, ◌&&◌, ◌||◌, ◌⊎◌, nat_eq, nat_le, nat_lt, if◌then◌else◌}
 use mathlib.Core.Logic.{inl, inr}
-use Rattle.std.proofs.lemmas.Bool.{eqb-true, leb-true, leb-false, ltb-true, and_parts, or_cases}
+use Rattle.std.proofs.lemmas.Bool.{leb-true, leb-false, ltb-true, and_parts, or_cases}
 use Rattle.tl_base.specs.declared.ids.SymId.{SymId}
 use Rattle.tl_base.specs.declared.ids.TypeId.{TypeId}
 use Rattle.tl_base.specs.declared.ids.FnId.{FnId}
@@ -23,38 +23,14 @@ use Rattle.terra_term.specs.Events.{declares_all, declared_in}
 use Rattle.terra_term.specs.WellTyped as typing
 use Rattle.terra_term.specs.WellTyped.{same, are_same, types_in}
 use Rattle.terra_term.specs.WellTyped.{types_of_names, with_names, after_one, after_all}
+pub use Rattle.terra_term.proofs.Tests.{no, three, four, five, same-id, same-ids}
 use Rattle.terra_meaning.specs.Values.{form_at, is_aggregate, IsValue}
 use Rattle.terra_meaning.specs.Meaning.{Wanted, the_value, the_address, position_of, types_of}
 use Rattle.tac_lower.specs.Lowering.{type_of_name}
 use Rattle.tac_lower.specs.Needs.{HasNumber, IsValueWanted, IsWide, by_test, InScope, declared_names, names_after, names_after_one}
 use Rattle.tac_lower.proofs.Words.{width_by, wrapped-zero}
 
--- tests
-
-pub no : false ≡ true → ⊥
-no e = grind (arith, e)
-
-pub three : (a b c : Bool) → (a && b && c) ≡ true → (a ≡ true) × (b ≡ true) × (c ≡ true)
-three a b c h = let x = and_parts (a && b) c h in let y = and_parts a b x.0 in (y.0, y.1, x.1)
-
-pub four : (a b c d : Bool) → (a && b && c && d) ≡ true → (a ≡ true) × (b ≡ true) × (c ≡ true) × (d ≡ true)
-four a b c d h = let x = and_parts (a && b && c) d h in let y = three a b c x.0 in (y.0, y.1, y.2, x.1)
-
-pub five : (a b c d e : Bool) → (a && b && c && d && e) ≡ true → (a ≡ true) × (b ≡ true) × (c ≡ true) × (d ≡ true) × (e ≡ true)
-five a b c d e h = let x = and_parts (a && b && c && d) e h in let y = four a b c d x.0 in (y.0, y.1, y.2, y.3, x.1)
-
 -- ids
-
-pub same-id : (a b : TypeId) → same a b ≡ true → a ≡ b
-same-id a b e = ap (λ m. record { 0 = m }) (eqb-true a.0 b.0 e)
-
-pub same-ids : (ms bs : List TypeId) → are_same ms bs ≡ true → ms ≡ bs
-same-ids [] [] e = refl
-same-ids (a ∷ ms) (b ∷ bs) e =
-    let h = and_parts (same a b) (are_same ms bs) e in
-    ap (λ x. x ∷ ms) (same-id a b h.0) ∙ ap (λ l. b ∷ l) (same-ids ms bs h.1)
-same-ids [] (b ∷ bs) e = absurd (no e)
-same-ids (a ∷ ms) [] e = absurd (no e)
 
 pub names-are : (xs : List TypedName) → types_of_names xs ≡ map type_of_name xs
 names-are [] = refl

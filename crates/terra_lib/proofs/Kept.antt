@@ -15,7 +15,7 @@ use Rattle.terra_types.specs.declared.types.TypeForm.{TypeForm}
 use Rattle.terra_types.specs.declared.types.TypeForm.TheVariants as forms
 use Rattle.terra_types.specs.Keeping.{KeepsForm, KeepsTypes}
 use Rattle.terra_types.specs.Making.{with_form}
-use Rattle.terra_types.proofs.Staying.{keeps-form, keeps-struct}
+use Rattle.terra_types.proofs.Staying.{keeps_itself, keeps-form, keeps-struct}
 use Rattle.terra_term.specs.Held.{Held, state_of, with_types}
 use Rattle.terra_term.specs.Held as stores
 use Rattle.terra_term.specs.Keeping.{Stays, AllStay}
@@ -27,18 +27,8 @@ use Rattle.terra_lib.specs.Lists.{appended, all_appended}
 use Rattle.terra_lib.specs.Symbols.{constant, with_constant}
 use Rattle.terra_lib.specs.Keeping.{KeepsExports, KeepsWorld}
 
-pub form_stays : (f : TypeForm) → KeepsForm f f
-form_stays (forms.Integer i) = refl
-form_stays forms.Bool = refl
-form_stays forms.Unit = refl
-form_stays (forms.Pointer t) = refl
-form_stays (forms.Array t n) = refl
-form_stays (forms.Function ps r) = refl
-form_stays (forms.Struct n p None) = (None, refl)
-form_stays (forms.Struct n p (Some l)) = refl
-
 pub types_stay : (types : List TypeForm) → KeepsTypes types types
-types_stay types i form at = (form, (at, form_stays form))
+types_stay types i form at = (form, (at, keeps_itself form))
 
 laid_then : (n : ℕ) (p : Place) (layout : Option Layout) (new : TypeForm) → KeepsForm (forms.Struct n p layout) new
     → (l : Option Layout) × (new ≡ forms.Struct n p l)

@@ -1,9 +1,8 @@
 -- Texts and names are found where they stand.
-use Rattle.std.proofs.Common.{◌≡◌, refl, ℕ, ◌+◌, ◌≤◌, Bool, true, false, cond, not, ltb, ◌&&◌, ◌||◌, List, [], ◌∷◌, ◌++◌, length, Option}
-use Rattle.std.proofs.Common.{Some, None, sym, ◌∙◌, ap, append-nil, if◌then◌else◌, arith}
+use Rattle.std.proofs.Common.{◌≡◌, refl, ℕ, ◌+◌, Bool, true, false, cond, not, ◌&&◌, List, [], ◌∷◌, ◌++◌, Option}
+use Rattle.std.proofs.Common.{Some, None, sym, ◌∙◌, ap, append-nil, if◌then◌else◌}
 use Rattle.std.proofs.Math.ListN.{length-map}
 use Rattle.std.proofs.lemmas.List.{map-append}
-use Rattle.std.proofs.lemmas.Bool.Decides.{nat_tests}
 use Rattle.std.proofs.lemmas.Slice.Eq.{bytes_eq-Decides}
 use Rattle.std.specs.Prelude.{Vec, find, nat_eq, bytes_eq, position}
 use Rattle.std.specs.Cmp.{nat_eq_equiv}
@@ -13,6 +12,7 @@ use Rattle.std.specs.Option.{option_map}
 use Rattle.indexmap.specs.IndexMap.{insert_entry}
 use Rattle.indexmap.specs.IndexSet.{insert_key}
 use Rattle.tl_base.specs.declared.ids.TextId.{TextId}
+use Rattle.lua_value.proofs.Any.{none_any}
 use Rattle.terra_term.specs.declared.store.Static.{Static}
 use Rattle.terra_term.specs.declared.store.TextBytes.{TextBytes}
 use Rattle.terra_term.specs.Held.{text_address, name_place}
@@ -91,21 +91,6 @@ before (n ∷ ns) id = before_by (nat_eq id n.text.0) (nat_eq n.text.0 id) (posi
 -- the place of an id in the set is that of its name
 pub name_found : (names : List TextBytes) (text : TextId) → position (nat_eq text.0) (ids_of names) ≡ name_place names text
 name_found names text = rw (before names text.0, length-map names (λ (n : TextBytes). n.text.0)) refl
-
-past_any : {X : Type 0} (test : X → Bool) (xs : List X) → length xs ≤ position_or_len test xs → list_any test xs ≡ false
-past_any test [] h = refl
-past_any test (x ∷ xs) h = any_by (test x) h (past_any test xs)
-  where
-    any_by : (t : Bool) → length (x ∷ xs) ≤ cond (not t) (1 + position_or_len test xs) 0 → (length xs ≤ position_or_len test xs → list_any test xs ≡ false) → (t || list_any test xs) ≡ false
-    any_by true h rest = absurd (omega (arith, h))
-    any_by false h rest = rest (omega (arith, h))
-
-none_by : (t : Bool) (a n : ℕ) → t ≡ ltb a n → cond t (Some a) None ≡ None → n ≤ a
-none_by true a n e none = absurd (cc none)
-none_by false a n e none = grind (arith, nat_tests)
-
-none_any : {X : Type 0} (test : X → Bool) (xs : List X) → position test xs ≡ None → list_any test xs ≡ false
-none_any test xs none = past_any test xs (none_by (ltb (position_or_len test xs) (length xs)) (position_or_len test xs) (length xs) refl none)
 
 -- the id of a name that isn't kept goes last
 pub id_put : (ids : List ℕ) (names : List TextBytes) (n : TextBytes) → ids ≡ ids_of names → name_place names n.text ≡ None → insert_key nat_eq ids n.text.0 ≡ ids_of (names ++ n ∷ [])

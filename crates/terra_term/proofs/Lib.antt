@@ -1,6 +1,7 @@
 pub mod Statics
 pub mod Finding
 pub mod Steps
+pub mod Tests
 pub mod Texts
 pub mod Trees
 pub mod Parts

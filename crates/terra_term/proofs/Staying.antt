@@ -60,12 +60,12 @@ stays-defined : (t : TermId) → Stays states.Undefined (states.Defined t)
 stays-defined t = record { term = λ t' h. absurd (cc); typed = λ made h. h; refusal = λ why h. h }
 
 -- a list with one element changed
-get-set-same : {A : Type 0} (xs : List A) (i : ℕ) (x y : A) → slice_get xs i ≡ Some x → slice_get (slice_set xs i y) i ≡ Some y
+pub get-set-same : {A : Type 0} (xs : List A) (i : ℕ) (x y : A) → slice_get xs i ≡ Some x → slice_get (slice_set xs i y) i ≡ Some y
 get-set-same [] i x y h = absurd (cc)
 get-set-same (z ∷ zs) zero x y h = refl
 get-set-same (z ∷ zs) (suc i) x y h = get-set-same zs i x y h
 
-get-set-other : {A : Type 0} (xs : List A) (i j : ℕ) (y : A) → (i ≡ j → ⊥) → slice_get (slice_set xs i y) j ≡ slice_get xs j
+pub get-set-other : {A : Type 0} (xs : List A) (i j : ℕ) (y : A) → (i ≡ j → ⊥) → slice_get (slice_set xs i y) j ≡ slice_get xs j
 get-set-other [] i j y h = refl
 get-set-other (z ∷ zs) zero zero y h = absurd (h refl)
 get-set-other (z ∷ zs) zero (suc j) y h = refl

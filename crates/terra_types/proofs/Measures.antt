@@ -30,10 +30,10 @@ for_some-twice : {A B C : Type 0} (o : Option A) (f : A → Option B) (g : B →
 for_some-twice None f g = refl
 for_some-twice (Some x) f g = refl
 
-past : {A : Type 0} (xs : List A) (i : ℕ) → slice_get xs i ≡ None → length xs ≤ i
-past [] i h = omega arith
-past (x ∷ xs) zero h = absurd (none-some x (sym h))
-past (x ∷ xs) (suc i) h = omega (arith, past xs i h)
+pub get-past : {A : Type 0} (xs : List A) (i : ℕ) → slice_get xs i ≡ None → length xs ≤ i
+get-past [] i h = omega arith
+get-past (x ∷ xs) zero h = absurd (none-some x (sym h))
+get-past (x ∷ xs) (suc i) h = omega (arith, get-past xs i h)
 
 -- ---- each type
 
@@ -111,7 +111,7 @@ module _ (es : List (TypeKey × Kept)) (k : AreKept es) where
       step : (o : Option (TypeKey × Kept)) → slice_get es t.0 ≡ o → kept_measure es t ≡ measure_of (forms_in es) t
       step None at =
           ap (λ o. for_some (option_map (λ e. e.1) o) (λ kept. by_elements es kept kept.elements)) at ∙
-          sym (past-measure (forms_in es) t.0 (omega (arith, length-forms es, past es t.0 at)))
+          sym (past-measure (forms_in es) t.0 (omega (arith, length-forms es, get-past es t.0 at)))
       step (Some e) at =
           ap (λ o. for_some (option_map (λ e. e.1) o) (λ kept. by_elements es kept kept.elements)) at ∙
           sym (up_to (suc t.0) t.0 e (omega arith) at).value

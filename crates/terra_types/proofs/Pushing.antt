@@ -1,6 +1,7 @@
 -- What the table keeps when a new type is put behind the others.
 use Rattle.std.specs.Prelude.{◌≡◌, refl, ℕ, zero, suc, ◌+◌, ◌<◌, ◌≤◌, Bool, true, false, ◌&&◌, ◌==◌, List, [], ◌∷◌, ◌++◌, length, take}
-use Rattle.std.specs.Prelude.{position, nat_lt, cond, Option, Some, None, slice_get}
+use Rattle.std.specs.Prelude.{position, nat_lt, cond, Option, Some, None, slice_get, ◌⊎◌}
+use mathlib.Core.Logic.{inl, inr}
 use Rattle.std.proofs.Common.{sym, ◌∙◌, ap, subst, arith, eq-eqb, true≢false}
 use Rattle.std.specs.List.{position_or_len}
 use Rattle.std.proofs.lemmas.Bool.{ltb-false}
@@ -40,6 +41,12 @@ where-push (z ∷ xs) x (suc i) y h = step (where-push xs x i y h)
     step : Where xs x i y → Where (z ∷ xs) x (suc i) y
     step (before lt at) = before (omega (arith, lt)) at
     step (last e same) = last (ap suc e) same
+
+-- what holds of the last holds of each, unless it is among the first
+pub come : {A : Type 0} (P : A → Type 0) (xs : List A) (x : A) → P x → (i : ℕ) (y : A) → Where xs x i y →
+    (slice_get xs i ≡ Some y) ⊎ P y
+come P xs x p i y (before lt at) = inl at
+come P xs x p i y (last same is) = inr (subst P is p)
 
 take-push : {A : Type 0} (xs : List A) (x : A) (i : ℕ) → i ≤ length xs → take i (xs ++ x ∷ []) ≡ take i xs
 take-push [] x zero h = refl

@@ -13,7 +13,7 @@ use Rattle.terra_types.specs.Making.{awaits_layout, is_same, is_unsettled, new_s
 use Rattle.terra_types.specs.Making.{with_struct}
 use Rattle.terra_types.proofs.Growing.{get-left}
 
-keeps_itself : (f : TypeForm) → KeepsForm f f
+pub keeps_itself : (f : TypeForm) → KeepsForm f f
 keeps_itself (forms.Integer i) = refl
 keeps_itself forms.Bool = refl
 keeps_itself forms.Unit = refl

@@ -59,7 +59,7 @@ not_there p xs h =
     ap (λ n. cond (nat_lt n (length xs)) (Some n) None) (all_fail p xs h) ∙
     ap (λ b. cond b (Some (length xs)) None) (le-ltb (length xs) (length xs) (omega arith))
 
-differs : (n m : ℕ) → m < n → (n == m) ≡ false
+pub differs : (n m : ℕ) → m < n → (n == m) ≡ false
 differs n m h = step (n == m) refl
   where
     step : (b : Bool) → (n == m) ≡ b → b ≡ false

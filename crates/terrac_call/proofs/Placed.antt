@@ -26,6 +26,7 @@ use Rattle.terra_term.specs.TypedTerms.{and_then, type_of, is_place}
 use Rattle.terra_term.specs.WellTyped as typing
 use Rattle.terra_term.specs.WellTyped.{Within, is_placed, same, is_typed, are_typed, one_typed, all_typed, body_typed, types_in}
 use Rattle.terra_term.specs.WellTyped.{with_names, after_one, after_all, in_a_let, in_a_loop}
+use Rattle.terra_term.proofs.Tests.{three, four, five}
 use Rattle.terra_meaning.specs.Values.{bytes_at, encoded, form_at, target_of, width_of}
 use Rattle.terra_meaning.specs.Frames.{Home, by_value, in_frame, frame_of, home_at}
 use Rattle.terra_meaning.specs.Running as running
@@ -210,17 +211,6 @@ fine_assigned types (typed at of (Index x i)) a v s ok = fine_stored types at of
 fine_assigned types (typed at of (Address e)) a v s ok = fine_stored types at of (number a) v s ok
 fine_assigned types (typed at of (Decay e)) a v s ok = fine_stored types at of (number a) v s ok
 fine_assigned types (typed at of (Let b e)) a v s ok = fine_stored types at of (number a) v s ok
-
--- ---- tests of several
-
-three : (a b c : Bool) → (a && b && c) ≡ true → (a ≡ true) × (b ≡ true) × (c ≡ true)
-three a b c h = let x = and_parts (a && b) c h in let y = and_parts a b x.0 in (y.0, y.1, x.1)
-
-four : (a b c d : Bool) → (a && b && c && d) ≡ true → (a ≡ true) × (b ≡ true) × (c ≡ true) × (d ≡ true)
-four a b c d h = let x = and_parts (a && b && c) d h in let y = three a b c x.0 in (y.0, y.1, y.2, x.1)
-
-five : (a b c d e : Bool) → (a && b && c && d && e) ≡ true → (a ≡ true) × (b ≡ true) × (c ≡ true) × (d ≡ true) × (e ≡ true)
-five a b c d e h = let x = and_parts (a && b && c && d) e h in let y = four a b c d x.0 in (y.0, y.1, y.2, y.3, x.1)
 
 -- ---- terms that passed the test of typed terms in a store
 

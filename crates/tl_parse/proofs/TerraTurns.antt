@@ -28,6 +28,7 @@ use Rattle.tl_parse.specs.Entries.{separator_at, entry_at, more_entries_at}
 use Rattle.tl_parse.specs.declared.terra_expressions.TerraPrecedence.{TerraPrecedence}
 use Rattle.tl_parse.proofs.Uses.{never, both, operator_with, opened_at, opens_any, token_is, plain_is, sign_is, repeats, ends, shorter_turn}
 use Rattle.tl_parse.proofs.Following.{sign_then, open_then, then, either_is}
+use Rattle.tl_parse.proofs.Agreeing.{expression_agrees}
 use Rattle.tl_parse.proofs.TerraAgreeing.{terra_name_agrees, initialiser_agrees}
 use Rattle.tl_parse.proofs.Turns.{list_goes, list_ends, list_shorter, operators_goes, operators_turn, fields_turn, used_here, used_use}
 use Rattle.tl_parse.proofs.Turns.{use_behind}
@@ -92,10 +93,6 @@ separator_agrees levels ts =
     (ap (λ (o : Outcome (Token × Tree)). o >>= λ y rest. Took Nothing rest) (plain_is levels (among separators) Plain (sample symbols.Semicolon) ts) ∙ bind_again (used (among separators) false 0 Plain ts) (λ t rest. Took (both t Nothing) rest) (λ y rest. Took Nothing rest))
     refl
 
-lua_expression_agrees : (levels : ℕ) (m : Mode) (ts : List Token) → reading levels (lua.expression m) ts ≡ part_at levels (Expression m) ts
-unfolding part_at
-lua_expression_agrees levels m ts = refl
-
 entries_turn : (levels : ℕ) (m : Mode) (before : Tree) (ts : List Token) →
     reading levels (bind (sign symbols.Name) λ x. bind (sign symbols.Colon) λ y. bind (lua.expression m) λ e. bind separator λ z. give (More before (Entry (Name x.0.place x.0.offset x.0.text) e))) ts
     ≡ (entry_at levels m ts >>= λ e rest. Took (More before e) rest)
@@ -103,7 +100,7 @@ unfolding entry_at name_at
 entries_turn levels m before ts =
     sign_then levels symbols.Name (λ x. bind (sign symbols.Colon) λ y. bind (lua.expression m) λ e. bind separator λ z. give (More before (Entry (Name x.0.place x.0.offset x.0.text) e))) (λ t a. behind_name (Name t.place t.offset t.text) a)
     (λ t a. sign_then levels symbols.Colon (λ y. bind (lua.expression m) λ e. bind separator λ z. give (More before (Entry (Name t.place t.offset t.text) e))) (λ y b. part_at levels (Expression m) b >>= λ e c. separator_at c >>= λ z rest. Took (More before (Entry (Name t.place t.offset t.text) e)) rest)
-    (λ y b. then levels (lua.expression m) (λ e. bind separator λ z. give (More before (Entry (Name t.place t.offset t.text) e))) (λ us. part_at levels (Expression m) us) (λ e c. separator_at c >>= λ z rest. Took (More before (Entry (Name t.place t.offset t.text) e)) rest) (λ us. lua_expression_agrees levels m us)
+    (λ y b. then levels (lua.expression m) (λ e. bind separator λ z. give (More before (Entry (Name t.place t.offset t.text) e))) (λ us. part_at levels (Expression m) us) (λ e c. separator_at c >>= λ z rest. Took (More before (Entry (Name t.place t.offset t.text) e)) rest) (λ us. expression_agrees levels m us)
     (λ e c. then levels separator (λ z. give (More before (Entry (Name t.place t.offset t.text) e))) (λ us. separator_at us) (λ z rest. Took (More before (Entry (Name t.place t.offset t.text) e)) rest) (λ us. separator_agrees levels us) (λ z us. refl) c) b) a) ts
     ∙ sym (go (sign_at symbols.Name ts))
   where

@@ -1,12 +1,13 @@
 -- Searches from the end, and outwards.
 use Rattle.std.specs.Prelude.{◌≡◌, ℕ, zero, suc, ◌+◌, ◌<◌, ◌≤◌, Bool, true, false, List, [], ◌∷◌, length, get_or, drop, Option, Some, None}
 use Rattle.std.specs.Prelude.{if◌then◌else◌}
-use Rattle.std.proofs.Common.{refl, sym, ap, ◌∙◌, arith}
+use Rattle.std.proofs.Common.{sym, ap, ◌∙◌, arith}
 use Rattle.std.proofs.Math.Seq.{drop-cons}
 use Rattle.tl_base.specs.declared.ids.NodeId.{NodeId}
 use Rattle.tl_tree.specs.declared.scope.Scope.{Scope}
 use Rattle.tl_tree.specs.Code.{Items}
 use Rattle.tl_tree.specs.Scopes.{Found, Standing, scope_in, or_found, last_found, declared_in, found_from}
+use Rattle.tl_tree.proofs.Searching.{nothing_around}
 
 abbrev at_position : ℕ → ℕ → NodeId → Found
 at_position depth at d = record { depth = depth; position = at; declaration = d }
@@ -39,10 +40,6 @@ before asked depth at m ds d e le is h =
     ap (last_found asked depth m) (drop-cons ds m d (omega (arith, e, le)))
     ∙ ap (λ o. or_found o (one (asked x) depth m x)) behind ∙ ap (λ b. one b depth m x) is
 
-pub nothing : (items : Items) (standing : Standing) (asked : NodeId → Bool) (owners depth : ℕ) → found_from owners items standing asked depth None ≡ None
-nothing items standing asked zero depth = refl
-nothing items standing asked (suc owners) depth = refl
-
 pub outwards : (items : Items) (standing : Standing) (asked : NodeId → Bool) (owners m depth : ℕ) (scope : Scope) → owners ≡ suc m
     → found_from owners items standing asked depth (Some scope)
     ≡ or_found (last_found asked depth 0 (declared_in items scope)) (found_from m items standing asked (depth + 1) (scope_in standing scope.owner.0))
@@ -70,7 +67,7 @@ found_around items standing asked owners m depth next scope last total outer e l
 pub nothing_here : (items : Items) (standing : Standing) (asked : NodeId → Bool) (owners depth : ℕ) (from : Option Scope) (total : Option Found) → from ≡ None
     → found_from owners items standing asked depth from ≡ total → None ≡ total
 nothing_here items standing asked owners depth from total e h =
-    sym (nothing items standing asked owners depth) ∙ ap (found_from owners items standing asked depth) (sym e) ∙ h
+    sym (nothing_around items standing asked owners depth) ∙ ap (found_from owners items standing asked depth) (sym e) ∙ h
 
 pub no_owners : (items : Items) (standing : Standing) (asked : NodeId → Bool) (owners depth : ℕ) (from : Option Scope) (total : Option Found) → owners ≡ 0
     → found_from owners items standing asked depth from ≡ total → None ≡ total
