@@ -1,6 +1,6 @@
 -- What a step does by itself: it returns an end, enters a job or asks, below a frame or with nothing to wait for it.
 use Rattle.std.proofs.Common.{◌≡◌, ℕ, ◌-◌, ◌≤◌, ◌<◌, Bool, List, [], ◌∷◌, ◌++◌, refl, sym, subst, ap, ◌∙◌}
-use Rattle.std.specs.Prelude.{if◌then◌else◌, Result, Ok, Err, IfOk}
+use Rattle.std.specs.Prelude.{if◌then◌else◌}
 use Rattle.tl_base.specs.Layer.{State, state}
 use Rattle.tl_base.specs.declared.machine.Step.TheVariants.{Enter, Return, Stop, Spent}
 use Rattle.tl_base.specs.Plan.{Give, Do, AskFor, Pay, then_do, run, run_job}
@@ -96,12 +96,6 @@ pub lacks : (fs : List BodyFrame) (n : ℕ) (p : BodyPlan) (w : TypingState) (le
     → left < n → Goes fs (Pay n p) w left fs Spent w left
 lacks fs n p w left short = λ later.
     ap (plug body_rules fs) (paid-short n (state w left) (λ s. run jobs p s later) short)
-
--- what holds of the step that comes of a call, by what the call ensures of it. The fact comes first, so that it is known where what
--- follows from it is read
-pub carried : {X E : Type 0} (P Q : X → Type 0) (r : Result X E) → IfOk r P → ((x : X) → P x → Q x) → IfOk r Q
-carried {X} {E} P Q (Ok x) p h = h x p
-carried {X} {E} P Q (Err e) p h = p
 
 -- a step over any frames, whose plan is known by an equation
 pub does_as : (fs : List BodyFrame) (p q : BodyPlan) (w w2 : TypingState) (left left2 : ℕ) (step : BodyStep)

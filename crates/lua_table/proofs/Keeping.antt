@@ -67,6 +67,14 @@ keeps_then a b c f g = record {
   more_cells = omega (arith, f.more_cells, g.more_cells);
 }
 
+-- a heap that is another one, then what is kept after it
+pub heap_keeps_by : (s t w u : LuaState) → t ≡ w → KeepsHeap s w → KeepsHeap t u → KeepsHeap s u
+heap_keeps_by s t w u is first later = keeps_then s t u (subst (KeepsHeap s) (sym is) first) later
+
+-- a heap that is another one, which is kept
+pub heap_kept_as : (s t w : LuaState) → t ≡ w → KeepsHeap s w → KeepsHeap s t
+heap_kept_as s t w is kept = subst (KeepsHeap s) (sym is) kept
+
 -- where the environments are as they were
 keeps_by : (old new : LuaState) → IsFront old.texts new.texts → IsFront old.closures new.closures → IsFront old.macros new.macros → IsFront old.printed new.printed → new.envs ≡ old.envs → length old.tables ≤ length new.tables → length old.cells ≤ length new.cells → KeepsHeap old new
 keeps_by old new t c m p e tables cells = record {

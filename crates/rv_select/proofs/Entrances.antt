@@ -19,15 +19,11 @@ use Rattle.rv_select.specs.Frames.{BeforeEntering, Calls, CallsAreBegun, Enters,
 use Rattle.rv_select.proofs.Callings.{Begun, begins, too-deep}
 use Rattle.rv_select.proofs.Enters.{Placed, Taken, region-refused, takes-frame, takes-region}
 use Rattle.rv_select.proofs.Returns.{BackIn, goes-back}
-use Rattle.rv_select.proofs.Straight.{low-below}
+use Rattle.rv_select.proofs.Straight.{low-below, pc-both}
 use Rattle.rv_select.proofs.Ways.{Way, way-both}
 
 pub more-ends : (program : List (Option Instr)) (kind : FaultKind) (at : Place) (weight whole : ℕ) (m : State) → weight ≤ whole → Ends program kind at weight m → Ends program kind at whole m
 more-ends program kind at weight whole m h e = record { steps = e.steps; last = e.last; few = omega (arith, h, e.few); runs = e.runs }
-
-pc-both : (p a b n k : ℕ) → a ≡ low (p + 4 * n) → b ≡ low (a + 4 * k) → b ≡ low (p + 4 * (n + k))
-unfolding low
-pc-both p a b n k e h = omega arith
 
 -- both frames are taken
 both-entered : (program : List (Option Instr)) (y : Layout) (bytes frame top placed size : ℕ) (at : Place) (m : State) → BeforeEntering program y bytes frame top placed size at m →

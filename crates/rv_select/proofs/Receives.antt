@@ -46,7 +46,7 @@ use Rattle.rv_select.proofs.Frames.{framed-count, framed-loads, framed-some}
 use Rattle.rv_select.proofs.Homes.{frame-sum, region-small}
 use Rattle.rv_select.proofs.Moves.{fewer-holds, keeps-both, near-keeps, scratch-holds, straight-put, unused-holds}
 use Rattle.rv_select.proofs.Stands.{both-true}
-use Rattle.rv_select.proofs.Straight.{Loads, Scratch, behind-both, loads-five}
+use Rattle.rv_select.proofs.Straight.{Loads, Scratch, behind-both, loads-five, pc-both}
 use Rattle.rv_select.proofs.Transports.{later-comes}
 use Rattle.rv_select.proofs.Worded.{AreBelow, AreOwn, neither}
 use Rattle.rv_select.proofs.Ways.{Way, near-same, scratch-near, stands-back, stands-front, straight-way, way-both, way-none}
@@ -110,10 +110,6 @@ pub record GotAll (program : List (Option Instr)) (y : Layout) (Fin : ℕ → Ty
 pc-none : (p : ℕ) → p < 2 ^ 64 → p ≡ low (p + 4 * 0)
 unfolding low
 pc-none p h = omega arith
-
-pc-both : (p a b n k : ℕ) → a ≡ low (p + 4 * n) → b ≡ low (a + 4 * k) → b ≡ low (p + 4 * (n + k))
-unfolding low
-pc-both p a b n k e h = omega arith
 
 split-any : (t d : ℕ) (ds : List Destination) (X : Type 0) → (list_any (goes_to t) (Temp d ∷ ds) ≡ true) ⊎ X → (list_any (goes_to t) ds ≡ true) ⊎ ((t ≡ d) ⊎ X)
 split-any t d ds X (inl e) =

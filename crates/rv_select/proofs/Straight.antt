@@ -41,6 +41,11 @@ pub low-below : (n : ℕ) → low n < 2 ^ 64
 unfolding low
 low-below n = omega arith
 
+-- two stretches of code, one after the other
+pub pc-both : (p a b n k : ℕ) → a ≡ low (p + 4 * n) → b ≡ low (a + 4 * k) → b ≡ low (p + 4 * (n + k))
+unfolding low
+pc-both p a b n k e h = omega arith
+
 pub low-first : (p : ℕ) → low (p + 4) ≡ low (p + 4 * 1)
 unfolding low
 low-first p = omega arith

@@ -43,7 +43,7 @@ use Rattle.rv_select.specs.Settings.{falls, follower}
 use Rattle.rv_select.proofs.Jumps.{chosen-count, chosen-few, chosen_words, edge-count, edge-few, edge_words}
 
 -- most words of two pieces of code
-both : (a b : List Instr) (n k : ℕ) → length a ≤ n → length b ≤ k → length (a ++ b) ≤ n + k
+pub both : (a b : List Instr) (n k : ℕ) → length a ≤ n → length b ≤ k → length (a ++ b) ≤ n + k
 both a b n k h g = omega (arith, length-append a b)
 
 more : (n k : ℕ) (a : List Instr) → n ≤ k → length a ≤ n → length a ≤ k

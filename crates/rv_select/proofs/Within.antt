@@ -4,7 +4,6 @@ use Rattle.std.proofs.Common.{refl, sym, subst, arith}
 use Rattle.std.specs.Prelude.{if◌then◌else◌, nat_le}
 use Rattle.std.specs.List.{list_all}
 use Rattle.std.proofs.lemmas.Bool.{le-leb, leb-true}
-use Rattle.std.proofs.lemmas.List.{length-append}
 use Rattle.rv_isa.specs.declared.instr.Instr.{Instr}
 use Rattle.rv_isa.specs.declared.instr.Instr.TheVariants.{Jalr, Load, RegisterRegister, Store}
 use Rattle.rv_isa.specs.declared.operation.LoadOp.TheVariants.{Ld}
@@ -20,30 +19,27 @@ use Rattle.tac_form.specs.Weights.{words_of}
 use Rattle.tac_form.specs.declared.tac.Part.{Part}
 use Rattle.rv_operators.specs.Codes.{x0, x5, zero_immediate}
 use Rattle.rv_select.specs.Numbers.{below_zero, constant, lower_of, register_of}
-use Rattle.rv_select.specs.Places.{Layout, home_of}
+use Rattle.rv_select.specs.Places.{Layout}
 use Rattle.rv_select.specs.Shapes.{far_part, framed, limit_found, place_number, x2, x7, x8, x11}
 use Rattle.rv_select.specs.Entering.{arguments_stored, entered, frame_taken, frames_given, left, link_put_back, link_saved, region_given}
 use Rattle.rv_select.specs.Entering.{region_taken, stack_tested, x1, most_arguments, place_given, pointer_down, pointer_up, put_back}
 use Rattle.rv_select.specs.Entering.{received, received_one, is_received, receiving, result_put, result_words, saved, size_in, stack_branch}
 use Rattle.rv_select.specs.Entering.{stored_below}
 use Rattle.rv_select.specs.Calls.{call_begun, call_ended, called, call_jump, depth_tested, jump_unless_last, one_more, part_given}
-use Rattle.rv_select.specs.Calls.{part_taken, passed, part_passed}
+use Rattle.rv_select.specs.Calls.{passed, part_passed}
 use Rattle.rv_select.specs.Frames.{CallsKeepWithin, FramesKeepWithin, ParametersKeepWithin}
 use Rattle.rv_select.proofs.Copies.{size-small}
 use Rattle.rv_select.proofs.Enters.{one-if, saved-count}
 use Rattle.rv_select.proofs.Frames.{framed-count}
 use Rattle.rv_select.proofs.Homes.{put-few}
 use Rattle.rv_select.proofs.Numbers.{constant-count}
-use Rattle.rv_select.proofs.Passes.{below-count, given-count, part-count, first-part-count}
+use Rattle.rv_select.proofs.Passes.{below-count, given-count, first-part-count}
 use Rattle.rv_select.proofs.Pointers.{down-count, up-count}
 use Rattle.rv_select.proofs.Quits.{put-back-count}
-use Rattle.rv_select.proofs.Weights.{to-count}
+use Rattle.rv_select.proofs.Weights.{both, to-count}
 use Rattle.rv_select.proofs.Jumps.{last-count, last-few}
 
 -- most words of two pieces of code
-both : (a b : List Instr) (n k : ℕ) → length a ≤ n → length b ≤ k → length (a ++ b) ≤ n + k
-both a b n k h g = omega (arith, length-append a b)
-
 passed-count : (y : Layout) (held : Option ℕ) (i : ℕ) (ps : List Part) → length (passed y held i ps) ≤ 11 * length ps
 passed-count y held i [] = omega arith
 passed-count y held i (p ∷ ps) =

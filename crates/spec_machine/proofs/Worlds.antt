@@ -1,8 +1,7 @@
 -- Worlds of which one part is another one, as calls on that part leave them.
-use Rattle.std.proofs.Common.{◌≡◌, refl, sym, ap, subst, ◌∙◌}
+use Rattle.std.proofs.Common.{◌≡◌, ap, subst, ◌∙◌}
 use Rattle.lua_table.specs.LuaState.{LuaState}
 use Rattle.lua_table.specs.Keeping.{KeepsHeap}
-use Rattle.lua_table.proofs.Keeping.{keeps_then}
 use Rattle.terra_term.specs.Held.{Held}
 use Rattle.exotype.specs.World.{StageState, with_heap, with_store}
 use Rattle.spec_machine.specs.Keeping.{KeepsStage, KeepsStore}
@@ -36,13 +35,3 @@ pub store_by : (w v new : StageState) (make : Held → Held)
     → v ≡ w → new ≡ with_store v new.store → new.store ≡ make v.store → new ≡ with_store w (make w.store)
 store_by w v new make same by is =
     by ∙ ap (λ (s : Held). with_store v s) is ∙ ap (λ (x : StageState). with_store x (make x.store)) same
-
--- ---- heaps
-
--- a heap that is another one, then what is kept after it
-pub heap_keeps_by : (s t w u : LuaState) → t ≡ w → KeepsHeap s w → KeepsHeap t u → KeepsHeap s u
-heap_keeps_by s t w u is first later = keeps_then s t u (subst (KeepsHeap s) (sym is) first) later
-
--- a heap that is another one, which is kept
-pub heap_kept_as : (s t w : LuaState) → t ≡ w → KeepsHeap s w → KeepsHeap s t
-heap_kept_as s t w is kept = subst (KeepsHeap s) (sym is) kept

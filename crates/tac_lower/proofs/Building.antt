@@ -8,7 +8,7 @@ use Rattle.tac_lower.specs.Pieces.{Used, Piece, Holders}
 use Rattle.tac_lower.specs.Data.{reaching}
 use Rattle.tac_lower.specs.Works.{Made, behind, past, scoped}
 use Rattle.tac_lower.proofs.Adding.{same-made}
-use Rattle.tac_lower.proofs.Lines.{count-append}
+use Rattle.tac_lower.proofs.Places.{count-append}
 
 pub record Built (old new : Made) (X : List Item) (u : Used) (s : Holders) (n : ℕ) : Type 0 where
   pub code : new.code ≡ old.code ++ X

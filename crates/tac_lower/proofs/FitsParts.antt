@@ -49,7 +49,7 @@ use Rattle.tac_lower.proofs.Typing.{no, three, four, five, same-id, same-ids, ty
 use Rattle.tac_lower.proofs.Needing.{boolean-is, constant-value}
 use Rattle.tac_lower.proofs.Fitting as fits
 use Rattle.tac_lower.proofs.FitsOperations as operations_fit
-use Rattle.tac_lower.proofs.Fitting.{count-append}
+use Rattle.tac_lower.proofs.Places.{count-append}
 
 -- what is plain in use has few bytes
 

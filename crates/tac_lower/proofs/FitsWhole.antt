@@ -33,6 +33,7 @@ use Rattle.tac_lower.proofs.Simulates.{grown-none, grown-then}
 use Rattle.tac_lower.proofs.Writes.{grown-temp, grown-area}
 use Rattle.tac_lower.proofs.Homes.{Homes, homes-of, halves}
 use Rattle.tac_lower.proofs.Typing.{declared-count}
+use Rattle.tac_lower.proofs.Places.{count-append}
 use Rattle.tac_lower.proofs.Fitting as fits
 use Rattle.tac_lower.proofs.FitsParts as parts
 use Rattle.tac_lower.proofs.FitsParts.{declares-ok}
@@ -246,7 +247,7 @@ module _ (store : Contents) (entries : List FnId) (k : Callable) (are : AreTypes
   some-blocks : 0 < length tac.blocks
   some-blocks =
       let e = blocks-count ((D.code ++ B.code) ++ ending k ∷ []) empty_draft in
-      let a = fits.count-append (D.code ++ B.code) (ending k ∷ []) in omega (arith, e, a)
+      let a = count-append (D.code ++ B.code) (ending k ∷ []) in omega (arith, e, a)
 
   pub code-within : is_within tac ≡ true
   code-within =

@@ -44,12 +44,8 @@ use Rattle.tac_lower.proofs.Standing.{SizedBy, Grown}
 use Rattle.tac_lower.proofs.Simulates.{grown-none, grown-then}
 use Rattle.tac_lower.proofs.Writes.{grown-temp, grown-area}
 use Rattle.tac_lower.proofs.Keeps.{sizes}
+use Rattle.tac_lower.proofs.Places.{count-append}
 use Rattle.tac_lower.proofs.Typing.{no, same-id}
-
-pub count-append : (a b : List Item) → count_ends (a ++ b) ≡ count_ends a + count_ends b
-count-append [] b = omega arith
-count-append (does i ∷ a) b = count-append a b
-count-append (ends e ∷ a) b = let h = count-append a b in omega (arith, h)
 
 -- a number has the bytes of its type
 number-bytes : (f : TypeForm) (n : ℕ) → SizedBy f n → is_aggregate (f ∷ []) (record { 0 = 0 }) ≡ false → nat_eq n 0 ≡ false →

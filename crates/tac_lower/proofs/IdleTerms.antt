@@ -31,7 +31,7 @@ use Rattle.tac_lower.specs.Pieces.{nothing_used}
 use Rattle.tac_lower.specs.Lowering.{reached, entry, element, operation, opposite, passed_over, aimed, Target, assigned_all, counting}
 use Rattle.tac_lower.specs.Lowering.{step_in, runs, while_loop, repeat_loop, choice, piece, pieces, targets, one, all, around, received}
 use Rattle.tac_lower.specs.Lowering.{ending, code_of}
-use Rattle.tac_lower.proofs.Places.{Point, start_of, after, after-append, after-block, HasAt, has-front, has-back, has-loop, ends-append}
+use Rattle.tac_lower.proofs.Places.{Point, start_of, after, after-append, after-block, HasAt, has-front, has-back, has-loop, count-append}
 use Rattle.tac_lower.proofs.Loops.{after-loop, while_code, while-count, while-after}
 use Rattle.tac_lower.proofs.Whole.{has-whole}
 use Rattle.tac_lower.proofs.Functions.{ends-whole}
@@ -227,7 +227,7 @@ module _ (blocks : List Block) (t : ℕ) where
         let back = ends (repeats_unless a (count_ends p.code)) ∷ [] in
         let inner = p.code ++ back in
         let e = b0 + count_ends inner in
-        let count = ends-append p.code back in
+        let count = count-append p.code back in
         let l = after p.code (start_of b0) in
         let inside = has-loop blocks out e inner (start_of b0) has.1 refl in
         let to_e : suc l.block ≡ e = omega (arith, after-block p.code (start_of b0), count) in

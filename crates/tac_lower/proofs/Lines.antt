@@ -1,6 +1,6 @@
 -- Code in a line, as the code has it: what is counted, changed and passed in it.
 use Rattle.std.proofs.Common.{◌≡◌, refl, sym, ap, ◌∙◌, ℕ, zero, suc, ◌+◌, ◌-◌, ◌<◌, ◌≤◌, Bool, List, [], ◌∷◌, ◌++◌, Option, Some, None, map}
-use Rattle.std.proofs.Common.{length, take, drop, get_or, set, slice_get, arith, zero-add, append_assoc, append-nil, take_all}
+use Rattle.std.proofs.Common.{length, take, drop, get_or, set, slice_get, arith, append_assoc, append-nil, take_all}
 use Rattle.std.specs.Prelude.{if◌then◌else◌}
 use Rattle.std.proofs.lemmas.Bool.{eq-eqb, ne_eqb}
 use Rattle.std.proofs.lemmas.List.{map-append, drop-map, length-map, take-append-drop}
@@ -21,18 +21,13 @@ use Rattle.tac_lower.specs.declared.item.Ending.{Ending}
 use Rattle.tac_lower.specs.declared.item.Item.{Item}
 use Rattle.tac_lower.specs.declared.item.Item.TheVariants as kinds
 use Rattle.tac_lower.specs.declared.value.Bound.{Bound}
+use Rattle.tac_lower.proofs.Places.{count-append}
 use Rattle.tac_lower.specs.declared.value.Holder.TheVariants as holders
 
 pub none-left : {A : Type 0} (xs : List A) (i : ℕ) → length xs ≤ i → drop i xs ≡ []
 none-left xs i h = drop_of_length-le xs h
 
 -- ends of blocks
-
-pub count-append : (xs ys : List items.Item) → count_ends (xs ++ ys) ≡ count_ends xs + count_ends ys
-count-append [] ys = sym (zero-add (count_ends ys))
-count-append (does i ∷ xs) ys = count-append xs ys
-count-append (ends e ∷ xs) ys =
-    let rest : count_ends (xs ++ ys) ≡ count_ends xs + count_ends ys = count-append xs ys in omega (arith, rest)
 
 pub count-loop : (xs : List items.Item) → count_ends (loop_of xs) ≡ count_ends xs
 count-loop [] = refl

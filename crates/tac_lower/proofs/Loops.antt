@@ -13,7 +13,7 @@ use Rattle.tac_lower.specs.Items.{Item, does, ends, tests, repeats, count_ends, 
 use Rattle.tac_lower.specs.Pieces.{Used, Piece, Result, word_of, Holders}
 use Rattle.tac_lower.specs.Lowering.{while_loop}
 use Rattle.tac_lower.proofs.Places.{Point, step_on, start_of, after, after-append, after-block, EndsAt, HasAt, has-front, has-back}
-use Rattle.tac_lower.proofs.Places.{has-loop, ends-append}
+use Rattle.tac_lower.proofs.Places.{has-loop, count-append}
 use Rattle.tac_lower.proofs.Standing.{Setting, Private, Leads, word_in, Fine, Grown, Comes, Leaves}
 use Rattle.tac_lower.proofs.Simulates.{Fact, one_of, Knows, whole, Sim, grown-none, grown-then, keeps-none}
 use Rattle.tac_lower.proofs.Acts.{under-self, fine-later, Acts, way-before, way-at}
@@ -54,8 +54,8 @@ while_code code test body =
 pub while-count : (code body : List Item) (test : Operand) → count_ends (while_code code test body) ≡ count_ends code + suc
     (count_ends body + 1)
 while-count code body test =
-    ends-append code (ends (tests test (suc (count_ends body))) ∷ (body ++ ends (repeats (count_ends code + suc (count_ends body))) ∷ []))
-    ∙ ap (λ m. count_ends code + suc m) (ends-append body (ends (repeats (count_ends code + suc (count_ends body))) ∷ []))
+    count-append code (ends (tests test (suc (count_ends body))) ∷ (body ++ ends (repeats (count_ends code + suc (count_ends body))) ∷ []))
+    ∙ ap (λ m. count_ends code + suc m) (count-append body (ends (repeats (count_ends code + suc (count_ends body))) ∷ []))
 
 pub while-after : (code body : List Item) (test : Operand) (b0 : ℕ) → after (while_code code test body) (start_of b0) ≡ start_of
     (b0 + count_ends (while_code code test body))

@@ -90,7 +90,7 @@ ends-loop [] = refl
 ends-loop (does i ∷ is) = ends-loop is
 ends-loop (ends e ∷ is) = ap suc (ends-loop is)
 
-pub ends-append : (a b : List Item) → count_ends (a ++ b) ≡ count_ends a + count_ends b
-ends-append [] b = omega arith
-ends-append (does i ∷ a) b = ends-append a b
-ends-append (ends e ∷ a) b = let h = ends-append a b in omega (arith, h)
+pub count-append : (a b : List Item) → count_ends (a ++ b) ≡ count_ends a + count_ends b
+count-append [] b = omega arith
+count-append (does i ∷ a) b = count-append a b
+count-append (ends e ∷ a) b = let h = count-append a b in omega (arith, h)

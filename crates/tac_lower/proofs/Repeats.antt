@@ -16,7 +16,7 @@ use Rattle.tac_lower.specs.Items.{Item, ends, repeats_unless, count_ends, onward
 use Rattle.tac_lower.specs.Pieces.{Used, Piece, Result, word_of, Holders}
 use Rattle.tac_lower.specs.Lowering.{repeat_loop}
 use Rattle.tac_lower.proofs.Places.{Point, start_of, after, after-append, after-block, EndsAt, HasAt, has-front, has-back, has-loop}
-use Rattle.tac_lower.proofs.Places.{ends-append}
+use Rattle.tac_lower.proofs.Places.{count-append}
 use Rattle.tac_lower.proofs.Standing.{Setting, Private, stands, Leads, Halts, leads-to, one-end, word_in, operand-is, Fine, Grown, Means}
 use Rattle.tac_lower.proofs.Standing.{Comes, Leaves}
 use Rattle.tac_lower.proofs.Simulates.{one_of, whole, Sim, grown-none, grown-then, keeps-none, keeps-then}
@@ -106,7 +106,7 @@ acts_repeat {z} {n} {w} {names} {names1} {scope} {u} {r} {p} {go} {go2} of turns
         next (go2 s3) (λ v s4. Gives (if is_true v then breaks else goes_on) s4))))
 
     inner-count : count_ends inner ≡ count_ends code + 1
-    inner-count = ends-append code back_item
+    inner-count = count-append code back_item
 
     ends-at : (b0 : ℕ) → after inner (start_of b0) ≡ start_of (b0 + count_ends inner)
     ends-at b0 =

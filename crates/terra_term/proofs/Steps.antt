@@ -1,8 +1,6 @@
 -- Steps of the loops that write lists of pieces.
 use Rattle.std.proofs.Common.{◌≤◌, arith, ◌≡◌, refl, ℕ, ◌+◌, ◌<◌, List, [], ◌∷◌, ◌++◌, drop, length, get_or, append_assoc, add-one}
 use Rattle.std.proofs.Common.{drop-cons}
-use Rattle.std.proofs.Common.{Result, Ok, Err}
-use Rattle.std.specs.Prelude.{IfOk, OnOk}
 use Rattle.std.proofs.lemmas.List.{drop_all}
 use Rattle.tl_base.specs.declared.ids.TermId.{TermId}
 use Rattle.terra_term.specs.declared.piece.Piece.{Piece}
@@ -36,12 +34,3 @@ named-end below fields values = rw (drop_all (length fields) fields (omega arith
 
 pub types-step : (below : ℕ) (front : List Piece) (ts : List TypeId) (i : ℕ) (d : TypeId) → i < length ts → ((front ++ pieces.Word words.Comma ∷ []) ++ pieces.TypeBefore (get_or ts i d) below ∷ []) ++ comma_types below (drop (i + 1) ts) ≡ front ++ comma_types below (drop i ts)
 types-step below front ts i d h = rw (add-one, drop-cons ts i d) (simp append_assoc)
-
--- what follows from what an answer has
-pub if-ok : {T E : Type 0} {P Q : T → Type 0} (r : Result T E) → IfOk r P → ((v : T) → P v → Q v) → IfOk r Q
-if-ok (Ok v) h go = go v h
-if-ok (Err e) h go = h
-
-pub on-ok : {T E : Type 0} {P Q : Type 0} (r : Result T E) → OnOk r P → (P → Q) → OnOk r Q
-on-ok (Ok v) h go = go h
-on-ok (Err e) h go = h

@@ -2,7 +2,7 @@ use Rattle.std.proofs.Common.{◌+◌, List, ◌++◌, drop, refl, ap, ◌∙◌
 use Rattle.tl_base.specs.declared.ids.TermId.{TermId}
 use Rattle.check_model.specs.declared.made.Made.{Made}
 use Rattle.check_model.specs.Plans as plans
-use Rattle.check_expr.proofs.Doing.{carried}
+use Rattle.tl_base.proofs.Results.{carried}
 use Rattle.check_expr.proofs.Lists.{place_more, places_end}
 use Rattle.check_expr.proofs.assigning.ids_of.Goals as goal
 

@@ -6,7 +6,7 @@ use Rattle.check_model.specs.Plans.{BodyPlan}
 use Rattle.check_model.specs.Typing.{TypingState}
 use Rattle.check_expr.specs.Forms.{stands_as}
 use Rattle.check_expr.specs.Frames.{meet_right}
-use Rattle.check_expr.proofs.Doing.{carried}
+use Rattle.tl_base.proofs.Results.{carried}
 use Rattle.check_expr.proofs.Staying.{stays}
 use Rattle.check_expr.proofs.operators.at_type.Goals as goal
 

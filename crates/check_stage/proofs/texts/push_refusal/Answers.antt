@@ -1,5 +1,5 @@
 use Rattle.std.proofs.Common.{◌∙◌}
-use Rattle.terra_term.proofs.Steps.{on-ok}
+use Rattle.tl_base.proofs.Results.{on-ok}
 use Rattle.check_stage.proofs.Lines.{refusal_on}
 use Rattle.check_stage.proofs.texts.push_refusal.Goals as goal
 

@@ -1,5 +1,5 @@
 use Rattle.lua_table.proofs.Keeping.{keeps_closure}
-use Rattle.lua_eval.proofs.Keeping.{keeps_by}
+use Rattle.lua_table.proofs.Keeping.{heap_keeps_by}
 use Rattle.tl_tree.specs.Arena.{items_of}
 use Rattle.tl_tree.specs.Nodes.{item_at}
 use Rattle.lua_value.specs.declared.value.Value.TheVariants.{Nil}
@@ -19,4 +19,4 @@ returns-clause-means c =
 
 pub returns-clause-kept : goal.returns-clause-kept
 returns-clause-kept c =
-    keeps_by c.args.heap.now c.new_closure.new.self _ c.store_target.new.heap c.in_ok-made.ensures.ok (keeps_closure c.args.heap.now _) c.in_ok-step.ensures.kept
+    heap_keeps_by c.args.heap.now c.new_closure.new.self _ c.store_target.new.heap c.in_ok-made.ensures.ok (keeps_closure c.args.heap.now _) c.in_ok-step.ensures.kept

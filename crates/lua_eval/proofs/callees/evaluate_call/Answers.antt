@@ -11,7 +11,7 @@ use Rattle.lua_eval.specs.declared.frame.Then.TheVariants as thens
 use Rattle.lua_eval.proofs.AtOnce.{behind_value}
 use Rattle.lua_eval.proofs.Below.{moved}
 use Rattle.lua_eval.proofs.Doing.{enters}
-use Rattle.lua_eval.proofs.Passing.{if-ok}
+use Rattle.tl_base.proofs.Results.{if-ok}
 use Rattle.lua_eval.proofs.callees.evaluate_call.Goals as goal
 
 pub returns-in-Some-clause-means : goal.returns-in-Some-clause-means

@@ -5,7 +5,7 @@ use Rattle.lua_model.specs.Plans.{LuaPlan}
 use Rattle.lua_eval.specs.CallPlans.{method_call}
 use Rattle.lua_eval.proofs.AtOnce.{behind_value}
 use Rattle.lua_eval.proofs.Below.{moved}
-use Rattle.lua_eval.proofs.Passing.{if-ok}
+use Rattle.tl_base.proofs.Results.{if-ok}
 use Rattle.lua_eval.proofs.callees.evaluate_method.Goals as goal
 
 pub returns-in-Some-clause-means : goal.returns-in-Some-clause-means

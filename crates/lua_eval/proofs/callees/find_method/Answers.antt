@@ -10,7 +10,7 @@ use Rattle.lua_eval.specs.declared.frame.CallFrame.TheVariants as of_call
 use Rattle.lua_eval.specs.declared.frame.Then.TheVariants as thens
 use Rattle.lua_eval.specs.Frames.{list_plan}
 use Rattle.lua_eval.proofs.Below.{moved, named_below}
-use Rattle.lua_eval.proofs.Passing.{if-ok}
+use Rattle.tl_base.proofs.Results.{if-ok}
 use Rattle.lua_eval.proofs.callees.find_method.Goals as goal
 
 pub returns-clause-means : goal.returns-clause-means

@@ -12,7 +12,7 @@ use Rattle.lua_eval.specs.CallPlans.{call_plan, method_plan}
 use Rattle.lua_eval.specs.Steps.{Goes}
 use Rattle.lua_eval.proofs.Doing.{enters_alone, begins, lacks}
 use Rattle.lua_eval.proofs.Evaluating.{node_goes}
-use Rattle.lua_eval.proofs.Passing.{if-ok}
+use Rattle.tl_base.proofs.Results.{if-ok}
 use Rattle.lua_eval.proofs.callees.operand.Goals as goal
 
 pub returns-then-not-pay-clause-means : goal.returns-then-not-pay-clause-means

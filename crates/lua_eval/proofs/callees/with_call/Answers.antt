@@ -5,7 +5,7 @@ use Rattle.lua_model.specs.Plans.{LuaPlan}
 use Rattle.lua_eval.specs.declared.frame.Then.TheVariants as thens
 use Rattle.lua_eval.specs.Frames.{list_plan}
 use Rattle.lua_eval.proofs.Below.{moved}
-use Rattle.lua_eval.proofs.Passing.{if-ok}
+use Rattle.tl_base.proofs.Results.{if-ok}
 use Rattle.lua_eval.proofs.callees.with_call.Goals as goal
 
 pub returns-in-Function-clause-means : goal.returns-in-Function-clause-means

@@ -12,7 +12,7 @@ use Rattle.lua_eval.specs.Steps.{Goes}
 use Rattle.lua_eval.proofs.AtOnce.{named_behind}
 use Rattle.lua_eval.proofs.Below.{moved}
 use Rattle.lua_eval.proofs.Ended.{plan_never_gains}
-use Rattle.lua_eval.proofs.Passing.{if-ok}
+use Rattle.tl_base.proofs.Results.{if-ok}
 use Rattle.lua_eval.proofs.callees.with_object.Goals as goal
 
 pub spend-requires : goal.spend-requires

@@ -9,8 +9,8 @@ use Rattle.lua_table.proofs.Keeping.{keeps_deeper, keeps_then}
 use Rattle.lua_model.specs.Calls.{most_calls}
 use Rattle.lua_eval.specs.Called.{called_plan}
 use Rattle.lua_eval.proofs.Invoking.{call_passes}
-use Rattle.lua_eval.proofs.Keeping.{keeps_by}
-use Rattle.lua_eval.proofs.Passing.{if-ok, on-ok}
+use Rattle.lua_table.proofs.Keeping.{heap_keeps_by}
+use Rattle.tl_base.proofs.Results.{if-ok, on-ok}
 use Rattle.lua_eval.proofs.calling.call_at_once.Goals as goal
 
 pub returns-clause-passes : goal.returns-clause-passes
@@ -31,6 +31,6 @@ returns-clause-passes c =
 pub returns-clause-kept : goal.returns-clause-kept
 returns-clause-kept c =
     on-ok c.execute.result c.execute.ensures.kept (λ kept.
-    keeps_by c.args.heap.now c.begin_call.new.self (deeper c.args.heap.now) c.execute.new.heap
+    heap_keeps_by c.args.heap.now c.begin_call.new.self (deeper c.args.heap.now) c.execute.new.heap
     c.begin_call.ensures (keeps_deeper c.args.heap.now)
     (keeps_then c.begin_call.new.self c.enter_call.new.heap c.execute.new.heap c.in_ok-scope.ensures.kept kept))

@@ -8,7 +8,7 @@ use Rattle.lua_model.specs.Calls.{call_closure}
 use Rattle.lua_eval.specs.AtOnce.{Becomes}
 use Rattle.lua_eval.specs.Called.{called_plan}
 use Rattle.lua_eval.proofs.Below.{jobs_of}
-use Rattle.lua_eval.proofs.Keeping.{keeps_by}
+use Rattle.lua_table.proofs.Keeping.{heap_keeps_by}
 use Rattle.lua_eval.proofs.calling.call_by.Goals as goal
 
 pub spend-requires : goal.spend-requires
@@ -35,4 +35,4 @@ returns-then-may_call-clause-passes c = λ later.
 pub returns-then-may_call-clause-kept : goal.returns-then-may_call-clause-kept
 returns-then-may_call-clause-kept c =
     let s = c.args.heap.now in
-    keeps_by s c.prepare.new.heap s c.call_at_once.new.heap c.in_ok-ready.ensures.same (keeps_itself s) c.in_ok-called-in-Some.ensures.kept
+    heap_keeps_by s c.prepare.new.heap s c.call_at_once.new.heap c.in_ok-ready.ensures.same (keeps_itself s) c.in_ok-called-in-Some.ensures.kept

@@ -1,4 +1,4 @@
-use Rattle.lua_eval.proofs.Passing.{if-ok}
+use Rattle.tl_base.proofs.Results.{if-ok}
 use Rattle.lua_eval.proofs.calling.called_on.Goals as goal
 
 pub returns-in-Inside : goal.returns-in-Inside

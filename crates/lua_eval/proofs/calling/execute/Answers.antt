@@ -12,7 +12,7 @@ use Rattle.lua_model.specs.Plans.{LuaPlan}
 use Rattle.lua_eval.specs.AtOnce.{Becomes}
 use Rattle.lua_eval.specs.Running.{halt_plan}
 use Rattle.lua_eval.proofs.Below.{jobs_of}
-use Rattle.lua_eval.proofs.Keeping.{kept_as}
+use Rattle.lua_table.proofs.Keeping.{heap_kept_as}
 use Rattle.lua_eval.proofs.calling.execute.Goals as goal
 
 pub returns-then-ended-clause-passes : goal.returns-then-ended-clause-passes
@@ -51,7 +51,7 @@ pub returns-then-ended-clause-kept : goal.returns-then-ended-clause-kept
 returns-then-ended-clause-kept c =
     let t = c.run.new.heap in
     let u = c.end_call.new.self in
-    keeps_then c.args.heap.now t u c.in_ok-halt.ensures.kept (kept_as t u (shallower t) c.end_call.ensures (keeps_shallower t))
+    keeps_then c.args.heap.now t u c.in_ok-halt.ensures.kept (heap_kept_as t u (shallower t) c.end_call.ensures (keeps_shallower t))
 
 pub returns-in-Some-clause-kept : goal.returns-in-Some-clause-kept
 returns-in-Some-clause-kept c =
@@ -60,7 +60,7 @@ returns-in-Some-clause-kept c =
     let u = c.ending.new.heap in
     let w = c.end_call-in-Some.new.self in
     keeps_then s u w (keeps_then s t u c.in_ok-halt.ensures.kept c.in_ok-found.ensures.kept)
-    (kept_as u w (shallower u) c.end_call-in-Some.ensures (keeps_shallower u))
+    (heap_kept_as u w (shallower u) c.end_call-in-Some.ensures (keeps_shallower u))
 
 pub returns-in-None-clause-kept : goal.returns-in-None-clause-kept
 returns-in-None-clause-kept c =

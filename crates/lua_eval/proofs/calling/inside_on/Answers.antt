@@ -4,7 +4,7 @@ use Rattle.lua_value.specs.declared.value.Value.{Value}
 use Rattle.lua_eval.specs.Running.{halt_plan}
 use Rattle.lua_eval.specs.declared.frame.LuaFrame.TheVariants as frames
 use Rattle.lua_eval.proofs.Below.{moved}
-use Rattle.lua_eval.proofs.Passing.{if-ok}
+use Rattle.tl_base.proofs.Results.{if-ok}
 use Rattle.lua_eval.proofs.Waited.{halt_below}
 use Rattle.lua_eval.proofs.calling.inside_on.Goals as goal
 

@@ -1,6 +1,6 @@
 use Rattle.lua_table.specs.Heap.{deeper}
 use Rattle.lua_table.proofs.Keeping.{keeps_deeper}
-use Rattle.lua_eval.proofs.Keeping.{keeps_by}
+use Rattle.lua_table.proofs.Keeping.{heap_keeps_by}
 use Rattle.std.proofs.Common.{sym, ap, ◌∙◌}
 use Rattle.tl_base.specs.declared.ids.NodeId.{NodeId}
 use Rattle.tl_tree.specs.Arena.{items_of}
@@ -32,5 +32,5 @@ returns-clause-means c =
 
 pub returns-then-may_call-clause-kept : goal.returns-then-may_call-clause-kept
 returns-then-may_call-clause-kept c =
-    keeps_by c.args.heap.now c.begin_call.new.self (deeper c.args.heap.now) c.enter_call.new.heap
+    heap_keeps_by c.args.heap.now c.begin_call.new.self (deeper c.args.heap.now) c.enter_call.new.heap
     c.begin_call.ensures (keeps_deeper c.args.heap.now) c.in_ok-scope.ensures.kept

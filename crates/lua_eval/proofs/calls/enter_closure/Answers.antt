@@ -8,7 +8,8 @@ use Rattle.lua_eval.specs.Called.{called_plan}
 use Rattle.lua_eval.proofs.AtOnce.{passed}
 use Rattle.lua_eval.proofs.Below.{jobs_of}
 use Rattle.lua_eval.proofs.Invoking.{closure_refused}
-use Rattle.lua_eval.proofs.Passing.{if-ok, on-any}
+use Rattle.lua_eval.proofs.Passing.{on-any}
+use Rattle.tl_base.proofs.Results.{if-ok}
 use Rattle.lua_eval.proofs.calls.enter_closure.Goals as goal
 
 pub returns-then-may_call-clause-means : goal.returns-then-may_call-clause-means

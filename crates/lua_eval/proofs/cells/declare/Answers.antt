@@ -1,6 +1,6 @@
 use Rattle.lua_table.specs.Heap.{with_cell, with_declared}
 use Rattle.lua_table.proofs.Keeping.{keeps_cell, keeps_declared}
-use Rattle.lua_eval.proofs.Keeping.{keeps_by, kept_as}
+use Rattle.lua_table.proofs.Keeping.{heap_keeps_by, heap_kept_as}
 use Rattle.lua_eval.proofs.cells.declare.Goals as goal
 
 pub returns-clause-kept : goal.returns-clause-kept
@@ -10,5 +10,5 @@ returns-clause-kept c =
     let t = c.new_cell.new.self in
     let u = c.declare.new.self in
     let cell = c.in_ok-cell.cell in
-    keeps_by s t (with_cell s a.value) u c.in_ok-cell.ensures.ok (keeps_cell s a.value)
-    (kept_as t u (with_declared t a.env cell) c.in_ok-declare.ensures.ok (keeps_declared t a.env cell))
+    heap_keeps_by s t (with_cell s a.value) u c.in_ok-cell.ensures.ok (keeps_cell s a.value)
+    (heap_kept_as t u (with_declared t a.env cell) c.in_ok-declare.ensures.ok (keeps_declared t a.env cell))

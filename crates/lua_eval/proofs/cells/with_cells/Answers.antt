@@ -7,7 +7,7 @@ use Rattle.lua_table.specs.Heap.{with_cell}
 use Rattle.lua_table.specs.Cells.{with_cells}
 use Rattle.lua_table.proofs.Keeping.{keeps_cell, keeps_then}
 use Rattle.lua_eval.proofs.Declaring.{cells_next}
-use Rattle.lua_eval.proofs.Keeping.{kept_as}
+use Rattle.lua_table.proofs.Keeping.{heap_kept_as}
 use Rattle.lua_eval.proofs.cells.with_cells.Goals as goal
 
 pub values-preserved : goal.values-preserved
@@ -23,5 +23,5 @@ values-preserved c =
           ap (λ (w : LuaState). with_cells (drop (i + 1) vs) w)
           (made ∙ ap (λ (x : Value). with_cell s x) (get_or_read vs i v c.values-test.true c.value-item.is Nil))
           ∙ sym (cells_next vs i s c.values-test.true) ∙ c.values.invariant.same;
-      kept = keeps_then c.args.heap.now s t c.values.invariant.kept (kept_as s t (with_cell s v) made (keeps_cell s v));
+      kept = keeps_then c.args.heap.now s t c.values.invariant.kept (heap_kept_as s t (with_cell s v) made (keeps_cell s v));
     }

@@ -6,7 +6,7 @@ use Rattle.lua_eval.proofs.AtOnce.{passed}
 use Rattle.lua_eval.proofs.Below.{moved}
 use Rattle.lua_eval.proofs.Entering.{item_below}
 use Rattle.lua_eval.proofs.Listing.{none_is}
-use Rattle.lua_eval.proofs.Passing.{if-ok}
+use Rattle.tl_base.proofs.Results.{if-ok}
 use Rattle.lua_eval.proofs.expressions.begin_list.Goals as goal
 
 pub returns-in-None-clause-means : goal.returns-in-None-clause-means

@@ -19,7 +19,8 @@ use Rattle.lua_eval.specs.Steps.{Goes}
 use Rattle.lua_eval.proofs.Below.{moved}
 use Rattle.lua_eval.proofs.Counting.{binary_is}
 use Rattle.lua_eval.proofs.Doing.{job_below}
-use Rattle.lua_eval.proofs.Passing.{if-ok, on-ok, on-any}
+use Rattle.lua_eval.proofs.Passing.{on-any}
+use Rattle.tl_base.proofs.Results.{if-ok, on-ok}
 use Rattle.lua_eval.proofs.Waited.{called_goes, inside_below}
 use Rattle.lua_eval.proofs.expressions.call_left.Goals as goal
 

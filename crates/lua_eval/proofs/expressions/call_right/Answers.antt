@@ -16,7 +16,8 @@ use Rattle.lua_eval.specs.declared.frame.OneFrame.TheVariants as ones
 use Rattle.lua_eval.specs.declared.frame.ValueFrame.TheVariants as of_value
 use Rattle.lua_eval.specs.Steps.{Goes}
 use Rattle.lua_eval.proofs.Doing.{job_below}
-use Rattle.lua_eval.proofs.Passing.{if-ok, on-ok, on-any}
+use Rattle.lua_eval.proofs.Passing.{on-any}
+use Rattle.tl_base.proofs.Results.{if-ok, on-ok}
 use Rattle.lua_eval.proofs.Waited.{called_goes, inside_below}
 use Rattle.lua_eval.proofs.expressions.call_right.Goals as goal
 

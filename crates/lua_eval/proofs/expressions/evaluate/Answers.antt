@@ -18,7 +18,7 @@ use Rattle.lua_eval.specs.declared.frame.CallFrame.TheVariants as of_call
 use Rattle.lua_eval.proofs.Below.{moved}
 use Rattle.lua_eval.proofs.Doing.{enters}
 use Rattle.lua_eval.proofs.Evaluating.{binary_enters}
-use Rattle.lua_eval.proofs.Passing.{if-ok}
+use Rattle.tl_base.proofs.Results.{if-ok}
 use Rattle.lua_eval.proofs.expressions.evaluate.Goals as goal
 
 pub returns-in_ok-push-in-Binary-clause-means : goal.returns-in_ok-push-in-Binary-clause-means

@@ -7,7 +7,7 @@ use Rattle.lua_eval.specs.Frames.{with_left}
 use Rattle.lua_eval.proofs.AtOnce.{behind_value}
 use Rattle.lua_eval.proofs.Below.{moved}
 use Rattle.lua_eval.proofs.Counting.{binary_is}
-use Rattle.lua_eval.proofs.Passing.{if-ok}
+use Rattle.tl_base.proofs.Results.{if-ok}
 use Rattle.lua_eval.proofs.expressions.evaluate_binary.Goals as goal
 
 pub returns-in-Some-clause-means : goal.returns-in-Some-clause-means

@@ -13,8 +13,8 @@ use Rattle.lua_eval.specs.declared.frame.OneFrame.TheVariants as ones
 use Rattle.lua_eval.specs.declared.frame.ValueFrame.TheVariants as of_value
 use Rattle.lua_eval.proofs.Below.{moved}
 use Rattle.lua_eval.proofs.Doing.{job_below}
-use Rattle.lua_eval.proofs.Keeping.{keeps_by}
-use Rattle.lua_eval.proofs.Passing.{if-ok, on-ok}
+use Rattle.lua_table.proofs.Keeping.{heap_keeps_by}
+use Rattle.tl_base.proofs.Results.{if-ok, on-ok}
 use Rattle.lua_eval.proofs.expressions.evaluate_further.Goals as goal
 
 pub returns-in-Call-clause-means : goal.returns-in-Call-clause-means
@@ -70,7 +70,7 @@ pub returns-in_ok-table-in-Table-clause-kept : goal.returns-in_ok-table-in-Table
 returns-in_ok-table-in-Table-clause-kept c =
     let s = c.args.heap.now in
     on-ok c.fields.result c.fields.ensures.kept (λ more.
-    keeps_by s c.new_table.new.self (with_table s) c.fields.new.heap c.in_ok-table-in-Table.ensures.ok (keeps_table s) more)
+    heap_keeps_by s c.new_table.new.self (with_table s) c.fields.new.heap c.in_ok-table-in-Table.ensures.ok (keeps_table s) more)
 
 pub returns-in_default-clause-means : goal.returns-in_default-clause-means
 returns-in_default-clause-means c =

@@ -10,7 +10,7 @@ use Rattle.lua_model.specs.Expressions.{expression_plan}
 use Rattle.lua_eval.specs.Steps.{Goes}
 use Rattle.lua_eval.proofs.Doing.{enters_alone, begins, lacks}
 use Rattle.lua_eval.proofs.Evaluating.{node_goes}
-use Rattle.lua_eval.proofs.Passing.{if-ok}
+use Rattle.tl_base.proofs.Results.{if-ok}
 use Rattle.lua_eval.proofs.expressions.inside.Goals as goal
 
 pub returns-then-not-pay-clause-means : goal.returns-then-not-pay-clause-means

@@ -12,7 +12,7 @@ use Rattle.lua_model.specs.Expressions.{expression_plan}
 use Rattle.lua_eval.specs.Slots.{path_of}
 use Rattle.lua_eval.proofs.Doing.{returns as returned}
 use Rattle.lua_eval.proofs.Evaluating.{node_goes, returns_known, local_goes, global_goes, literal_goes}
-use Rattle.lua_eval.proofs.Passing.{if-ok}
+use Rattle.tl_base.proofs.Results.{if-ok}
 use Rattle.lua_eval.proofs.expressions.node.Goals as goal
 
 pub returns-in-Some-clause-means : goal.returns-in-Some-clause-means

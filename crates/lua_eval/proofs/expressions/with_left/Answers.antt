@@ -5,7 +5,7 @@ use Rattle.lua_model.specs.Operators.{operate}
 use Rattle.lua_eval.specs.Frames.{with_left}
 use Rattle.lua_eval.proofs.Below.{moved}
 use Rattle.lua_eval.proofs.Counting.{left_other}
-use Rattle.lua_eval.proofs.Passing.{if-ok}
+use Rattle.tl_base.proofs.Results.{if-ok}
 use Rattle.lua_eval.proofs.expressions.with_left.Goals as goal
 
 pub returns-in_default : goal.returns-in_default

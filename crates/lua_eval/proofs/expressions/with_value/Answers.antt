@@ -4,7 +4,7 @@ use Rattle.tl_tree.specs.Code.{name_at}
 use Rattle.lua_model.specs.Plans.{LuaPlan, give, with_text_of}
 use Rattle.lua_model.specs.Fields.{read}
 use Rattle.lua_eval.proofs.Below.{moved}
-use Rattle.lua_eval.proofs.Passing.{if-ok}
+use Rattle.tl_base.proofs.Results.{if-ok}
 use Rattle.lua_eval.proofs.expressions.with_value.Goals as goal
 
 pub returns-in-Left-clause-means : goal.returns-in-Left-clause-means

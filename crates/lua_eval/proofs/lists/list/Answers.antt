@@ -6,7 +6,8 @@ use Rattle.lua_eval.specs.Frames.{list_plan, then_plan}
 use Rattle.lua_eval.proofs.AtOnce.{passed}
 use Rattle.lua_eval.proofs.Below.{moved}
 use Rattle.lua_eval.proofs.Listing.{none_is}
-use Rattle.lua_eval.proofs.Passing.{if-ok, on-any}
+use Rattle.lua_eval.proofs.Passing.{on-any}
+use Rattle.tl_base.proofs.Results.{if-ok}
 use Rattle.lua_eval.proofs.lists.list.Goals as goal
 
 pub returns-in-None-clause-means : goal.returns-in-None-clause-means

@@ -5,7 +5,7 @@ use Rattle.lua_table.specs.Cells.{nth_value}
 use Rattle.lua_model.specs.Loops.{list_next}
 use Rattle.lua_model.specs.Plans.{LuaPlan}
 use Rattle.lua_eval.proofs.Below.{moved}
-use Rattle.lua_eval.proofs.Passing.{if-ok}
+use Rattle.tl_base.proofs.Results.{if-ok}
 use Rattle.lua_eval.proofs.lists.with_list.Goals as goal
 
 pub returns-in-Closure-clause-means : goal.returns-in-Closure-clause-means

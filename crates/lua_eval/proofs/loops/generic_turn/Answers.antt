@@ -9,7 +9,7 @@ use Rattle.tl_tree.specs.Code.{statements_at}
 use Rattle.lua_eval.proofs.Below.{moved, statements_below}
 use Rattle.lua_eval.specs.declared.frame.LuaFrame.TheVariants as frames
 use Rattle.lua_eval.specs.declared.frame.TurnFrame.TheVariants as of_turn
-use Rattle.lua_eval.proofs.Passing.{if-ok}
+use Rattle.tl_base.proofs.Results.{if-ok}
 use Rattle.lua_eval.proofs.loops.generic_turn.Goals as goal
 
 pub returns-in_ok-push-in-GenericFor-clause-means : goal.returns-in_ok-push-in-GenericFor-clause-means

@@ -6,7 +6,7 @@ use Rattle.lua_model.specs.Plans.{LuaPlan}
 use Rattle.lua_value.specs.declared.value.Value.{Value}
 use Rattle.lua_model.specs.Loops.{count_from, list_next}
 use Rattle.lua_eval.proofs.Below.{moved}
-use Rattle.lua_eval.proofs.Passing.{if-ok}
+use Rattle.tl_base.proofs.Results.{if-ok}
 use Rattle.lua_eval.proofs.loops.next_turn.Goals as goal
 
 pub returns-in-While-clause-means : goal.returns-in-While-clause-means

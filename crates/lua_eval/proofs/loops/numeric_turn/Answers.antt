@@ -13,7 +13,7 @@ use Rattle.std.specs.Prelude.{◌+ℤ◌}
 use Rattle.lua_eval.specs.declared.frame.LuaFrame.TheVariants as frames
 use Rattle.lua_eval.specs.declared.frame.TurnFrame.TheVariants as of_turn
 use Rattle.lua_value.specs.declared.value.Value.TheVariants as values
-use Rattle.lua_eval.proofs.Passing.{if-ok, on-ok}
+use Rattle.tl_base.proofs.Results.{if-ok, on-ok}
 use Rattle.lua_eval.proofs.loops.numeric_turn.Goals as goal
 
 pub returns-in_ok-push-in-NumericFor-clause-means : goal.returns-in_ok-push-in-NumericFor-clause-means

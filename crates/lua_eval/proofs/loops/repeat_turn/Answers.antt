@@ -7,7 +7,7 @@ use Rattle.lua_eval.proofs.Turning.{env_kept_on}
 use Rattle.lua_eval.proofs.Making.{entering_goes}
 use Rattle.lua_eval.specs.declared.frame.LuaFrame.TheVariants as frames
 use Rattle.lua_eval.specs.declared.frame.TurnFrame.TheVariants as of_turn
-use Rattle.lua_eval.proofs.Passing.{if-ok, on-ok}
+use Rattle.tl_base.proofs.Results.{if-ok, on-ok}
 use Rattle.lua_eval.proofs.loops.repeat_turn.Goals as goal
 
 pub returns-in_ok-push-in-Repeat-clause-means : goal.returns-in_ok-push-in-Repeat-clause-means

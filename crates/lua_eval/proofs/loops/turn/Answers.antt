@@ -5,7 +5,7 @@ use Rattle.tl_tree.specs.Item as kept
 use Rattle.tl_tree.specs.Nodes.{item_at, item_of}
 use Rattle.lua_model.specs.Loops.{turn_plan, turn_of}
 use Rattle.lua_eval.proofs.Below.{moved}
-use Rattle.lua_eval.proofs.Passing.{if-ok}
+use Rattle.tl_base.proofs.Results.{if-ok}
 use Rattle.lua_eval.proofs.loops.turn.Goals as goal
 
 pub returns-in-Statement-clause-means : goal.returns-in-Statement-clause-means

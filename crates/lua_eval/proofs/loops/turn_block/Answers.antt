@@ -5,7 +5,7 @@ use Rattle.tl_tree.specs.Arena.{items_of}
 use Rattle.lua_model.specs.Plans.{statements}
 use Rattle.tl_tree.specs.Code.{statements_at}
 use Rattle.lua_eval.proofs.Below.{moved}
-use Rattle.lua_eval.proofs.Passing.{if-ok}
+use Rattle.tl_base.proofs.Results.{if-ok}
 use Rattle.lua_eval.proofs.loops.turn_block.Goals as goal
 
 pub returns-clause-means : goal.returns-clause-means

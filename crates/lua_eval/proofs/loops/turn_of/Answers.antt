@@ -1,4 +1,4 @@
-use Rattle.lua_eval.proofs.Passing.{if-ok}
+use Rattle.tl_base.proofs.Results.{if-ok}
 use Rattle.lua_eval.proofs.loops.turn_of.Goals as goal
 
 pub returns-in-While-clause-means : goal.returns-in-While-clause-means

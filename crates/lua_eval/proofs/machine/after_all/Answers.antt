@@ -5,7 +5,7 @@ use Rattle.lua_model.specs.Plans.{LuaPlan, on_all}
 use Rattle.lua_eval.specs.Frames.{with_all}
 use Rattle.lua_eval.proofs.Below.{moved}
 use Rattle.lua_eval.proofs.Ending.{no_values_ended}
-use Rattle.lua_eval.proofs.Passing.{if-ok}
+use Rattle.tl_base.proofs.Results.{if-ok}
 use Rattle.lua_eval.proofs.machine.after_all.Goals as goal
 
 pub returns-in_ok-values-in-One-clause-means : goal.returns-in_ok-values-in-One-clause-means

@@ -7,7 +7,7 @@ use Rattle.lua_model.specs.Plans.{LuaPlan, on_one}
 use Rattle.lua_eval.specs.Frames.{with_one}
 use Rattle.lua_eval.proofs.Below.{moved}
 use Rattle.lua_eval.proofs.Ending.{no_value_ended}
-use Rattle.lua_eval.proofs.Passing.{if-ok}
+use Rattle.tl_base.proofs.Results.{if-ok}
 use Rattle.lua_eval.proofs.machine.after_one.Goals as goal
 
 pub returns-in-One-clause-means : goal.returns-in-One-clause-means

@@ -6,7 +6,7 @@ use Rattle.lua_model.specs.declared.end.End.{End}
 use Rattle.lua_model.specs.Plans.{LuaPlan, on_fell, statements}
 use Rattle.lua_eval.proofs.Below.{moved}
 use Rattle.lua_eval.proofs.Ending.{no_statement_ended}
-use Rattle.lua_eval.proofs.Passing.{if-ok}
+use Rattle.tl_base.proofs.Results.{if-ok}
 use Rattle.lua_eval.proofs.machine.after_statement.Goals as goal
 
 pub returns-in-Fell-clause-means : goal.returns-in-Fell-clause-means

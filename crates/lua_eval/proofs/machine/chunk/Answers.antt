@@ -7,7 +7,7 @@ use Rattle.tl_tree.specs.Code.{statements_at}
 use Rattle.lua_table.specs.Heap.{next_env, with_env}
 use Rattle.lua_model.specs.Plans.{scope_at, statements}
 use Rattle.lua_table.proofs.Keeping.{keeps_env}
-use Rattle.lua_eval.proofs.Keeping.{kept_as}
+use Rattle.lua_table.proofs.Keeping.{heap_kept_as}
 use Rattle.lua_eval.proofs.Below.{moved}
 use Rattle.lua_eval.proofs.Making.{statements_are}
 use Rattle.lua_eval.proofs.machine.chunk.Goals as goal
@@ -33,4 +33,4 @@ returns-clause-means c = λ left.
 pub returns-clause-kept : goal.returns-clause-kept
 returns-clause-kept c =
     let s = c.args.heap.now in
-    kept_as s c.new_env.new.self (with_env s c.root-root.result None) c.in_ok-env.ensures.ok (keeps_env s c.root-root.result None)
+    heap_kept_as s c.new_env.new.self (with_env s c.root-root.result None) c.in_ok-env.ensures.ok (keeps_env s c.root-root.result None)

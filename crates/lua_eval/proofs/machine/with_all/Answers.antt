@@ -6,7 +6,7 @@ use Rattle.lua_eval.specs.Frames.{then_plan, targets_plan}
 use Rattle.lua_eval.specs.Waits.{waited}
 use Rattle.lua_model.specs.Loops.{listed}
 use Rattle.lua_eval.proofs.Below.{moved}
-use Rattle.lua_eval.proofs.Passing.{if-ok}
+use Rattle.tl_base.proofs.Results.{if-ok}
 use Rattle.lua_eval.proofs.machine.with_all.Goals as goal
 
 pub returns-in-Listed-clause-means : goal.returns-in-Listed-clause-means

@@ -4,7 +4,7 @@ use Rattle.lua_model.specs.Plans.{LuaPlan}
 use Rattle.lua_eval.specs.Frames.{list_plan}
 use Rattle.lua_eval.proofs.Below.{moved}
 use Rattle.tl_tree.specs.Arena.{items_of}
-use Rattle.lua_eval.proofs.Passing.{if-ok}
+use Rattle.tl_base.proofs.Results.{if-ok}
 use Rattle.lua_eval.proofs.machine.with_one.Goals as goal
 
 pub returns-in-Loop-clause-means : goal.returns-in-Loop-clause-means

@@ -5,7 +5,8 @@ use Rattle.lua_ops.specs.declared.outcome.Outcome.{Outcome}
 use Rattle.lua_ops.specs.Outcomes.{concat_outcome, concat_store}
 use Rattle.lua_model.specs.Operators.{joined}
 use Rattle.lua_eval.proofs.Below.{moved}
-use Rattle.lua_eval.proofs.Keeping.{keeps_by, keeps_concat}
+use Rattle.lua_eval.proofs.Keeping.{keeps_concat}
+use Rattle.lua_table.proofs.Keeping.{heap_keeps_by}
 use Rattle.lua_eval.proofs.operators.concat.Goals as goal
 
 -- what is found by the copies of both operands is what is found by these
@@ -34,5 +35,5 @@ pub returns-in_ok-step-in-Ok-clause-kept : goal.returns-in_ok-step-in-Ok-clause-
 returns-in_ok-step-in-Ok-clause-kept c =
     let first = c.copy-first.result in
     let second = c.copy-second.result in
-    keeps_by c.args.heap.now c.concat.new.heap (concat_store c.args.heap.now first second) c.joined.new.heap
+    heap_keeps_by c.args.heap.now c.concat.new.heap (concat_store c.args.heap.now first second) c.joined.new.heap
     c.in-Ok.ensures.store (keeps_concat c.args.heap.now first second) c.in_ok-step-in-Ok.ensures.kept

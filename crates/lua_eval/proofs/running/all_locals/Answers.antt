@@ -9,7 +9,7 @@ use Rattle.lua_model.specs.Plans.{LuaPlan, fell, values_of}
 use Rattle.lua_model.specs.Statements.{local_plan}
 use Rattle.lua_eval.specs.AtOnce.{Becomes}
 use Rattle.lua_eval.proofs.Below.{jobs_of}
-use Rattle.lua_eval.proofs.Keeping.{keeps_by}
+use Rattle.lua_table.proofs.Keeping.{heap_keeps_by}
 use Rattle.lua_eval.proofs.running.all_locals.Goals as goal
 
 pub spend-requires : goal.spend-requires
@@ -36,4 +36,4 @@ returns-clause-done c = λ is later.
 pub returns-clause-kept : goal.returns-clause-kept
 returns-clause-kept c =
     let s = c.args.heap.now in
-    keeps_by s c.find_all.new.heap s c.declare_all.new.heap c.in_ok-units.ensures.same (keeps_itself s) c.in_ok-declare_all-in-Some.ensures.kept
+    heap_keeps_by s c.find_all.new.heap s c.declare_all.new.heap c.in_ok-units.ensures.same (keeps_itself s) c.in_ok-declare_all-in-Some.ensures.kept

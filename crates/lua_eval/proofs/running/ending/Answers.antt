@@ -7,7 +7,7 @@ use Rattle.lua_model.specs.declared.scope.Scope.{Scope}
 use Rattle.lua_model.specs.Plans.{LuaPlan, on_fell, statements}
 use Rattle.lua_eval.proofs.AtOnce.{if-some}
 use Rattle.lua_eval.proofs.Below.{jobs_of}
-use Rattle.lua_eval.proofs.Passing.{if-ok}
+use Rattle.tl_base.proofs.Results.{if-ok}
 use Rattle.lua_eval.proofs.Reached.{returned_outwards}
 use Rattle.lua_eval.proofs.running.ending.Goals as goal
 

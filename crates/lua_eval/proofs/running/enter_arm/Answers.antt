@@ -5,7 +5,7 @@ use Rattle.lua_table.proofs.Keeping.{keeps_itself}
 use Rattle.lua_model.specs.Statements.{otherwise_plan}
 use Rattle.lua_eval.specs.AtOnce.{Becomes}
 use Rattle.lua_eval.specs.Running.{entered_plan}
-use Rattle.lua_eval.proofs.Keeping.{keeps_by}
+use Rattle.lua_table.proofs.Keeping.{heap_keeps_by}
 use Rattle.lua_eval.proofs.running.enter_arm.Goals as goal
 
 pub spend-requires : goal.spend-requires
@@ -26,4 +26,4 @@ returns-in_ok-entered-in-Some-clause-passes c =
 pub returns-in_ok-entered-in-Some-clause-kept : goal.returns-in_ok-entered-in-Some-clause-kept
 returns-in_ok-entered-in-Some-clause-kept c =
     let s = c.args.heap.now in
-    keeps_by s c.find_block.new.heap s c.enter_block.new.heap c.in-Some.ensures.same (keeps_itself s) c.in_ok-entered-in-Some.ensures.kept
+    heap_keeps_by s c.find_block.new.heap s c.enter_block.new.heap c.in-Some.ensures.same (keeps_itself s) c.in_ok-entered-in-Some.ensures.kept

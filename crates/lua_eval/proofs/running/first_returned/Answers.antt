@@ -6,7 +6,7 @@ use Rattle.tl_tree.specs.Arena.{items_of}
 use Rattle.lua_model.specs.Plans.{statements}
 use Rattle.lua_eval.proofs.AtOnce.{if-some}
 use Rattle.lua_eval.proofs.Below.{jobs_of}
-use Rattle.lua_eval.proofs.Passing.{if-ok}
+use Rattle.tl_base.proofs.Results.{if-ok}
 use Rattle.lua_eval.proofs.Reached.{statement_returns}
 use Rattle.lua_eval.proofs.running.first_returned.Goals as goal
 

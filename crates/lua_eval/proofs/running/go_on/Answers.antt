@@ -4,7 +4,7 @@ use Rattle.lua_eval.specs.Frames.{after}
 use Rattle.lua_eval.specs.declared.frame.LuaFrame.TheVariants as frames
 use Rattle.lua_eval.proofs.Below.{moved, statements_below}
 use Rattle.lua_eval.proofs.Making.{statements_are}
-use Rattle.lua_eval.proofs.Passing.{if-ok}
+use Rattle.tl_base.proofs.Results.{if-ok}
 use Rattle.lua_eval.proofs.running.go_on.Goals as goal
 
 pub returns-in-At : goal.returns-in-At

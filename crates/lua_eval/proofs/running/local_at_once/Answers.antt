@@ -5,7 +5,7 @@ use Rattle.tl_base.specs.Plan.{run}
 use Rattle.tl_tree.specs.Arena.{items_of}
 use Rattle.lua_model.specs.Statements.{local_plan}
 use Rattle.lua_eval.proofs.Below.{jobs_of}
-use Rattle.lua_eval.proofs.Passing.{if-ok}
+use Rattle.tl_base.proofs.Results.{if-ok}
 use Rattle.lua_eval.proofs.running.local_at_once.Goals as goal
 
 pub returns-in-Some-clause-done : goal.returns-in-Some-clause-done

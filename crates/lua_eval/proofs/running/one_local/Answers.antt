@@ -10,7 +10,7 @@ use Rattle.lua_model.specs.Plans.{LuaPlan, fell}
 use Rattle.lua_model.specs.Statements.{local_plan}
 use Rattle.lua_eval.specs.AtOnce.{Becomes}
 use Rattle.lua_eval.proofs.AtOnce.{never_gains, value_passes}
-use Rattle.lua_eval.proofs.Keeping.{keeps_by}
+use Rattle.lua_table.proofs.Keeping.{heap_keeps_by}
 use Rattle.lua_eval.proofs.running.one_local.Goals as goal
 
 pub spend-requires : goal.spend-requires
@@ -40,4 +40,4 @@ returns-in_ok-declare_all-in-Some-clause-done c = λ is later.
 pub returns-in_ok-declare_all-in-Some-clause-kept : goal.returns-in_ok-declare_all-in-Some-clause-kept
 returns-in_ok-declare_all-in-Some-clause-kept c =
     let s = c.args.heap.now in
-    keeps_by s c.find.new.heap s c.declare_all.new.heap c.in-Some.ensures.same (keeps_itself s) c.in_ok-declare_all-in-Some.ensures.kept
+    heap_keeps_by s c.find.new.heap s c.declare_all.new.heap c.in-Some.ensures.same (keeps_itself s) c.in_ok-declare_all-in-Some.ensures.kept

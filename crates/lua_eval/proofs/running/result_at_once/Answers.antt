@@ -4,7 +4,7 @@ use Rattle.lua_model.specs.declared.job.Job.TheVariants as jobs
 use Rattle.lua_model.specs.declared.end.End.TheVariants.{One}
 use Rattle.lua_eval.specs.AtOnce.{EndsAtOnce}
 use Rattle.lua_eval.proofs.AtOnce.{if-some, never_gains}
-use Rattle.lua_eval.proofs.Passing.{if-ok}
+use Rattle.tl_base.proofs.Results.{if-ok}
 use Rattle.lua_eval.proofs.running.result_at_once.Goals as goal
 
 pub spend-requires : goal.spend-requires

@@ -13,7 +13,7 @@ use Rattle.lua_eval.specs.AtOnce.{EndsAtOnce}
 use Rattle.lua_eval.proofs.AtOnce.{begun, behind, if-some}
 use Rattle.lua_eval.proofs.Below.{moved}
 use Rattle.lua_eval.proofs.Doing.{returns as returned}
-use Rattle.lua_eval.proofs.Passing.{if-ok}
+use Rattle.tl_base.proofs.Results.{if-ok}
 use Rattle.lua_eval.proofs.running.returned.Goals as goal
 
 pub returns-in-Some-clause-found : goal.returns-in-Some-clause-found

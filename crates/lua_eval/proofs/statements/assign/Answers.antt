@@ -5,7 +5,7 @@ use Rattle.lua_value.specs.declared.value.Value.{Value}
 use Rattle.lua_model.specs.Assignments.{assign_plan}
 use Rattle.lua_eval.specs.Frames.{targets_plan}
 use Rattle.lua_eval.proofs.Below.{moved}
-use Rattle.lua_eval.proofs.Passing.{if-ok}
+use Rattle.tl_base.proofs.Results.{if-ok}
 use Rattle.lua_eval.proofs.statements.assign.Goals as goal
 
 pub returns-clause-means : goal.returns-clause-means

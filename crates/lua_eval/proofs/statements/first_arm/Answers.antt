@@ -10,8 +10,8 @@ use Rattle.lua_eval.specs.Choices.{choice_plan}
 use Rattle.lua_eval.specs.declared.statements.Choice.{Choice}
 use Rattle.lua_eval.proofs.AtOnce.{passed}
 use Rattle.lua_eval.proofs.Below.{jobs_of, moved}
-use Rattle.lua_eval.proofs.Keeping.{keeps_by}
-use Rattle.lua_eval.proofs.Passing.{if-ok, on-ok}
+use Rattle.lua_table.proofs.Keeping.{heap_keeps_by}
+use Rattle.tl_base.proofs.Results.{if-ok, on-ok}
 use Rattle.lua_eval.proofs.statements.first_arm.Goals as goal
 
 pub returns-in-Block-clause-means : goal.returns-in-Block-clause-means
@@ -40,7 +40,7 @@ pub returns-in-Block-clause-kept : goal.returns-in-Block-clause-kept
 returns-in-Block-clause-kept c =
     let s = c.args.heap.now in
     on-ok c.block.result c.block.ensures.kept (λ kept.
-    keeps_by s c.choose.new.heap s c.block.new.heap c.choose.ensures.same (keeps_itself s) kept)
+    heap_keeps_by s c.choose.new.heap s c.block.new.heap c.choose.ensures.same (keeps_itself s) kept)
 
 pub returns-in-Arms-clause-means : goal.returns-in-Arms-clause-means
 returns-in-Arms-clause-means c =
@@ -69,4 +69,4 @@ pub returns-in-Arms-clause-kept : goal.returns-in-Arms-clause-kept
 returns-in-Arms-clause-kept c =
     let s = c.args.heap.now in
     on-ok c.arms.result c.arms.ensures.kept (λ kept.
-    keeps_by s c.choose.new.heap s c.arms.new.heap c.choose.ensures.same (keeps_itself s) kept)
+    heap_keeps_by s c.choose.new.heap s c.arms.new.heap c.choose.ensures.same (keeps_itself s) kept)

@@ -1,6 +1,6 @@
 use Rattle.lua_eval.proofs.Turning.{local_function_goes}
 use Rattle.lua_table.proofs.Keeping.{keeps_closure}
-use Rattle.lua_eval.proofs.Keeping.{keeps_by}
+use Rattle.lua_table.proofs.Keeping.{heap_keeps_by}
 use Rattle.lua_eval.proofs.statements.local_function.Goals as goal
 
 pub returns-clause-means : goal.returns-clause-means
@@ -11,5 +11,5 @@ returns-clause-means c = λ items left fs.
 
 pub returns-clause-kept : goal.returns-clause-kept
 returns-clause-kept c =
-    keeps_by c.args.heap.now c.new_closure.new.self _ c.declare.new.heap c.in_ok-made.ensures.ok (keeps_closure c.args.heap.now _)
+    heap_keeps_by c.args.heap.now c.new_closure.new.self _ c.declare.new.heap c.in_ok-made.ensures.ok (keeps_closure c.args.heap.now _)
     c.in_ok-declare.ensures.kept

@@ -6,7 +6,7 @@ use Rattle.lua_value.specs.declared.value.Value.{Value}
 use Rattle.lua_model.specs.Plans.{LuaPlan, values_of}
 use Rattle.lua_eval.proofs.Below.{moved}
 use Rattle.lua_model.specs.declared.end.End.TheVariants as ends
-use Rattle.lua_eval.proofs.Passing.{if-ok}
+use Rattle.tl_base.proofs.Results.{if-ok}
 use Rattle.lua_eval.proofs.statements.return_values.Goals as goal
 
 pub returns-clause-means : goal.returns-clause-means

@@ -5,7 +5,7 @@ use Rattle.tl_tree.specs.Item as kept
 use Rattle.tl_tree.specs.Nodes.{item_at}
 use Rattle.lua_model.specs.Statements.{statement_of, statement_plan}
 use Rattle.lua_eval.proofs.Below.{moved}
-use Rattle.lua_eval.proofs.Passing.{if-ok}
+use Rattle.tl_base.proofs.Results.{if-ok}
 use Rattle.lua_eval.proofs.statements.statement.Goals as goal
 
 pub returns-in-Statement-clause-means : goal.returns-in-Statement-clause-means

@@ -5,7 +5,7 @@ use Rattle.lua_model.specs.Assignments.{assign_plan}
 use Rattle.lua_model.specs.Plans.{fell}
 use Rattle.lua_eval.specs.AtOnce.{Becomes}
 use Rattle.lua_eval.specs.Storing.{put_in}
-use Rattle.lua_eval.proofs.Keeping.{keeps_by}
+use Rattle.lua_table.proofs.Keeping.{heap_keeps_by}
 use Rattle.lua_eval.proofs.storing.assign_at_once.Goals as goal
 
 pub spend-requires : goal.spend-requires
@@ -23,4 +23,4 @@ returns-in_ok-put-in-Some-clause-done c = λ is later.
 pub returns-in_ok-put-in-Some-clause-kept : goal.returns-in_ok-put-in-Some-clause-kept
 returns-in_ok-put-in-Some-clause-kept c =
     let s = c.args.heap.now in
-    keeps_by s c.prepare.new.heap s c.put.new.heap c.in-Some.ensures.same (keeps_itself s) c.in_ok-put-in-Some.ensures.kept
+    heap_keeps_by s c.prepare.new.heap s c.put.new.heap c.in-Some.ensures.same (keeps_itself s) c.in_ok-put-in-Some.ensures.kept

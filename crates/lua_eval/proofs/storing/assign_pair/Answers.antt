@@ -5,7 +5,7 @@ use Rattle.lua_model.specs.Assignments.{assign_plan}
 use Rattle.lua_model.specs.Plans.{fell}
 use Rattle.lua_eval.specs.AtOnce.{Becomes}
 use Rattle.lua_eval.specs.Storing.{put_both}
-use Rattle.lua_eval.proofs.Keeping.{keeps_by}
+use Rattle.lua_table.proofs.Keeping.{heap_keeps_by}
 use Rattle.lua_eval.proofs.storing.assign_pair.Goals as goal
 
 pub spend-requires : goal.spend-requires
@@ -24,4 +24,4 @@ returns-in_ok-put_pair-in-Some-clause-done c = λ is later.
 pub returns-in_ok-put_pair-in-Some-clause-kept : goal.returns-in_ok-put_pair-in-Some-clause-kept
 returns-in_ok-put_pair-in-Some-clause-kept c =
     let s = c.args.heap.now in
-    keeps_by s c.prepare_pair.new.heap s c.put_pair.new.heap c.in-Some.ensures.same (keeps_itself s) c.in_ok-put_pair-in-Some.ensures.kept
+    heap_keeps_by s c.prepare_pair.new.heap s c.put_pair.new.heap c.in-Some.ensures.same (keeps_itself s) c.in_ok-put_pair-in-Some.ensures.kept

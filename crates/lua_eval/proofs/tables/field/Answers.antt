@@ -3,7 +3,7 @@ use Rattle.lua_eval.specs.declared.tables.FieldKind.{FieldKind}
 use Rattle.lua_eval.specs.declared.tables.FieldKind.TheVariants.{Listed}
 use Rattle.lua_eval.specs.Fields.{field_by}
 use Rattle.lua_eval.proofs.Below.{moved}
-use Rattle.lua_eval.proofs.Passing.{if-ok}
+use Rattle.tl_base.proofs.Results.{if-ok}
 use Rattle.lua_eval.proofs.tables.field.Goals as goal
 
 pub returns-in-Listed : goal.returns-in-Listed

@@ -1,7 +1,7 @@
 use Rattle.tl_tree.specs.Arena.{items_of}
 use Rattle.lua_model.specs.Tables.{fields}
 use Rattle.lua_eval.proofs.AtOnce.{passed}
-use Rattle.lua_eval.proofs.Passing.{if-ok}
+use Rattle.tl_base.proofs.Results.{if-ok}
 use Rattle.lua_eval.proofs.tables.fields.Goals as goal
 
 pub returns-clause-means : goal.returns-clause-means

@@ -7,7 +7,7 @@ use Rattle.lua_eval.specs.declared.frame.TableFrame.{TableFrame}
 use Rattle.lua_eval.specs.Fields.{kind_of_field}
 use Rattle.lua_eval.proofs.Below.{moved}
 use Rattle.lua_eval.proofs.Fielding.{fields_goes}
-use Rattle.lua_eval.proofs.Passing.{if-ok}
+use Rattle.tl_base.proofs.Results.{if-ok}
 use Rattle.lua_eval.proofs.tables.fields_left.Goals as goal
 
 pub returns-in-Some : goal.returns-in-Some

@@ -12,7 +12,7 @@ use Rattle.lua_model.specs.Plans.{LuaPlan, with_text_of}
 use Rattle.lua_model.specs.Fields.{store_raw}
 use Rattle.lua_eval.proofs.Below.{jobs_of}
 use Rattle.lua_eval.proofs.Fielding.{value_becomes, named_stored}
-use Rattle.lua_eval.proofs.Keeping.{kept_as}
+use Rattle.lua_table.proofs.Keeping.{heap_kept_as}
 use Rattle.lua_eval.proofs.tables.named_at_once.Goals as goal
 
 pub returns-in_ok-store-in-Some-clause-passes : goal.returns-in_ok-store-in-Some-clause-passes
@@ -45,6 +45,6 @@ returns-in_ok-store-in-Some-clause-kept c =
     let key = values.Text c.in_ok-text-in-Some.text in
     let v = c.in-Some.value in
     keeps_then s t u
-    (kept_as s t (with_text s bytes)
+    (heap_kept_as s t (with_text s bytes)
     (c.in_ok-text-in-Some.ensures.ok ∙ ap (λ (w : LuaState). with_text w bytes) c.in-Some.ensures.same) (keeps_text s bytes))
-    (kept_as t u (with_stored t a.table key v) c.in_ok-store-in-Some.ensures.ok (keeps_stored t a.table key v))
+    (heap_kept_as t u (with_stored t a.table key v) c.in_ok-store-in-Some.ensures.ok (keeps_stored t a.table key v))

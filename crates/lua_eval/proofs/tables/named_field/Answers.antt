@@ -7,7 +7,7 @@ use Rattle.lua_model.specs.Plans.{LuaPlan, with_text_of}
 use Rattle.lua_model.specs.Fields.{store_raw}
 use Rattle.lua_eval.specs.Frames.{fields_from}
 use Rattle.lua_eval.proofs.Below.{moved, text_goes}
-use Rattle.lua_eval.proofs.Passing.{if-ok, on-ok}
+use Rattle.tl_base.proofs.Results.{if-ok, on-ok}
 use Rattle.lua_eval.proofs.tables.named_field.Goals as goal
 
 pub returns-clause-means : goal.returns-clause-means

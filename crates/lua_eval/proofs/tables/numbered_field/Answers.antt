@@ -3,7 +3,7 @@ use Rattle.tl_tree.specs.Arena.{items_of}
 use Rattle.lua_model.specs.Tables.{with_values}
 use Rattle.lua_eval.specs.Frames.{fields_from}
 use Rattle.lua_eval.proofs.Below.{moved}
-use Rattle.lua_eval.proofs.Passing.{if-ok}
+use Rattle.tl_base.proofs.Results.{if-ok}
 use Rattle.lua_eval.proofs.tables.numbered_field.Goals as goal
 
 pub returns-clause-means : goal.returns-clause-means

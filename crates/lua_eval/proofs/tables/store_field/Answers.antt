@@ -1,7 +1,7 @@
 use Rattle.std.proofs.Common.{sym, ◌∙◌}
 use Rattle.tl_tree.specs.Arena.{items_of}
 use Rattle.lua_eval.specs.Frames.{fields_from}
-use Rattle.lua_eval.proofs.Passing.{if-ok}
+use Rattle.tl_base.proofs.Results.{if-ok}
 use Rattle.lua_eval.proofs.Reading.{nil_stored, raw_stored}
 use Rattle.lua_eval.proofs.tables.store_field.Goals as goal
 

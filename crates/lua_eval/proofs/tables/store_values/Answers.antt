@@ -8,7 +8,7 @@ use Rattle.lua_table.specs.Heap.{with_stored}
 use Rattle.lua_table.proofs.Keeping.{keeps_stored, keeps_then}
 use Rattle.lua_model.specs.Plans.{whole}
 use Rattle.lua_model.specs.Tables.{with_values}
-use Rattle.lua_eval.proofs.Keeping.{kept_as}
+use Rattle.lua_table.proofs.Keeping.{heap_kept_as}
 use Rattle.lua_eval.proofs.Numbering.{nil_is_past, stored_past, stored_next}
 use Rattle.lua_eval.proofs.tables.store_values.Goals as goal
 
@@ -37,5 +37,5 @@ values-preserved c =
           (stored ∙ ap (λ (k : Value). with_stored s a.table k v) c.whole-key.ensures
           ∙ ap (λ (x : Value). with_stored s a.table (whole at) x) (get_or_read vs i v c.values-test.true c.value-item.is Nil))
           ∙ sym (stored_next a.table at i vs s c.values-test.true full) ∙ c.values.invariant.same;
-      kept = keeps_then a.heap.now s t c.values.invariant.kept (kept_as s t (with_stored s a.table key v) stored (keeps_stored s a.table key v));
+      kept = keeps_then a.heap.now s t c.values.invariant.kept (heap_kept_as s t (with_stored s a.table key v) stored (keeps_stored s a.table key v));
     }

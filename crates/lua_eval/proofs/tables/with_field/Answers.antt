@@ -4,7 +4,7 @@ use Rattle.lua_eval.specs.declared.frame.FieldFrame.{FieldFrame}
 use Rattle.lua_eval.specs.declared.frame.FieldFrame.TheVariants.{Next}
 use Rattle.lua_eval.specs.Frames.{with_field}
 use Rattle.lua_eval.proofs.Below.{moved}
-use Rattle.lua_eval.proofs.Passing.{if-ok}
+use Rattle.tl_base.proofs.Results.{if-ok}
 use Rattle.lua_eval.proofs.tables.with_field.Goals as goal
 
 pub returns-in-Next-clause-means : goal.returns-in-Next-clause-means

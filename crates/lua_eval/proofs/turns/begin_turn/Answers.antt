@@ -5,7 +5,7 @@ use Rattle.lua_model.specs.declared.job.Loop.TheVariants as loops
 use Rattle.lua_model.specs.Loops.{turn_plan}
 use Rattle.lua_eval.specs.Turns.{counted_plan}
 use Rattle.lua_eval.proofs.Below.{moved}
-use Rattle.lua_eval.proofs.Passing.{if-ok}
+use Rattle.tl_base.proofs.Results.{if-ok}
 use Rattle.lua_eval.proofs.turns.begin_turn.Goals as goal
 
 pub returns-in-Some-clause-means : goal.returns-in-Some-clause-means

@@ -2,7 +2,7 @@ use Rattle.tl_tree.specs.Arena.{items_of}
 use Rattle.lua_table.proofs.Keeping.{keeps_then}
 use Rattle.lua_eval.specs.Turns.{counted_plan, turned_plan}
 use Rattle.lua_eval.proofs.AtOnce.{passed}
-use Rattle.lua_eval.proofs.Passing.{if-ok, on-ok}
+use Rattle.tl_base.proofs.Results.{if-ok, on-ok}
 use Rattle.lua_eval.proofs.turns.counted.Goals as goal
 
 pub returns-clause-means : goal.returns-clause-means

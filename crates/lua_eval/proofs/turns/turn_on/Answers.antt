@@ -7,7 +7,7 @@ use Rattle.lua_eval.specs.Waiting.{stop_plan}
 use Rattle.lua_eval.specs.declared.frame.LuaFrame.TheVariants as frames
 use Rattle.lua_eval.specs.declared.frame.TurnFrame.TheVariants as of_turn
 use Rattle.lua_eval.proofs.Below.{moved}
-use Rattle.lua_eval.proofs.Passing.{if-ok}
+use Rattle.tl_base.proofs.Results.{if-ok}
 use Rattle.lua_eval.proofs.Waited.{stop_below}
 use Rattle.lua_eval.proofs.turns.turn_on.Goals as goal
 

@@ -1,5 +1,5 @@
 use Rattle.tl_tree.specs.Arena.{items_of}
-use Rattle.lua_eval.proofs.Passing.{if-ok}
+use Rattle.tl_base.proofs.Results.{if-ok}
 use Rattle.lua_eval.proofs.waiting.begin_left.Goals as goal
 
 pub returns-in-At-clause-means : goal.returns-in-At-clause-means

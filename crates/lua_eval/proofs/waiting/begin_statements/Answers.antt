@@ -10,7 +10,7 @@ use Rattle.lua_eval.specs.Steps.{Goes}
 use Rattle.lua_eval.specs.declared.frame.LuaFrame.TheVariants as frames
 use Rattle.lua_eval.proofs.Below.{moved}
 use Rattle.lua_eval.proofs.Doing.{enters, begins, lacks}
-use Rattle.lua_eval.proofs.Passing.{if-ok}
+use Rattle.tl_base.proofs.Results.{if-ok}
 use Rattle.lua_eval.proofs.waiting.begin_statements.Goals as goal
 
 pub returns-then-not-pay-clause-means : goal.returns-then-not-pay-clause-means

@@ -1,4 +1,4 @@
-use Rattle.lua_eval.proofs.Passing.{if-ok}
+use Rattle.tl_base.proofs.Results.{if-ok}
 use Rattle.lua_eval.proofs.waiting.ending.Goals as goal
 
 pub returns-in-Plain-clause-found : goal.returns-in-Plain-clause-found

@@ -8,7 +8,7 @@ use Rattle.lua_model.specs.Plans.{LuaPlan}
 use Rattle.lua_eval.specs.AtOnce.{Becomes}
 use Rattle.lua_eval.specs.Called.{called_plan}
 use Rattle.lua_eval.specs.Waiting.{wait_plan}
-use Rattle.lua_eval.proofs.Keeping.{keeps_by}
+use Rattle.lua_table.proofs.Keeping.{heap_keeps_by}
 use Rattle.lua_eval.proofs.waiting.passed_by.Goals as goal
 
 pub call_of-requires-clause-units : goal.call_of-requires-clause-units
@@ -35,5 +35,5 @@ returns-in_ok-passed-in-Some-called-clause-passes c = λ n place later.
 pub returns-in_ok-passed-in-Some-called-clause-kept : goal.returns-in_ok-passed-in-Some-called-clause-kept
 returns-in_ok-passed-in-Some-called-clause-kept c =
     let s = c.args.heap.now in
-    keeps_by s c.begin_statement.new.heap s c.pass.new.heap c.in-Some.ensures.same (keeps_itself s)
+    heap_keeps_by s c.begin_statement.new.heap s c.pass.new.heap c.in-Some.ensures.same (keeps_itself s)
     (keeps_then c.begin_statement.new.heap c.call_of.new.heap c.pass.new.heap c.in_ok-called.ensures.kept c.in_ok-passed-in-Some-called.ensures.kept)

@@ -12,7 +12,7 @@ use Rattle.lua_eval.specs.Waiting.{stop_plan}
 use Rattle.lua_eval.proofs.AtOnce.{passed}
 use Rattle.lua_eval.proofs.Below.{moved}
 use Rattle.lua_eval.proofs.Doing.{returns as returned}
-use Rattle.lua_eval.proofs.Passing.{if-ok, on-ok}
+use Rattle.tl_base.proofs.Results.{if-ok, on-ok}
 use Rattle.lua_eval.proofs.waiting.proceed.Goals as goal
 
 pub returns-in-None-clause-means : goal.returns-in-None-clause-means

@@ -1,5 +1,5 @@
 use Rattle.lua_eval.specs.declared.frame.LuaFrame.TheVariants as frames
-use Rattle.lua_eval.proofs.Passing.{if-ok}
+use Rattle.tl_base.proofs.Results.{if-ok}
 use Rattle.lua_eval.proofs.Waited.{calling_below}
 use Rattle.lua_eval.proofs.waiting.stop_on.Goals as goal
 

@@ -7,7 +7,7 @@ use Rattle.tl_tree.specs.Code.{statements_at}
 use Rattle.spec_machine.specs.Frames.{block_plan}
 use Rattle.spec_machine.specs.Kept.{keeps_then}
 use Rattle.spec_machine.proofs.Doing.{moved}
-use Rattle.spec_machine.proofs.Carrying.{carried}
+use Rattle.tl_base.proofs.Results.{carried}
 use Rattle.spec_machine.proofs.Entering.{entering_goes}
 use Rattle.spec_machine.proofs.blocks.entered.Goals as goal
 

@@ -3,7 +3,7 @@ use Rattle.tl_base.specs.declared.ids.TermId.{TermId}
 use Rattle.terra_term.specs.declared.lists.VarName.{VarName}
 use Rattle.terra_term.specs.declared.term.Statement.TheVariants as s
 use Rattle.spec_model.specs.Plans.{SpecPlan, join}
-use Rattle.spec_machine.proofs.Carrying.{carried}
+use Rattle.tl_base.proofs.Results.{carried}
 use Rattle.spec_machine.proofs.Entering.{does_as}
 use Rattle.spec_machine.proofs.blocks.for_statement.Goals as goal
 

@@ -3,7 +3,7 @@ use Rattle.tl_base.specs.declared.ids.NodeId.{NodeId}
 use Rattle.tl_tree.specs.Arena.{items_of}
 use Rattle.spec_machine.specs.Frames.{block_plan, block_then}
 use Rattle.spec_machine.proofs.Doing.{moved}
-use Rattle.spec_machine.proofs.Carrying.{carried}
+use Rattle.tl_base.proofs.Results.{carried}
 use Rattle.spec_machine.proofs.Pushing.{none_is, block_enters}
 use Rattle.spec_machine.proofs.blocks.statements.Goals as goal
 

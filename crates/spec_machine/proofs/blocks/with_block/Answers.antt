@@ -10,7 +10,7 @@ use Rattle.spec_machine.specs.declared.frame.BlockThen.TheVariants as of_block
 use Rattle.spec_machine.specs.declared.frame.TermFrame.TheVariants as of_term
 use Rattle.spec_machine.specs.Frames.{block_then}
 use Rattle.spec_machine.proofs.Doing.{moved}
-use Rattle.spec_machine.proofs.Carrying.{carried}
+use Rattle.tl_base.proofs.Results.{carried}
 use Rattle.spec_machine.proofs.Entering.{does_as}
 use Rattle.spec_machine.proofs.Pushing.{term_enters}
 use Rattle.spec_machine.proofs.blocks.with_block.Goals as goal

@@ -12,7 +12,7 @@ use Rattle.spec_machine.specs.declared.frame.BlockThen.TheVariants as of_block
 use Rattle.spec_machine.specs.Frames.{last_arm, block_plan}
 use Rattle.spec_machine.specs.Kept.{keeps_then}
 use Rattle.spec_machine.proofs.Doing.{moved}
-use Rattle.spec_machine.proofs.Carrying.{carried}
+use Rattle.tl_base.proofs.Results.{carried}
 use Rattle.spec_machine.proofs.Entering.{does_as, entering_goes}
 use Rattle.spec_machine.proofs.Pushing.{none_is, block_enters}
 use Rattle.spec_machine.proofs.conditions.else_block.Goals as goal

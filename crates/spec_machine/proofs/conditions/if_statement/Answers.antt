@@ -12,7 +12,7 @@ use Rattle.spec_machine.specs.declared.frame.Arm.{Arm}
 use Rattle.spec_machine.specs.declared.frame.ArmsFrame.{ArmsFrame}
 use Rattle.spec_machine.specs.Frames as waiting
 use Rattle.spec_machine.proofs.Doing.{moved}
-use Rattle.spec_machine.proofs.Carrying.{carried}
+use Rattle.tl_base.proofs.Results.{carried}
 use Rattle.spec_machine.proofs.Entering.{gives}
 use Rattle.spec_machine.proofs.Pushing.{none_is}
 use Rattle.spec_machine.proofs.conditions.if_statement.Goals as goal

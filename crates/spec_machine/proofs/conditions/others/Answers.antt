@@ -14,7 +14,7 @@ use Rattle.spec_machine.specs.Frames as waiting
 use Rattle.spec_machine.specs.Frames.{last_arm, behind, joined_one}
 use Rattle.spec_machine.proofs.Arms.{closed, behind_more}
 use Rattle.spec_machine.proofs.Doing.{moved}
-use Rattle.spec_machine.proofs.Carrying.{carried}
+use Rattle.tl_base.proofs.Results.{carried}
 use Rattle.spec_machine.proofs.Pushing.{none_is}
 use Rattle.spec_machine.proofs.conditions.others.Goals as goal
 

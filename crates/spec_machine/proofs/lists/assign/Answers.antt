@@ -2,7 +2,7 @@ use Rattle.std.proofs.Common.{sym, ap, ◌∙◌, List}
 use Rattle.tl_base.specs.declared.ids.TermId.{TermId}
 use Rattle.terra_term.specs.declared.term.Statement.TheVariants as s
 use Rattle.spec_model.specs.Plans.{join}
-use Rattle.spec_machine.proofs.Carrying.{carried}
+use Rattle.tl_base.proofs.Results.{carried}
 use Rattle.spec_machine.proofs.Entering.{does_as}
 use Rattle.spec_machine.proofs.lists.assign.Goals as goal
 

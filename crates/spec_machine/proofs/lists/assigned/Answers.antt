@@ -7,7 +7,7 @@ use Rattle.spec_model.specs.declared.job.Job.TheVariants as jobs
 use Rattle.spec_model.specs.Plans.{SpecPlan, terms_of, join}
 use Rattle.spec_machine.specs.declared.frame.TermsThen.TheVariants as of_terms
 use Rattle.spec_machine.proofs.Doing.{moved}
-use Rattle.spec_machine.proofs.Carrying.{carried}
+use Rattle.tl_base.proofs.Results.{carried}
 use Rattle.spec_machine.proofs.Entering.{does_as}
 use Rattle.spec_machine.proofs.Pushing.{none_is, list_enters}
 use Rattle.spec_machine.proofs.lists.assigned.Goals as goal

@@ -2,7 +2,7 @@ use Rattle.std.proofs.Common.{refl, ap, List}
 use Rattle.tl_base.specs.declared.ids.NodeId.{NodeId}
 use Rattle.spec_machine.specs.Frames.{terms_plan, terms_then}
 use Rattle.spec_machine.proofs.Doing.{moved}
-use Rattle.spec_machine.proofs.Carrying.{carried}
+use Rattle.tl_base.proofs.Results.{carried}
 use Rattle.spec_machine.proofs.Pushing.{none_is, list_enters}
 use Rattle.spec_machine.proofs.lists.terms.Goals as goal
 

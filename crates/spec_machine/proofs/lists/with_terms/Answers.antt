@@ -11,7 +11,7 @@ use Rattle.spec_machine.specs.declared.frame.TermsThen.{TermsThen}
 use Rattle.spec_machine.specs.Frames.{terms_then}
 use Rattle.spec_machine.specs.Kept.{keeps_then}
 use Rattle.spec_machine.proofs.Doing.{moved}
-use Rattle.spec_machine.proofs.Carrying.{carried}
+use Rattle.tl_base.proofs.Results.{carried}
 use Rattle.spec_machine.proofs.Entering.{does_as}
 use Rattle.spec_machine.proofs.lists.with_terms.Goals as goal
 

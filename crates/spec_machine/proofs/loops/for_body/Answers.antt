@@ -15,7 +15,7 @@ use Rattle.spec_machine.specs.declared.frame.BlockThen.TheVariants as of_block
 use Rattle.spec_machine.specs.Frames.{for_plan_of, block_plan}
 use Rattle.spec_machine.specs.Kept.{keeps_then}
 use Rattle.spec_machine.proofs.Doing.{moved}
-use Rattle.spec_machine.proofs.Carrying.{carried}
+use Rattle.tl_base.proofs.Results.{carried}
 use Rattle.spec_machine.proofs.Entering.{entering_goes, declaring_goes}
 use Rattle.spec_machine.proofs.loops.for_body.Goals as goal
 

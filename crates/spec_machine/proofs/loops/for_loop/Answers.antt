@@ -12,7 +12,7 @@ use Rattle.spec_machine.specs.declared.frame.ForFrame.{ForFrame}
 use Rattle.spec_machine.specs.declared.frame.ValueFrame.TheVariants as of_value
 use Rattle.spec_machine.specs.Frames.{bounds_from, with_value}
 use Rattle.spec_machine.proofs.Doing.{moved}
-use Rattle.spec_machine.proofs.Carrying.{carried}
+use Rattle.tl_base.proofs.Results.{carried}
 use Rattle.spec_machine.proofs.Pushing.{asks_value}
 use Rattle.spec_machine.proofs.loops.for_loop.Goals as goal
 

@@ -8,7 +8,7 @@ use Rattle.spec_model.specs.Plans.{SpecPlan}
 use Rattle.spec_machine.specs.declared.frame.TermFrame.TheVariants as of_term
 use Rattle.spec_machine.specs.Frames.{bounds_from}
 use Rattle.spec_machine.proofs.Doing.{moved}
-use Rattle.spec_machine.proofs.Carrying.{carried}
+use Rattle.tl_base.proofs.Results.{carried}
 use Rattle.spec_machine.proofs.Pushing.{term_enters}
 use Rattle.spec_machine.proofs.loops.more_bounds.Goals as goal
 

@@ -1,6 +1,6 @@
 use Rattle.lua_table.specs.Heap.{with_cell, with_declared}
 use Rattle.lua_table.proofs.Keeping.{keeps_cell, keeps_declared}
-use Rattle.spec_machine.proofs.Worlds.{heap_keeps_by, heap_kept_as}
+use Rattle.lua_table.proofs.Keeping.{heap_keeps_by, heap_kept_as}
 use Rattle.spec_machine.proofs.names.declare_in.Goals as goal
 
 pub returns-clause-kept : goal.returns-clause-kept

@@ -3,7 +3,7 @@ use Rattle.tl_base.specs.declared.ids.TermId.{TermId}
 use Rattle.spec_model.specs.Plans.{SpecPlan}
 use Rattle.spec_model.specs.Statements.{spliced}
 use Rattle.spec_machine.specs.Steps.{Comes}
-use Rattle.spec_machine.proofs.Carrying.{carried}
+use Rattle.tl_base.proofs.Results.{carried}
 use Rattle.spec_machine.proofs.Entering.{joins}
 use Rattle.spec_machine.proofs.splices.splice.Goals as goal
 

@@ -2,7 +2,7 @@ use Rattle.std.proofs.Common.{List, []}
 use Rattle.tl_base.specs.declared.ids.TermId.{TermId}
 use Rattle.spec_model.specs.Plans.{SpecPlan}
 use Rattle.spec_model.specs.Statements.{each_spliced}
-use Rattle.spec_machine.proofs.Carrying.{carried}
+use Rattle.tl_base.proofs.Results.{carried}
 use Rattle.spec_machine.proofs.Entering.{joins}
 use Rattle.spec_machine.proofs.splices.splice_all.Goals as goal
 

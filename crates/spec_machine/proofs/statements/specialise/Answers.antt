@@ -20,7 +20,7 @@ use Rattle.spec_machine.specs.declared.frame.ValueFrame.TheVariants as of_value
 use Rattle.spec_machine.specs.declared.frame.VarFrame.{VarFrame}
 use Rattle.spec_machine.specs.Frames.{terms_plan, wanted_from}
 use Rattle.spec_machine.proofs.Doing.{moved}
-use Rattle.spec_machine.proofs.Carrying.{carried}
+use Rattle.tl_base.proofs.Results.{carried}
 use Rattle.spec_machine.proofs.Entering.{does_as}
 use Rattle.spec_machine.proofs.Pushing.{term_enters, asks_value, asks_emitted}
 use Rattle.spec_machine.proofs.statements.specialise.Goals as goal

@@ -15,7 +15,7 @@ use Rattle.tl_tree.specs.declared.node.TerraStatement.{TerraStatement}
 use Rattle.spec_model.specs.declared.end.End.TheVariants.{Joined}
 use Rattle.spec_model.specs.Statements.{statement_plan, statement_of, joined}
 use Rattle.spec_machine.proofs.Doing.{moved}
-use Rattle.spec_machine.proofs.Carrying.{carried}
+use Rattle.tl_base.proofs.Results.{carried}
 use Rattle.spec_machine.proofs.Entering.{gives}
 use Rattle.spec_machine.proofs.statements.statement.Goals as goal
 

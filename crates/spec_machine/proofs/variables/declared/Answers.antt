@@ -8,7 +8,7 @@ use Rattle.spec_model.specs.Statements.{drawn}
 use Rattle.spec_machine.specs.Kept.{keeps_then}
 use Rattle.spec_machine.specs.Steps.{Gets}
 use Rattle.spec_machine.proofs.Doing.{moved, gets}
-use Rattle.spec_machine.proofs.Carrying.{carried}
+use Rattle.tl_base.proofs.Results.{carried}
 use Rattle.spec_machine.proofs.Entering.{does_as}
 use Rattle.spec_machine.proofs.variables.declared.Goals as goal
 

@@ -4,7 +4,7 @@ use Rattle.spec_model.specs.Plans.{SpecPlan}
 use Rattle.spec_model.specs.Statements.{drawn}
 use Rattle.spec_machine.specs.Kept.{keeps_then}
 use Rattle.spec_machine.proofs.Reaching.{Passes, passes_then}
-use Rattle.spec_machine.proofs.Carrying.{carried}
+use Rattle.tl_base.proofs.Results.{carried}
 use Rattle.spec_machine.proofs.Varying.{drawn_turn, drawn_done}
 use Rattle.spec_machine.proofs.variables.drawn.Goals as goal
 

@@ -9,7 +9,7 @@ use Rattle.spec_model.specs.Statements.{drawn, values_if_any}
 use Rattle.spec_machine.specs.declared.frame.TermsThen.TheVariants as of_terms
 use Rattle.spec_machine.specs.Frames.{wanted_from}
 use Rattle.spec_machine.proofs.Doing.{moved}
-use Rattle.spec_machine.proofs.Carrying.{carried}
+use Rattle.tl_base.proofs.Results.{carried}
 use Rattle.spec_machine.proofs.Entering.{does_as}
 use Rattle.spec_machine.proofs.Pushing.{none_is, list_enters}
 use Rattle.spec_machine.proofs.variables.values.Goals as goal

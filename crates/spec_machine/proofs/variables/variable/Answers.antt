@@ -10,7 +10,7 @@ use Rattle.spec_model.specs.Statements.{wanted_one}
 use Rattle.spec_machine.specs.declared.frame.ValueFrame.TheVariants as of_value
 use Rattle.spec_machine.specs.Frames.{wanted_from, variable_plan, with_value, with_wanted}
 use Rattle.spec_machine.proofs.Doing.{moved}
-use Rattle.spec_machine.proofs.Carrying.{carried}
+use Rattle.tl_base.proofs.Results.{carried}
 use Rattle.spec_machine.proofs.Pushing.{asks_value}
 use Rattle.spec_machine.proofs.variables.variable.Goals as goal
 

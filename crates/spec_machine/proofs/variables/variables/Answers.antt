@@ -6,7 +6,7 @@ use Rattle.spec_machine.specs.declared.frame.VarFrame.{VarFrame}
 use Rattle.spec_machine.specs.Frames.{wanted_from, variable_plan}
 use Rattle.spec_machine.proofs.Doing.{moved, pays}
 use Rattle.spec_machine.proofs.Paying.{unpaid_step}
-use Rattle.spec_machine.proofs.Carrying.{carried}
+use Rattle.tl_base.proofs.Results.{carried}
 use Rattle.spec_machine.proofs.Pushing.{none_is}
 use Rattle.spec_machine.proofs.variables.variables.Goals as goal
 

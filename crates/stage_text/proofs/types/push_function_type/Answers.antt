@@ -1,6 +1,6 @@
 use Rattle.std.proofs.Common.{◌∙◌}
 use Rattle.terra_types.specs.declared.types.TypeForm.TheVariants as forms
-use Rattle.terra_term.proofs.Steps.{on-ok}
+use Rattle.tl_base.proofs.Results.{on-ok}
 use Rattle.stage_text.proofs.Writing.{written_text}
 use Rattle.stage_text.proofs.types.push_function_type.Goals as goal
 

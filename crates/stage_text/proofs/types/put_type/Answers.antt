@@ -1,6 +1,6 @@
 use Rattle.std.proofs.Common.{◌≡◌, ◌∙◌, ap, sym, List, [], ◌∷◌, ◌++◌, Some, None, slice_get}
 use Rattle.terra_term.specs.TermText.{type_text}
-use Rattle.terra_term.proofs.Steps.{on-ok}
+use Rattle.tl_base.proofs.Results.{on-ok}
 use Rattle.stage_text.specs.declared.types.Part.{Part}
 use Rattle.stage_text.specs.Types.{text_in, type_parts}
 use Rattle.stage_text.proofs.Writing.{found_text, absent_text, put_text, none_text}

@@ -1,6 +1,6 @@
 use Rattle.std.proofs.Common.{◌≡◌, ◌∙◌, ap, sym}
 use Rattle.terra_term.specs.TermText.{type_text}
-use Rattle.terra_term.proofs.Steps.{on-ok}
+use Rattle.tl_base.proofs.Results.{on-ok}
 use Rattle.stage_text.specs.Types.{part_text}
 use Rattle.stage_text.proofs.Writing.{before_text, past_text, put_step, past_step}
 use Rattle.stage_text.proofs.types.step.Goals as goal

@@ -26,7 +26,7 @@ use Rattle.tac_lower.proofs.Passing.{declared_append, declared_scope}
 use Rattle.tl_base.specs.declared.ids.TermId.{TermId}
 use Rattle.tac_lower.proofs.Listing.{block-all, block-later, list-all, list-result, list-work, target-all, target-result, target-work}
 use Rattle.tac_lower.proofs.Leaving.{Before, before-both, block-before, declared-before, scope-left}
-use Rattle.tac_lower.proofs.Lines.{count-append}
+use Rattle.tac_lower.proofs.Places.{count-append}
 use Rattle.tac_lower.proofs.Arms.{address-arm, assign-arm, do-arm, element-arm, for-arm, index-arm, let-arm, var-arm}
 use Rattle.tac_lower.proofs.term.+lower.Goals as goal
 

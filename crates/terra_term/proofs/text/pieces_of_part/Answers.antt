@@ -1,7 +1,7 @@
 use Rattle.std.proofs.Common.{◌∙◌, ap, List}
 use Rattle.terra_term.specs.declared.piece.Piece.{Piece}
 use Rattle.terra_term.specs.Pieces.{text_in}
-use Rattle.terra_term.proofs.Steps.{if-ok}
+use Rattle.tl_base.proofs.Results.{if-ok}
 use Rattle.terra_term.proofs.Parts.{part-expression, part-statement, part-function, part-none}
 use Rattle.terra_term.proofs.text.pieces_of_part.Goals as goal
 

@@ -1,7 +1,7 @@
 use Rattle.std.proofs.Common.{◌≡◌, ◌∙◌, ap, List, Some, None, slice_get}
 use Rattle.terra_term.specs.declared.piece.Piece.{Piece}
 use Rattle.terra_term.specs.Pieces.{text_in}
-use Rattle.terra_term.proofs.Steps.{if-ok}
+use Rattle.tl_base.proofs.Results.{if-ok}
 use Rattle.terra_term.proofs.Parts.{type-found, type-absent}
 use Rattle.terra_term.proofs.text.pieces_of_type_id.Goals as goal
 

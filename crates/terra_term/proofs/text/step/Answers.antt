@@ -1,6 +1,6 @@
 use Rattle.std.proofs.Common.{◌≡◌, ◌∙◌, ◌++◌, [], List, ℕ, ap, sym, append-nil}
 use Rattle.terra_term.specs.Pieces.{text_in, piece_text}
-use Rattle.terra_term.proofs.Steps.{on-ok}
+use Rattle.tl_base.proofs.Results.{on-ok}
 use Rattle.terra_term.proofs.Texts.{part-step}
 use Rattle.terra_term.proofs.Parts.{type-before, type-past}
 use Rattle.terra_term.proofs.text.step.Goals as goal

@@ -2,7 +2,7 @@ use Rattle.std.proofs.Common.{◌≡◌, ◌∙◌, ap, List, Some}
 use Rattle.terra_term.specs.declared.piece.Piece.{Piece}
 use Rattle.terra_term.specs.Held.{state_of, term_in}
 use Rattle.terra_term.specs.Pieces.{text_in, definition_pieces}
-use Rattle.terra_term.proofs.Steps.{if-ok}
+use Rattle.tl_base.proofs.Results.{if-ok}
 use Rattle.terra_term.proofs.Parts.{function-found, function-expression, function-statement, function-absent}
 use Rattle.terra_term.proofs.text.term_text.Goals as goal
 

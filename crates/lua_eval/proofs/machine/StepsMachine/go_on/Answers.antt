@@ -1,7 +1,7 @@
 use Rattle.lua_table.specs.Heap.{shallower}
 use Rattle.lua_table.proofs.Keeping.{keeps_shallower}
-use Rattle.lua_eval.proofs.Keeping.{kept_as}
-use Rattle.lua_eval.proofs.Passing.{if-ok}
+use Rattle.lua_table.proofs.Keeping.{heap_kept_as}
+use Rattle.tl_base.proofs.Results.{if-ok}
 use Rattle.lua_eval.proofs.machine.StepsMachine.go_on.Goals as goal
 
 pub returns-in-Block-clause-means : goal.returns-in-Block-clause-means
@@ -10,11 +10,11 @@ returns-in-Block-clause-means c =
 
 pub returns-in-Library-clause-kept : goal.returns-in-Library-clause-kept
 returns-in-Library-clause-kept c =
-    kept_as c.args.heap.now c.end_call.new.self (shallower c.args.heap.now) c.end_call.ensures (keeps_shallower c.args.heap.now)
+    heap_kept_as c.args.heap.now c.end_call.new.self (shallower c.args.heap.now) c.end_call.ensures (keeps_shallower c.args.heap.now)
 
 pub returns-in-Function-clause-kept : goal.returns-in-Function-clause-kept
 returns-in-Function-clause-kept c =
-    kept_as c.args.heap.now c.end_call-in-Function.new.self (shallower c.args.heap.now) c.end_call-in-Function.ensures
+    heap_kept_as c.args.heap.now c.end_call-in-Function.new.self (shallower c.args.heap.now) c.end_call-in-Function.ensures
     (keeps_shallower c.args.heap.now)
 
 pub returns-in-One-clause-means : goal.returns-in-One-clause-means

@@ -5,7 +5,7 @@ use Rattle.lua_model.specs.declared.scope.Scope.{Scope}
 use Rattle.lua_model.specs.Plans.{LuaPlan, scope_at}
 use Rattle.lua_model.specs.Statements.{block_plan}
 use Rattle.lua_eval.proofs.Below.{moved}
-use Rattle.lua_eval.proofs.Passing.{if-ok}
+use Rattle.tl_base.proofs.Results.{if-ok}
 use Rattle.lua_eval.proofs.machine.StepsMachine.open.Goals as goal
 
 pub returns-in-Chunk-clause-means : goal.returns-in-Chunk-clause-means
