@@ -21,5 +21,4 @@ pub mod Placing
 pub mod Typing
 pub mod Entries
 pub mod Quoted
-pub mod Carrying
 pub mod Paying
