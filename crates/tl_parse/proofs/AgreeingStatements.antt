@@ -28,7 +28,7 @@ use Rattle.tl_parse.specs.Expressions as suffixed
 use Rattle.tl_parse.specs.Statements.{is_unsettled, settling, settle_at, variable_at, more_targets_at, is_call, values_at}
 use Rattle.tl_parse.specs.Statements.{call_or_assignment_at, do_at, loop_at, while_at, repeat_at, arm_at, more_arms_at, arms_at}
 use Rattle.tl_parse.specs.Statements.{otherwise_at, if_at, step_at, numeric_at, generic, generic_at, for_at, function_statement_at}
-use Rattle.tl_parse.specs.Statements.{local_function_at, initial_values_at, local_names_at, definition_symbols, local_at, first_symbols}
+use Rattle.tl_parse.specs.Statements.{local_function_at, initial_values_at, local_names_at, definition_symbols, local_at}
 use Rattle.tl_parse.specs.Statements.{returned_values_at, return_at, break_at, emit_at, statement_at, last_symbols, next_statement_at}
 use Rattle.tl_parse.specs.Statements.{goes_on, parameter_at, with_parameter, more_parameters, more_parameters_at, parameters_at, body_at}
 use Rattle.tl_parse.specs.Paths.{more_names_at, names_at, path_at}
@@ -39,13 +39,16 @@ use Rattle.tl_parse.proofs.Agreeing.{sign_then, open_then, then, either_is, name
 use Rattle.tl_parse.proofs.Turns.{with_suffix, used_here, used_use, use_same, suffix_turn_of}
 use Rattle.tl_parse.proofs.Paths.{names_agree, path_agrees}
 use Rattle.tl_parse.proofs.TerraDefinitionAgreeing.{define_terra_is, define_struct_is, local_terra_agrees}
+use Rattle.tl_parse.specs.Codes.{lua_symbols}
+use Rattle.tl_parse.specs.declared.parser.Code.TheVariants as codes
+use Rattle.tl_parse.specs.declared.parser.BlockCode.TheVariants as block_codes
 
 -- the same where an outcome is known
 bind_where : {A B : Type 0} (o : Outcome A) (f g : A → List Token → Outcome B) → ((a : A) (mid : List Token) → o ≡ Took a mid → f a mid ≡ g a mid) → (o >>= f) ≡ (o >>= g)
 bind_where (Took a mid) f g h = h a mid refl
 bind_where (Stop kind rest) f g h = refl
 
-expressions_agree : (levels : ℕ) (m : Mode) (ts : List Token) → reading levels (expressions.expressions m) ts ≡ expressions_at levels m ts
+expressions_agree : (levels : ℕ) (m : Mode) (ts : List Token) → reading levels (expressions.expressions m) ts ≡ expressions_at levels (codes.Lua m) ts
 unfolding expressions_at more_expressions_at part_at
 expressions_agree levels m ts = refl
 
@@ -225,13 +228,13 @@ variable_agrees levels m ts = by (begins (is symbols.OpenParen) ts)
 
 -- ---- loops and choices
 
-loop_agrees : (levels : ℕ) (c : Context) (ts : List Token) → reading levels (lua.loop c) ts ≡ loop_at levels c ts
+loop_agrees : (levels : ℕ) (c : Context) (ts : List Token) → reading levels (lua.loop c) ts ≡ loop_at levels (block_codes.Lua c) ts
 unfolding loop_at
 loop_agrees levels c ts =
     open_then levels symbols.Do (Statements (looped c)) (λ x. bind (sign symbols.End) λ y. give x.1) (λ t x b. sign_at symbols.End b >>= λ y rest. Took x rest) (λ t x b. sign_then levels symbols.End (λ y. give x) (λ y rest. Took x rest) (λ y us. refl) b) ts
 
 -- a condition and its block, behind other arms
-arm_agrees : (levels : ℕ) (c : Context) (before : Tree) (ts : List Token) → reading levels (lua.arm c before) ts ≡ (arm_at levels c ts >>= λ x rest. Took (More before x) rest)
+arm_agrees : (levels : ℕ) (c : Context) (before : Tree) (ts : List Token) → reading levels (lua.arm c before) ts ≡ (arm_at levels (block_codes.Lua c) ts >>= λ x rest. Took (More before x) rest)
 unfolding arm_at
 arm_agrees levels c before ts =
     then levels (expressions.expression c.mode) (λ e. bind (opening symbols.Then (Statements c)) λ x. give (More before (trees.Arm e x.1))) (λ us. part_at levels (Expression c.mode) us) (λ e a. open_at symbols.Then levels a >>= λ t b. part_at (levels - 1) (Statements c) b >>= λ x rest. Took (More before (trees.Arm e x)) rest)
@@ -242,18 +245,18 @@ arm_agrees levels c before ts =
     ∙ bind_same (open_at symbols.Then levels a) _ (λ t b. part_at (levels - 1) (Statements c) b >>= λ x rest. Took (More before (trees.Arm e x)) rest) (λ t b. bind_again (part_at (levels - 1) (Statements c) b) (λ x rest. Took (trees.Arm e x) rest) (λ x rest. Took (More before x) rest))))
 
 pub arm_turn : (levels : ℕ) (c : Context) (before : Tree) (ts : List Token) →
-    reading levels (bind (token (λ t. is symbols.Elseif t) (λ t. Plain) (λ t. None) (sample symbols.Elseif)) λ x. lua.arm c before) ts ≡ ((sign_at symbols.Elseif ts >>= λ y a. arm_at levels c a) >>= λ x rest. Took (More before x) rest)
+    reading levels (bind (token (λ t. is symbols.Elseif t) (λ t. Plain) (λ t. None) (sample symbols.Elseif)) λ x. lua.arm c before) ts ≡ ((sign_at symbols.Elseif ts >>= λ y a. arm_at levels (block_codes.Lua c) a) >>= λ x rest. Took (More before x) rest)
 arm_turn levels c before ts =
-    sign_then levels symbols.Elseif (λ x. lua.arm c before) (λ t a. arm_at levels c a >>= λ x rest. Took (More before x) rest) (λ t a. arm_agrees levels c before a) ts
-    ∙ sym (bind_again (sign_at symbols.Elseif ts) (λ y a. arm_at levels c a) (λ x rest. Took (More before x) rest))
+    sign_then levels symbols.Elseif (λ x. lua.arm c before) (λ t a. arm_at levels (block_codes.Lua c) a >>= λ x rest. Took (More before x) rest) (λ t a. arm_agrees levels c before a) ts
+    ∙ sym (bind_again (sign_at symbols.Elseif ts) (λ y a. arm_at levels (block_codes.Lua c) a) (λ x rest. Took (More before x) rest))
 
-otherwise_agrees : (levels : ℕ) (c : Context) (ts : List Token) → reading levels (lua.otherwise c) ts ≡ otherwise_at levels c ts
+otherwise_agrees : (levels : ℕ) (c : Context) (ts : List Token) → reading levels (lua.otherwise c) ts ≡ otherwise_at levels (block_codes.Lua c) ts
 unfolding otherwise_at
 otherwise_agrees levels c ts =
     either_is (begins (is symbols.Else) ts) (reading levels (bind (opening symbols.Else (Statements c)) λ x. give (Just x.1)) ts) (Took Nothing ts) (open_at symbols.Else levels ts >>= λ t a. part_at (levels - 1) (Statements c) a >>= λ x rest. Took (Just x) rest) (Took Nothing ts)
     (open_then levels symbols.Else (Statements c) (λ x. give (Just x.1)) (λ t x rest. Took (Just x) rest) (λ t x us. refl) ts) refl
 
-step_agrees : (levels : ℕ) (m : Mode) (ts : List Token) → reading levels (lua.step m) ts ≡ step_at levels m ts
+step_agrees : (levels : ℕ) (m : Mode) (ts : List Token) → reading levels (lua.step m) ts ≡ step_at levels (codes.Lua m) ts
 unfolding step_at
 step_agrees levels m ts =
     either_is (begins (is symbols.Comma) ts) (reading levels (bind (sign symbols.Comma) λ y. bind (expressions.expression m) λ e. give (Just e)) ts) (Took Nothing ts) (sign_at symbols.Comma ts >>= λ y a. part_at levels (Expression m) a >>= λ e rest. Took (Just e) rest) (Took Nothing ts)
@@ -263,14 +266,14 @@ step_agrees levels m ts =
 numeric_agrees : (levels : ℕ) (c : Context) (t : Token) (n : Tree) (ts : List Token) → reading levels (lua.numeric_for c t n) ts ≡ (numeric_at levels c ts >>= λ r rest. Took (trees.NumericFor t.place n r.from r.limit r.step r.block) rest)
 unfolding numeric_at
 numeric_agrees levels c t n ts =
-    sign_then levels symbols.Equal (λ x'. bind {A = Tree} {B = Tree} (expressions.expression c.mode) (λ a. bind {A = Token × Tree} {B = Tree} (sign symbols.Comma) (λ z. bind {A = Tree} {B = Tree} (expressions.expression c.mode) (λ b. bind {A = Tree} {B = Tree} (lua.step c.mode) (λ s. bind {A = Tree} {B = Tree} (lua.loop c) (λ x''. give {A = Tree} (trees.NumericFor t.place n a b s x''))))))) (λ y a. part_at levels (Expression c.mode) a >>= λ from b. sign_at symbols.Comma b >>= λ z d. part_at levels (Expression c.mode) d >>= λ limit f. step_at levels c.mode f >>= λ s g. loop_at levels c g >>= λ x rest. made from limit s x rest)
-    (λ y a. then levels (expressions.expression c.mode) (λ x'. bind {A = Token × Tree} {B = Tree} (sign symbols.Comma) (λ z. bind {A = Tree} {B = Tree} (expressions.expression c.mode) (λ b. bind {A = Tree} {B = Tree} (lua.step c.mode) (λ s. bind {A = Tree} {B = Tree} (lua.loop c) (λ x''. give {A = Tree} (trees.NumericFor t.place n x' b s x'')))))) (λ us. part_at levels (Expression c.mode) us) (λ from b. sign_at symbols.Comma b >>= λ z d. part_at levels (Expression c.mode) d >>= λ limit f. step_at levels c.mode f >>= λ s g. loop_at levels c g >>= λ x rest. made from limit s x rest) (λ us. expression_agrees levels c.mode us)
-    (λ from b. sign_then levels symbols.Comma (λ x'. bind {A = Tree} {B = Tree} (expressions.expression c.mode) (λ b'. bind {A = Tree} {B = Tree} (lua.step c.mode) (λ s. bind {A = Tree} {B = Tree} (lua.loop c) (λ x''. give {A = Tree} (trees.NumericFor t.place n from b' s x''))))) (λ z d. part_at levels (Expression c.mode) d >>= λ limit f. step_at levels c.mode f >>= λ s g. loop_at levels c g >>= λ x rest. made from limit s x rest)
-    (λ z d. then levels (expressions.expression c.mode) (λ x'. bind {A = Tree} {B = Tree} (lua.step c.mode) (λ s. bind {A = Tree} {B = Tree} (lua.loop c) (λ x''. give {A = Tree} (trees.NumericFor t.place n from x' s x'')))) (λ us. part_at levels (Expression c.mode) us) (λ limit f. step_at levels c.mode f >>= λ s g. loop_at levels c g >>= λ x rest. made from limit s x rest) (λ us. expression_agrees levels c.mode us)
-    (λ limit f. then levels (lua.step c.mode) (λ s. bind (lua.loop c) λ x. give (trees.NumericFor t.place n from limit s x)) (λ us. step_at levels c.mode us) (λ s g. loop_at levels c g >>= λ x rest. made from limit s x rest) (λ us. step_agrees levels c.mode us)
-    (λ s g. then levels (lua.loop c) (λ x. give (trees.NumericFor t.place n from limit s x)) (λ us. loop_at levels c us) (λ x rest. made from limit s x rest) (λ us. loop_agrees levels c us) (λ x us. refl) g) f) d) b) a) ts
+    sign_then levels symbols.Equal (λ x'. bind {A = Tree} {B = Tree} (expressions.expression c.mode) (λ a. bind {A = Token × Tree} {B = Tree} (sign symbols.Comma) (λ z. bind {A = Tree} {B = Tree} (expressions.expression c.mode) (λ b. bind {A = Tree} {B = Tree} (lua.step c.mode) (λ s. bind {A = Tree} {B = Tree} (lua.loop c) (λ x''. give {A = Tree} (trees.NumericFor t.place n a b s x''))))))) (λ y a. part_at levels (Expression c.mode) a >>= λ from b. sign_at symbols.Comma b >>= λ z d. part_at levels (Expression c.mode) d >>= λ limit f. step_at levels (codes.Lua c.mode) f >>= λ s g. loop_at levels (block_codes.Lua c) g >>= λ x rest. made from limit s x rest)
+    (λ y a. then levels (expressions.expression c.mode) (λ x'. bind {A = Token × Tree} {B = Tree} (sign symbols.Comma) (λ z. bind {A = Tree} {B = Tree} (expressions.expression c.mode) (λ b. bind {A = Tree} {B = Tree} (lua.step c.mode) (λ s. bind {A = Tree} {B = Tree} (lua.loop c) (λ x''. give {A = Tree} (trees.NumericFor t.place n x' b s x'')))))) (λ us. part_at levels (Expression c.mode) us) (λ from b. sign_at symbols.Comma b >>= λ z d. part_at levels (Expression c.mode) d >>= λ limit f. step_at levels (codes.Lua c.mode) f >>= λ s g. loop_at levels (block_codes.Lua c) g >>= λ x rest. made from limit s x rest) (λ us. expression_agrees levels c.mode us)
+    (λ from b. sign_then levels symbols.Comma (λ x'. bind {A = Tree} {B = Tree} (expressions.expression c.mode) (λ b'. bind {A = Tree} {B = Tree} (lua.step c.mode) (λ s. bind {A = Tree} {B = Tree} (lua.loop c) (λ x''. give {A = Tree} (trees.NumericFor t.place n from b' s x''))))) (λ z d. part_at levels (Expression c.mode) d >>= λ limit f. step_at levels (codes.Lua c.mode) f >>= λ s g. loop_at levels (block_codes.Lua c) g >>= λ x rest. made from limit s x rest)
+    (λ z d. then levels (expressions.expression c.mode) (λ x'. bind {A = Tree} {B = Tree} (lua.step c.mode) (λ s. bind {A = Tree} {B = Tree} (lua.loop c) (λ x''. give {A = Tree} (trees.NumericFor t.place n from x' s x'')))) (λ us. part_at levels (Expression c.mode) us) (λ limit f. step_at levels (codes.Lua c.mode) f >>= λ s g. loop_at levels (block_codes.Lua c) g >>= λ x rest. made from limit s x rest) (λ us. expression_agrees levels c.mode us)
+    (λ limit f. then levels (lua.step c.mode) (λ s. bind (lua.loop c) λ x. give (trees.NumericFor t.place n from limit s x)) (λ us. step_at levels (codes.Lua c.mode) us) (λ s g. loop_at levels (block_codes.Lua c) g >>= λ x rest. made from limit s x rest) (λ us. step_agrees levels c.mode us)
+    (λ s g. then levels (lua.loop c) (λ x. give (trees.NumericFor t.place n from limit s x)) (λ us. loop_at levels (block_codes.Lua c) us) (λ x rest. made from limit s x rest) (λ us. loop_agrees levels c us) (λ x us. refl) g) f) d) b) a) ts
     ∙ sym (bind_again (sign_at symbols.Equal ts) _ _ ∙ bind_same (sign_at symbols.Equal ts) _ _ (λ y a. bind_again (part_at levels (Expression c.mode) a) _ _ ∙ bind_same (part_at levels (Expression c.mode) a) _ _ (λ from b. bind_again (sign_at symbols.Comma b) _ _ ∙ bind_same (sign_at symbols.Comma b) _ _
-    (λ z d. bind_again (part_at levels (Expression c.mode) d) _ _ ∙ bind_same (part_at levels (Expression c.mode) d) _ _ (λ limit f. bind_again (step_at levels c.mode f) _ _ ∙ bind_same (step_at levels c.mode f) _ _ (λ s g. bind_again (loop_at levels c g) _ _))))))
+    (λ z d. bind_again (part_at levels (Expression c.mode) d) _ _ ∙ bind_same (part_at levels (Expression c.mode) d) _ _ (λ limit f. bind_again (step_at levels (codes.Lua c.mode) f) _ _ ∙ bind_same (step_at levels (codes.Lua c.mode) f) _ _ (λ s g. bind_again (loop_at levels (block_codes.Lua c) g) _ _))))))
   where
     made : Tree → Tree → Tree → Tree → List Token → Outcome Tree
     made from limit s x rest = Took (trees.NumericFor t.place n from limit s x) rest
@@ -279,24 +282,24 @@ generic_agrees : (levels : ℕ) (c : Context) (t : Token) (ns : Tree) (ts : List
     reading levels (bind (sign symbols.In) λ y. bind (expressions.expressions c.mode) λ es. bind (lua.loop c) λ x. give (trees.GenericFor t.place ns es x)) ts ≡ (generic_at levels c ts >>= λ r rest. Took (trees.GenericFor t.place ns r.values r.block) rest)
 unfolding generic_at
 generic_agrees levels c t ns ts =
-    sign_then levels symbols.In (λ y. bind (expressions.expressions c.mode) λ es. bind (lua.loop c) λ x. give (trees.GenericFor t.place ns es x)) (λ y a. expressions_at levels c.mode a >>= λ es b. loop_at levels c b >>= λ x rest. Took (trees.GenericFor t.place ns es x) rest)
-    (λ y a. then levels (expressions.expressions c.mode) (λ es. bind (lua.loop c) λ x. give (trees.GenericFor t.place ns es x)) (λ us. expressions_at levels c.mode us) (λ es b. loop_at levels c b >>= λ x rest. Took (trees.GenericFor t.place ns es x) rest) (λ us. expressions_agree levels c.mode us)
-    (λ es b. then levels (lua.loop c) (λ x. give (trees.GenericFor t.place ns es x)) (λ us. loop_at levels c us) (λ x rest. Took (trees.GenericFor t.place ns es x) rest) (λ us. loop_agrees levels c us) (λ x us. refl) b) a) ts
-    ∙ sym (bind_again (sign_at symbols.In ts) (λ y a. expressions_at levels c.mode a >>= λ es b. loop_at levels c b >>= λ x rest. Took (generic es x) rest) (λ r rest. Took (trees.GenericFor t.place ns r.values r.block) rest)
-    ∙ bind_same (sign_at symbols.In ts) (λ y a. (expressions_at levels c.mode a >>= λ es b. loop_at levels c b >>= λ x rest. Took (generic es x) rest) >>= λ r rest. Took (trees.GenericFor t.place ns r.values r.block) rest) (λ y a. expressions_at levels c.mode a >>= λ es b. loop_at levels c b >>= λ x rest. Took (trees.GenericFor t.place ns es x) rest)
-    (λ y a. bind_again (expressions_at levels c.mode a) (λ es b. loop_at levels c b >>= λ x rest. Took (generic es x) rest) (λ r rest. Took (trees.GenericFor t.place ns r.values r.block) rest)
-    ∙ bind_same (expressions_at levels c.mode a) (λ es b. (loop_at levels c b >>= λ x rest. Took (generic es x) rest) >>= λ r rest. Took (trees.GenericFor t.place ns r.values r.block) rest) (λ es b. loop_at levels c b >>= λ x rest. Took (trees.GenericFor t.place ns es x) rest)
-    (λ es b. bind_again (loop_at levels c b) (λ x rest. Took (generic es x) rest) (λ r rest. Took (trees.GenericFor t.place ns r.values r.block) rest))))
+    sign_then levels symbols.In (λ y. bind (expressions.expressions c.mode) λ es. bind (lua.loop c) λ x. give (trees.GenericFor t.place ns es x)) (λ y a. expressions_at levels (codes.Lua c.mode) a >>= λ es b. loop_at levels (block_codes.Lua c) b >>= λ x rest. Took (trees.GenericFor t.place ns es x) rest)
+    (λ y a. then levels (expressions.expressions c.mode) (λ es. bind (lua.loop c) λ x. give (trees.GenericFor t.place ns es x)) (λ us. expressions_at levels (codes.Lua c.mode) us) (λ es b. loop_at levels (block_codes.Lua c) b >>= λ x rest. Took (trees.GenericFor t.place ns es x) rest) (λ us. expressions_agree levels c.mode us)
+    (λ es b. then levels (lua.loop c) (λ x. give (trees.GenericFor t.place ns es x)) (λ us. loop_at levels (block_codes.Lua c) us) (λ x rest. Took (trees.GenericFor t.place ns es x) rest) (λ us. loop_agrees levels c us) (λ x us. refl) b) a) ts
+    ∙ sym (bind_again (sign_at symbols.In ts) (λ y a. expressions_at levels (codes.Lua c.mode) a >>= λ es b. loop_at levels (block_codes.Lua c) b >>= λ x rest. Took (generic es x) rest) (λ r rest. Took (trees.GenericFor t.place ns r.values r.block) rest)
+    ∙ bind_same (sign_at symbols.In ts) (λ y a. (expressions_at levels (codes.Lua c.mode) a >>= λ es b. loop_at levels (block_codes.Lua c) b >>= λ x rest. Took (generic es x) rest) >>= λ r rest. Took (trees.GenericFor t.place ns r.values r.block) rest) (λ y a. expressions_at levels (codes.Lua c.mode) a >>= λ es b. loop_at levels (block_codes.Lua c) b >>= λ x rest. Took (trees.GenericFor t.place ns es x) rest)
+    (λ y a. bind_again (expressions_at levels (codes.Lua c.mode) a) (λ es b. loop_at levels (block_codes.Lua c) b >>= λ x rest. Took (generic es x) rest) (λ r rest. Took (trees.GenericFor t.place ns r.values r.block) rest)
+    ∙ bind_same (expressions_at levels (codes.Lua c.mode) a) (λ es b. (loop_at levels (block_codes.Lua c) b >>= λ x rest. Took (generic es x) rest) >>= λ r rest. Took (trees.GenericFor t.place ns r.values r.block) rest) (λ es b. loop_at levels (block_codes.Lua c) b >>= λ x rest. Took (trees.GenericFor t.place ns es x) rest)
+    (λ es b. bind_again (loop_at levels (block_codes.Lua c) b) (λ x rest. Took (generic es x) rest) (λ r rest. Took (trees.GenericFor t.place ns r.values r.block) rest))))
 
 -- ---- declarations
 
-values_agree : (levels : ℕ) (m : Mode) (ts : List Token) → reading levels (bind (sign symbols.Equal) λ y. expressions.expressions m) ts ≡ values_at levels m ts
+values_agree : (levels : ℕ) (m : Mode) (ts : List Token) → reading levels (bind (sign symbols.Equal) λ y. expressions.expressions m) ts ≡ values_at levels (codes.Lua m) ts
 unfolding values_at
-values_agree levels m ts = sign_then levels symbols.Equal (λ y. expressions.expressions m) (λ y a. expressions_at levels m a) (λ y us. expressions_agree levels m us) ts
+values_agree levels m ts = sign_then levels symbols.Equal (λ y. expressions.expressions m) (λ y a. expressions_at levels (codes.Lua m) a) (λ y us. expressions_agree levels m us) ts
 
-initial_values_agree : (levels : ℕ) (m : Mode) (ts : List Token) → reading levels (lua.initial_values m) ts ≡ initial_values_at levels m ts
+initial_values_agree : (levels : ℕ) (m : Mode) (ts : List Token) → reading levels (lua.initial_values m) ts ≡ initial_values_at levels (codes.Lua m) ts
 unfolding initial_values_at
-initial_values_agree levels m ts = either_is (begins (is symbols.Equal) ts) (reading levels (bind (sign symbols.Equal) λ y. expressions.expressions m) ts) (Took Nothing ts) (values_at levels m ts) (Took Nothing ts) (values_agree levels m ts) refl
+initial_values_agree levels m ts = either_is (begins (is symbols.Equal) ts) (reading levels (bind (sign symbols.Equal) λ y. expressions.expressions m) ts) (Took Nothing ts) (values_at levels (codes.Lua m) ts) (Took Nothing ts) (values_agree levels m ts) refl
 
 local_function_agrees : (levels : ℕ) (place : Place) (ts : List Token) →
     reading levels (bind (sign symbols.Function) λ y. bind name λ n. bind (opening symbols.OpenParen FunctionBody) λ b. give (trees.LocalFunction place n b.1)) ts ≡ local_function_at levels place ts
@@ -310,8 +313,8 @@ local_names_agree : (levels : ℕ) (m : Mode) (place : Place) (ts : List Token) 
     reading levels (bind names λ ns. bind (lua.initial_values m) λ es. give (trees.Local place ns es)) ts ≡ local_names_at levels m place ts
 unfolding local_names_at
 local_names_agree levels m place ts =
-    then levels names (λ ns. bind (lua.initial_values m) λ es. give (trees.Local place ns es)) (λ us. names_at levels us) (λ ns a. initial_values_at levels m a >>= λ es rest. Took (trees.Local place ns es) rest) (λ us. names_agree levels us)
-    (λ ns a. then levels (lua.initial_values m) (λ es. give (trees.Local place ns es)) (λ us. initial_values_at levels m us) (λ es rest. Took (trees.Local place ns es) rest) (λ us. initial_values_agree levels m us) (λ es us. refl) a) ts
+    then levels names (λ ns. bind (lua.initial_values m) λ es. give (trees.Local place ns es)) (λ us. names_at levels us) (λ ns a. initial_values_at levels (codes.Lua m) a >>= λ es rest. Took (trees.Local place ns es) rest) (λ us. names_agree levels us)
+    (λ ns a. then levels (lua.initial_values m) (λ es. give (trees.Local place ns es)) (λ us. initial_values_at levels (codes.Lua m) us) (λ es rest. Took (trees.Local place ns es) rest) (λ us. initial_values_agree levels m us) (λ es us. refl) a) ts
 
 -- each token that has a place in both languages has it in the joint one
 begins_local_terra_is : (ts : List Token) → begins (λ t. lua.begins_local_terra t) ts ≡ begins (among definition_symbols) ts
@@ -321,35 +324,35 @@ begins_local_terra_is (t ∷ ts) = refl
 abbrev pub token_with : Symbol → List ℕ → Place → ℕ → Bool → Token
 token_with symbol text place offset first = record { symbol = symbol; text = text; place = place; offset = offset; first_on_line = first }
 
-begins_expression_by : (symbol : Symbol) (text : List ℕ) (place : Place) (offset : ℕ) (first : Bool) → is_of (λ t. lua.begins_expression t) (token_with symbol text place offset first) ≡ is_of (among first_symbols) (token_with symbol text place offset first)
+begins_expression_by : (symbol : Symbol) (text : List ℕ) (place : Place) (offset : ℕ) (first : Bool) → is_of (λ t. lua.begins_expression t) (token_with symbol text place offset first) ≡ is_of (among lua_symbols) (token_with symbol text place offset first)
 begins_expression_by (symbols.Bad kind) text place offset first = refl
 begins_expression_by _ text place offset first = refl
 
-begins_expression_is : (ts : List Token) → begins (λ t. lua.begins_expression t) ts ≡ begins (among first_symbols) ts
+begins_expression_is : (ts : List Token) → begins (λ t. lua.begins_expression t) ts ≡ begins (among lua_symbols) ts
 begins_expression_is [] = refl
 begins_expression_is (t ∷ ts) = begins_expression_by t.symbol t.text t.place t.offset t.first_on_line
 
-returned_values_agree : (levels : ℕ) (m : Mode) (ts : List Token) → reading levels (lua.returned_values m) ts ≡ returned_values_at levels m ts
+returned_values_agree : (levels : ℕ) (m : Mode) (ts : List Token) → reading levels (lua.returned_values m) ts ≡ returned_values_at levels (codes.Lua m) ts
 unfolding returned_values_at
 returned_values_agree levels m ts =
     ap (λ (b : Bool). cond b (reading levels (expressions.expressions m) ts) (Took Nothing ts)) (begins_expression_is ts)
-    ∙ either_is (begins (among first_symbols) ts) (reading levels (expressions.expressions m) ts) (Took Nothing ts) (expressions_at levels m ts) (Took Nothing ts) (expressions_agree levels m ts) refl
+    ∙ either_is (begins (among lua_symbols) ts) (reading levels (expressions.expressions m) ts) (Took Nothing ts) (expressions_at levels (codes.Lua m) ts) (Took Nothing ts) (expressions_agree levels m ts) refl
 
 -- ---- calls and assignments
 
 target_agrees : (levels : ℕ) (m : Mode) (place : Place) (shape : Shape) (e : Tree) (t : Token) (ts : List Token) → t.place ≡ place →
-    reading levels (lua.call_or_assignment m t shape e) ts ≡ cond (is_call shape) (Took (trees.Perform place e) ts) (more_targets_at levels m (More Nothing e) ts >>= λ targets c. values_at levels m c >>= λ es rest. Took (trees.Assign place targets es) rest)
+    reading levels (lua.call_or_assignment m t shape e) ts ≡ cond (is_call shape) (Took (trees.Perform place e) ts) (more_targets_at levels m (More Nothing e) ts >>= λ targets c. values_at levels (codes.Lua m) c >>= λ es rest. Took (trees.Assign place targets es) rest)
 unfolding more_targets_at
 target_agrees levels m place shape e t ts p = by shape
   where
-    assigns : reading levels (lua.assignment m t e) ts ≡ (more_targets_at levels m (More Nothing e) ts >>= λ targets c. values_at levels m c >>= λ es rest. Took (trees.Assign place targets es) rest)
+    assigns : reading levels (lua.assignment m t e) ts ≡ (more_targets_at levels m (More Nothing e) ts >>= λ targets c. values_at levels (codes.Lua m) c >>= λ es rest. Took (trees.Assign place targets es) rest)
     assigns =
-        then levels (listed_behind (lua.variable m) (More Nothing e)) (λ targets. bind (sign symbols.Equal) λ y. bind (expressions.expressions m) λ es. give (trees.Assign t.place targets es)) (λ us. more_targets_at levels m (More Nothing e) us) (λ targets c. values_at levels m c >>= λ es rest. Took (trees.Assign place targets es) rest) (λ us. refl)
+        then levels (listed_behind (lua.variable m) (More Nothing e)) (λ targets. bind (sign symbols.Equal) λ y. bind (expressions.expressions m) λ es. give (trees.Assign t.place targets es)) (λ us. more_targets_at levels m (More Nothing e) us) (λ targets c. values_at levels (codes.Lua m) c >>= λ es rest. Took (trees.Assign place targets es) rest) (λ us. refl)
         (λ targets c. sym (bind_again (reading levels (sign symbols.Equal) c) (λ y us. reading levels (expressions.expressions m) us) (λ es rest. Took (trees.Assign t.place targets es) rest))
         ∙ ap (λ (o : Outcome Tree). o >>= λ es rest. Took (trees.Assign t.place targets es) rest) (values_agree levels m c)
-        ∙ ap (λ (q : Place). values_at levels m c >>= λ es rest. Took (trees.Assign q targets es) rest) p) ts
+        ∙ ap (λ (q : Place). values_at levels (codes.Lua m) c >>= λ es rest. Took (trees.Assign q targets es) rest) p) ts
 
-    by : (shape : Shape) → reading levels (lua.call_or_assignment m t shape e) ts ≡ cond (is_call shape) (Took (trees.Perform place e) ts) (more_targets_at levels m (More Nothing e) ts >>= λ targets c. values_at levels m c >>= λ es rest. Took (trees.Assign place targets es) rest)
+    by : (shape : Shape) → reading levels (lua.call_or_assignment m t shape e) ts ≡ cond (is_call shape) (Took (trees.Perform place e) ts) (more_targets_at levels m (More Nothing e) ts >>= λ targets c. values_at levels (codes.Lua m) c >>= λ es rest. Took (trees.Assign place targets es) rest)
     by shapes.Call = ap (λ (q : Place). Took (trees.Perform q e) ts) p
     by shapes.Name = assigns
     by shapes.Variable = assigns
@@ -381,7 +384,7 @@ behind levels c t mid = opened_at levels (lua.statement_opens c (lua.statement_o
 -- what such a call or assignment has behind its prefix expression
 abbrev target_behind : ℕ → Mode → Place → Chained → List Token → Outcome Tree
 target_behind levels m place a b =
-    cond (is_call a.shape) (Took (trees.Perform place a.tree) b) (more_targets_at levels m (More Nothing a.tree) b >>= λ targets c. values_at levels m c >>= λ es rest. Took (trees.Assign place targets es) rest)
+    cond (is_call a.shape) (Took (trees.Perform place a.tree) b) (more_targets_at levels m (More Nothing a.tree) b >>= λ targets c. values_at levels (codes.Lua m) c >>= λ es rest. Took (trees.Assign place targets es) rest)
 
 name_statement : (levels : ℕ) (c : Context) (text : List ℕ) (place : Place) (offset : ℕ) (first : Bool) (ts : List Token) (b : Option SyntaxKind) →
     let t : Token = token_with symbols.Name text place offset first in
@@ -424,16 +427,16 @@ paren_statement levels c text place offset first ts None = inner (part_at (level
 
 if_behind : (levels : ℕ) (c : Context) (place : Place) (ts : List Token) →
     reading levels (bind (lua.arm c Nothing) λ first. bind (lua.arms c first) λ all. bind (lua.otherwise c) λ o. bind (sign symbols.End) λ y. give (trees.If place all o)) ts
-    ≡ (arms_at levels c ts >>= λ all b. otherwise_at levels c b >>= λ o d. sign_at symbols.End d >>= λ y rest. Took (trees.If place all o) rest)
+    ≡ (arms_at levels (block_codes.Lua c) ts >>= λ all b. otherwise_at levels (block_codes.Lua c) b >>= λ o d. sign_at symbols.End d >>= λ y rest. Took (trees.If place all o) rest)
 unfolding arms_at more_arms_at
 if_behind levels c place ts =
     ap (λ (o : Outcome Tree). o >>= λ first a. reading levels (bind (lua.arms c first) λ all. bind (lua.otherwise c) λ o. bind (sign symbols.End) λ y. give (trees.If place all o)) a) (arm_agrees levels c Nothing ts)
-    ∙ bind_again (arm_at levels c ts) (λ x rest. Took (More Nothing x) rest) (λ first a. reading levels (bind (lua.arms c first) λ all. bind (lua.otherwise c) λ o. bind (sign symbols.End) λ y. give (trees.If place all o)) a)
-    ∙ bind_same (arm_at levels c ts) (λ x a. reading levels (bind (lua.arms c (More Nothing x)) λ all. bind (lua.otherwise c) λ o. bind (sign symbols.End) λ y. give (trees.If place all o)) a) (λ x a. more_arms_at levels c (More Nothing x) a >>= λ all b. otherwise_at levels c b >>= λ o d. sign_at symbols.End d >>= λ y rest. Took (trees.If place all o) rest)
-    (λ x a. then levels (lua.arms c (More Nothing x)) (λ all. bind (lua.otherwise c) λ o. bind (sign symbols.End) λ y. give (trees.If place all o)) (λ us. more_arms_at levels c (More Nothing x) us) (λ all b. otherwise_at levels c b >>= λ o d. sign_at symbols.End d >>= λ y rest. Took (trees.If place all o) rest) (λ us. refl)
-    (λ all b. then levels (lua.otherwise c) (λ o. bind (sign symbols.End) λ y. give (trees.If place all o)) (λ us. otherwise_at levels c us) (λ o d. sign_at symbols.End d >>= λ y rest. Took (trees.If place all o) rest) (λ us. otherwise_agrees levels c us)
+    ∙ bind_again (arm_at levels (block_codes.Lua c) ts) (λ x rest. Took (More Nothing x) rest) (λ first a. reading levels (bind (lua.arms c first) λ all. bind (lua.otherwise c) λ o. bind (sign symbols.End) λ y. give (trees.If place all o)) a)
+    ∙ bind_same (arm_at levels (block_codes.Lua c) ts) (λ x a. reading levels (bind (lua.arms c (More Nothing x)) λ all. bind (lua.otherwise c) λ o. bind (sign symbols.End) λ y. give (trees.If place all o)) a) (λ x a. more_arms_at levels (block_codes.Lua c) (More Nothing x) a >>= λ all b. otherwise_at levels (block_codes.Lua c) b >>= λ o d. sign_at symbols.End d >>= λ y rest. Took (trees.If place all o) rest)
+    (λ x a. then levels (lua.arms c (More Nothing x)) (λ all. bind (lua.otherwise c) λ o. bind (sign symbols.End) λ y. give (trees.If place all o)) (λ us. more_arms_at levels (block_codes.Lua c) (More Nothing x) us) (λ all b. otherwise_at levels (block_codes.Lua c) b >>= λ o d. sign_at symbols.End d >>= λ y rest. Took (trees.If place all o) rest) (λ us. refl)
+    (λ all b. then levels (lua.otherwise c) (λ o. bind (sign symbols.End) λ y. give (trees.If place all o)) (λ us. otherwise_at levels (block_codes.Lua c) us) (λ o d. sign_at symbols.End d >>= λ y rest. Took (trees.If place all o) rest) (λ us. otherwise_agrees levels c us)
     (λ o d. sign_then levels symbols.End (λ y. give (trees.If place all o)) (λ y rest. Took (trees.If place all o) rest) (λ y us. refl) d) b) a)
-    ∙ sym (bind_again (arm_at levels c ts) (λ x a. more_arms_at levels c (More Nothing x) a) (λ all b. otherwise_at levels c b >>= λ o d. sign_at symbols.End d >>= λ y rest. Took (trees.If place all o) rest))
+    ∙ sym (bind_again (arm_at levels (block_codes.Lua c) ts) (λ x a. more_arms_at levels (block_codes.Lua c) (More Nothing x) a) (λ all b. otherwise_at levels (block_codes.Lua c) b >>= λ o d. sign_at symbols.End d >>= λ y rest. Took (trees.If place all o) rest))
 
 for_behind : (levels : ℕ) (c : Context) (t : Token) (ts : List Token) →
     reading levels (bind name λ n. when (is symbols.Equal) (lua.numeric_for c t n) (lua.generic_for c t n)) ts
@@ -470,9 +473,9 @@ statement_by levels c symbols.Do text place offset first ts h =
     (bind_same (part_at (levels - 1) (Statements c) ts) (λ x rest. reading levels (bind (sign symbols.End) λ y. give (trees.Do place x)) rest) (λ x b. sign_at symbols.End b >>= λ y rest. Took (trees.Do place x) rest) (λ x b. sign_then levels symbols.End (λ y. give (trees.Do place x)) (λ y rest. Took (trees.Do place x) rest) (λ y us. refl) b))
 statement_by levels c symbols.While text place offset first ts h =
     let t : Token = token_with symbols.While text place offset first in
-    use_same (barred false levels Plain t) t ts (λ u mid. behind levels c t mid) (λ t a. part_at levels (Expression c.mode) a >>= λ e b. loop_at levels c b >>= λ x rest. Took (trees.While t.place e x) rest)
-    (then levels (expressions.expression c.mode) (λ e. bind (lua.loop c) λ x. give (trees.While place e x)) (λ us. part_at levels (Expression c.mode) us) (λ e b. loop_at levels c b >>= λ x rest. Took (trees.While place e x) rest) (λ us. expression_agrees levels c.mode us)
-    (λ e b. then levels (lua.loop c) (λ x. give (trees.While place e x)) (λ us. loop_at levels c us) (λ x rest. Took (trees.While place e x) rest) (λ us. loop_agrees levels c us) (λ x us. refl) b) ts)
+    use_same (barred false levels Plain t) t ts (λ u mid. behind levels c t mid) (λ t a. part_at levels (Expression c.mode) a >>= λ e b. loop_at levels (block_codes.Lua c) b >>= λ x rest. Took (trees.While t.place e x) rest)
+    (then levels (expressions.expression c.mode) (λ e. bind (lua.loop c) λ x. give (trees.While place e x)) (λ us. part_at levels (Expression c.mode) us) (λ e b. loop_at levels (block_codes.Lua c) b >>= λ x rest. Took (trees.While place e x) rest) (λ us. expression_agrees levels c.mode us)
+    (λ e b. then levels (lua.loop c) (λ x. give (trees.While place e x)) (λ us. loop_at levels (block_codes.Lua c) us) (λ x rest. Took (trees.While place e x) rest) (λ us. loop_agrees levels c us) (λ x us. refl) b) ts)
 statement_by levels c symbols.Repeat text place offset first ts h =
     let t : Token = token_with symbols.Repeat text place offset first in
     use_same (barred true levels Plain t) t ts (λ u mid. behind levels c t mid) (λ t a. part_at (levels - 1) (Statements (looped c)) a >>= λ x b. sign_at symbols.Until b >>= λ y d. part_at levels (Expression c.mode) d >>= λ e rest. Took (trees.Repeat t.place x e) rest)
@@ -481,7 +484,7 @@ statement_by levels c symbols.Repeat text place offset first ts h =
     (λ y d. then levels (expressions.expression c.mode) (λ e. give (trees.Repeat place x e)) (λ us. part_at levels (Expression c.mode) us) (λ e rest. Took (trees.Repeat place x e) rest) (λ us. expression_agrees levels c.mode us) (λ e us. refl) d) b))
 statement_by levels c symbols.If text place offset first ts h =
     let t : Token = token_with symbols.If text place offset first in
-    use_same (barred false levels Plain t) t ts (λ u mid. behind levels c t mid) (λ t a. arms_at levels c a >>= λ all b. otherwise_at levels c b >>= λ o d. sign_at symbols.End d >>= λ y rest. Took (trees.If t.place all o) rest) (if_behind levels c place ts)
+    use_same (barred false levels Plain t) t ts (λ u mid. behind levels c t mid) (λ t a. arms_at levels (block_codes.Lua c) a >>= λ all b. otherwise_at levels (block_codes.Lua c) b >>= λ o d. sign_at symbols.End d >>= λ y rest. Took (trees.If t.place all o) rest) (if_behind levels c place ts)
 statement_by levels c symbols.For text place offset first ts h =
     let t : Token = token_with symbols.For text place offset first in
     use_same (barred false levels Plain t) t ts (λ u mid. behind levels c t mid)
@@ -497,8 +500,8 @@ statement_by levels c symbols.Local text place offset first ts h =
     use_same (barred false levels Plain t) t ts (λ u mid. behind levels c t mid) (λ t a. cond (begins (is symbols.Function) a) (local_function_at levels t.place a) (cond (begins (among definition_symbols) a) (local_terra_at levels c.mode t.place a) (local_names_at levels c.mode t.place a))) (local_behind levels c t ts)
 statement_by levels c symbols.Return text place offset first ts h =
     let t : Token = token_with symbols.Return text place offset first in
-    use_same (barred false levels Plain t) t ts (λ u mid. behind levels c t mid) (λ t a. returned_values_at levels c.mode a >>= λ es rest. Took (trees.Return t.place es) rest)
-    (then levels (lua.returned_values c.mode) (λ es. give (trees.Return place es)) (λ us. returned_values_at levels c.mode us) (λ es rest. Took (trees.Return place es) rest) (λ us. returned_values_agree levels c.mode us) (λ es us. refl) ts)
+    use_same (barred false levels Plain t) t ts (λ u mid. behind levels c t mid) (λ t a. returned_values_at levels (codes.Lua c.mode) a >>= λ es rest. Took (trees.Return t.place es) rest)
+    (then levels (lua.returned_values c.mode) (λ es. give (trees.Return place es)) (λ us. returned_values_at levels (codes.Lua c.mode) us) (λ es rest. Took (trees.Return place es) rest) (λ us. returned_values_agree levels c.mode us) (λ es us. refl) ts)
 statement_by levels c symbols.Break text place offset first ts h =
     let t : Token = token_with symbols.Break text place offset first in
     use_same (barred false levels Plain t) t ts (λ u mid. behind levels c t mid) (λ t rest. Took (trees.Break t.place) rest) refl

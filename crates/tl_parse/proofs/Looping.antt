@@ -24,6 +24,7 @@ use Rattle.tl_parse.specs.declared.error.SyntaxError.{SyntaxError}
 use Rattle.tl_parse.specs.declared.parser.Parser.{Parser}
 use Rattle.tl_parse.proofs.Failing.{fails_bind, fails_from}
 use Rattle.tl_parse.proofs.StatementTurns.{targets_go, names_go, body_part}
+use Rattle.tl_parse.specs.declared.parser.Code.TheVariants as codes
 
 pub listing_first : (start now : Parser) (o : Outcome Tree) (more : Tree → List Token → Outcome Tree) (e : Tree) (n : NodeId) (numbers : List NodeId) → o ≡ more (More Nothing e) (tokens_left now) → end_of now ≡ end_of start → items_of now ≡ (laid e (items_of start)).items → n ≡ last_of (items_of now) → numbers ≡ n ∷ [] → Listing start now o more numbers
 listing_first start now o more e n numbers goes finish items is_last list =
@@ -68,18 +69,18 @@ numbers_next start now new tree e n numbers longer before list items is_last one
 -- ---- targets
 
 pub targets_begin : (levels : ℕ) (m : Mode) (ts us : List Token) (tree : Tree) (left : ℕ) (shape : Shape) → applied_at levels m true ts ≡ Took (chained tree left shape) us → is_call shape ≡ false →
-    call_or_assignment_at levels m ts ≡ (more_targets_at levels m (More Nothing tree) us >>= λ targets c. values_at levels m c >>= λ es rest. Took (Assign (first_place ts) targets es) rest)
+    call_or_assignment_at levels m ts ≡ (more_targets_at levels m (More Nothing tree) us >>= λ targets c. values_at levels (codes.Lua m) c >>= λ es rest. Took (Assign (first_place ts) targets es) rest)
 unfolding call_or_assignment_at
 targets_begin levels m ts us tree left shape took isnt =
     ap (λ (o : Outcome Chained). o >>= λ a b. chosen a.tree (is_call a.shape) b) took ∙ ap (λ (b : Bool). chosen tree b us) isnt
   where
     chosen : Tree → Bool → List Token → Outcome Tree
-    chosen e b us = cond b (Took (Perform (first_place ts) e) us) (more_targets_at levels m (More Nothing e) us >>= λ targets c. values_at levels m c >>= λ es rest. Took (Assign (first_place ts) targets es) rest)
+    chosen e b us = cond b (Took (Perform (first_place ts) e) us) (more_targets_at levels m (More Nothing e) us >>= λ targets c. values_at levels (codes.Lua m) c >>= λ es rest. Took (Assign (first_place ts) targets es) rest)
 
 pub targets_next : (levels : ℕ) (m : Mode) (place : Place) (before e : Tree) (ts us : List Token) → begins (is symbols.Comma) ts ≡ true → next_target_at levels m ts ≡ Took e us →
-    (more_targets_at levels m before ts >>= λ targets c. values_at levels m c >>= λ es rest. Took (Assign place targets es) rest) ≡ (more_targets_at levels m (More before e) us >>= λ targets c. values_at levels m c >>= λ es rest. Took (Assign place targets es) rest)
+    (more_targets_at levels m before ts >>= λ targets c. values_at levels (codes.Lua m) c >>= λ es rest. Took (Assign place targets es) rest) ≡ (more_targets_at levels m (More before e) us >>= λ targets c. values_at levels (codes.Lua m) c >>= λ es rest. Took (Assign place targets es) rest)
 targets_next levels m place before e ts us h took =
-    ap (λ (o : Outcome Tree). o >>= λ targets c. values_at levels m c >>= λ es rest. Took (Assign place targets es) rest)
+    ap (λ (o : Outcome Tree). o >>= λ targets c. values_at levels (codes.Lua m) c >>= λ es rest. Took (Assign place targets es) rest)
     (targets_go levels m before ts h ∙ ap (λ (o : Outcome Tree). o >>= λ e rest. more_targets_at levels m (More before e) rest) took)
 
 -- ---- names of a `for`

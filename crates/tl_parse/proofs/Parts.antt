@@ -3,13 +3,17 @@ use Rattle.std.proofs.Common.{◌≡◌, ℕ, cond, List, refl, ap, arith}
 use Rattle.tl_tree.specs.declared.mode.Mode.{Mode}
 use Rattle.tl_tree.specs.declared.symbol.Symbol.TheVariants as symbols
 use Rattle.tl_tree.specs.Tokens.{Token, is}
-use Rattle.tl_tree.specs.Tree.{Tree, Nothing, More, Expression, Operand, Concatenation, Arguments, Fields}
+use Rattle.tl_tree.specs.Tree.{Tree, Nothing, More, Expression, Operand, Concatenation, Fields}
 use Rattle.tl_tree.specs.Grammar.{Outcome, Took, ◌>>=◌, begins}
 use Rattle.tl_tree.specs.Forms.{Chained, chain}
 use Rattle.tl_parse.specs.Using.{part_at}
 use Rattle.tl_parse.specs.Expressions.{arguments_at, expressions_at, more_expressions_at, unary_at, chained_at, binary_at, more_fields_at, fields_at}
+use Rattle.tl_parse.specs.Codes.{arguments_in}
+use Rattle.tl_parse.specs.declared.parser.Code.{Code}
+use Rattle.tl_parse.specs.declared.parser.Code.TheVariants as codes
 use Rattle.tl_parse.proofs.Agreeing.{unary_agrees, binary_agrees, chained_agrees, field_agrees}
 use Rattle.tl_parse.proofs.Failing.{fails_after, fails_bind, fails_same}
+use Rattle.tl_parse.specs.declared.parser.Code.TheVariants as codes
 
 pub expression_part : (levels : ℕ) (m : Mode) (ts : List Token) → part_at levels (Expression m) ts ≡ (chained_at levels m ts >>= λ a rest. Took a.tree rest)
 unfolding part_at
@@ -23,9 +27,10 @@ pub concatenation_part : (levels : ℕ) (m : Mode) (ts : List Token) → part_at
 unfolding part_at
 concatenation_part levels m ts = ap (λ (o : Outcome Chained). o >>= λ a rest. Took a.tree rest) (binary_agrees 3 levels m chain ts (omega arith))
 
-pub arguments_part : (levels : ℕ) (m : Mode) (ts : List Token) → part_at levels (Arguments m) ts ≡ arguments_at levels m ts
+pub arguments_part : (levels : ℕ) (code : Code) (ts : List Token) → part_at levels (arguments_in code) ts ≡ arguments_at levels code ts
 unfolding part_at arguments_at expressions_at more_expressions_at
-arguments_part levels m ts = refl
+arguments_part levels (codes.Lua m) ts = refl
+arguments_part levels codes.Terra ts = refl
 
 pub fields_part : (levels : ℕ) (m : Mode) (ts : List Token) → part_at levels (Fields m) ts ≡ fields_at levels m ts
 unfolding part_at fields_at more_fields_at

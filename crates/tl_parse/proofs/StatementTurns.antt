@@ -20,14 +20,14 @@ use Rattle.tl_tree.specs.LuaStatements.{Sequence, sequence, parameters_of}
 use Rattle.tl_parse.specs.Parsing.{tokens_left, token_of, with_token_by, HasNext}
 use Rattle.tl_parse.specs.Using.{reading, part_at, sign_at}
 use Rattle.tl_parse.specs.Expressions.{name_at, attached, shape_of, suffix_at}
-use Rattle.tl_parse.specs.Statements.{first_place, plain_statements, is_unsettled, settling, settle_at, variable_at, more_targets_at, next_target_at, arm_at, more_arms_at, next_arm_at, goes_on, block_at, more_statements_at, next_statement_at, more_parameters_at, parameter_at, next_parameter_at, with_parameter, body_at}
+use Rattle.tl_parse.specs.Statements.{first_place, plain_statements, is_unsettled, settling, settle_at, variable_at, more_targets_at, next_target_at, goes_on, block_at, more_statements_at, next_statement_at, more_parameters_at, parameter_at, next_parameter_at, with_parameter, body_at}
 use Rattle.tl_parse.specs.Paths.{more_names_at, next_name_at, behind_sign_at, path_names_at}
 use Rattle.tl_parse.specs.declared.parser.Parser.{Parser}
 use Rattle.tl_parse.proofs.Uses.{bind_same, repeats, ends, shorter_turn}
 use Rattle.tl_parse.proofs.Agreeing.{name_agrees}
 use Rattle.tl_parse.proofs.Turns.{list_goes, list_ends, list_shorter}
 use Rattle.tl_parse.proofs.Paths.{path_turn}
-use Rattle.tl_parse.proofs.AgreeingStatements.{token_with, arm_turn, settle_goes, settle_ends, settle_refuses, variable_agrees, block_turn}
+use Rattle.tl_parse.proofs.AgreeingStatements.{token_with, settle_goes, settle_ends, settle_refuses, variable_agrees, block_turn}
 use Rattle.tl_parse.proofs.AgreeingStatements.{parameter_turn, body_agrees}
 use Rattle.tl_parse.proofs.Failing.{fails_after, fails_bind, fails_from, fails_same, fails_unexpected}
 use Rattle.tl_parse.proofs.Taking.{next_of}
@@ -140,22 +140,6 @@ pub target_shorter : (levels : ℕ) (m : Mode) (x : Tree) (ts rest : List Token)
 unfolding next_target_at
 target_shorter levels m x ts rest e = list_shorter levels (lua.variable m) x ts rest (bind_same (sign_at symbols.Comma ts) (λ y rest. reading levels (lua.variable m) rest) (λ y rest. variable_at levels m rest) (λ y rest. variable_agrees levels m rest) ∙ e)
 
--- ---- arms
-
-pub arms_go : (levels : ℕ) (c : Context) (before : Tree) (ts : List Token) → begins (is symbols.Elseif) ts ≡ true → more_arms_at levels c before ts ≡ (next_arm_at levels c ts >>= λ e rest. more_arms_at levels c (More before e) rest)
-unfolding more_arms_at next_arm_at
-arms_go levels c before ts h =
-    repeats levels (λ b t. is symbols.Elseif t) (λ b t. Plain) (λ b t. None) (λ t x b. lua.arm c b) (sample symbols.Elseif) before (sign_at symbols.Elseif ts >>= λ y a. arm_at levels c a) (λ e. More before e) ts h (arm_turn levels c before ts)
-
-pub arms_end : (levels : ℕ) (c : Context) (before : Tree) (ts : List Token) → begins (is symbols.Elseif) ts ≡ false → more_arms_at levels c before ts ≡ Took before ts
-unfolding more_arms_at
-arms_end levels c before ts h = ends levels (λ b t. is symbols.Elseif t) (λ b t. Plain) (λ b t. None) (λ t x b. lua.arm c b) before ts h
-
-pub arm_shorter : (levels : ℕ) (c : Context) (x : Tree) (ts rest : List Token) → next_arm_at levels c ts ≡ Took x rest → length rest < length ts
-unfolding next_arm_at
-arm_shorter levels c x ts rest e =
-    shorter_turn levels (λ t. is symbols.Elseif t) (λ t. Plain) (λ t. None) (sample symbols.Elseif) (λ x. lua.arm c Nothing) (sign_at symbols.Elseif ts >>= λ y a. arm_at levels c a) (λ e. More Nothing e) x ts rest (arm_turn levels c Nothing ts) e
-
 -- ---- blocks
 
 pub block_part : (levels : ℕ) (c : Context) (ts : List Token) → part_at levels (Statements c) ts ≡ block_at levels c ts
@@ -229,8 +213,6 @@ pub ruleset paths = (fails_bind, fails_after, fails_from, path_goes, path_ends, 
 pub ruleset variables = (fails_bind, fails_after, fails_from, fails_unexpected, settles_on, settles, unsettled)
 
 pub ruleset targets = (fails_bind, fails_after, fails_from, targets_go, targets_end, target_shorter)
-
-pub ruleset arms = (fails_bind, fails_after, fails_from, arms_go, arms_end, arm_shorter)
 
 pub ruleset blocks = (fails_bind, fails_after, next_of, block_part, block_goes, block_ends, statement_shorter, fails_same, fails_from)
 

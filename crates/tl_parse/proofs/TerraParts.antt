@@ -2,12 +2,12 @@
 use Rattle.std.proofs.Common.{◌≡◌, ℕ, List, refl, ap}
 use Rattle.tl_tree.specs.declared.mode.Mode.{Mode}
 use Rattle.tl_tree.specs.Tokens.{Token}
-use Rattle.tl_tree.specs.Tree.{Nothing, TerraExpression, TerraOperand, TerraArguments, Initialisers, Entries}
+use Rattle.tl_tree.specs.Tree.{Nothing, TerraExpression, TerraOperand, Initialisers, Entries}
 use Rattle.tl_tree.specs.Grammar.{Outcome, Took, ◌>>=◌}
 use Rattle.tl_tree.specs.Forms.{Chained, chain}
 use Rattle.tl_parse.specs.Using.{part_at}
 use Rattle.tl_parse.specs.TerraExpressions.{terra_exponent_at, terra_unary_at, terra_inner_at, terra_first_at, terra_binary_at}
-use Rattle.tl_parse.specs.TerraExpressions.{more_terra_expressions_at, terra_expressions_at, terra_arguments_at, initialisers_at}
+use Rattle.tl_parse.specs.TerraExpressions.{initialisers_at}
 use Rattle.tl_parse.specs.Entries.{more_entries_at}
 use Rattle.tl_parse.specs.declared.terra_expressions.TerraPrecedence.{TerraPrecedence}
 use Rattle.tl_parse.specs.declared.terra_expressions.TerraPrecedence.TheVariants as precedences
@@ -23,10 +23,6 @@ terra_expression_part levels ts = ap (λ (o : Outcome Chained). o >>= λ a rest.
 pub terra_operand_part : (levels : ℕ) (ts : List Token) → part_at levels TerraOperand ts ≡ (terra_unary_at levels chain ts >>= λ a rest. Took a.tree rest)
 unfolding part_at
 terra_operand_part levels ts = ap (λ (o : Outcome Chained). o >>= λ a rest. Took a.tree rest) (terra_unary_agrees levels chain ts)
-
-pub terra_arguments_part : (levels : ℕ) (ts : List Token) → part_at levels TerraArguments ts ≡ terra_arguments_at levels ts
-unfolding part_at terra_arguments_at terra_expressions_at more_terra_expressions_at
-terra_arguments_part levels ts = refl
 
 pub initialisers_part : (levels : ℕ) (ts : List Token) → part_at levels Initialisers ts ≡ initialisers_at levels ts
 unfolding part_at
@@ -72,5 +68,3 @@ first_others _ levels left ts h = refl
 pub ruleset inner = (fails_bind, fails_after, inner_power, inner_product, inner_sum, inner_shift, inner_comparison, inner_conjunction, inner_disjunction, fails_same)
 
 pub ruleset first = (fails_bind, fails_after, fails_same, first_others)
-
-pub ruleset arguments = (fails_bind, fails_after, fails_same, terra_arguments_part)

@@ -26,11 +26,10 @@ use Rattle.tl_parse.specs.Using.{reading, part_at, used, barred, sign_at, open_a
 use Rattle.tl_parse.specs.Expressions.{name_at}
 use Rattle.tl_parse.specs.Statements.{last_symbols}
 use Rattle.tl_parse.specs.TerraExpressions.{escape_at, terra_name_at, terra_paren_at, terra_base_at, terra_suffixes_at, terra_applied_at}
-use Rattle.tl_parse.specs.TerraExpressions.{terra_prefixed_at, terra_unary_at, terra_binary_at, more_terra_expressions_at}
-use Rattle.tl_parse.specs.TerraExpressions.{terra_expressions_at}
-use Rattle.tl_parse.specs.TerraStatements.{written_type_at, terra_loop_at, terra_arm_at, more_terra_arms_at, terra_arms_at}
-use Rattle.tl_parse.specs.TerraStatements.{terra_otherwise_at, terra_step_at, terra_variable_at, spliced_variable_at, named_variable_at, more_terra_variables_at}
-use Rattle.tl_parse.specs.TerraStatements.{terra_variables_at, terra_initial_values_at, terra_returned_values_at, terra_target_at}
+use Rattle.tl_parse.specs.TerraExpressions.{terra_prefixed_at, terra_unary_at, terra_binary_at}
+use Rattle.tl_parse.specs.TerraStatements.{written_type_at}
+use Rattle.tl_parse.specs.TerraStatements.{terra_variable_at, spliced_variable_at, named_variable_at, more_terra_variables_at}
+use Rattle.tl_parse.specs.TerraStatements.{terra_variables_at, terra_target_at}
 use Rattle.tl_parse.specs.TerraStatements.{terra_assignment_at, assignment_symbols, terra_statement_behind_at, terra_simple_statement_at}
 use Rattle.tl_parse.specs.TerraStatements.{terra_do_at, terra_while_at, terra_repeat_at, terra_if_at, terra_for_at, terra_var_at}
 use Rattle.tl_parse.specs.TerraStatements.{escape_block_at, terra_return_at, terra_break_at, terra_statement_at, terra_parameter_at, spliced_parameter_at, named_parameter_at}
@@ -40,6 +39,10 @@ use Rattle.tl_parse.proofs.Uses.{never, bind_same, opens_any, opened_at}
 use Rattle.tl_parse.proofs.Following.{sign_then, open_then, then, either_is}
 use Rattle.tl_parse.proofs.Turns.{used_here, used_use}
 use Rattle.tl_parse.proofs.TerraAgreeing.{terra_name_agrees, terra_unary_agrees, terra_expression_agrees}
+use Rattle.tl_parse.specs.Expressions.{expressions_at, more_expressions_at}
+use Rattle.tl_parse.specs.Statements.{arm_at, arms_at, initial_values_at, loop_at, more_arms_at, otherwise_at, returned_values_at, step_at, values_at}
+use Rattle.tl_parse.specs.declared.parser.Code.TheVariants as codes
+use Rattle.tl_parse.specs.declared.parser.BlockCode.TheVariants as block_codes
 
 -- ---- one form after the other
 
@@ -71,13 +74,13 @@ pub written_type_agrees : (levels : ℕ) (ts : List Token) → reading levels te
 unfolding written_type_at
 written_type_agrees levels ts = optional levels symbols.Colon terra.terra_type (λ us. part_at levels (Expression modes.Types) us) (λ us. type_agrees levels us) ts
 
-pub terra_loop_agrees : (levels : ℕ) (ts : List Token) → reading levels terra.terra_loop ts ≡ terra_loop_at levels ts
-unfolding terra_loop_at
+pub terra_loop_agrees : (levels : ℕ) (ts : List Token) → reading levels terra.terra_loop ts ≡ loop_at levels block_codes.Terra ts
+unfolding loop_at
 terra_loop_agrees levels ts =
     open_then levels symbols.Do TerraStatements (λ x. bind (sign symbols.End) λ y. give x.1) (λ t x us. sign_at symbols.End us >>= λ y rest. Took x rest) (λ t x us. sign_give levels symbols.End x us) ts
 
-pub terra_arm_agrees : (levels : ℕ) (a : Tree) (ts : List Token) → reading levels (terra.terra_arm a) ts ≡ (terra_arm_at levels ts >>= λ e rest. Took (More a e) rest)
-unfolding terra_arm_at
+pub terra_arm_agrees : (levels : ℕ) (a : Tree) (ts : List Token) → reading levels (terra.terra_arm a) ts ≡ (arm_at levels block_codes.Terra ts >>= λ e rest. Took (More a e) rest)
+unfolding arm_at
 terra_arm_agrees levels a ts =
     then levels expressions.terra_expression (λ e. bind (opening symbols.Then TerraStatements) λ x. give (More a (Arm e x.1))) (λ us. part_at levels TerraExpression us)
     (λ e us. open_at symbols.Then levels us >>= λ t b. part_at (levels - 1) TerraStatements b >>= λ x rest. Took (More a (Arm e x)) rest) (λ us. terra_expression_agrees levels us)
@@ -87,14 +90,14 @@ terra_arm_agrees levels a ts =
     (λ e us. after (open_at symbols.Then levels us) (λ t b. part_at (levels - 1) TerraStatements b >>= λ x rest. Took (Arm e x) rest) (λ e rest. Took (More a e) rest) (λ t b. part_at (levels - 1) TerraStatements b >>= λ x rest. Took (More a (Arm e x)) rest)
     (λ t vs. bind_again (part_at (levels - 1) TerraStatements vs) (λ x rest. Took (Arm e x) rest) (λ e rest. Took (More a e) rest))))
 
-pub terra_otherwise_agrees : (levels : ℕ) (ts : List Token) → reading levels terra.terra_otherwise ts ≡ terra_otherwise_at levels ts
-unfolding terra_otherwise_at
+pub terra_otherwise_agrees : (levels : ℕ) (ts : List Token) → reading levels terra.terra_otherwise ts ≡ otherwise_at levels block_codes.Terra ts
+unfolding otherwise_at
 terra_otherwise_agrees levels ts =
     either_is (begins (is symbols.Else) ts) (reading levels (bind (opening symbols.Else TerraStatements) λ x. give (Just x.1)) ts) (Took Nothing ts) (open_at symbols.Else levels ts >>= λ t a. part_at (levels - 1) TerraStatements a >>= λ x rest. Took (Just x) rest) (Took Nothing ts)
     (open_then levels symbols.Else TerraStatements (λ x. give (Just x.1)) (λ t x rest. Took (Just x) rest) (λ t x us. refl) ts) refl
 
-pub terra_step_agrees : (levels : ℕ) (ts : List Token) → reading levels terra.terra_step ts ≡ terra_step_at levels ts
-unfolding terra_step_at
+pub terra_step_agrees : (levels : ℕ) (ts : List Token) → reading levels terra.terra_step ts ≡ step_at levels codes.Terra ts
+unfolding step_at
 terra_step_agrees levels ts = optional levels symbols.Comma expressions.terra_expression (λ us. part_at levels TerraExpression us) (λ us. terra_expression_agrees levels us) ts
 
 variable_behind_agrees : (levels : ℕ) (place : Place) (n : Tree) (ts : List Token) → reading levels (terra.variable_behind place n) ts ≡ (written_type_at levels ts >>= λ e rest. Took (Variable place n e) rest)
@@ -116,21 +119,21 @@ unfolding terra_variables_at more_terra_variables_at
 terra_variables_agree levels ts =
     then levels terra.terra_variable (λ e. listed_behind terra.terra_variable (More Nothing e)) (λ us. terra_variable_at levels us) (λ e us. more_terra_variables_at levels (More Nothing e) us) (λ us. terra_variable_agrees levels us) (λ e us. refl) ts
 
-pub terra_expressions_agree : (levels : ℕ) (ts : List Token) → reading levels expressions.terra_expressions ts ≡ terra_expressions_at levels ts
-unfolding terra_expressions_at more_terra_expressions_at
+pub terra_expressions_agree : (levels : ℕ) (ts : List Token) → reading levels expressions.terra_expressions ts ≡ expressions_at levels codes.Terra ts
+unfolding expressions_at more_expressions_at
 terra_expressions_agree levels ts =
-    then levels expressions.terra_expression (λ e. listed_behind expressions.terra_expression (More Nothing e)) (λ us. part_at levels TerraExpression us) (λ e us. more_terra_expressions_at levels (More Nothing e) us) (λ us. terra_expression_agrees levels us) (λ e us. refl) ts
+    then levels expressions.terra_expression (λ e. listed_behind expressions.terra_expression (More Nothing e)) (λ us. part_at levels TerraExpression us) (λ e us. more_expressions_at levels codes.Terra (More Nothing e) us) (λ us. terra_expression_agrees levels us) (λ e us. refl) ts
 
-pub terra_initial_values_agree : (levels : ℕ) (ts : List Token) → reading levels terra.terra_initial_values ts ≡ terra_initial_values_at levels ts
-unfolding terra_initial_values_at
+pub terra_initial_values_agree : (levels : ℕ) (ts : List Token) → reading levels terra.terra_initial_values ts ≡ initial_values_at levels codes.Terra ts
+unfolding initial_values_at values_at
 terra_initial_values_agree levels ts =
-    either_is (begins (is symbols.Equal) ts) (reading levels (bind (sign symbols.Equal) λ y. expressions.terra_expressions) ts) (Took Nothing ts) (sign_at symbols.Equal ts >>= λ y a. terra_expressions_at levels a) (Took Nothing ts)
-    (sign_then levels symbols.Equal (λ y. expressions.terra_expressions) (λ y a. terra_expressions_at levels a) (λ y us. terra_expressions_agree levels us) ts) refl
+    either_is (begins (is symbols.Equal) ts) (reading levels (bind (sign symbols.Equal) λ y. expressions.terra_expressions) ts) (Took Nothing ts) (sign_at symbols.Equal ts >>= λ y a. expressions_at levels codes.Terra a) (Took Nothing ts)
+    (sign_then levels symbols.Equal (λ y. expressions.terra_expressions) (λ y a. expressions_at levels codes.Terra a) (λ y us. terra_expressions_agree levels us) ts) refl
 
-pub terra_returned_values_agree : (levels : ℕ) (ts : List Token) → reading levels terra.terra_returned_values ts ≡ terra_returned_values_at levels ts
-unfolding terra_returned_values_at
+pub terra_returned_values_agree : (levels : ℕ) (ts : List Token) → reading levels terra.terra_returned_values ts ≡ returned_values_at levels codes.Terra ts
+unfolding returned_values_at
 terra_returned_values_agree levels ts =
-    either_is (begins (among terra.terra_expression_symbols) ts) (reading levels expressions.terra_expressions ts) (Took Nothing ts) (terra_expressions_at levels ts) (Took Nothing ts) (terra_expressions_agree levels ts) refl
+    either_is (begins (among terra.terra_expression_symbols) ts) (reading levels expressions.terra_expressions ts) (Took Nothing ts) (expressions_at levels codes.Terra ts) (Took Nothing ts) (terra_expressions_agree levels ts) refl
 
 -- ---- functions and quotes
 
@@ -155,12 +158,12 @@ terra_parameters_agree levels ts =
 -- ---- assignments, calls and splices
 
 pub terra_assignment_agrees : (levels : ℕ) (t : Token) (e : Tree) (ts : List Token) → reading levels (terra.terra_assignment t e) ts ≡ terra_assignment_at levels t.place (More Nothing e) ts
-unfolding terra_assignment_at more_terra_expressions_at
+unfolding terra_assignment_at more_expressions_at
 terra_assignment_agrees levels t e ts =
-    then levels (listed_behind expressions.terra_expression (More Nothing e)) (λ targets. bind (sign symbols.Equal) λ y. bind expressions.terra_expressions λ es. give (TerraAssign t.place targets es)) (λ us. more_terra_expressions_at levels (More Nothing e) us)
-    (λ targets a. sign_at symbols.Equal a >>= λ y b. terra_expressions_at levels b >>= λ es rest. Took (TerraAssign t.place targets es) rest) (λ us. refl)
-    (λ targets us. sign_then levels symbols.Equal (λ y. bind expressions.terra_expressions λ es. give (TerraAssign t.place targets es)) (λ y b. terra_expressions_at levels b >>= λ es rest. Took (TerraAssign t.place targets es) rest)
-    (λ y vs. then_give levels expressions.terra_expressions (λ es. TerraAssign t.place targets es) (λ ws. terra_expressions_at levels ws) (λ ws. terra_expressions_agree levels ws) vs) us) ts
+    then levels (listed_behind expressions.terra_expression (More Nothing e)) (λ targets. bind (sign symbols.Equal) λ y. bind expressions.terra_expressions λ es. give (TerraAssign t.place targets es)) (λ us. more_expressions_at levels codes.Terra (More Nothing e) us)
+    (λ targets a. sign_at symbols.Equal a >>= λ y b. expressions_at levels codes.Terra b >>= λ es rest. Took (TerraAssign t.place targets es) rest) (λ us. refl)
+    (λ targets us. sign_then levels symbols.Equal (λ y. bind expressions.terra_expressions λ es. give (TerraAssign t.place targets es)) (λ y b. expressions_at levels codes.Terra b >>= λ es rest. Took (TerraAssign t.place targets es) rest)
+    (λ y vs. then_give levels expressions.terra_expressions (λ es. TerraAssign t.place targets es) (λ ws. expressions_at levels codes.Terra ws) (λ ws. terra_expressions_agree levels ws) vs) us) ts
 
 splice_or : (b : Bool) (x y z : Outcome Tree) → x ≡ y → cond b x z ≡ cond (true && not b) z y
 splice_or true x y z e = e
@@ -227,59 +230,59 @@ escape_is levels t ts h =
 while_is : (levels : ℕ) (t : Token) (ts : List Token) → is_of (is symbols.While) t ≡ true → reading levels (terra.terra_statement terra.FromWhile t Nothing) ts ≡ terra_while_at levels (t ∷ ts)
 unfolding terra_while_at
 while_is levels t ts h =
-    signed_form levels symbols.While t ts (terra.terra_statement terra.FromWhile t Nothing) (λ u a. part_at levels TerraExpression a >>= λ e b. terra_loop_at levels b >>= λ x rest. Took (TerraWhile u.place e x) rest) h
-    (then levels expressions.terra_expression (λ e. bind terra.terra_loop λ b. give (TerraWhile t.place e b)) (λ us. part_at levels TerraExpression us) (λ e b. terra_loop_at levels b >>= λ x rest. Took (TerraWhile t.place e x) rest) (λ us. terra_expression_agrees levels us)
-    (λ e us. then_give levels terra.terra_loop (λ b. TerraWhile t.place e b) (λ vs. terra_loop_at levels vs) (λ vs. terra_loop_agrees levels vs) us) ts)
+    signed_form levels symbols.While t ts (terra.terra_statement terra.FromWhile t Nothing) (λ u a. part_at levels TerraExpression a >>= λ e b. loop_at levels block_codes.Terra b >>= λ x rest. Took (TerraWhile u.place e x) rest) h
+    (then levels expressions.terra_expression (λ e. bind terra.terra_loop λ b. give (TerraWhile t.place e b)) (λ us. part_at levels TerraExpression us) (λ e b. loop_at levels block_codes.Terra b >>= λ x rest. Took (TerraWhile t.place e x) rest) (λ us. terra_expression_agrees levels us)
+    (λ e us. then_give levels terra.terra_loop (λ b. TerraWhile t.place e b) (λ vs. loop_at levels block_codes.Terra vs) (λ vs. terra_loop_agrees levels vs) us) ts)
 
 -- arms, and what is behind them
 arms_then : (levels : ℕ) (h : Tree → Grammar Tree) (k : Tree → List Token → Outcome Tree) → ((all : Tree) (us : List Token) → reading levels (h all) us ≡ k all us) → (ts : List Token) →
-    reading levels (bind (terra.terra_arm Nothing) λ first. bind (terra.terra_arms first) λ all. h all) ts ≡ (terra_arms_at levels ts >>= λ all b. k all b)
-unfolding terra_arms_at more_terra_arms_at
+    reading levels (bind (terra.terra_arm Nothing) λ first. bind (terra.terra_arms first) λ all. h all) ts ≡ (arms_at levels block_codes.Terra ts >>= λ all b. k all b)
+unfolding arms_at more_arms_at
 arms_then levels h k same ts =
     ap (λ (o : Outcome Tree). o >>= λ first mid. reading levels (bind (terra.terra_arms first) λ all. h all) mid) (terra_arm_agrees levels Nothing ts)
-    ∙ bind_again (terra_arm_at levels ts) (λ e rest. Took (More Nothing e) rest) (λ first mid. reading levels (bind (terra.terra_arms first) λ all. h all) mid)
-    ∙ bind_same (terra_arm_at levels ts) (λ e mid. reading levels (bind (terra.terra_arms (More Nothing e)) λ all. h all) mid) (λ e mid. more_terra_arms_at levels (More Nothing e) mid >>= λ all b. k all b)
-    (λ e us. then levels (terra.terra_arms (More Nothing e)) (λ all. h all) (λ vs. more_terra_arms_at levels (More Nothing e) vs) (λ all b. k all b) (λ vs. refl) same us)
-    ∙ sym (bind_again (terra_arm_at levels ts) (λ e rest. more_terra_arms_at levels (More Nothing e) rest) (λ all b. k all b))
+    ∙ bind_again (arm_at levels block_codes.Terra ts) (λ e rest. Took (More Nothing e) rest) (λ first mid. reading levels (bind (terra.terra_arms first) λ all. h all) mid)
+    ∙ bind_same (arm_at levels block_codes.Terra ts) (λ e mid. reading levels (bind (terra.terra_arms (More Nothing e)) λ all. h all) mid) (λ e mid. more_arms_at levels block_codes.Terra (More Nothing e) mid >>= λ all b. k all b)
+    (λ e us. then levels (terra.terra_arms (More Nothing e)) (λ all. h all) (λ vs. more_arms_at levels block_codes.Terra (More Nothing e) vs) (λ all b. k all b) (λ vs. refl) same us)
+    ∙ sym (bind_again (arm_at levels block_codes.Terra ts) (λ e rest. more_arms_at levels block_codes.Terra (More Nothing e) rest) (λ all b. k all b))
 
 if_is : (levels : ℕ) (t : Token) (ts : List Token) → is_of (is symbols.If) t ≡ true → reading levels (terra.terra_statement terra.FromIf t Nothing) ts ≡ terra_if_at levels (t ∷ ts)
 unfolding terra_if_at
 if_is levels t ts h =
-    signed_form levels symbols.If t ts (terra.terra_statement terra.FromIf t Nothing) (λ u a. terra_arms_at levels a >>= λ all b. terra_otherwise_at levels b >>= λ o d. sign_at symbols.End d >>= λ y rest. Took (TerraIf u.place all o) rest) h
-    (arms_then levels (λ all. bind terra.terra_otherwise λ o. bind (sign symbols.End) λ y. give (TerraIf t.place all o)) (λ all b. terra_otherwise_at levels b >>= λ o d. sign_at symbols.End d >>= λ y rest. Took (TerraIf t.place all o) rest)
-    (λ all us. then levels terra.terra_otherwise (λ o. bind (sign symbols.End) λ y. give (TerraIf t.place all o)) (λ vs. terra_otherwise_at levels vs) (λ o d. sign_at symbols.End d >>= λ y rest. Took (TerraIf t.place all o) rest) (λ vs. terra_otherwise_agrees levels vs)
+    signed_form levels symbols.If t ts (terra.terra_statement terra.FromIf t Nothing) (λ u a. arms_at levels block_codes.Terra a >>= λ all b. otherwise_at levels block_codes.Terra b >>= λ o d. sign_at symbols.End d >>= λ y rest. Took (TerraIf u.place all o) rest) h
+    (arms_then levels (λ all. bind terra.terra_otherwise λ o. bind (sign symbols.End) λ y. give (TerraIf t.place all o)) (λ all b. otherwise_at levels block_codes.Terra b >>= λ o d. sign_at symbols.End d >>= λ y rest. Took (TerraIf t.place all o) rest)
+    (λ all us. then levels terra.terra_otherwise (λ o. bind (sign symbols.End) λ y. give (TerraIf t.place all o)) (λ vs. otherwise_at levels block_codes.Terra vs) (λ o d. sign_at symbols.End d >>= λ y rest. Took (TerraIf t.place all o) rest) (λ vs. terra_otherwise_agrees levels vs)
     (λ o vs. sign_give levels symbols.End (TerraIf t.place all o) vs) us) ts)
 
 for_is : (levels : ℕ) (t : Token) (ts : List Token) → is_of (is symbols.For) t ≡ true → reading levels (terra.terra_statement terra.FromFor t Nothing) ts ≡ terra_for_at levels (t ∷ ts)
 unfolding terra_for_at
 for_is levels t ts h =
     signed_form levels symbols.For t ts (terra.terra_statement terra.FromFor t Nothing)
-    (λ u a. terra_name_at levels a >>= λ n b. sign_at symbols.Equal b >>= λ y d. part_at levels TerraExpression d >>= λ from e. sign_at symbols.Comma e >>= λ z f. part_at levels TerraExpression f >>= λ limit g. terra_step_at levels g >>= λ s i. terra_loop_at levels i >>= λ x rest. Took (TerraFor u.place n from limit s x) rest) h
+    (λ u a. terra_name_at levels a >>= λ n b. sign_at symbols.Equal b >>= λ y d. part_at levels TerraExpression d >>= λ from e. sign_at symbols.Comma e >>= λ z f. part_at levels TerraExpression f >>= λ limit g. step_at levels codes.Terra g >>= λ s i. loop_at levels block_codes.Terra i >>= λ x rest. Took (TerraFor u.place n from limit s x) rest) h
     (then levels expressions.terra_name (λ n. bind (sign symbols.Equal) λ y. bind expressions.terra_expression λ a. bind (sign symbols.Comma) λ z. bind expressions.terra_expression λ b. bind terra.terra_step λ s. bind terra.terra_loop λ d. give (TerraFor t.place n a b s d)) (λ us. terra_name_at levels us)
-    (λ n b. sign_at symbols.Equal b >>= λ y d. part_at levels TerraExpression d >>= λ from e. sign_at symbols.Comma e >>= λ z f. part_at levels TerraExpression f >>= λ limit g. terra_step_at levels g >>= λ s i. terra_loop_at levels i >>= λ x rest. Took (TerraFor t.place n from limit s x) rest) (λ us. terra_name_agrees levels us)
+    (λ n b. sign_at symbols.Equal b >>= λ y d. part_at levels TerraExpression d >>= λ from e. sign_at symbols.Comma e >>= λ z f. part_at levels TerraExpression f >>= λ limit g. step_at levels codes.Terra g >>= λ s i. loop_at levels block_codes.Terra i >>= λ x rest. Took (TerraFor t.place n from limit s x) rest) (λ us. terra_name_agrees levels us)
     (λ n us. sign_then levels symbols.Equal (λ y. bind expressions.terra_expression λ a. bind (sign symbols.Comma) λ z. bind expressions.terra_expression λ b. bind terra.terra_step λ s. bind terra.terra_loop λ d. give (TerraFor t.place n a b s d))
-    (λ y d. part_at levels TerraExpression d >>= λ from e. sign_at symbols.Comma e >>= λ z f. part_at levels TerraExpression f >>= λ limit g. terra_step_at levels g >>= λ s i. terra_loop_at levels i >>= λ x rest. Took (TerraFor t.place n from limit s x) rest)
+    (λ y d. part_at levels TerraExpression d >>= λ from e. sign_at symbols.Comma e >>= λ z f. part_at levels TerraExpression f >>= λ limit g. step_at levels codes.Terra g >>= λ s i. loop_at levels block_codes.Terra i >>= λ x rest. Took (TerraFor t.place n from limit s x) rest)
     (λ y us. then levels expressions.terra_expression (λ a. bind (sign symbols.Comma) λ z. bind expressions.terra_expression λ b. bind terra.terra_step λ s. bind terra.terra_loop λ d. give (TerraFor t.place n a b s d)) (λ vs. part_at levels TerraExpression vs)
-    (λ from e. sign_at symbols.Comma e >>= λ z f. part_at levels TerraExpression f >>= λ limit g. terra_step_at levels g >>= λ s i. terra_loop_at levels i >>= λ x rest. Took (TerraFor t.place n from limit s x) rest) (λ vs. terra_expression_agrees levels vs)
+    (λ from e. sign_at symbols.Comma e >>= λ z f. part_at levels TerraExpression f >>= λ limit g. step_at levels codes.Terra g >>= λ s i. loop_at levels block_codes.Terra i >>= λ x rest. Took (TerraFor t.place n from limit s x) rest) (λ vs. terra_expression_agrees levels vs)
     (λ from us. sign_then levels symbols.Comma (λ z. bind expressions.terra_expression λ b. bind terra.terra_step λ s. bind terra.terra_loop λ d. give (TerraFor t.place n from b s d))
-    (λ z f. part_at levels TerraExpression f >>= λ limit g. terra_step_at levels g >>= λ s i. terra_loop_at levels i >>= λ x rest. Took (TerraFor t.place n from limit s x) rest)
+    (λ z f. part_at levels TerraExpression f >>= λ limit g. step_at levels codes.Terra g >>= λ s i. loop_at levels block_codes.Terra i >>= λ x rest. Took (TerraFor t.place n from limit s x) rest)
     (λ z us. then levels expressions.terra_expression (λ b. bind terra.terra_step λ s. bind terra.terra_loop λ d. give (TerraFor t.place n from b s d)) (λ vs. part_at levels TerraExpression vs)
-    (λ limit g. terra_step_at levels g >>= λ s i. terra_loop_at levels i >>= λ x rest. Took (TerraFor t.place n from limit s x) rest) (λ vs. terra_expression_agrees levels vs)
-    (λ limit us. then levels terra.terra_step (λ s. bind terra.terra_loop λ d. give (TerraFor t.place n from limit s d)) (λ vs. terra_step_at levels vs) (λ s i. terra_loop_at levels i >>= λ x rest. Took (TerraFor t.place n from limit s x) rest) (λ vs. terra_step_agrees levels vs)
-    (λ s us. then_give levels terra.terra_loop (λ d. TerraFor t.place n from limit s d) (λ vs. terra_loop_at levels vs) (λ vs. terra_loop_agrees levels vs) us) us) us) us) us) us) ts)
+    (λ limit g. step_at levels codes.Terra g >>= λ s i. loop_at levels block_codes.Terra i >>= λ x rest. Took (TerraFor t.place n from limit s x) rest) (λ vs. terra_expression_agrees levels vs)
+    (λ limit us. then levels terra.terra_step (λ s. bind terra.terra_loop λ d. give (TerraFor t.place n from limit s d)) (λ vs. step_at levels codes.Terra vs) (λ s i. loop_at levels block_codes.Terra i >>= λ x rest. Took (TerraFor t.place n from limit s x) rest) (λ vs. terra_step_agrees levels vs)
+    (λ s us. then_give levels terra.terra_loop (λ d. TerraFor t.place n from limit s d) (λ vs. loop_at levels block_codes.Terra vs) (λ vs. terra_loop_agrees levels vs) us) us) us) us) us) us) ts)
 
 var_is : (levels : ℕ) (t : Token) (ts : List Token) → is_of (is symbols.Var) t ≡ true → reading levels (terra.terra_statement terra.FromVar t Nothing) ts ≡ terra_var_at levels (t ∷ ts)
 unfolding terra_var_at
 var_is levels t ts h =
-    signed_form levels symbols.Var t ts (terra.terra_statement terra.FromVar t Nothing) (λ u a. terra_variables_at levels a >>= λ vs b. terra_initial_values_at levels b >>= λ es rest. Took (Var u.place vs es) rest) h
-    (then levels (listed terra.terra_variable) (λ vs. bind terra.terra_initial_values λ es. give (Var t.place vs es)) (λ us. terra_variables_at levels us) (λ vs b. terra_initial_values_at levels b >>= λ es rest. Took (Var t.place vs es) rest) (λ us. terra_variables_agree levels us)
-    (λ vs us. then_give levels terra.terra_initial_values (λ es. Var t.place vs es) (λ ws. terra_initial_values_at levels ws) (λ ws. terra_initial_values_agree levels ws) us) ts)
+    signed_form levels symbols.Var t ts (terra.terra_statement terra.FromVar t Nothing) (λ u a. terra_variables_at levels a >>= λ vs b. initial_values_at levels codes.Terra b >>= λ es rest. Took (Var u.place vs es) rest) h
+    (then levels (listed terra.terra_variable) (λ vs. bind terra.terra_initial_values λ es. give (Var t.place vs es)) (λ us. terra_variables_at levels us) (λ vs b. initial_values_at levels codes.Terra b >>= λ es rest. Took (Var t.place vs es) rest) (λ us. terra_variables_agree levels us)
+    (λ vs us. then_give levels terra.terra_initial_values (λ es. Var t.place vs es) (λ ws. initial_values_at levels codes.Terra ws) (λ ws. terra_initial_values_agree levels ws) us) ts)
 
 return_is : (levels : ℕ) (t : Token) (ts : List Token) → is_of (is symbols.Return) t ≡ true → reading levels (terra.terra_statement terra.FromReturn t Nothing) ts ≡ terra_return_at levels (t ∷ ts)
 unfolding terra_return_at
 return_is levels t ts h =
-    signed_form levels symbols.Return t ts (terra.terra_statement terra.FromReturn t Nothing) (λ u a. terra_returned_values_at levels a >>= λ es rest. Took (TerraReturn u.place es) rest) h
-    (then_give levels terra.terra_returned_values (λ es. TerraReturn t.place es) (λ us. terra_returned_values_at levels us) (λ us. terra_returned_values_agree levels us) ts)
+    signed_form levels symbols.Return t ts (terra.terra_statement terra.FromReturn t Nothing) (λ u a. returned_values_at levels codes.Terra a >>= λ es rest. Took (TerraReturn u.place es) rest) h
+    (then_give levels terra.terra_returned_values (λ es. TerraReturn t.place es) (λ us. returned_values_at levels codes.Terra us) (λ us. terra_returned_values_agree levels us) ts)
 
 break_is : (levels : ℕ) (t : Token) (ts : List Token) → is_of (is symbols.Break) t ≡ true → reading levels (terra.terra_statement terra.FromBreak t Nothing) ts ≡ terra_break_at (t ∷ ts)
 unfolding terra_break_at

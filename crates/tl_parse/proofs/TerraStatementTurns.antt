@@ -12,45 +12,56 @@ use Rattle.tl_tree.specs.Tree.{Tree, Nothing, More}
 use Rattle.tl_tree.specs.Grammar.{Grammar, give, token, bind, Outcome, Took, Stop, ◌>>=◌, begins, is_of}
 use Rattle.tl_tree.specs.Forms.{sign, semicolon, listed_behind}
 use Rattle.tl_tree.specs.LuaStatements.{Sequence, sequence}
+use Rattle.tl_tree.specs.LuaStatements as lua
 use Rattle.tl_tree.specs.TerraStatements as terra
 use Rattle.tl_tree.proofs.Unrolling.{bind_again}
 use Rattle.tl_parse.specs.Using.{reading, barred, sign_at}
-use Rattle.tl_parse.specs.TerraExpressions.{next_terra_expression_at, more_terra_expressions_at, terra_expressions_at}
-use Rattle.tl_parse.specs.TerraStatements.{terra_arm_at, next_terra_arm_at, more_terra_arms_at, terra_variable_at, next_terra_variable_at}
+use Rattle.tl_parse.specs.TerraStatements.{terra_variable_at, next_terra_variable_at}
 use Rattle.tl_parse.specs.TerraStatements.{more_terra_variables_at, terra_assignment_at, terra_statement_at, next_terra_statement_at}
 use Rattle.tl_parse.specs.TerraStatements.{terra_goes_on, more_terra_statements_at, terra_parameter_at, next_terra_parameter_at}
 use Rattle.tl_parse.specs.TerraStatements.{more_terra_parameters_at}
 use Rattle.tl_parse.proofs.Uses.{both, bind_same, opened_at, opens_any, token_is, repeats, ends, shorter_turn}
 use Rattle.tl_parse.proofs.Following.{sign_then}
-use Rattle.tl_parse.proofs.Turns.{list_goes, list_ends, list_shorter, used_here, used_use}
-use Rattle.tl_parse.proofs.TerraTurns.{terra_expressions_go, terra_expressions_end, terra_expression_shorter}
+use Rattle.tl_parse.proofs.Turns.{list_goes, list_ends, list_shorter, used_here, used_use, expressions_go, expressions_end, expression_shorter}
 use Rattle.tl_parse.proofs.TerraStatementAgreeing.{sign_give, terra_arm_agrees, terra_variable_agrees, terra_parameter_agrees}
 use Rattle.tl_parse.proofs.TerraStatementAgreeing.{statement_opens, statement_by, ends_is}
+use Rattle.tl_parse.proofs.AgreeingStatements.{arm_turn}
 use Rattle.tl_parse.proofs.Failing.{fails_after, fails_bind, fails_from, fails_same}
 use Rattle.tl_parse.proofs.Taking.{next_of}
 use Rattle.tl_parse.proofs.TerraStatementParts.{terra_block_part}
+use Rattle.tl_parse.specs.Expressions.{expressions_at, more_expressions_at, next_expression_at}
+use Rattle.tl_parse.specs.Statements.{arm_at, more_arms_at, next_arm_at}
+use Rattle.tl_parse.specs.declared.parser.Code.TheVariants as codes
+use Rattle.tl_parse.specs.declared.parser.BlockCode.{BlockCode}
+use Rattle.tl_parse.specs.declared.parser.BlockCode.TheVariants as block_codes
 
 -- ---- arms
 
-arm_turn : (levels : ℕ) (before : Tree) (ts : List Token) →
-    reading levels (bind (token (λ t. is symbols.Elseif t) (λ t. Plain) (λ t. None) (sample symbols.Elseif)) λ x. terra.terra_arm before) ts ≡ (next_terra_arm_at levels ts >>= λ e rest. Took (More before e) rest)
-unfolding next_terra_arm_at
-arm_turn levels before ts =
-    sign_then levels symbols.Elseif (λ x. terra.terra_arm before) (λ y us. terra_arm_at levels us >>= λ e rest. Took (More before e) rest) (λ y us. terra_arm_agrees levels before us) ts
-    ∙ sym (bind_again (sign_at symbols.Elseif ts) (λ y us. terra_arm_at levels us) (λ e rest. Took (More before e) rest))
+terra_arm_turn : (levels : ℕ) (before : Tree) (ts : List Token) →
+    reading levels (bind (token (λ t. is symbols.Elseif t) (λ t. Plain) (λ t. None) (sample symbols.Elseif)) λ x. terra.terra_arm before) ts ≡ (next_arm_at levels block_codes.Terra ts >>= λ e rest. Took (More before e) rest)
+unfolding next_arm_at
+terra_arm_turn levels before ts =
+    sign_then levels symbols.Elseif (λ x. terra.terra_arm before) (λ y us. arm_at levels block_codes.Terra us >>= λ e rest. Took (More before e) rest) (λ y us. terra_arm_agrees levels before us) ts
+    ∙ sym (bind_again (sign_at symbols.Elseif ts) (λ y us. arm_at levels block_codes.Terra us) (λ e rest. Took (More before e) rest))
 
-pub terra_arms_go : (levels : ℕ) (before : Tree) (ts : List Token) → begins (is symbols.Elseif) ts ≡ true → more_terra_arms_at levels before ts ≡ (next_terra_arm_at levels ts >>= λ e rest. more_terra_arms_at levels (More before e) rest)
-unfolding more_terra_arms_at
-terra_arms_go levels before ts h =
-    repeats levels (λ b t. is symbols.Elseif t) (λ b t. Plain) (λ b t. None) (λ t x b. terra.terra_arm b) (sample symbols.Elseif) before (next_terra_arm_at levels ts) (λ e. More before e) ts h (arm_turn levels before ts)
+pub arms_go : (levels : ℕ) (block : BlockCode) (before : Tree) (ts : List Token) → begins (is symbols.Elseif) ts ≡ true → more_arms_at levels block before ts ≡ (next_arm_at levels block ts >>= λ e rest. more_arms_at levels block (More before e) rest)
+unfolding more_arms_at next_arm_at
+arms_go levels (block_codes.Lua c) before ts h =
+    repeats levels (λ b t. is symbols.Elseif t) (λ b t. Plain) (λ b t. None) (λ t x b. lua.arm c b) (sample symbols.Elseif) before (sign_at symbols.Elseif ts >>= λ y a. arm_at levels (block_codes.Lua c) a) (λ e. More before e) ts h (arm_turn levels c before ts)
+arms_go levels block_codes.Terra before ts h =
+    repeats levels (λ b t. is symbols.Elseif t) (λ b t. Plain) (λ b t. None) (λ t x b. terra.terra_arm b) (sample symbols.Elseif) before (sign_at symbols.Elseif ts >>= λ y a. arm_at levels block_codes.Terra a) (λ e. More before e) ts h (terra_arm_turn levels before ts)
 
-pub terra_arms_end : (levels : ℕ) (before : Tree) (ts : List Token) → begins (is symbols.Elseif) ts ≡ false → more_terra_arms_at levels before ts ≡ Took before ts
-unfolding more_terra_arms_at
-terra_arms_end levels before ts h = ends levels (λ b t. is symbols.Elseif t) (λ b t. Plain) (λ b t. None) (λ t x b. terra.terra_arm b) before ts h
+pub arms_end : (levels : ℕ) (block : BlockCode) (before : Tree) (ts : List Token) → begins (is symbols.Elseif) ts ≡ false → more_arms_at levels block before ts ≡ Took before ts
+unfolding more_arms_at
+arms_end levels (block_codes.Lua c) before ts h = ends levels (λ b t. is symbols.Elseif t) (λ b t. Plain) (λ b t. None) (λ t x b. lua.arm c b) before ts h
+arms_end levels block_codes.Terra before ts h = ends levels (λ b t. is symbols.Elseif t) (λ b t. Plain) (λ b t. None) (λ t x b. terra.terra_arm b) before ts h
 
-pub terra_arm_shorter : (levels : ℕ) (x : Tree) (ts rest : List Token) → next_terra_arm_at levels ts ≡ Took x rest → length rest < length ts
-terra_arm_shorter levels x ts rest e =
-    shorter_turn levels (λ t. is symbols.Elseif t) (λ t. Plain) (λ t. None) (sample symbols.Elseif) (λ x. terra.terra_arm Nothing) (next_terra_arm_at levels ts) (λ e. More Nothing e) x ts rest (arm_turn levels Nothing ts) e
+pub arm_shorter : (levels : ℕ) (block : BlockCode) (x : Tree) (ts rest : List Token) → next_arm_at levels block ts ≡ Took x rest → length rest < length ts
+unfolding next_arm_at
+arm_shorter levels (block_codes.Lua c) x ts rest e =
+    shorter_turn levels (λ t. is symbols.Elseif t) (λ t. Plain) (λ t. None) (sample symbols.Elseif) (λ x. lua.arm c Nothing) (sign_at symbols.Elseif ts >>= λ y a. arm_at levels (block_codes.Lua c) a) (λ e. More Nothing e) x ts rest (arm_turn levels c Nothing ts) e
+arm_shorter levels block_codes.Terra x ts rest e =
+    shorter_turn levels (λ t. is symbols.Elseif t) (λ t. Plain) (λ t. None) (sample symbols.Elseif) (λ x. terra.terra_arm Nothing) (sign_at symbols.Elseif ts >>= λ y a. arm_at levels block_codes.Terra a) (λ e. More Nothing e) x ts rest (terra_arm_turn levels Nothing ts) e
 
 -- ---- lists
 
@@ -90,19 +101,19 @@ terra_parameter_shorter levels x ts rest e = list_shorter_with levels terra.terr
 
 -- ---- targets
 
-pub terra_targets_go : (levels : ℕ) (place : Place) (before : Tree) (ts : List Token) → begins (is symbols.Comma) ts ≡ true → terra_assignment_at levels place before ts ≡ (next_terra_expression_at levels ts >>= λ e rest. terra_assignment_at levels place (More before e) rest)
+pub terra_targets_go : (levels : ℕ) (place : Place) (before : Tree) (ts : List Token) → begins (is symbols.Comma) ts ≡ true → terra_assignment_at levels place before ts ≡ (next_expression_at levels codes.Terra ts >>= λ e rest. terra_assignment_at levels place (More before e) rest)
 unfolding terra_assignment_at
 terra_targets_go levels place before ts h =
-    ap (λ (o : Outcome Tree). o >>= λ targets a. sign_at symbols.Equal a >>= λ y b. terra_expressions_at levels b >>= λ es rest. Took (trees.TerraAssign place targets es) rest) (terra_expressions_go levels before ts h)
-    ∙ bind_again (next_terra_expression_at levels ts) (λ e rest. more_terra_expressions_at levels (More before e) rest) (λ targets a. sign_at symbols.Equal a >>= λ y b. terra_expressions_at levels b >>= λ es rest. Took (trees.TerraAssign place targets es) rest)
+    ap (λ (o : Outcome Tree). o >>= λ targets a. sign_at symbols.Equal a >>= λ y b. expressions_at levels codes.Terra b >>= λ es rest. Took (trees.TerraAssign place targets es) rest) (expressions_go levels codes.Terra before ts h)
+    ∙ bind_again (next_expression_at levels codes.Terra ts) (λ e rest. more_expressions_at levels codes.Terra (More before e) rest) (λ targets a. sign_at symbols.Equal a >>= λ y b. expressions_at levels codes.Terra b >>= λ es rest. Took (trees.TerraAssign place targets es) rest)
 
-pub terra_targets_end : (levels : ℕ) (place : Place) (before : Tree) (ts : List Token) → begins (is symbols.Comma) ts ≡ false → terra_assignment_at levels place before ts ≡ (sign_at symbols.Equal ts >>= λ y b. terra_expressions_at levels b >>= λ es rest. Took (trees.TerraAssign place before es) rest)
+pub terra_targets_end : (levels : ℕ) (place : Place) (before : Tree) (ts : List Token) → begins (is symbols.Comma) ts ≡ false → terra_assignment_at levels place before ts ≡ (sign_at symbols.Equal ts >>= λ y b. expressions_at levels codes.Terra b >>= λ es rest. Took (trees.TerraAssign place before es) rest)
 unfolding terra_assignment_at
 terra_targets_end levels place before ts h =
-    ap (λ (o : Outcome Tree). o >>= λ targets a. sign_at symbols.Equal a >>= λ y b. terra_expressions_at levels b >>= λ es rest. Took (trees.TerraAssign place targets es) rest) (terra_expressions_end levels before ts h)
+    ap (λ (o : Outcome Tree). o >>= λ targets a. sign_at symbols.Equal a >>= λ y b. expressions_at levels codes.Terra b >>= λ es rest. Took (trees.TerraAssign place targets es) rest) (expressions_end levels codes.Terra before ts h)
 
-pub terra_target_shorter : (levels : ℕ) (x : Tree) (ts rest : List Token) → next_terra_expression_at levels ts ≡ Took x rest → length rest < length ts
-terra_target_shorter levels x ts rest e = terra_expression_shorter levels x ts rest e
+pub terra_target_shorter : (levels : ℕ) (x : Tree) (ts rest : List Token) → next_expression_at levels codes.Terra ts ≡ Took x rest → length rest < length ts
+terra_target_shorter levels x ts rest e = expression_shorter levels codes.Terra x ts rest e
 
 -- ---- blocks
 
@@ -203,7 +214,7 @@ pub terra_statement_shorter : (levels : ℕ) (ended : Bool) (x : Sequence) (ts r
 terra_statement_shorter levels ended x ts rest h e =
     shorter_turn levels (λ t. terra_goes_on ended t) (λ t. Plain) (λ t. statement_opens t.symbol) (sample symbols.Break) (λ x. step_of x.0 x.1 Nothing) (next_terra_statement_at levels ts) (λ s. sequence (More Nothing s.statements) s.ended) x ts rest (block_turn levels Nothing ended ts h) e
 
-pub ruleset arms = (fails_bind, fails_after, fails_from, terra_arms_go, terra_arms_end, terra_arm_shorter)
+pub ruleset arms = (fails_bind, fails_after, fails_from, arms_go, arms_end, arm_shorter)
 
 pub ruleset variables = (fails_bind, fails_after, fails_from, terra_variables_go, terra_variables_end, terra_variable_shorter)
 

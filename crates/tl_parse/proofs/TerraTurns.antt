@@ -21,7 +21,7 @@ use Rattle.tl_parse.specs.Expressions.{name_at, separators, more_if}
 use Rattle.tl_parse.specs.TerraExpressions.{TerraSuffixed, terra_attached, terra_shape_of, terra_name_at, terra_call_suffix_at}
 use Rattle.tl_parse.specs.TerraExpressions.{terra_index_suffix_at, terra_select_suffix_at, terra_method_suffix_at, construct_suffix_at}
 use Rattle.tl_parse.specs.TerraExpressions.{terra_suffix_at, terra_suffixes_at, terra_symbols_of, terra_inner_of, terra_inner_at}
-use Rattle.tl_parse.specs.TerraExpressions.{terra_more_at, terra_one_more_at, more_terra_expressions_at, next_terra_expression_at}
+use Rattle.tl_parse.specs.TerraExpressions.{terra_more_at, terra_one_more_at}
 use Rattle.tl_parse.specs.TerraExpressions.{initialiser_of, initialiser_at, more_initialisers_at, next_initialiser_at}
 use Rattle.tl_parse.specs.TerraExpressions as suffixed
 use Rattle.tl_parse.specs.Entries.{separator_at, entry_at, more_entries_at}
@@ -30,24 +30,10 @@ use Rattle.tl_parse.proofs.Uses.{never, both, operator_with, opened_at, opens_an
 use Rattle.tl_parse.proofs.Following.{sign_then, open_then, then, either_is}
 use Rattle.tl_parse.proofs.Agreeing.{expression_agrees}
 use Rattle.tl_parse.proofs.TerraAgreeing.{terra_name_agrees, initialiser_agrees}
-use Rattle.tl_parse.proofs.Turns.{list_goes, list_ends, list_shorter, operators_goes, operators_turn, fields_turn, used_here, used_use}
+use Rattle.tl_parse.proofs.Turns.{operators_goes, operators_turn, fields_turn, used_here, used_use}
 use Rattle.tl_parse.proofs.Turns.{use_behind}
 use Rattle.tl_parse.proofs.Failing.{fails_after, fails_bind, fails_from, fails_same}
 use Rattle.tl_parse.proofs.TerraParts.{entries_part, initialisers_part}
-
--- ---- lists
-
-pub terra_expressions_go : (levels : ℕ) (before : Tree) (ts : List Token) → begins (is symbols.Comma) ts ≡ true → more_terra_expressions_at levels before ts ≡ (next_terra_expression_at levels ts >>= λ e rest. more_terra_expressions_at levels (More before e) rest)
-unfolding more_terra_expressions_at next_terra_expression_at part_at
-terra_expressions_go levels before ts h = list_goes levels terra.terra_expression before ts h
-
-pub terra_expressions_end : (levels : ℕ) (before : Tree) (ts : List Token) → begins (is symbols.Comma) ts ≡ false → more_terra_expressions_at levels before ts ≡ Took before ts
-unfolding more_terra_expressions_at
-terra_expressions_end levels before ts h = list_ends levels terra.terra_expression before ts h
-
-pub terra_expression_shorter : (levels : ℕ) (x : Tree) (ts rest : List Token) → next_terra_expression_at levels ts ≡ Took x rest → length rest < length ts
-unfolding next_terra_expression_at part_at
-terra_expression_shorter levels x ts rest e = list_shorter levels terra.terra_expression x ts rest e
 
 -- ---- operators
 
@@ -250,7 +236,5 @@ pub ruleset entries = (fails_bind, fails_after, entries_part, fails_same, fails_
 pub ruleset suffixes = (fails_bind, fails_after, fails_from, terra_suffixes_go, terra_suffixes_end, terra_suffix_shorter)
 
 pub ruleset operations = (fails_bind, fails_after, fails_from, terra_operations_go, terra_operations_end, terra_operation_shorter)
-
-pub ruleset expressions = (fails_bind, fails_after, fails_from, terra_expressions_go, terra_expressions_end, terra_expression_shorter)
 
 pub ruleset initialisers = (fails_bind, fails_after, initialisers_part, fails_same, fails_from, initialisers_go, initialisers_end, initialiser_shorter)

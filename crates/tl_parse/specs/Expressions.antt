@@ -19,7 +19,9 @@ use Rattle.tl_tree.specs.LuaExpressions as lua
 use Rattle.tl_tree.specs.LuaExpressions.{is_varargs}
 use Rattle.tl_parse.specs.Using.{reading, part_at, sign_at, open_at, prefix_at, operator_at, raise_at, call_at}
 use Rattle.tl_parse.specs.Using.{number_at, sign_among_at}
+use Rattle.tl_parse.specs.Codes.{expression_of, expression_in}
 use Rattle.tl_parse.specs.TerraCode.{terra_code_at}
+use Rattle.tl_parse.specs.declared.parser.Code.{Code}
 use Rattle.tl_parse.specs.Ranks.{ranked_at}
 
 unfoldable pub name_at : List Token → Outcome Tree
@@ -27,18 +29,18 @@ name_at ts = sign_at symbols.Name ts >>= λ t rest. Took (Name t.place t.offset 
 
 -- ---- lists of expressions
 
-unfoldable pub more_expressions_at : ℕ → Mode → Tree → List Token → Outcome Tree
-more_expressions_at levels m before ts = reading levels (listed_behind (lua.expression m) before) ts
+unfoldable pub more_expressions_at : ℕ → Code → Tree → List Token → Outcome Tree
+more_expressions_at levels code before ts = reading levels (listed_behind (expression_of code) before) ts
 
-unfoldable pub next_expression_at : ℕ → Mode → List Token → Outcome Tree
-next_expression_at levels m ts = sign_at symbols.Comma ts >>= λ y mid. part_at levels (Expression m) mid
+unfoldable pub next_expression_at : ℕ → Code → List Token → Outcome Tree
+next_expression_at levels code ts = sign_at symbols.Comma ts >>= λ y mid. part_at levels (expression_in code) mid
 
-unfoldable pub expressions_at : ℕ → Mode → List Token → Outcome Tree
-expressions_at levels m ts = part_at levels (Expression m) ts >>= λ e mid.
-    more_expressions_at levels m (More Nothing e) mid
+unfoldable pub expressions_at : ℕ → Code → List Token → Outcome Tree
+expressions_at levels code ts = part_at levels (expression_in code) ts >>= λ e mid.
+    more_expressions_at levels code (More Nothing e) mid
 
-unfoldable pub arguments_at : ℕ → Mode → List Token → Outcome Tree
-arguments_at levels m ts = if begins (is symbols.CloseParen) ts then Took Nothing ts else expressions_at levels m ts
+unfoldable pub arguments_at : ℕ → Code → List Token → Outcome Tree
+arguments_at levels code ts = if begins (is symbols.CloseParen) ts then Took Nothing ts else expressions_at levels code ts
 
 -- ---- prefix expressions
 

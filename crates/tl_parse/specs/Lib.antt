@@ -1,6 +1,8 @@
 -- The promise of `parse`, over reading of texts in tl_tree. A reader can stop here.
 pub mod Whole
--- Views of the code, which private contracts cite. What reading each name of the grammar gives, from left to right: Lua expressions.
+-- Views of the code, which private contracts cite: what both languages have.
+pub mod Codes
+-- What reading each name of the grammar gives, from left to right: Lua expressions.
 pub mod Expressions
 -- Lua statements and functions.
 pub mod Statements

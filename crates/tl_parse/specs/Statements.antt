@@ -21,6 +21,11 @@ use Rattle.tl_parse.specs.Using.{reading, part_at, sign_at, open_at}
 use Rattle.tl_parse.specs.Expressions.{name_at, expressions_at, base_at, applied_at}
 use Rattle.tl_parse.specs.Paths.{more_names_at, names_at, path_at}
 use Rattle.tl_parse.specs.TerraDefinitions.{define_terra_at, define_struct_at, local_terra_at}
+use Rattle.tl_parse.specs.Codes.{expression_in, code_of, statements_in, arms_of, looped_code, first_symbols}
+use Rattle.tl_parse.specs.declared.parser.Code.{Code}
+use Rattle.tl_parse.specs.declared.parser.Code.TheVariants as codes
+use Rattle.tl_parse.specs.declared.parser.BlockCode.{BlockCode}
+use Rattle.tl_parse.specs.declared.parser.BlockCode.TheVariants as block_codes
 
 -- the place of the first token
 abbrev pub first_place : List Token → Place
@@ -57,14 +62,14 @@ is_call shapes.Call = true
 is_call _ = false
 
 -- `=` and the values, behind the targets
-unfoldable pub values_at : ℕ → Mode → List Token → Outcome Tree
-values_at levels m ts = sign_at symbols.Equal ts >>= λ y a. expressions_at levels m a
+unfoldable pub values_at : ℕ → Code → List Token → Outcome Tree
+values_at levels code ts = sign_at symbols.Equal ts >>= λ y a. expressions_at levels code a
 
 unfoldable pub call_or_assignment_at : ℕ → Mode → List Token → Outcome Tree
 call_or_assignment_at levels m ts =
     applied_at levels m true ts >>= λ a b.
     if is_call a.shape then Took (Perform (first_place ts) a.tree) b
-    else (more_targets_at levels m (More Nothing a.tree) b >>= λ targets c. values_at levels m c
+    else (more_targets_at levels m (More Nothing a.tree) b >>= λ targets c. values_at levels (codes.Lua m) c
     >>= λ es rest. Took (Assign (first_place ts) targets es) rest)
 
 -- ---- loops and choices
@@ -73,13 +78,14 @@ unfoldable pub do_at : ℕ → Context → List Token → Outcome Tree
 do_at levels c ts = open_at symbols.Do levels ts >>= λ t a. part_at (levels - 1) (Statements c) a >>= λ x b.
     sign_at symbols.End b >>= λ y rest. Took (Do t.place x) rest
 
-unfoldable pub loop_at : ℕ → Context → List Token → Outcome Tree
-loop_at levels c ts = open_at symbols.Do levels ts >>= λ t a. part_at (levels - 1) (Statements (looped c)) a >>= λ x b.
+unfoldable pub loop_at : ℕ → BlockCode → List Token → Outcome Tree
+loop_at levels block ts =
+    open_at symbols.Do levels ts >>= λ t a. part_at (levels - 1) (statements_in (looped_code block)) a >>= λ x b.
     sign_at symbols.End b >>= λ y rest. Took x rest
 
 unfoldable pub while_at : ℕ → Context → List Token → Outcome Tree
 while_at levels c ts = sign_at symbols.While ts >>= λ t a. part_at levels (Expression c.mode) a >>= λ e b.
-    loop_at levels c b >>= λ x rest. Took (While t.place e x) rest
+    loop_at levels (block_codes.Lua c) b >>= λ x rest. Took (While t.place e x) rest
 
 unfoldable pub repeat_at : ℕ → Context → List Token → Outcome Tree
 repeat_at levels c ts =
@@ -87,32 +93,34 @@ repeat_at levels c ts =
     sign_at symbols.Until b >>= λ y d. part_at levels (Expression c.mode) d >>= λ e rest.
     Took (Repeat t.place x e) rest
 
-unfoldable pub arm_at : ℕ → Context → List Token → Outcome Tree
-arm_at levels c ts = part_at levels (Expression c.mode) ts >>= λ e a. open_at symbols.Then levels a >>= λ t b.
-    part_at (levels - 1) (Statements c) b >>= λ x rest. Took (Arm e x) rest
+unfoldable pub arm_at : ℕ → BlockCode → List Token → Outcome Tree
+arm_at levels block ts =
+    part_at levels (expression_in (code_of block)) ts >>= λ e a. open_at symbols.Then levels a >>= λ t b.
+    part_at (levels - 1) (statements_in block) b >>= λ x rest. Took (Arm e x) rest
 
-unfoldable pub more_arms_at : ℕ → Context → Tree → List Token → Outcome Tree
-more_arms_at levels c before ts = reading levels (lua.arms c before) ts
+unfoldable pub more_arms_at : ℕ → BlockCode → Tree → List Token → Outcome Tree
+more_arms_at levels block before ts = reading levels (arms_of block before) ts
 
-unfoldable pub next_arm_at : ℕ → Context → List Token → Outcome Tree
-next_arm_at levels c ts = sign_at symbols.Elseif ts >>= λ y a. arm_at levels c a
+unfoldable pub next_arm_at : ℕ → BlockCode → List Token → Outcome Tree
+next_arm_at levels block ts = sign_at symbols.Elseif ts >>= λ y a. arm_at levels block a
 
-unfoldable pub arms_at : ℕ → Context → List Token → Outcome Tree
-arms_at levels c ts = arm_at levels c ts >>= λ x a. more_arms_at levels c (More Nothing x) a
+unfoldable pub arms_at : ℕ → BlockCode → List Token → Outcome Tree
+arms_at levels block ts = arm_at levels block ts >>= λ x a. more_arms_at levels block (More Nothing x) a
 
-unfoldable pub otherwise_at : ℕ → Context → List Token → Outcome Tree
-otherwise_at levels c ts =
-    if begins (is symbols.Else) ts then (open_at symbols.Else levels ts >>= λ t a. part_at (levels - 1) (Statements c) a
-    >>= λ x rest. Took (Just x) rest) else Took Nothing ts
+unfoldable pub otherwise_at : ℕ → BlockCode → List Token → Outcome Tree
+otherwise_at levels block ts =
+    if begins (is symbols.Else) ts then (open_at symbols.Else levels ts >>= λ t a.
+    part_at (levels - 1) (statements_in block) a >>= λ x rest. Took (Just x) rest) else Took Nothing ts
 
 unfoldable pub if_at : ℕ → Context → List Token → Outcome Tree
 if_at levels c ts =
-    sign_at symbols.If ts >>= λ t a. arms_at levels c a >>= λ all b. otherwise_at levels c b >>= λ o d.
+    sign_at symbols.If ts >>= λ t a. arms_at levels (block_codes.Lua c) a >>= λ all b.
+    otherwise_at levels (block_codes.Lua c) b >>= λ o d.
     sign_at symbols.End d >>= λ y rest. Took (If t.place all o) rest
 
-unfoldable pub step_at : ℕ → Mode → List Token → Outcome Tree
-step_at levels m ts = if begins (is symbols.Comma) ts then (sign_at symbols.Comma ts >>= λ y a.
-    part_at levels (Expression m) a >>= λ e rest. Took (Just e) rest) else Took Nothing ts
+unfoldable pub step_at : ℕ → Code → List Token → Outcome Tree
+step_at levels code ts = if begins (is symbols.Comma) ts then (sign_at symbols.Comma ts >>= λ y a.
+    part_at levels (expression_in code) a >>= λ e rest. Took (Just e) rest) else Took Nothing ts
 
 -- what a numeric `for` has behind its name
 pub record Numeric : Type 0 where
@@ -127,8 +135,8 @@ numeric a b s x = record { from = a; limit = b; step = s; block = x }
 unfoldable pub numeric_at : ℕ → Context → List Token → Outcome Numeric
 numeric_at levels c ts =
     sign_at symbols.Equal ts >>= λ y a. part_at levels (Expression c.mode) a >>= λ from b. sign_at symbols.Comma b
-    >>= λ z d. part_at levels (Expression c.mode) d >>= λ limit f. step_at levels c.mode f >>= λ s g.
-    loop_at levels c g >>= λ x rest. Took (numeric from limit s x) rest
+    >>= λ z d. part_at levels (Expression c.mode) d >>= λ limit f.
+    step_at levels (codes.Lua c.mode) f >>= λ s g. loop_at levels (block_codes.Lua c) g >>= λ x rest. Took (numeric from limit s x) rest
 
 -- what a generic `for` has behind its names
 pub record Generic : Type 0 where
@@ -139,8 +147,9 @@ abbrev pub generic : Tree → Tree → Generic
 generic es x = record { values = es; block = x }
 
 unfoldable pub generic_at : ℕ → Context → List Token → Outcome Generic
-generic_at levels c ts = sign_at symbols.In ts >>= λ y a. expressions_at levels c.mode a >>= λ es b. loop_at levels c b
-    >>= λ x rest. Took (generic es x) rest
+generic_at levels c ts =
+    sign_at symbols.In ts >>= λ y a. expressions_at levels (codes.Lua c.mode) a >>= λ es b.
+    loop_at levels (block_codes.Lua c) b >>= λ x rest. Took (generic es x) rest
 
 unfoldable pub for_at : ℕ → Context → List Token → Outcome Tree
 for_at levels c ts =
@@ -162,11 +171,11 @@ local_function_at levels place ts =
     sign_at symbols.Function ts >>= λ y a. name_at a >>= λ n b. open_at symbols.OpenParen levels b >>= λ z d.
     part_at (levels - 1) FunctionBody d >>= λ x rest. Took (LocalFunction place n x) rest
 
-unfoldable pub initial_values_at : ℕ → Mode → List Token → Outcome Tree
-initial_values_at levels m ts = if begins (is symbols.Equal) ts then values_at levels m ts else Took Nothing ts
+unfoldable pub initial_values_at : ℕ → Code → List Token → Outcome Tree
+initial_values_at levels code ts = if begins (is symbols.Equal) ts then values_at levels code ts else Took Nothing ts
 
 unfoldable pub local_names_at : ℕ → Mode → Place → List Token → Outcome Tree
-local_names_at levels m place ts = names_at levels ts >>= λ ns a. initial_values_at levels m a
+local_names_at levels m place ts = names_at levels ts >>= λ ns a. initial_values_at levels (codes.Lua m) a
     >>= λ es rest. Took (Local place ns es) rest
 
 -- the words of definitions of Terra code
@@ -179,19 +188,11 @@ local_at levels c ts =
     else (if begins (among definition_symbols) a then local_terra_at levels c.mode t.place a
     else local_names_at levels c.mode t.place a)
 
--- the tokens that begin an expression
-abbrev pub first_symbols : List Symbol
-first_symbols =
-    symbols.Name ∷ symbols.Numeral ∷ symbols.Literal ∷ symbols.Nil ∷ symbols.False ∷ symbols.True ∷ symbols.Ellipsis ∷ symbols.Function
-    ∷ symbols.OpenParen ∷ symbols.OpenBrace ∷ symbols.Not ∷ symbols.Hash ∷ symbols.Minus ∷ symbols.Ampersand
-    ∷ symbols.Terra ∷ symbols.Struct
-    ∷ symbols.Quote ∷ symbols.Backtick ∷ []
-
-unfoldable pub returned_values_at : ℕ → Mode → List Token → Outcome Tree
-returned_values_at levels m ts = if begins (among first_symbols) ts then expressions_at levels m ts else Took Nothing ts
+unfoldable pub returned_values_at : ℕ → Code → List Token → Outcome Tree
+returned_values_at levels code ts = if begins (among (first_symbols code)) ts then expressions_at levels code ts else Took Nothing ts
 
 unfoldable pub return_at : ℕ → Mode → List Token → Outcome Tree
-return_at levels m ts = sign_at symbols.Return ts >>= λ t a. returned_values_at levels m a
+return_at levels m ts = sign_at symbols.Return ts >>= λ t a. returned_values_at levels (codes.Lua m) a
     >>= λ es rest. Took (Return t.place es) rest
 
 unfoldable pub break_at : List Token → Outcome Tree

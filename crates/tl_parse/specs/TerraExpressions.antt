@@ -13,7 +13,7 @@ use Rattle.tl_tree.specs.Tree.{Tree, Nothing, More, Numeral, NamedField, TerraNi
 use Rattle.tl_tree.specs.Tree.{TerraParen, Escape, TerraIndex, TerraSelect, TerraCall, TerraMethod, Construct}
 use Rattle.tl_tree.specs.Tree.{Expression, TerraExpression, TerraOperand, TerraArguments, Initialisers}
 use Rattle.tl_tree.specs.Grammar.{Grammar, Outcome, Took, ◌>>=◌, begins, down}
-use Rattle.tl_tree.specs.Forms.{listed_behind, separated_behind, Chained, chained, chain, operand, in_chain, unary_of}
+use Rattle.tl_tree.specs.Forms.{separated_behind, Chained, chained, chain, operand, in_chain, unary_of}
 use Rattle.tl_tree.specs.Forms.{comparisons, additive, multiplicative, operators}
 use Rattle.tl_tree.specs.TerraExpressions as terra
 use Rattle.tl_tree.specs.TerraExpressions.{terra_numerals, terra_prefix_symbols, shifts}
@@ -204,22 +204,6 @@ terra_binary_at levels p left ts = terra_first_at levels p left ts >>= λ a rest
 unfoldable pub terra_unary_at : ℕ → ℕ → List Token → Outcome Chained
 terra_unary_at levels left ts = if begins (among terra_prefix_symbols) ts then terra_prefixed_at levels left ts
     else terra_binary_at levels precedences.Power left ts
-
--- ---- lists of expressions
-
-unfoldable pub more_terra_expressions_at : ℕ → Tree → List Token → Outcome Tree
-more_terra_expressions_at levels before ts = reading levels (listed_behind terra.terra_expression before) ts
-
-unfoldable pub next_terra_expression_at : ℕ → List Token → Outcome Tree
-next_terra_expression_at levels ts = sign_at symbols.Comma ts >>= λ y mid. part_at levels TerraExpression mid
-
-unfoldable pub terra_expressions_at : ℕ → List Token → Outcome Tree
-terra_expressions_at levels ts = part_at levels TerraExpression ts >>= λ e mid.
-    more_terra_expressions_at levels (More Nothing e) mid
-
-unfoldable pub terra_arguments_at : ℕ → List Token → Outcome Tree
-terra_arguments_at levels ts = if begins (is symbols.CloseParen) ts then Took Nothing ts
-    else terra_expressions_at levels ts
 
 -- ---- initialisers
 

@@ -10,50 +10,26 @@ use Rattle.tl_tree.specs.declared.mode.Shape.TheVariants as shapes
 use Rattle.tl_tree.specs.Tokens.{Token, among, is}
 use Rattle.tl_tree.specs.Tree.{Tree, Nothing, More, Just, Name, Escape, TerraAssign, TerraPerform, Splice, TerraDo}
 use Rattle.tl_tree.specs.Tree.{TerraWhile, TerraRepeat, TerraIf, TerraFor, Var, EscapeBlock, TerraReturn, TerraBreak}
-use Rattle.tl_tree.specs.Tree.{Block, Arm, Quoted, TerraBody, Parameter, SpliceParameter, Variable, Expression}
+use Rattle.tl_tree.specs.Tree.{Block, Quoted, TerraBody, Parameter, SpliceParameter, Variable, Expression}
 use Rattle.tl_tree.specs.Tree.{Statements, TerraExpression, TerraStatements}
 use Rattle.tl_tree.specs.Grammar.{Grammar, give, bind, many, Outcome, Took, ◌>>=◌, begins}
 use Rattle.tl_tree.specs.Forms.{semicolon, listed_behind, Chained, chained, chain}
 use Rattle.tl_tree.specs.LuaStatements.{Sequence, sequence}
 use Rattle.tl_tree.specs.TerraStatements as terra
 use Rattle.tl_parse.specs.Using.{reading, part_at, sign_at, open_at}
-use Rattle.tl_parse.specs.Statements.{first_place, is_call, last_symbols}
-use Rattle.tl_parse.specs.TerraExpressions.{terra_name_at, terra_expressions_at, more_terra_expressions_at}
+use Rattle.tl_parse.specs.Statements.{first_place, is_call, last_symbols, returned_values_at}
+use Rattle.tl_parse.specs.TerraExpressions.{terra_name_at}
 use Rattle.tl_parse.specs.TerraExpressions.{terra_applied_at}
+use Rattle.tl_parse.specs.Expressions.{expressions_at, more_expressions_at}
+use Rattle.tl_parse.specs.Statements.{arms_at, initial_values_at, loop_at, otherwise_at, step_at}
+use Rattle.tl_parse.specs.declared.parser.Code.TheVariants as codes
+use Rattle.tl_parse.specs.declared.parser.BlockCode.TheVariants as block_codes
 
 -- ---- parts of statements
 
 unfoldable pub written_type_at : ℕ → List Token → Outcome Tree
 written_type_at levels ts =
     if begins (is symbols.Colon) ts then (sign_at symbols.Colon ts >>= λ y a. part_at levels (Expression modes.Types) a
-    >>= λ e rest. Took (Just e) rest) else Took Nothing ts
-
-unfoldable pub terra_loop_at : ℕ → List Token → Outcome Tree
-terra_loop_at levels ts = open_at symbols.Do levels ts >>= λ t a. part_at (levels - 1) TerraStatements a >>= λ x b.
-    sign_at symbols.End b >>= λ y rest. Took x rest
-
-unfoldable pub terra_arm_at : ℕ → List Token → Outcome Tree
-terra_arm_at levels ts =
-    part_at levels TerraExpression ts >>= λ e a. open_at symbols.Then levels a >>= λ t b.
-    part_at (levels - 1) TerraStatements b >>= λ x rest. Took (Arm e x) rest
-
-unfoldable pub next_terra_arm_at : ℕ → List Token → Outcome Tree
-next_terra_arm_at levels ts = sign_at symbols.Elseif ts >>= λ y a. terra_arm_at levels a
-
-unfoldable pub more_terra_arms_at : ℕ → Tree → List Token → Outcome Tree
-more_terra_arms_at levels before ts = reading levels (terra.terra_arms before) ts
-
-unfoldable pub terra_arms_at : ℕ → List Token → Outcome Tree
-terra_arms_at levels ts = terra_arm_at levels ts >>= λ a rest. more_terra_arms_at levels (More Nothing a) rest
-
-unfoldable pub terra_otherwise_at : ℕ → List Token → Outcome Tree
-terra_otherwise_at levels ts =
-    if begins (is symbols.Else) ts then (open_at symbols.Else levels ts >>= λ t a.
-    part_at (levels - 1) TerraStatements a >>= λ x rest. Took (Just x) rest) else Took Nothing ts
-
-unfoldable pub terra_step_at : ℕ → List Token → Outcome Tree
-terra_step_at levels ts =
-    if begins (is symbols.Comma) ts then (sign_at symbols.Comma ts >>= λ y a. part_at levels TerraExpression a
     >>= λ e rest. Took (Just e) rest) else Took Nothing ts
 
 -- a variable whose name Lua code gives
@@ -83,15 +59,6 @@ unfoldable pub terra_variables_at : ℕ → List Token → Outcome Tree
 terra_variables_at levels ts = terra_variable_at levels ts >>= λ v rest.
     more_terra_variables_at levels (More Nothing v) rest
 
-unfoldable pub terra_initial_values_at : ℕ → List Token → Outcome Tree
-terra_initial_values_at levels ts =
-    if begins (is symbols.Equal) ts then (sign_at symbols.Equal ts >>= λ y a. terra_expressions_at levels a)
-    else Took Nothing ts
-
-unfoldable pub terra_returned_values_at : ℕ → List Token → Outcome Tree
-terra_returned_values_at levels ts = if begins (among terra.terra_expression_symbols) ts then
-    terra_expressions_at levels ts else Took Nothing ts
-
 -- ---- assignments, calls and splices
 
 abbrev pub is_escape : Shape → Bool
@@ -107,8 +74,8 @@ terra_target_at levels ts =
 -- more targets and the values behind a list of targets
 unfoldable pub terra_assignment_at : ℕ → Place → Tree → List Token → Outcome Tree
 terra_assignment_at levels place before ts =
-    more_terra_expressions_at levels before ts >>= λ targets a. sign_at symbols.Equal a >>= λ y b.
-    terra_expressions_at levels b >>= λ es rest.
+    more_expressions_at levels codes.Terra before ts >>= λ targets a. sign_at symbols.Equal a >>= λ y b.
+    expressions_at levels codes.Terra b >>= λ es rest.
     Took (TerraAssign place targets es) rest
 
 abbrev pub assignment_symbols : List Symbol
@@ -133,7 +100,7 @@ terra_do_at levels ts =
 
 unfoldable pub terra_while_at : ℕ → List Token → Outcome Tree
 terra_while_at levels ts = sign_at symbols.While ts >>= λ t a. part_at levels TerraExpression a >>= λ e b.
-    terra_loop_at levels b >>= λ x rest. Took (TerraWhile t.place e x) rest
+    loop_at levels block_codes.Terra b >>= λ x rest. Took (TerraWhile t.place e x) rest
 
 unfoldable pub terra_repeat_at : ℕ → List Token → Outcome Tree
 terra_repeat_at levels ts =
@@ -143,7 +110,7 @@ terra_repeat_at levels ts =
 
 unfoldable pub terra_if_at : ℕ → List Token → Outcome Tree
 terra_if_at levels ts =
-    sign_at symbols.If ts >>= λ t a. terra_arms_at levels a >>= λ all b. terra_otherwise_at levels b >>= λ o d.
+    sign_at symbols.If ts >>= λ t a. arms_at levels block_codes.Terra a >>= λ all b. otherwise_at levels block_codes.Terra b >>= λ o d.
     sign_at symbols.End d >>= λ y rest.
     Took (TerraIf t.place all o) rest
 
@@ -151,13 +118,13 @@ unfoldable pub terra_for_at : ℕ → List Token → Outcome Tree
 terra_for_at levels ts =
     sign_at symbols.For ts >>= λ t a. terra_name_at levels a >>= λ n b. sign_at symbols.Equal b >>= λ y d.
     part_at levels TerraExpression d >>= λ first e.
-    sign_at symbols.Comma e >>= λ z f. part_at levels TerraExpression f >>= λ limit g. terra_step_at levels g >>= λ s h.
-    terra_loop_at levels h >>= λ x rest.
+    sign_at symbols.Comma e >>= λ z f. part_at levels TerraExpression f >>= λ limit g. step_at levels codes.Terra g >>= λ s h.
+    loop_at levels block_codes.Terra h >>= λ x rest.
     Took (TerraFor t.place n first limit s x) rest
 
 unfoldable pub terra_var_at : ℕ → List Token → Outcome Tree
 terra_var_at levels ts =
-    sign_at symbols.Var ts >>= λ t a. terra_variables_at levels a >>= λ vs b. terra_initial_values_at levels b
+    sign_at symbols.Var ts >>= λ t a. terra_variables_at levels a >>= λ vs b. initial_values_at levels codes.Terra b
     >>= λ es rest. Took (Var t.place vs es) rest
 
 unfoldable pub escape_block_at : ℕ → List Token → Outcome Tree
@@ -167,7 +134,7 @@ escape_block_at levels ts =
     Took (EscapeBlock t.place x) rest
 
 unfoldable pub terra_return_at : ℕ → List Token → Outcome Tree
-terra_return_at levels ts = sign_at symbols.Return ts >>= λ t a. terra_returned_values_at levels a
+terra_return_at levels ts = sign_at symbols.Return ts >>= λ t a. returned_values_at levels codes.Terra a
     >>= λ es rest. Took (TerraReturn t.place es) rest
 
 unfoldable pub terra_break_at : List Token → Outcome Tree

@@ -1,4 +1,4 @@
-// Reading of Lua expressions (Lua 5.1 manual, section 2.5).
+// Reading of Lua expressions (Lua 5.1 manual, section 2.5), and of lists of expressions of either language.
 ghost use Rattle.std.specs.Prelude.{◌≡◌, ◌<◌, ◌≤◌, ◌-◌, ℕ, length, true, false, IfOk, IfErr, [], ◌∷◌};
 ghost use Rattle.tl_tree.specs.Symbols.{has};
 ghost use Rattle.tl_tree.specs.Forms as forms;
@@ -9,6 +9,7 @@ ghost use Rattle.tl_tree.specs.Grammar.{begins};
 ghost use Rattle.tl_parse.specs.Parsing.{tokens_left, Fails, TookToken, TookTree, TookOperand, TookList};
 ghost use Rattle.tl_parse.specs.Parsing.{TookMaybe};
 ghost use Rattle.tl_parse.specs.Using.{part_at, number_at};
+ghost use Rattle.tl_parse.specs.Codes.{expression_in, arguments_in};
 ghost use Rattle.tl_parse.specs.Expressions.{name_at, expressions_at, next_expression_at, arguments_at, paren_at};
 ghost use Rattle.tl_parse.specs.Expressions.{base_at, call_suffix_at, index_suffix_at, select_suffix_at};
 ghost use Rattle.tl_parse.specs.Expressions.{listed_arguments_at, table_argument_at, method_arguments_at, method_suffix_at};
@@ -21,7 +22,7 @@ ghost use Rattle.tl_parse.specs.Expressions.{simple_symbols, separators};
 ghost use Rattle.tl_parse.specs.Going.{TookOperation, TookSuffix};
 
 use crate::error::SyntaxError;
-use crate::parser::{CHAIN, Next, Operand, Parser, add};
+use crate::parser::{CHAIN, Code, Next, Operand, Parser, add};
 use crate::symbols::{CONCATENATION, rank_behind};
 use tl_base::NodeId;
 use tl_tree::{Expression, Mode, Node, NodeList, Piece, Shape, Symbol, UnaryOperator};
@@ -157,6 +158,19 @@ impl<'a> Parser<'a> {
         Ok(a.node)
     }
 
+    /// exp, or texp
+    #[cycle(parser)]
+    #[tactic(auto)]
+    pub(crate) fn expression_of(&mut self, code: Code, levels: u32) -> Result<NodeId, SyntaxError>
+        ensures ok { IfOk result (λ r. TookTree self.old self.new (part_at levels (expression_in code) (tokens_left self.old)) r) }
+        ensures err { IfErr result (λ e. Fails self.old (part_at levels (expression_in code) (tokens_left self.old)) e) }
+    {
+        match code {
+            Code::Lua(mode) => self.expression(mode, levels),
+            Code::Terra => self.terra_expression(levels),
+        }
+    }
+
     /// exp = .. operator exp: the operand of a prefix operator, and the right operand of "^"
     #[cycle(parser)]
     #[tactic(auto, using(crate::proofs::Failing::failing_same, crate::proofs::Parts::operand_part))]
@@ -179,41 +193,41 @@ impl<'a> Parser<'a> {
         Ok(a.node)
     }
 
-    /// [exps], up to a ")"
+    /// [exps] or [texps], up to a ")"
     #[cycle(parser)]
     #[tactic(auto, using(crate::proofs::Parts::arguments), unfolding(crate::specs::Expressions::arguments_at))]
-    fn arguments(&mut self, mode: Mode, levels: u32) -> Result<NodeList, SyntaxError>
-        ensures ok { IfOk result (λ r. TookList self.old self.new (part_at levels (parts.Arguments mode) (tokens_left self.old)) r) }
-        ensures err { IfErr result (λ e. Fails self.old (part_at levels (parts.Arguments mode) (tokens_left self.old)) e) }
+    pub(crate) fn arguments(&mut self, code: Code, levels: u32) -> Result<NodeList, SyntaxError>
+        ensures ok { IfOk result (λ r. TookList self.old self.new (part_at levels (arguments_in code) (tokens_left self.old)) r) }
+        ensures err { IfErr result (λ e. Fails self.old (part_at levels (arguments_in code) (tokens_left self.old)) e) }
     {
         if self.next_is(Symbol::CloseParen) {
             return Ok(self.no_nodes());
         }
-        self.expressions(mode, levels)
+        self.expressions(code, levels)
     }
 
-    /// "," exp
+    /// "," exp, or "," texp
     #[cycle(parser)]
     #[tactic(auto, using(crate::proofs::Failing::failing), unfolding(crate::specs::Expressions::next_expression_at))]
-    fn next_expression(&mut self, mode: Mode, levels: u32) -> Result<NodeId, SyntaxError>
-        ensures ok { IfOk result (λ r. TookTree self.old self.new (next_expression_at levels mode (tokens_left self.old)) r) }
-        ensures err { IfErr result (λ e. Fails self.old (next_expression_at levels mode (tokens_left self.old)) e) }
+    pub(crate) fn next_expression(&mut self, code: Code, levels: u32) -> Result<NodeId, SyntaxError>
+        ensures ok { IfOk result (λ r. TookTree self.old self.new (next_expression_at levels code (tokens_left self.old)) r) }
+        ensures err { IfErr result (λ e. Fails self.old (next_expression_at levels code (tokens_left self.old)) e) }
     {
         read!(self.take(Symbol::Comma));
-        self.expression(mode, levels)
+        self.expression_of(code, levels)
     }
 
-    /// exps = exp {"," exp}
+    /// exps = exp {"," exp}, or texps = texp {"," texp}
     #[cycle(parser)]
     #[tactic(auto, using(crate::proofs::Turns::expressions), unfolding(crate::specs::Expressions::expressions_at))]
-    pub(crate) fn expressions(&mut self, mode: Mode, levels: u32) -> Result<NodeList, SyntaxError>
-        ensures ok { IfOk result (λ r. TookList self.old self.new (expressions_at levels mode (tokens_left self.old)) r) }
-        ensures err { IfErr result (λ e. Fails self.old (expressions_at levels mode (tokens_left self.old)) e) }
+    pub(crate) fn expressions(&mut self, code: Code, levels: u32) -> Result<NodeList, SyntaxError>
+        ensures ok { IfOk result (λ r. TookList self.old self.new (expressions_at levels code (tokens_left self.old)) r) }
+        ensures err { IfErr result (λ e. Fails self.old (expressions_at levels code (tokens_left self.old)) e) }
     {
-        let first = read!(self.expression(mode, levels));
+        let first = read!(self.expression_of(code, levels));
         let mut list = read!(self.one_node(first));
         'more: while self.next_is(Symbol::Comma) {
-            let next = read!(self.next_expression(mode, levels));
+            let next = read!(self.next_expression(code, levels));
             read!(add(&mut list, next));
         }
         Ok(list)
@@ -263,7 +277,7 @@ impl<'a> Parser<'a> {
         ensures err { IfErr result (λ e. Fails self.old (call_suffix_at levels mode a.left (tokens_left self.old)) e) }
     {
         let place = read!(self.open_call(levels, a.left));
-        let arguments = read!(self.arguments(mode, levels - 1));
+        let arguments = read!(self.arguments(Code::Lua(mode), levels - 1));
         read!(self.take(Symbol::CloseParen));
         self.push_operand(
             Node::Expression(place, Expression::Call(a.node, arguments)),
@@ -368,7 +382,7 @@ impl<'a> Parser<'a> {
         ensures err { IfErr result (λ e. Fails self.old (listed_arguments_at levels mode (tokens_left self.old)) e) }
     {
         read!(self.open(Symbol::OpenParen, levels));
-        let arguments = read!(self.arguments(mode, levels - 1));
+        let arguments = read!(self.arguments(Code::Lua(mode), levels - 1));
         read!(self.take(Symbol::CloseParen));
         Ok(arguments)
     }

@@ -73,6 +73,20 @@ pub(crate) struct Operand {
     pub(crate) shape: Shape,
 }
 
+/// The language of an expression.
+#[derive(Clone, Copy)]
+pub(crate) enum Code {
+    Lua(Mode),
+    Terra,
+}
+
+/// The language of a block.
+#[derive(Clone, Copy)]
+pub(crate) enum BlockCode {
+    Lua(Context),
+    Terra,
+}
+
 /// Reads tokens from left to right, one ahead, and keeps the nodes that it made.
 #[derive(Drop)]
 pub(crate) struct Parser<'a> {

@@ -1,4 +1,4 @@
-// Reading of Lua statements and functions (Lua 5.1 manual, sections 2.4 and 2.5.9).
+// Reading of Lua statements and functions (Lua 5.1 manual, sections 2.4 and 2.5.9), and of what statements of either language hold.
 ghost use Rattle.std.specs.Prelude.{◌≡◌, ◌<◌, ◌≤◌, ◌-◌, ℕ, length, true, false, IfOk, IfErr, [], ◌∷◌};
 ghost use Rattle.tl_base.specs.declared.place.Place.{Place};
 ghost use Rattle.tl_tree.specs.Symbols.{has, is_bad};
@@ -8,6 +8,7 @@ ghost use Rattle.tl_tree.specs.Grammar.{begins};
 ghost use Rattle.tl_tree.specs.Tokens.{among};
 ghost use Rattle.tl_parse.specs.Parsing.{tokens_left, Fails, HasNext, TookTree, TookList, TookOption, TookMaybe};
 ghost use Rattle.tl_parse.specs.Using.{part_at};
+ghost use Rattle.tl_parse.specs.Codes.{code_of, statements_in, looped_code, first_symbols};
 ghost use Rattle.tl_parse.specs.Statements.{first_place, is_unsettled, variable_at, next_target_at, is_call};
 ghost use Rattle.tl_parse.specs.Statements.{values_at, call_or_assignment_at, do_at, loop_at, while_at, repeat_at};
 ghost use Rattle.tl_parse.specs.Statements.{arm_at, next_arm_at, arms_at, otherwise_at, if_at, step_at, numeric_at};
@@ -20,12 +21,12 @@ ghost use Rattle.tl_parse.specs.Paths.{names_at, next_name_at, behind_sign_at, p
 ghost use Rattle.tl_parse.specs.Going.{TookNumeric, TookGeneric, TookParameters, TookStatement};
 
 use crate::error::SyntaxError;
-use crate::parser::{Parser, add};
+use crate::parser::{BlockCode, Code, Parser, add};
 use tl_base::{NodeId, Place};
 use tl_tree::{Context, Mode, Node, NodeList, Piece, Shape, Statement, Symbol};
 
 /// What a numeric `for` has behind its name.
-#[derive(Drop)]
+#[derive(Clone, Copy)]
 pub(crate) struct Numeric {
     from: NodeId,
     limit: NodeId,
@@ -52,6 +53,23 @@ static EXPRESSION: [Symbol; 18] = [
     Symbol::Struct,
     Symbol::Quote,
     Symbol::Backtick,
+];
+
+static TERRA_EXPRESSION: [Symbol; 14] = [
+    Symbol::Name,
+    Symbol::Numeral,
+    Symbol::LongNumeral,
+    Symbol::UnsignedNumeral,
+    Symbol::Literal,
+    Symbol::Nil,
+    Symbol::False,
+    Symbol::True,
+    Symbol::OpenParen,
+    Symbol::OpenBracket,
+    Symbol::Not,
+    Symbol::Minus,
+    Symbol::At,
+    Symbol::Ampersand,
 ];
 
 static DEFINITION: [Symbol; 2] = [Symbol::Terra, Symbol::Struct];
@@ -86,6 +104,37 @@ fn looped(context: Context) -> Context
         mode: context.mode,
         in_loop: true,
         emits: context.emits,
+    }
+}
+
+/// The same in either language.
+fn looped_code(block: BlockCode) -> BlockCode
+    ensures { result ≡ looped_code block }
+{
+    match block {
+        BlockCode::Lua(context) => BlockCode::Lua(looped(context)),
+        BlockCode::Terra => BlockCode::Terra,
+    }
+}
+
+/// The language of the expressions in a block.
+fn code_of(block: BlockCode) -> Code
+    ensures { result ≡ code_of block }
+{
+    match block {
+        BlockCode::Lua(context) => Code::Lua(context.mode),
+        BlockCode::Terra => Code::Terra,
+    }
+}
+
+/// The tokens that begin an expression.
+fn first_symbols(code: Code) -> &'static [Symbol]
+    ensures symbols { result.now ≡ first_symbols code }
+    ensures good { has result.now 65 ≡ false }
+{
+    match code {
+        Code::Lua(_) => &EXPRESSION,
+        Code::Terra => &TERRA_EXPRESSION,
     }
 }
 
@@ -203,15 +252,15 @@ impl<'a> Parser<'a> {
         self.variable(mode, levels)
     }
 
-    /// "=" exps
+    /// "=" exps, or "=" texps
     #[cycle(parser)]
     #[tactic(auto, using(crate::proofs::Failing::failing), unfolding(crate::specs::Statements::values_at))]
-    fn values(&mut self, mode: Mode, levels: u32) -> Result<NodeList, SyntaxError>
-        ensures ok { IfOk result (λ r. TookList self.old self.new (values_at levels mode (tokens_left self.old)) r) }
-        ensures err { IfErr result (λ e. Fails self.old (values_at levels mode (tokens_left self.old)) e) }
+    fn values(&mut self, code: Code, levels: u32) -> Result<NodeList, SyntaxError>
+        ensures ok { IfOk result (λ r. TookList self.old self.new (values_at levels code (tokens_left self.old)) r) }
+        ensures err { IfErr result (λ e. Fails self.old (values_at levels code (tokens_left self.old)) e) }
     {
         read!(self.take(Symbol::Equal));
-        self.expressions(mode, levels)
+        self.expressions(code, levels)
     }
 
     /// stat = var {"," var} "=" exps | call
@@ -232,7 +281,7 @@ impl<'a> Parser<'a> {
             let next = read!(self.next_target(mode, levels));
             read!(add(&mut targets, next));
         }
-        let values = read!(self.values(mode, levels));
+        let values = read!(self.values(Code::Lua(mode), levels));
         self.push(Node::Statement(place, Statement::Assign(targets, values)))
     }
 
@@ -249,17 +298,17 @@ impl<'a> Parser<'a> {
         self.push(Node::Statement(place, Statement::Do(block)))
     }
 
-    /// "do" block "end", of a loop
+    /// "do" block "end" or "do" tblock "end", of a loop
     #[cycle(parser)]
     #[tactic(auto, using(crate::proofs::Failing::failing), unfolding(crate::specs::Statements::loop_at))]
-    fn loop_block(&mut self, context: Context, levels: u32) -> Result<NodeId, SyntaxError>
-        ensures ok { IfOk result (λ r. TookTree self.old self.new (loop_at levels context (tokens_left self.old)) r) }
-        ensures err { IfErr result (λ e. Fails self.old (loop_at levels context (tokens_left self.old)) e) }
+    pub(crate) fn loop_block(&mut self, block: BlockCode, levels: u32) -> Result<NodeId, SyntaxError>
+        ensures ok { IfOk result (λ r. TookTree self.old self.new (loop_at levels block (tokens_left self.old)) r) }
+        ensures err { IfErr result (λ e. Fails self.old (loop_at levels block (tokens_left self.old)) e) }
     {
         read!(self.open(Symbol::Do, levels));
-        let block = read!(self.block(looped(context), levels - 1));
+        let body = read!(self.block_of(looped_code(block), levels - 1));
         read!(self.take(Symbol::End));
-        Ok(block)
+        Ok(body)
     }
 
     /// stat = "while" exp "do" block "end"
@@ -271,7 +320,7 @@ impl<'a> Parser<'a> {
     {
         let place = read!(self.take(Symbol::While));
         let condition = read!(self.expression(context.mode, levels));
-        let block = read!(self.loop_block(context, levels));
+        let block = read!(self.loop_block(BlockCode::Lua(context), levels));
         self.push(Node::Statement(place, Statement::While(condition, block)))
     }
 
@@ -289,57 +338,61 @@ impl<'a> Parser<'a> {
         self.push(Node::Statement(place, Statement::Repeat(block, condition)))
     }
 
-    /// exp "then" block
+    /// exp "then" block, or texp "then" tblock
     #[cycle(parser)]
     #[tactic(auto, using(crate::proofs::Failing::failing), unfolding(crate::specs::Statements::arm_at))]
-    fn arm(&mut self, context: Context, levels: u32) -> Result<NodeId, SyntaxError>
-        ensures ok { IfOk result (λ r. TookTree self.old self.new (arm_at levels context (tokens_left self.old)) r) }
-        ensures err { IfErr result (λ e. Fails self.old (arm_at levels context (tokens_left self.old)) e) }
+    fn arm(&mut self, block: BlockCode, levels: u32) -> Result<NodeId, SyntaxError>
+        ensures ok { IfOk result (λ r. TookTree self.old self.new (arm_at levels block (tokens_left self.old)) r) }
+        ensures err { IfErr result (λ e. Fails self.old (arm_at levels block (tokens_left self.old)) e) }
     {
-        let condition = read!(self.expression(context.mode, levels));
+        let condition = read!(self.expression_of(code_of(block), levels));
         read!(self.open(Symbol::Then, levels));
-        let block = read!(self.block(context, levels - 1));
-        self.push(Node::Piece(Piece::Arm(condition, block)))
+        let body = read!(self.block_of(block, levels - 1));
+        self.push(Node::Piece(Piece::Arm(condition, body)))
     }
 
-    /// "elseif" exp "then" block
+    /// "elseif" exp "then" block, or "elseif" texp "then" tblock
     #[cycle(parser)]
     #[tactic(auto, using(crate::proofs::Failing::failing), unfolding(crate::specs::Statements::next_arm_at))]
-    fn next_arm(&mut self, context: Context, levels: u32) -> Result<NodeId, SyntaxError>
-        ensures ok { IfOk result (λ r. TookTree self.old self.new (next_arm_at levels context (tokens_left self.old)) r) }
-        ensures err { IfErr result (λ e. Fails self.old (next_arm_at levels context (tokens_left self.old)) e) }
+    fn next_arm(&mut self, block: BlockCode, levels: u32) -> Result<NodeId, SyntaxError>
+        ensures ok { IfOk result (λ r. TookTree self.old self.new (next_arm_at levels block (tokens_left self.old)) r) }
+        ensures err { IfErr result (λ e. Fails self.old (next_arm_at levels block (tokens_left self.old)) e) }
     {
         read!(self.take(Symbol::Elseif));
-        self.arm(context, levels)
+        self.arm(block, levels)
     }
 
-    /// exp "then" block {"elseif" exp "then" block}
+    /// exp "then" block {"elseif" exp "then" block}, or texp "then" tblock {"elseif" texp "then" tblock}
     #[cycle(parser)]
-    #[tactic(auto, using(crate::proofs::StatementTurns::arms), unfolding(crate::specs::Statements::arms_at))]
-    fn arms(&mut self, context: Context, levels: u32) -> Result<NodeList, SyntaxError>
-        ensures ok { IfOk result (λ r. TookList self.old self.new (arms_at levels context (tokens_left self.old)) r) }
-        ensures err { IfErr result (λ e. Fails self.old (arms_at levels context (tokens_left self.old)) e) }
+    #[tactic(auto, using(crate::proofs::TerraStatementTurns::arms), unfolding(crate::specs::Statements::arms_at))]
+    pub(crate) fn arms(&mut self, block: BlockCode, levels: u32) -> Result<NodeList, SyntaxError>
+        ensures ok { IfOk result (λ r. TookList self.old self.new (arms_at levels block (tokens_left self.old)) r) }
+        ensures err { IfErr result (λ e. Fails self.old (arms_at levels block (tokens_left self.old)) e) }
     {
-        let first = read!(self.arm(context, levels));
+        let first = read!(self.arm(block, levels));
         let mut list = read!(self.one_node(first));
         'more: while self.next_is(Symbol::Elseif) {
-            let next = read!(self.next_arm(context, levels));
+            let next = read!(self.next_arm(block, levels));
             read!(add(&mut list, next));
         }
         Ok(list)
     }
 
-    /// ["else" block]
+    /// ["else" block], or ["else" tblock]
     #[cycle(parser)]
     #[tactic(auto, using(crate::proofs::Failing::failing), unfolding(crate::specs::Statements::otherwise_at))]
-    fn otherwise(&mut self, context: Context, levels: u32) -> Result<Option<NodeId>, SyntaxError>
-        ensures ok { IfOk result (λ r. TookOption self.old self.new (otherwise_at levels context (tokens_left self.old)) r) }
-        ensures err { IfErr result (λ e. Fails self.old (otherwise_at levels context (tokens_left self.old)) e) }
+    pub(crate) fn otherwise(
+        &mut self,
+        block: BlockCode,
+        levels: u32,
+    ) -> Result<Option<NodeId>, SyntaxError>
+        ensures ok { IfOk result (λ r. TookOption self.old self.new (otherwise_at levels block (tokens_left self.old)) r) }
+        ensures err { IfErr result (λ e. Fails self.old (otherwise_at levels block (tokens_left self.old)) e) }
     {
         if self.next_is(Symbol::Else) {
             read!(self.open(Symbol::Else, levels));
-            let block = read!(self.block(context, levels - 1));
-            return Ok(Some(block));
+            let body = read!(self.block_of(block, levels - 1));
+            return Ok(Some(body));
         }
         Ok(None)
     }
@@ -352,22 +405,22 @@ impl<'a> Parser<'a> {
         ensures err { IfErr result (λ e. Fails self.old (if_at levels context (tokens_left self.old)) e) }
     {
         let place = read!(self.take(Symbol::If));
-        let arms = read!(self.arms(context, levels));
-        let otherwise = read!(self.otherwise(context, levels));
+        let arms = read!(self.arms(BlockCode::Lua(context), levels));
+        let otherwise = read!(self.otherwise(BlockCode::Lua(context), levels));
         read!(self.take(Symbol::End));
         self.push(Node::Statement(place, Statement::If(arms, otherwise)))
     }
 
-    /// ["," exp]
+    /// ["," exp], or ["," texp]
     #[cycle(parser)]
     #[tactic(auto, using(crate::proofs::Failing::failing), unfolding(crate::specs::Statements::step_at))]
-    fn step(&mut self, mode: Mode, levels: u32) -> Result<Option<NodeId>, SyntaxError>
-        ensures ok { IfOk result (λ r. TookOption self.old self.new (step_at levels mode (tokens_left self.old)) r) }
-        ensures err { IfErr result (λ e. Fails self.old (step_at levels mode (tokens_left self.old)) e) }
+    pub(crate) fn step(&mut self, code: Code, levels: u32) -> Result<Option<NodeId>, SyntaxError>
+        ensures ok { IfOk result (λ r. TookOption self.old self.new (step_at levels code (tokens_left self.old)) r) }
+        ensures err { IfErr result (λ e. Fails self.old (step_at levels code (tokens_left self.old)) e) }
     {
         if self.next_is(Symbol::Comma) {
             read!(self.take(Symbol::Comma));
-            let step = read!(self.expression(mode, levels));
+            let step = read!(self.expression_of(code, levels));
             return Ok(Some(step));
         }
         Ok(None)
@@ -384,8 +437,8 @@ impl<'a> Parser<'a> {
         let from = read!(self.expression(context.mode, levels));
         read!(self.take(Symbol::Comma));
         let limit = read!(self.expression(context.mode, levels));
-        let step = read!(self.step(context.mode, levels));
-        let block = read!(self.loop_block(context, levels));
+        let step = read!(self.step(Code::Lua(context.mode), levels));
+        let block = read!(self.loop_block(BlockCode::Lua(context), levels));
         Ok(Numeric {
             from,
             limit,
@@ -402,8 +455,8 @@ impl<'a> Parser<'a> {
         ensures err { IfErr result (λ e. Fails self.old (generic_at levels context (tokens_left self.old)) e) }
     {
         read!(self.take(Symbol::In));
-        let values = read!(self.expressions(context.mode, levels));
-        let block = read!(self.loop_block(context, levels));
+        let values = read!(self.expressions(Code::Lua(context.mode), levels));
+        let block = read!(self.loop_block(BlockCode::Lua(context), levels));
         Ok((values, block))
     }
 
@@ -460,15 +513,15 @@ impl<'a> Parser<'a> {
         self.push(Node::Statement(place, Statement::LocalFunction(name, body)))
     }
 
-    /// ["=" exps]
+    /// ["=" exps], or ["=" texps]
     #[cycle(parser)]
     #[tactic(auto, using(crate::proofs::Failing::failing), unfolding(crate::specs::Statements::initial_values_at))]
-    fn initial_values(&mut self, mode: Mode, levels: u32) -> Result<NodeList, SyntaxError>
-        ensures ok { IfOk result (λ r. TookList self.old self.new (initial_values_at levels mode (tokens_left self.old)) r) }
-        ensures err { IfErr result (λ e. Fails self.old (initial_values_at levels mode (tokens_left self.old)) e) }
+    pub(crate) fn initial_values(&mut self, code: Code, levels: u32) -> Result<NodeList, SyntaxError>
+        ensures ok { IfOk result (λ r. TookList self.old self.new (initial_values_at levels code (tokens_left self.old)) r) }
+        ensures err { IfErr result (λ e. Fails self.old (initial_values_at levels code (tokens_left self.old)) e) }
     {
         if self.next_is(Symbol::Equal) {
-            return self.values(mode, levels);
+            return self.values(code, levels);
         }
         Ok(self.no_nodes())
     }
@@ -481,7 +534,7 @@ impl<'a> Parser<'a> {
         ensures err { IfErr result (λ e. Fails self.old (local_names_at levels mode place (tokens_left self.old)) e) }
     {
         let names = read!(self.names(levels));
-        let values = read!(self.initial_values(mode, levels));
+        let values = read!(self.initial_values(Code::Lua(mode), levels));
         self.push(Node::Statement(place, Statement::Local(names, values)))
     }
 
@@ -502,15 +555,15 @@ impl<'a> Parser<'a> {
         self.local_names(context.mode, levels, place)
     }
 
-    /// [exps], behind "return"
+    /// [exps] or [texps], behind "return"
     #[cycle(parser)]
     #[tactic(auto, using(crate::proofs::Failing::failing), unfolding(crate::specs::Statements::returned_values_at))]
-    fn returned_values(&mut self, mode: Mode, levels: u32) -> Result<NodeList, SyntaxError>
-        ensures ok { IfOk result (λ r. TookList self.old self.new (returned_values_at levels mode (tokens_left self.old)) r) }
-        ensures err { IfErr result (λ e. Fails self.old (returned_values_at levels mode (tokens_left self.old)) e) }
+    pub(crate) fn returned_values(&mut self, code: Code, levels: u32) -> Result<NodeList, SyntaxError>
+        ensures ok { IfOk result (λ r. TookList self.old self.new (returned_values_at levels code (tokens_left self.old)) r) }
+        ensures err { IfErr result (λ e. Fails self.old (returned_values_at levels code (tokens_left self.old)) e) }
     {
-        if self.next_is_among(&EXPRESSION) {
-            return self.expressions(mode, levels);
+        if self.next_is_among(first_symbols(code)) {
+            return self.expressions(code, levels);
         }
         Ok(self.no_nodes())
     }
@@ -523,7 +576,7 @@ impl<'a> Parser<'a> {
         ensures err { IfErr result (λ e. Fails self.old (return_at levels mode (tokens_left self.old)) e) }
     {
         let place = read!(self.take(Symbol::Return));
-        let values = read!(self.returned_values(mode, levels));
+        let values = read!(self.returned_values(Code::Lua(mode), levels));
         self.push(Node::Statement(place, Statement::Return(values)))
     }
 
@@ -632,6 +685,19 @@ impl<'a> Parser<'a> {
             ended = ends;
         }
         self.push(Node::Piece(Piece::Block(list)))
+    }
+
+    /// block, or tblock
+    #[cycle(parser)]
+    #[tactic(auto)]
+    fn block_of(&mut self, block: BlockCode, levels: u32) -> Result<NodeId, SyntaxError>
+        ensures ok { IfOk result (λ r. TookTree self.old self.new (part_at levels (statements_in block) (tokens_left self.old)) r) }
+        ensures err { IfErr result (λ e. Fails self.old (part_at levels (statements_in block) (tokens_left self.old)) e) }
+    {
+        match block {
+            BlockCode::Lua(context) => self.block(context, levels),
+            BlockCode::Terra => self.terra_block(levels),
+        }
     }
 
     /// Name | "..."

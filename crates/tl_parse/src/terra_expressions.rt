@@ -17,15 +17,15 @@ ghost use Rattle.tl_parse.specs.TerraExpressions.{terra_number_at, terra_number_
 ghost use Rattle.tl_parse.specs.TerraExpressions.{terra_simple_at, terra_simple_symbols, terra_primary_at};
 ghost use Rattle.tl_parse.specs.TerraExpressions.{terra_prefixed_at, terra_exponent_at, terra_unary_at};
 ghost use Rattle.tl_parse.specs.TerraExpressions.{terra_symbols_of, terra_inner_at, terra_first_at};
-ghost use Rattle.tl_parse.specs.TerraExpressions.{terra_one_more_at, terra_binary_at, next_terra_expression_at};
-ghost use Rattle.tl_parse.specs.TerraExpressions.{terra_expressions_at, terra_arguments_at, named_initialiser_at};
+ghost use Rattle.tl_parse.specs.TerraExpressions.{terra_one_more_at, terra_binary_at};
+ghost use Rattle.tl_parse.specs.TerraExpressions.{named_initialiser_at};
 ghost use Rattle.tl_parse.specs.TerraExpressions.{initialiser_at, first_initialiser_at, next_initialiser_at};
 ghost use Rattle.tl_parse.specs.TerraExpressions.{initialisers_at};
 ghost use Rattle.tl_parse.specs.TerraGoing.{TerraJoined, TookTerraSuffix, TookInitialiser};
 
 use crate::error::SyntaxError;
 use crate::expressions::{is_name, unary_of};
-use crate::parser::{CHAIN, Next, Operand, Parser, add, binary_of};
+use crate::parser::{CHAIN, Code, Next, Operand, Parser, add, binary_of};
 use tl_base::NodeId;
 use tl_tree::{Mode, Node, NodeList, Piece, Shape, Symbol, TerraExpression};
 
@@ -262,7 +262,7 @@ impl<'a> Parser<'a> {
         ensures err { IfErr result (λ e. Fails self.old (terra_call_suffix_at levels a.left (tokens_left self.old)) e) }
     {
         let place = read!(self.open_call(levels, a.left));
-        let arguments = read!(self.terra_arguments(levels - 1));
+        let arguments = read!(self.arguments(Code::Terra, levels - 1));
         read!(self.take(Symbol::CloseParen));
         self.push_operand(
             Node::TerraExpression(place, TerraExpression::Call(a.node, arguments)),
@@ -316,7 +316,7 @@ impl<'a> Parser<'a> {
         let place = read!(self.suffix_sign(&COLON, a.left));
         let name = read!(self.terra_name(levels));
         read!(self.open(Symbol::OpenParen, levels));
-        let arguments = read!(self.terra_arguments(levels - 1));
+        let arguments = read!(self.arguments(Code::Terra, levels - 1));
         read!(self.take(Symbol::CloseParen));
         self.push_operand(
             Node::TerraExpression(place, TerraExpression::Method(a.node, name, arguments)),
@@ -556,46 +556,6 @@ impl<'a> Parser<'a> {
     {
         let a = read!(self.terra_binary(TerraPrecedence::Disjunction, levels, CHAIN));
         Ok(a.node)
-    }
-
-    /// "," texp
-    #[cycle(parser)]
-    #[tactic(auto, using(crate::proofs::Failing::failing), unfolding(crate::specs::TerraExpressions::next_terra_expression_at))]
-    pub(crate) fn next_terra_expression(&mut self, levels: u32) -> Result<NodeId, SyntaxError>
-        ensures ok { IfOk result (λ r. TookTree self.old self.new (next_terra_expression_at levels (tokens_left self.old)) r) }
-        ensures err { IfErr result (λ e. Fails self.old (next_terra_expression_at levels (tokens_left self.old)) e) }
-    {
-        read!(self.take(Symbol::Comma));
-        self.terra_expression(levels)
-    }
-
-    /// texps = texp {"," texp}
-    #[cycle(parser)]
-    #[tactic(auto, using(crate::proofs::TerraTurns::expressions), unfolding(crate::specs::TerraExpressions::terra_expressions_at))]
-    pub(crate) fn terra_expressions(&mut self, levels: u32) -> Result<NodeList, SyntaxError>
-        ensures ok { IfOk result (λ r. TookList self.old self.new (terra_expressions_at levels (tokens_left self.old)) r) }
-        ensures err { IfErr result (λ e. Fails self.old (terra_expressions_at levels (tokens_left self.old)) e) }
-    {
-        let first = read!(self.terra_expression(levels));
-        let mut list = read!(self.one_node(first));
-        'more: while self.next_is(Symbol::Comma) {
-            let next = read!(self.next_terra_expression(levels));
-            read!(add(&mut list, next));
-        }
-        Ok(list)
-    }
-
-    /// [texps], up to a ")"
-    #[cycle(parser)]
-    #[tactic(auto, using(crate::proofs::TerraParts::arguments), unfolding(crate::specs::TerraExpressions::terra_arguments_at))]
-    fn terra_arguments(&mut self, levels: u32) -> Result<NodeList, SyntaxError>
-        ensures ok { IfOk result (λ r. TookList self.old self.new (part_at levels parts.TerraArguments (tokens_left self.old)) r) }
-        ensures err { IfErr result (λ e. Fails self.old (part_at levels parts.TerraArguments (tokens_left self.old)) e) }
-    {
-        if self.next_is(Symbol::CloseParen) {
-            return Ok(self.no_nodes());
-        }
-        self.terra_expressions(levels)
     }
 
     /// init = Name "=" texp

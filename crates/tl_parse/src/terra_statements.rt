@@ -8,11 +8,10 @@ ghost use Rattle.tl_parse.specs.Parsing.{TookOption};
 ghost use Rattle.tl_parse.specs.Using.{part_at};
 ghost use Rattle.tl_parse.specs.Going.{TookStatement};
 ghost use Rattle.tl_parse.specs.Statements.{is_call};
-ghost use Rattle.tl_parse.specs.TerraStatements.{written_type_at, terra_loop_at, terra_arm_at, next_terra_arm_at};
-ghost use Rattle.tl_parse.specs.TerraStatements.{terra_arms_at, terra_otherwise_at, terra_step_at};
+ghost use Rattle.tl_parse.specs.TerraStatements.{written_type_at};
 ghost use Rattle.tl_parse.specs.TerraStatements.{terra_variable_at, spliced_variable_at, named_variable_at};
-ghost use Rattle.tl_parse.specs.TerraStatements.{next_terra_variable_at, terra_variables_at, terra_initial_values_at};
-ghost use Rattle.tl_parse.specs.TerraStatements.{terra_returned_values_at, terra_target_at};
+ghost use Rattle.tl_parse.specs.TerraStatements.{next_terra_variable_at, terra_variables_at};
+ghost use Rattle.tl_parse.specs.TerraStatements.{terra_target_at};
 ghost use Rattle.tl_parse.specs.TerraStatements.{terra_simple_statement_at, is_escape, terra_goes_on};
 ghost use Rattle.tl_parse.specs.TerraStatements.{terra_function_body_at, quoted_expression_at, quoted_code_at};
 ghost use Rattle.tl_parse.specs.TerraStatements.{terra_do_at, terra_while_at, terra_repeat_at, terra_if_at};
@@ -22,7 +21,7 @@ ghost use Rattle.tl_parse.specs.TerraStatements.{terra_parameter_at, spliced_par
 ghost use Rattle.tl_parse.specs.TerraStatements.{next_terra_parameter_at, terra_parameters_at};
 
 use crate::error::SyntaxError;
-use crate::parser::{CHAIN, Operand, Parser, add};
+use crate::parser::{BlockCode, CHAIN, Code, Operand, Parser, add};
 use crate::statements::is_call;
 use tl_base::{NodeId, Place};
 use tl_tree::{
@@ -35,23 +34,6 @@ const EMITTING: Context = Context {
     in_loop: false,
     emits: true,
 };
-
-static EXPRESSION: [Symbol; 14] = [
-    Symbol::Name,
-    Symbol::Numeral,
-    Symbol::LongNumeral,
-    Symbol::UnsignedNumeral,
-    Symbol::Literal,
-    Symbol::Nil,
-    Symbol::False,
-    Symbol::True,
-    Symbol::OpenParen,
-    Symbol::OpenBracket,
-    Symbol::Not,
-    Symbol::Minus,
-    Symbol::At,
-    Symbol::Ampersand,
-];
 
 static STATEMENT: [Symbol; 13] = [
     Symbol::Name,
@@ -94,89 +76,6 @@ impl<'a> Parser<'a> {
             read!(self.take(Symbol::Colon));
             let written = read!(self.expression(Mode::Types, levels));
             return Ok(Some(written));
-        }
-        Ok(None)
-    }
-
-    /// "do" tblock "end"
-    #[cycle(parser)]
-    #[tactic(auto, using(crate::proofs::Failing::failing), unfolding(crate::specs::TerraStatements::terra_loop_at))]
-    fn terra_loop(&mut self, levels: u32) -> Result<NodeId, SyntaxError>
-        ensures ok { IfOk result (λ r. TookTree self.old self.new (terra_loop_at levels (tokens_left self.old)) r) }
-        ensures err { IfErr result (λ e. Fails self.old (terra_loop_at levels (tokens_left self.old)) e) }
-    {
-        read!(self.open(Symbol::Do, levels));
-        let block = read!(self.terra_block(levels - 1));
-        read!(self.take(Symbol::End));
-        Ok(block)
-    }
-
-    /// texp "then" tblock
-    #[cycle(parser)]
-    #[tactic(auto, using(crate::proofs::Failing::failing), unfolding(crate::specs::TerraStatements::terra_arm_at))]
-    fn terra_arm(&mut self, levels: u32) -> Result<NodeId, SyntaxError>
-        ensures ok { IfOk result (λ r. TookTree self.old self.new (terra_arm_at levels (tokens_left self.old)) r) }
-        ensures err { IfErr result (λ e. Fails self.old (terra_arm_at levels (tokens_left self.old)) e) }
-    {
-        let condition = read!(self.terra_expression(levels));
-        read!(self.open(Symbol::Then, levels));
-        let block = read!(self.terra_block(levels - 1));
-        self.push(Node::Piece(Piece::Arm(condition, block)))
-    }
-
-    /// "elseif" texp "then" tblock
-    #[cycle(parser)]
-    #[tactic(auto, using(crate::proofs::Failing::failing), unfolding(crate::specs::TerraStatements::next_terra_arm_at))]
-    fn next_terra_arm(&mut self, levels: u32) -> Result<NodeId, SyntaxError>
-        ensures ok { IfOk result (λ r. TookTree self.old self.new (next_terra_arm_at levels (tokens_left self.old)) r) }
-        ensures err { IfErr result (λ e. Fails self.old (next_terra_arm_at levels (tokens_left self.old)) e) }
-    {
-        read!(self.take(Symbol::Elseif));
-        self.terra_arm(levels)
-    }
-
-    /// texp "then" tblock {"elseif" texp "then" tblock}
-    #[cycle(parser)]
-    #[tactic(auto, using(crate::proofs::TerraStatementTurns::arms), unfolding(crate::specs::TerraStatements::terra_arms_at))]
-    fn terra_arms(&mut self, levels: u32) -> Result<NodeList, SyntaxError>
-        ensures ok { IfOk result (λ r. TookList self.old self.new (terra_arms_at levels (tokens_left self.old)) r) }
-        ensures err { IfErr result (λ e. Fails self.old (terra_arms_at levels (tokens_left self.old)) e) }
-    {
-        let first = read!(self.terra_arm(levels));
-        let mut arms = read!(self.one_node(first));
-        'more: while self.next_is(Symbol::Elseif) {
-            let next = read!(self.next_terra_arm(levels));
-            read!(add(&mut arms, next));
-        }
-        Ok(arms)
-    }
-
-    /// ["else" tblock]
-    #[cycle(parser)]
-    #[tactic(auto, using(crate::proofs::Failing::failing), unfolding(crate::specs::TerraStatements::terra_otherwise_at))]
-    fn terra_otherwise(&mut self, levels: u32) -> Result<Option<NodeId>, SyntaxError>
-        ensures ok { IfOk result (λ r. TookOption self.old self.new (terra_otherwise_at levels (tokens_left self.old)) r) }
-        ensures err { IfErr result (λ e. Fails self.old (terra_otherwise_at levels (tokens_left self.old)) e) }
-    {
-        if self.next_is(Symbol::Else) {
-            read!(self.open(Symbol::Else, levels));
-            let block = read!(self.terra_block(levels - 1));
-            return Ok(Some(block));
-        }
-        Ok(None)
-    }
-
-    /// ["," texp]
-    #[cycle(parser)]
-    #[tactic(auto, using(crate::proofs::Failing::failing), unfolding(crate::specs::TerraStatements::terra_step_at))]
-    fn terra_step(&mut self, levels: u32) -> Result<Option<NodeId>, SyntaxError>
-        ensures ok { IfOk result (λ r. TookOption self.old self.new (terra_step_at levels (tokens_left self.old)) r) }
-        ensures err { IfErr result (λ e. Fails self.old (terra_step_at levels (tokens_left self.old)) e) }
-    {
-        if self.next_is(Symbol::Comma) {
-            read!(self.take(Symbol::Comma));
-            let step = read!(self.terra_expression(levels));
-            return Ok(Some(step));
         }
         Ok(None)
     }
@@ -250,33 +149,6 @@ impl<'a> Parser<'a> {
         Ok(list)
     }
 
-    /// ["=" texps]
-    #[cycle(parser)]
-    #[tactic(auto, using(crate::proofs::Failing::failing), unfolding(crate::specs::TerraStatements::terra_initial_values_at))]
-    fn terra_initial_values(&mut self, levels: u32) -> Result<NodeList, SyntaxError>
-        ensures ok { IfOk result (λ r. TookList self.old self.new (terra_initial_values_at levels (tokens_left self.old)) r) }
-        ensures err { IfErr result (λ e. Fails self.old (terra_initial_values_at levels (tokens_left self.old)) e) }
-    {
-        if self.next_is(Symbol::Equal) {
-            read!(self.take(Symbol::Equal));
-            return self.terra_expressions(levels);
-        }
-        Ok(self.no_nodes())
-    }
-
-    /// [texps], behind "return"
-    #[cycle(parser)]
-    #[tactic(auto, using(crate::proofs::Failing::failing), unfolding(crate::specs::TerraStatements::terra_returned_values_at))]
-    fn terra_returned_values(&mut self, levels: u32) -> Result<NodeList, SyntaxError>
-        ensures ok { IfOk result (λ r. TookList self.old self.new (terra_returned_values_at levels (tokens_left self.old)) r) }
-        ensures err { IfErr result (λ e. Fails self.old (terra_returned_values_at levels (tokens_left self.old)) e) }
-    {
-        if self.next_is_among(&EXPRESSION) {
-            return self.terra_expressions(levels);
-        }
-        Ok(self.no_nodes())
-    }
-
     /// the first texp of a statement that no word begins
     #[cycle(parser)]
     #[tactic(auto, using(crate::proofs::Failing::failing), unfolding(crate::specs::TerraStatements::terra_target_at))]
@@ -313,11 +185,11 @@ impl<'a> Parser<'a> {
         }
         let mut targets = read!(self.one_node(first.node));
         'more: while self.next_is(Symbol::Comma) {
-            let next = read!(self.next_terra_expression(levels));
+            let next = read!(self.next_expression(Code::Terra, levels));
             read!(add(&mut targets, next));
         }
         read!(self.take(Symbol::Equal));
-        let values = read!(self.terra_expressions(levels));
+        let values = read!(self.expressions(Code::Terra, levels));
         self.push(Node::TerraStatement(place, TerraStatement::Assign(targets, values)))
     }
 
@@ -343,7 +215,7 @@ impl<'a> Parser<'a> {
     {
         let place = read!(self.take(Symbol::While));
         let condition = read!(self.terra_expression(levels));
-        let block = read!(self.terra_loop(levels));
+        let block = read!(self.loop_block(BlockCode::Terra, levels));
         self.push(Node::TerraStatement(place, TerraStatement::While(condition, block)))
     }
 
@@ -369,8 +241,8 @@ impl<'a> Parser<'a> {
         ensures err { IfErr result (λ e. Fails self.old (terra_if_at levels (tokens_left self.old)) e) }
     {
         let place = read!(self.take(Symbol::If));
-        let arms = read!(self.terra_arms(levels));
-        let otherwise = read!(self.terra_otherwise(levels));
+        let arms = read!(self.arms(BlockCode::Terra, levels));
+        let otherwise = read!(self.otherwise(BlockCode::Terra, levels));
         read!(self.take(Symbol::End));
         self.push(Node::TerraStatement(place, TerraStatement::If(arms, otherwise)))
     }
@@ -388,8 +260,8 @@ impl<'a> Parser<'a> {
         let first = read!(self.terra_expression(levels));
         read!(self.take(Symbol::Comma));
         let limit = read!(self.terra_expression(levels));
-        let step = read!(self.terra_step(levels));
-        let block = read!(self.terra_loop(levels));
+        let step = read!(self.step(Code::Terra, levels));
+        let block = read!(self.loop_block(BlockCode::Terra, levels));
         self.push(Node::TerraStatement(place, TerraStatement::For(name, first, limit, step, block)))
     }
 
@@ -402,7 +274,7 @@ impl<'a> Parser<'a> {
     {
         let place = read!(self.take(Symbol::Var));
         let variables = read!(self.terra_variables(levels));
-        let values = read!(self.terra_initial_values(levels));
+        let values = read!(self.initial_values(Code::Terra, levels));
         self.push(Node::TerraStatement(place, TerraStatement::Var(variables, values)))
     }
 
@@ -427,7 +299,7 @@ impl<'a> Parser<'a> {
         ensures err { IfErr result (λ e. Fails self.old (terra_return_at levels (tokens_left self.old)) e) }
     {
         let place = read!(self.take(Symbol::Return));
-        let values = read!(self.terra_returned_values(levels));
+        let values = read!(self.returned_values(Code::Terra, levels));
         self.push(Node::TerraStatement(place, TerraStatement::Return(values)))
     }
 

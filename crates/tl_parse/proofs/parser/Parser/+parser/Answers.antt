@@ -1,5 +1,4 @@
-use Rattle.std.proofs.Common.{◌≡◌, ℕ, ◌<◌, ◌≤◌, arith, sym, ap, subst, ◌∙◌, cond, Bool, List, [], ◌∷◌, ◌++◌, length}
-use Rattle.tl_base.specs.declared.ids.NodeId.{NodeId}
+use Rattle.std.proofs.Common.{◌≡◌, ℕ, ◌<◌, ◌≤◌, arith, sym, ap, subst, ◌∙◌, cond, Bool, List, length}
 use Rattle.tl_tree.specs.declared.mode.Shape.{Shape}
 use Rattle.tl_tree.specs.Tokens.{Token}
 use Rattle.tl_tree.specs.Item.{Item}
@@ -12,12 +11,13 @@ use Rattle.tl_parse.specs.Parsing.{token_of, placed, tokens_left, items_of}
 use Rattle.tl_parse.specs.Expressions.{Suffixed, attached, shape_of, suffixes_at, expressions_at, more_expressions_at, next_expression_at, field_at, fields_at, more_fields_at, suffix_at, next_field_at, more_if}
 use Rattle.tl_parse.specs.Ranks.{rank_at}
 use Rattle.tl_parse.specs.Statements.{arms_at, more_arms_at, variable_at, settle_at, more_statements_at, next_arm_at, next_statement_at}
-use Rattle.tl_parse.specs.TerraExpressions.{TerraSuffixed, terra_attached, terra_shape_of, terra_suffixes_at, terra_applied_at, next_terra_expression_at, terra_suffix_at, next_initialiser_at, more_initialisers_at}
-use Rattle.tl_parse.specs.TerraExpressions.{terra_expressions_at, more_terra_expressions_at, terra_more_at, terra_binary_at}
-use Rattle.tl_parse.specs.TerraStatements.{terra_arms_at, more_terra_arms_at, terra_variables_at, more_terra_variables_at, next_terra_arm_at, next_terra_variable_at, next_terra_parameter_at, next_terra_statement_at}
+use Rattle.tl_parse.specs.TerraExpressions.{TerraSuffixed, terra_attached, terra_shape_of, terra_suffixes_at, terra_applied_at, terra_suffix_at, next_initialiser_at, more_initialisers_at}
+use Rattle.tl_parse.specs.TerraExpressions.{terra_more_at, terra_binary_at}
+use Rattle.tl_parse.specs.TerraStatements.{terra_variables_at, more_terra_variables_at, next_terra_variable_at, next_terra_parameter_at, next_terra_statement_at}
 use Rattle.tl_parse.specs.TerraStatements.{terra_parameter_at, terra_parameters_at, more_terra_parameters_at, terra_assignment_at}
 use Rattle.tl_parse.specs.TerraStatements.{more_terra_statements_at}
 use Rattle.tl_parse.specs.Entries.{more_entries_at, entry_at}
+use Rattle.tl_parse.specs.declared.parser.Code.TheVariants as codes
 use Rattle.tl_parse.proofs.Uses.{operator_with}
 use Rattle.tl_parse.proofs.Turns.{suffix_shorter, suffixes_go, expressions_go, expressions_end, expression_shorter, fields_go, fields_end, field_shorter}
 use Rattle.tl_parse.proofs.Failing.{fails_same, fails_bind, fails_from}
@@ -25,12 +25,12 @@ use Rattle.tl_parse.proofs.Parts.{fields_part}
 use Rattle.tl_parse.proofs.Climbing.{ranked_below, one_more_shorter}
 use Rattle.tl_parse.proofs.Binding.{binding_first, binding_none, binding_next, binding_fails, binding_ends}
 use Rattle.tl_parse.proofs.TerraParts as terra_parts
-use Rattle.tl_parse.proofs.StatementTurns.{arms_go, block_goes, settles_on, arms_end, arm_shorter, statement_shorter}
+use Rattle.tl_parse.proofs.StatementTurns.{block_goes, settles_on, statement_shorter}
 use Rattle.tl_parse.proofs.Looping.{listing_first, listing_next, listing_stops, listing_ends, numbers_next, targets_begin, targets_next, names_begin, names_next}
 use Rattle.tl_parse.proofs.Looping.{body_fails}
-use Rattle.tl_parse.proofs.TerraTurns.{terra_suffix_shorter, terra_suffixes_go, terra_operation_shorter, terra_operations_go, terra_expressions_end, terra_expression_shorter, initialisers_end, entries_end, entry_shorter, initialiser_shorter}
-use Rattle.tl_parse.proofs.TerraTurns.{terra_expressions_go, initialisers_go, entries_go}
-use Rattle.tl_parse.proofs.TerraStatementTurns.{terra_block_goes, terra_arms_go, terra_variables_go, terra_parameters_go, terra_targets_go, terra_arms_end, terra_arm_shorter, terra_variables_end, terra_variable_shorter, terra_parameters_end, terra_parameter_shorter, terra_target_shorter, terra_statement_shorter}
+use Rattle.tl_parse.proofs.TerraTurns.{terra_suffix_shorter, terra_suffixes_go, terra_operation_shorter, terra_operations_go, initialisers_end, entries_end, entry_shorter, initialiser_shorter}
+use Rattle.tl_parse.proofs.TerraTurns.{initialisers_go, entries_go}
+use Rattle.tl_parse.proofs.TerraStatementTurns.{arms_go, arms_end, arm_shorter, terra_block_goes, terra_variables_go, terra_parameters_go, terra_targets_go, terra_variables_end, terra_variable_shorter, terra_parameters_end, terra_parameter_shorter, terra_target_shorter, terra_statement_shorter}
 use Rattle.tl_parse.proofs.parser.Parser.+parser.Goals as goal
 
 pub applied-more-smaller : goal.applied-more-smaller
@@ -101,53 +101,27 @@ pub expressions-more-init : goal.expressions-more-init
 unfolding expressions_at
 expressions-more-init t c =
     let e = c.in-Ok.ensures.ok in
-    listing_first c.args.self.now c.expression.new.self _ _ e.tree c.in-Ok.x c.in-Ok-one_node.x (ap (λ (o : Outcome Tree). o >>= λ e rest. more_expressions_at c.args.levels c.args.mode (More Nothing e) rest) e.took)
+    listing_first c.args.self.now c.expression_of.new.self _ _ e.tree c.in-Ok.x c.in-Ok-one_node.x (ap (λ (o : Outcome Tree). o >>= λ e rest. more_expressions_at c.args.levels c.args.code (More Nothing e) rest) e.took)
     e.finish e.items e.is_last c.in-Ok-one_node.ensures.ok
 
 pub expressions-more-preserved : goal.expressions-more-preserved
 expressions-more-preserved t c =
     let e = c.in-Ok-next_expression.ensures.ok in
     listing_next c.args.self.now c.more.self c.next_expression.new.self _ _ e.tree c.in-Ok-next_expression.x c.more.list c.add.new.list c.more.invariant
-    (expressions_go c.args.levels c.args.mode c.more.invariant.tree (tokens_left c.more.self) (sym c.next_is.ensures ∙ c.more-test.true) ∙ ap (λ (o : Outcome Tree). o >>= λ e rest. more_expressions_at c.args.levels c.args.mode (More c.more.invariant.tree e) rest) e.took) e.finish e.items e.is_last c.in-Ok-add.ensures.ok
+    (expressions_go c.args.levels c.args.code c.more.invariant.tree (tokens_left c.more.self) (sym c.next_is.ensures ∙ c.more-test.true) ∙ ap (λ (o : Outcome Tree). o >>= λ e rest. more_expressions_at c.args.levels c.args.code (More c.more.invariant.tree e) rest) e.took) e.finish e.items e.is_last c.in-Ok-add.ensures.ok
 
 pub arms-more-init : goal.arms-more-init
 unfolding arms_at
 arms-more-init t c =
     let e = c.in-Ok.ensures.ok in
-    listing_first c.args.self.now c.arm.new.self _ _ e.tree c.in-Ok.x c.in-Ok-one_node.x (ap (λ (o : Outcome Tree). o >>= λ e rest. more_arms_at c.args.levels c.args.context (More Nothing e) rest) e.took)
+    listing_first c.args.self.now c.arm.new.self _ _ e.tree c.in-Ok.x c.in-Ok-one_node.x (ap (λ (o : Outcome Tree). o >>= λ e rest. more_arms_at c.args.levels c.args.block (More Nothing e) rest) e.took)
     e.finish e.items e.is_last c.in-Ok-one_node.ensures.ok
 
 pub arms-more-preserved : goal.arms-more-preserved
 arms-more-preserved t c =
     let e = c.in-Ok-next_arm.ensures.ok in
     listing_next c.args.self.now c.more.self c.next_arm.new.self _ _ e.tree c.in-Ok-next_arm.x c.more.list c.add.new.list c.more.invariant
-    (arms_go c.args.levels c.args.context c.more.invariant.tree (tokens_left c.more.self) (sym c.next_is.ensures ∙ c.more-test.true) ∙ ap (λ (o : Outcome Tree). o >>= λ e rest. more_arms_at c.args.levels c.args.context (More c.more.invariant.tree e) rest) e.took) e.finish e.items e.is_last c.in-Ok-add.ensures.ok
-
-pub terra_arms-more-init : goal.terra_arms-more-init
-unfolding terra_arms_at
-terra_arms-more-init t c =
-    let e = c.in-Ok.ensures.ok in
-    listing_first c.args.self.now c.terra_arm.new.self _ _ e.tree c.in-Ok.x c.in-Ok-one_node.x (ap (λ (o : Outcome Tree). o >>= λ e rest. more_terra_arms_at c.args.levels (More Nothing e) rest) e.took)
-    e.finish e.items e.is_last c.in-Ok-one_node.ensures.ok
-
-pub terra_arms-more-preserved : goal.terra_arms-more-preserved
-terra_arms-more-preserved t c =
-    let e = c.in-Ok-next_terra_arm.ensures.ok in
-    listing_next c.args.self.now c.more.self c.next_terra_arm.new.self _ _ e.tree c.in-Ok-next_terra_arm.x c.more.arms c.add.new.list c.more.invariant
-    (terra_arms_go c.args.levels c.more.invariant.tree (tokens_left c.more.self) (sym c.next_is.ensures ∙ c.more-test.true) ∙ ap (λ (o : Outcome Tree). o >>= λ e rest. more_terra_arms_at c.args.levels (More c.more.invariant.tree e) rest) e.took) e.finish e.items e.is_last c.in-Ok-add.ensures.ok
-
-pub terra_expressions-more-init : goal.terra_expressions-more-init
-unfolding terra_expressions_at
-terra_expressions-more-init t c =
-    let e = c.in-Ok.ensures.ok in
-    listing_first c.args.self.now c.terra_expression.new.self _ _ e.tree c.in-Ok.x c.in-Ok-one_node.x (ap (λ (o : Outcome Tree). o >>= λ e rest. more_terra_expressions_at c.args.levels (More Nothing e) rest) e.took)
-    e.finish e.items e.is_last c.in-Ok-one_node.ensures.ok
-
-pub terra_expressions-more-preserved : goal.terra_expressions-more-preserved
-terra_expressions-more-preserved t c =
-    let e = c.in-Ok-next_terra_expression.ensures.ok in
-    listing_next c.args.self.now c.more.self c.next_terra_expression.new.self _ _ e.tree c.in-Ok-next_terra_expression.x c.more.list c.add.new.list c.more.invariant
-    (terra_expressions_go c.args.levels c.more.invariant.tree (tokens_left c.more.self) (sym c.next_is.ensures ∙ c.more-test.true) ∙ ap (λ (o : Outcome Tree). o >>= λ e rest. more_terra_expressions_at c.args.levels (More c.more.invariant.tree e) rest) e.took) e.finish e.items e.is_last c.in-Ok-add.ensures.ok
+    (arms_go c.args.levels c.args.block c.more.invariant.tree (tokens_left c.more.self) (sym c.next_is.ensures ∙ c.more-test.true) ∙ ap (λ (o : Outcome Tree). o >>= λ e rest. more_arms_at c.args.levels c.args.block (More c.more.invariant.tree e) rest) e.took) e.finish e.items e.is_last c.in-Ok-add.ensures.ok
 
 pub terra_variables-more-init : goal.terra_variables-more-init
 unfolding terra_variables_at
@@ -251,8 +225,8 @@ entries-more-preserved t c =
 
 pub terra_simple_statement-more-preserved : goal.terra_simple_statement-more-preserved
 terra_simple_statement-more-preserved t c =
-    let e = c.in-Ok-next_terra_expression.ensures.ok in
-    listing_next c.args.self.now c.more.self c.next_terra_expression.new.self _ _ e.tree c.in-Ok-next_terra_expression.x c.more.targets c.add.new.list c.more.invariant
+    let e = c.in-Ok-next_expression.ensures.ok in
+    listing_next c.args.self.now c.more.self c.next_expression.new.self _ _ e.tree c.in-Ok-next_expression.x c.more.targets c.add.new.list c.more.invariant
     (terra_targets_go c.args.levels c.next_place-place.result c.more.invariant.tree (tokens_left c.more.self) (sym c.next_is.ensures ∙ c.more-test.true) ∙ ap (λ (o : Outcome Tree). o >>= λ e rest. terra_assignment_at c.args.levels c.next_place-place.result (More c.more.invariant.tree e) rest) e.took) e.finish e.items e.is_last c.in-Ok-add.ensures.ok
 
 pub block-more-preserved : goal.block-more-preserved
@@ -406,56 +380,30 @@ pub terra_inner-returns-in-Disjunction-clause-err : goal.terra_inner-returns-in-
 terra_inner-returns-in-Disjunction-clause-err t c = grind (arith, terra_parts.inner_disjunction, fails_same)
 
 pub expressions-more-smaller : goal.expressions-more-smaller
-expressions-more-smaller t c = let e = c.in-Ok-next_expression.ensures.ok in expression_shorter c.args.levels c.args.mode e.tree (tokens_left c.more.self) (tokens_left c.next_expression.new.self) e.took
+expressions-more-smaller t c = let e = c.in-Ok-next_expression.ensures.ok in expression_shorter c.args.levels c.args.code e.tree (tokens_left c.more.self) (tokens_left c.next_expression.new.self) e.took
 
 pub expressions-returns-in-Err-next_expression-clause-err : goal.expressions-returns-in-Err-next_expression-clause-err
 expressions-returns-in-Err-next_expression-clause-err t c =
     let i = c.more.invariant in
-    listing_stops c.args.self.now c.more.self _ _ c.more.list i (next_expression_at c.args.levels c.args.mode (tokens_left c.more.self)) (λ e rest. more_expressions_at c.args.levels c.args.mode (More i.tree e) rest) c.in-Err-next_expression.e (expressions_go c.args.levels c.args.mode i.tree (tokens_left c.more.self) (sym c.next_is.ensures ∙ c.more-test.true)) c.in-Err-next_expression.ensures.err
+    listing_stops c.args.self.now c.more.self _ _ c.more.list i (next_expression_at c.args.levels c.args.code (tokens_left c.more.self)) (λ e rest. more_expressions_at c.args.levels c.args.code (More i.tree e) rest) c.in-Err-next_expression.e (expressions_go c.args.levels c.args.code i.tree (tokens_left c.more.self) (sym c.next_is.ensures ∙ c.more-test.true)) c.in-Err-next_expression.ensures.err
 
 pub expressions-returns-clause-ok : goal.expressions-returns-clause-ok
 expressions-returns-clause-ok t c =
     let i = c.more.invariant in
-    listing_ends c.args.self.now c.more.self _ _ c.more.list i (expressions_end c.args.levels c.args.mode i.tree (tokens_left c.more.self) (sym c.next_is.ensures ∙ c.more-test.false))
+    listing_ends c.args.self.now c.more.self _ _ c.more.list i (expressions_end c.args.levels c.args.code i.tree (tokens_left c.more.self) (sym c.next_is.ensures ∙ c.more-test.false))
 
 pub arms-more-smaller : goal.arms-more-smaller
-arms-more-smaller t c = let e = c.in-Ok-next_arm.ensures.ok in arm_shorter c.args.levels c.args.context e.tree (tokens_left c.more.self) (tokens_left c.next_arm.new.self) e.took
+arms-more-smaller t c = let e = c.in-Ok-next_arm.ensures.ok in arm_shorter c.args.levels c.args.block e.tree (tokens_left c.more.self) (tokens_left c.next_arm.new.self) e.took
 
 pub arms-returns-in-Err-next_arm-clause-err : goal.arms-returns-in-Err-next_arm-clause-err
 arms-returns-in-Err-next_arm-clause-err t c =
     let i = c.more.invariant in
-    listing_stops c.args.self.now c.more.self _ _ c.more.list i (next_arm_at c.args.levels c.args.context (tokens_left c.more.self)) (λ e rest. more_arms_at c.args.levels c.args.context (More i.tree e) rest) c.in-Err-next_arm.e (arms_go c.args.levels c.args.context i.tree (tokens_left c.more.self) (sym c.next_is.ensures ∙ c.more-test.true)) c.in-Err-next_arm.ensures.err
+    listing_stops c.args.self.now c.more.self _ _ c.more.list i (next_arm_at c.args.levels c.args.block (tokens_left c.more.self)) (λ e rest. more_arms_at c.args.levels c.args.block (More i.tree e) rest) c.in-Err-next_arm.e (arms_go c.args.levels c.args.block i.tree (tokens_left c.more.self) (sym c.next_is.ensures ∙ c.more-test.true)) c.in-Err-next_arm.ensures.err
 
 pub arms-returns-clause-ok : goal.arms-returns-clause-ok
 arms-returns-clause-ok t c =
     let i = c.more.invariant in
-    listing_ends c.args.self.now c.more.self _ _ c.more.list i (arms_end c.args.levels c.args.context i.tree (tokens_left c.more.self) (sym c.next_is.ensures ∙ c.more-test.false))
-
-pub terra_arms-more-smaller : goal.terra_arms-more-smaller
-terra_arms-more-smaller t c = let e = c.in-Ok-next_terra_arm.ensures.ok in terra_arm_shorter c.args.levels e.tree (tokens_left c.more.self) (tokens_left c.next_terra_arm.new.self) e.took
-
-pub terra_arms-returns-in-Err-next_terra_arm-clause-err : goal.terra_arms-returns-in-Err-next_terra_arm-clause-err
-terra_arms-returns-in-Err-next_terra_arm-clause-err t c =
-    let i = c.more.invariant in
-    listing_stops c.args.self.now c.more.self _ _ c.more.arms i (next_terra_arm_at c.args.levels (tokens_left c.more.self)) (λ e rest. more_terra_arms_at c.args.levels (More i.tree e) rest) c.in-Err-next_terra_arm.e (terra_arms_go c.args.levels i.tree (tokens_left c.more.self) (sym c.next_is.ensures ∙ c.more-test.true)) c.in-Err-next_terra_arm.ensures.err
-
-pub terra_arms-returns-clause-ok : goal.terra_arms-returns-clause-ok
-terra_arms-returns-clause-ok t c =
-    let i = c.more.invariant in
-    listing_ends c.args.self.now c.more.self _ _ c.more.arms i (terra_arms_end c.args.levels i.tree (tokens_left c.more.self) (sym c.next_is.ensures ∙ c.more-test.false))
-
-pub terra_expressions-more-smaller : goal.terra_expressions-more-smaller
-terra_expressions-more-smaller t c = let e = c.in-Ok-next_terra_expression.ensures.ok in terra_expression_shorter c.args.levels e.tree (tokens_left c.more.self) (tokens_left c.next_terra_expression.new.self) e.took
-
-pub terra_expressions-returns-in-Err-next_terra_expression-clause-err : goal.terra_expressions-returns-in-Err-next_terra_expression-clause-err
-terra_expressions-returns-in-Err-next_terra_expression-clause-err t c =
-    let i = c.more.invariant in
-    listing_stops c.args.self.now c.more.self _ _ c.more.list i (next_terra_expression_at c.args.levels (tokens_left c.more.self)) (λ e rest. more_terra_expressions_at c.args.levels (More i.tree e) rest) c.in-Err-next_terra_expression.e (terra_expressions_go c.args.levels i.tree (tokens_left c.more.self) (sym c.next_is.ensures ∙ c.more-test.true)) c.in-Err-next_terra_expression.ensures.err
-
-pub terra_expressions-returns-clause-ok : goal.terra_expressions-returns-clause-ok
-terra_expressions-returns-clause-ok t c =
-    let i = c.more.invariant in
-    listing_ends c.args.self.now c.more.self _ _ c.more.list i (terra_expressions_end c.args.levels i.tree (tokens_left c.more.self) (sym c.next_is.ensures ∙ c.more-test.false))
+    listing_ends c.args.self.now c.more.self _ _ c.more.list i (arms_end c.args.levels c.args.block i.tree (tokens_left c.more.self) (sym c.next_is.ensures ∙ c.more-test.false))
 
 pub terra_variables-more-smaller : goal.terra_variables-more-smaller
 terra_variables-more-smaller t c = let e = c.in-Ok-next_terra_variable.ensures.ok in terra_variable_shorter c.args.levels e.tree (tokens_left c.more.self) (tokens_left c.next_terra_variable.new.self) e.took
@@ -518,13 +466,13 @@ initialisers-returns-clause-ok t c =
     listing_ends c.args.self.now c.more.self _ _ c.more.list i (initialisers_end c.args.levels c.in-Ok.x.1 i.tree (tokens_left c.more.self) (sym c.next_is_among.ensures ∙ c.more-test.false))
 
 pub terra_simple_statement-more-smaller : goal.terra_simple_statement-more-smaller
-terra_simple_statement-more-smaller t c = let e = c.in-Ok-next_terra_expression.ensures.ok in terra_target_shorter c.args.levels e.tree (tokens_left c.more.self) (tokens_left c.next_terra_expression.new.self) e.took
+terra_simple_statement-more-smaller t c = let e = c.in-Ok-next_expression.ensures.ok in terra_target_shorter c.args.levels e.tree (tokens_left c.more.self) (tokens_left c.next_expression.new.self) e.took
 
-pub terra_simple_statement-returns-in-Err-next_terra_expression-clause-err : goal.terra_simple_statement-returns-in-Err-next_terra_expression-clause-err
-terra_simple_statement-returns-in-Err-next_terra_expression-clause-err t c =
+pub terra_simple_statement-returns-in-Err-next_expression-clause-err : goal.terra_simple_statement-returns-in-Err-next_expression-clause-err
+terra_simple_statement-returns-in-Err-next_expression-clause-err t c =
     let i = c.more.invariant in
     let place = c.next_place-place.result in
-    listing_stops c.args.self.now c.more.self _ _ c.more.targets i (next_terra_expression_at c.args.levels (tokens_left c.more.self)) (λ e rest. terra_assignment_at c.args.levels place (More i.tree e) rest) c.in-Err-next_terra_expression.e (terra_targets_go c.args.levels place i.tree (tokens_left c.more.self) (sym c.next_is.ensures ∙ c.more-test.true)) c.in-Err-next_terra_expression.ensures.err
+    listing_stops c.args.self.now c.more.self _ _ c.more.targets i (next_expression_at c.args.levels codes.Terra (tokens_left c.more.self)) (λ e rest. terra_assignment_at c.args.levels place (More i.tree e) rest) c.in-Err-next_expression.e (terra_targets_go c.args.levels place i.tree (tokens_left c.more.self) (sym c.next_is.ensures ∙ c.more-test.true)) c.in-Err-next_expression.ensures.err
 
 pub applied-returns-in-Err-suffix-clause-err : goal.applied-returns-in-Err-suffix-clause-err
 applied-returns-in-Err-suffix-clause-err t c =

@@ -5,15 +5,16 @@ use Rattle.tl_tree.specs.Grammar.{Took, ◌>>=◌}
 use Rattle.tl_parse.specs.Parsing.{tokens_left}
 use Rattle.tl_parse.specs.Using.{part_at}
 use Rattle.tl_parse.specs.Expressions.{applied_at, binary_at, expressions_at, more_expressions_at, more_fields_at}
+use Rattle.tl_parse.specs.declared.parser.Code.TheVariants as codes
 use Rattle.tl_parse.specs.Going.{Binding, Applying, Listing, Settling, Sequencing}
 use Rattle.tl_parse.specs.Statements.{first_place, call_or_assignment_at, more_targets_at, values_at, variable_at, arms_at, more_arms_at, for_at, generic_at}
 use Rattle.tl_parse.specs.Paths.{more_names_at}
-use Rattle.tl_parse.specs.TerraExpressions.{terra_binary_at, terra_applied_at, terra_expressions_at, more_terra_expressions_at}
+use Rattle.tl_parse.specs.TerraExpressions.{terra_binary_at, terra_applied_at}
 use Rattle.tl_parse.specs.TerraExpressions.{more_initialisers_at}
 use Rattle.tl_parse.specs.Entries.{more_entries_at}
 use Rattle.tl_parse.specs.TerraGoing.{TerraBinding, TerraApplying, terra_rank_of}
 use Rattle.tl_tree.specs.Tree.{TerraStatements}
-use Rattle.tl_parse.specs.TerraStatements.{terra_arms_at, more_terra_arms_at, terra_variables_at, more_terra_variables_at}
+use Rattle.tl_parse.specs.TerraStatements.{terra_variables_at, more_terra_variables_at}
 use Rattle.tl_parse.specs.TerraStatements.{terra_simple_statement_at, terra_assignment_at, terra_parameters_at, more_terra_parameters_at}
 use Rattle.tl_parse.specs.TerraLines.{TerraSequencing}
 use Rattle.tl_parse.proofs.parser.Parser.+parser.Given as goal
@@ -22,22 +23,22 @@ abbrev pub decreases-applied : goal.decreases-applied
 decreases-applied l = 64 * l.levels + 13
 
 abbrev pub decreases-arguments : goal.decreases-arguments
-decreases-arguments l = 64 * l.levels + 38
+decreases-arguments l = 64 * l.levels + 39
 
 abbrev pub decreases-arm : goal.decreases-arm
-decreases-arm l = 64 * l.levels + 36
+decreases-arm l = 64 * l.levels + 37
 
 abbrev pub decreases-arms : goal.decreases-arms
-decreases-arms l = 64 * l.levels + 38
+decreases-arms l = 64 * l.levels + 39
 
 abbrev pub decreases-base : goal.decreases-base
 decreases-base l = 64 * l.levels + 9
 
 abbrev pub decreases-block : goal.decreases-block
-decreases-block l = 64 * l.levels + 44
+decreases-block l = 64 * l.levels + 45
 
 abbrev pub decreases-call_or_assignment : goal.decreases-call_or_assignment
-decreases-call_or_assignment l = 64 * l.levels + 39
+decreases-call_or_assignment l = 64 * l.levels + 40
 
 abbrev pub decreases-call_suffix : goal.decreases-call_suffix
 decreases-call_suffix l = 64 * l.levels + 10
@@ -58,7 +59,7 @@ abbrev pub decreases-expression : goal.decreases-expression
 decreases-expression l = 64 * l.levels + 35
 
 abbrev pub decreases-expressions : goal.decreases-expressions
-decreases-expressions l = 64 * l.levels + 37
+decreases-expressions l = 64 * l.levels + 38
 
 abbrev pub decreases-field : goal.decreases-field
 decreases-field l = 64 * l.levels + 37
@@ -73,22 +74,22 @@ abbrev pub decreases-function : goal.decreases-function
 decreases-function l = 64 * l.levels + 10
 
 abbrev pub decreases-function_body : goal.decreases-function_body
-decreases-function_body l = 64 * l.levels + 45
+decreases-function_body l = 64 * l.levels + 46
 
 abbrev pub decreases-function_statement : goal.decreases-function_statement
 decreases-function_statement l = 64 * l.levels + 10
 
 abbrev pub decreases-generic : goal.decreases-generic
-decreases-generic l = 64 * l.levels + 38
+decreases-generic l = 64 * l.levels + 39
 
 abbrev pub decreases-if_statement : goal.decreases-if_statement
-decreases-if_statement l = 64 * l.levels + 39
+decreases-if_statement l = 64 * l.levels + 40
 
 abbrev pub decreases-index_suffix : goal.decreases-index_suffix
 decreases-index_suffix l = 64 * l.levels + 10
 
 abbrev pub decreases-initial_values : goal.decreases-initial_values
-decreases-initial_values l = 64 * l.levels + 39
+decreases-initial_values l = 64 * l.levels + 40
 
 abbrev pub decreases-keyed_field : goal.decreases-keyed_field
 decreases-keyed_field l = 64 * l.levels + 36
@@ -97,10 +98,10 @@ abbrev pub decreases-local_function : goal.decreases-local_function
 decreases-local_function l = 64 * l.levels + 10
 
 abbrev pub decreases-local_names : goal.decreases-local_names
-decreases-local_names l = 64 * l.levels + 40
+decreases-local_names l = 64 * l.levels + 41
 
 abbrev pub decreases-local_statement : goal.decreases-local_statement
-decreases-local_statement l = 64 * l.levels + 41
+decreases-local_statement l = 64 * l.levels + 42
 
 abbrev pub decreases-loop_block : goal.decreases-loop_block
 decreases-loop_block l = 64 * l.levels + 10
@@ -118,22 +119,22 @@ abbrev pub decreases-method_suffix : goal.decreases-method_suffix
 decreases-method_suffix l = 64 * l.levels + 11
 
 abbrev pub decreases-next_arm : goal.decreases-next_arm
-decreases-next_arm l = 64 * l.levels + 37
+decreases-next_arm l = 64 * l.levels + 38
 
 abbrev pub decreases-next_expression : goal.decreases-next_expression
-decreases-next_expression l = 64 * l.levels + 36
+decreases-next_expression l = 64 * l.levels + 37
 
 abbrev pub decreases-next_field : goal.decreases-next_field
 decreases-next_field l = 64 * l.levels + 38
 
 abbrev pub decreases-next_statement : goal.decreases-next_statement
-decreases-next_statement l = 64 * l.levels + 43
+decreases-next_statement l = 64 * l.levels + 44
 
 abbrev pub decreases-next_target : goal.decreases-next_target
 decreases-next_target l = 64 * l.levels + 14
 
 abbrev pub decreases-numeric : goal.decreases-numeric
-decreases-numeric l = 64 * l.levels + 37
+decreases-numeric l = 64 * l.levels + 38
 
 abbrev pub decreases-operand : goal.decreases-operand
 decreases-operand l = 64 * l.levels + 18
@@ -157,19 +158,19 @@ abbrev pub decreases-repeat_statement : goal.decreases-repeat_statement
 decreases-repeat_statement l = 64 * l.levels + 36
 
 abbrev pub decreases-return_statement : goal.decreases-return_statement
-decreases-return_statement l = 64 * l.levels + 39
+decreases-return_statement l = 64 * l.levels + 40
 
 abbrev pub decreases-returned_values : goal.decreases-returned_values
-decreases-returned_values l = 64 * l.levels + 38
+decreases-returned_values l = 64 * l.levels + 39
 
 abbrev pub decreases-simple : goal.decreases-simple
 decreases-simple l = 64 * l.levels + 12
 
 abbrev pub decreases-statement : goal.decreases-statement
-decreases-statement l = 64 * l.levels + 42
+decreases-statement l = 64 * l.levels + 43
 
 abbrev pub decreases-step : goal.decreases-step
-decreases-step l = 64 * l.levels + 36
+decreases-step l = 64 * l.levels + 37
 
 abbrev pub decreases-suffix : goal.decreases-suffix
 decreases-suffix l = 64 * l.levels + 12
@@ -184,7 +185,7 @@ abbrev pub decreases-unary : goal.decreases-unary
 decreases-unary l = 64 * l.levels + 17
 
 abbrev pub decreases-values : goal.decreases-values
-decreases-values l = 64 * l.levels + 38
+decreases-values l = 64 * l.levels + 39
 
 abbrev pub decreases-variable : goal.decreases-variable
 decreases-variable l = 64 * l.levels + 13
@@ -211,7 +212,7 @@ abbrev pub decreases-applied-more : goal.decreases-applied-more
 decreases-applied-more l = length (tokens_left l.self)
 
 abbrev pub invariant-expressions-more : goal.invariant-expressions-more
-invariant-expressions-more l = Listing l.fn.self l.self (expressions_at l.fn.levels l.fn.mode (tokens_left l.fn.self)) (λ (before : Tree) (ts : List Token). more_expressions_at l.fn.levels l.fn.mode before ts) l.list
+invariant-expressions-more l = Listing l.fn.self l.self (expressions_at l.fn.levels l.fn.code (tokens_left l.fn.self)) (λ (before : Tree) (ts : List Token). more_expressions_at l.fn.levels l.fn.code before ts) l.list
 
 abbrev pub decreases-expressions-more : goal.decreases-expressions-more
 decreases-expressions-more l = length (tokens_left l.self)
@@ -223,7 +224,7 @@ abbrev pub decreases-fields-more : goal.decreases-fields-more
 decreases-fields-more l = length (tokens_left l.self)
 
 abbrev pub invariant-call_or_assignment-more : goal.invariant-call_or_assignment-more
-invariant-call_or_assignment-more l = Listing l.fn.self l.self (call_or_assignment_at l.fn.levels l.fn.mode (tokens_left l.fn.self)) (λ (before : Tree) (ts : List Token). more_targets_at l.fn.levels l.fn.mode before ts >>= λ targets c. values_at l.fn.levels l.fn.mode c >>= λ es rest. Took (Assign (first_place (tokens_left l.fn.self)) targets es) rest) l.targets
+invariant-call_or_assignment-more l = Listing l.fn.self l.self (call_or_assignment_at l.fn.levels l.fn.mode (tokens_left l.fn.self)) (λ (before : Tree) (ts : List Token). more_targets_at l.fn.levels l.fn.mode before ts >>= λ targets c. values_at l.fn.levels (codes.Lua l.fn.mode) c >>= λ es rest. Took (Assign (first_place (tokens_left l.fn.self)) targets es) rest) l.targets
 
 abbrev pub decreases-call_or_assignment-more : goal.decreases-call_or_assignment-more
 decreases-call_or_assignment-more l = length (tokens_left l.self)
@@ -235,7 +236,7 @@ abbrev pub decreases-variable-more : goal.decreases-variable-more
 decreases-variable-more l = length (tokens_left l.self)
 
 abbrev pub invariant-arms-more : goal.invariant-arms-more
-invariant-arms-more l = Listing l.fn.self l.self (arms_at l.fn.levels l.fn.context (tokens_left l.fn.self)) (λ (before : Tree) (ts : List Token). more_arms_at l.fn.levels l.fn.context before ts) l.list
+invariant-arms-more l = Listing l.fn.self l.self (arms_at l.fn.levels l.fn.block (tokens_left l.fn.self)) (λ (before : Tree) (ts : List Token). more_arms_at l.fn.levels l.fn.block before ts) l.list
 
 abbrev pub decreases-arms-more : goal.decreases-arms-more
 decreases-arms-more l = length (tokens_left l.self)
@@ -303,15 +304,6 @@ decreases-terra_operand l = 64 * l.levels + 13
 abbrev pub decreases-terra_expression : goal.decreases-terra_expression
 decreases-terra_expression l = 64 * l.levels + 31
 
-abbrev pub decreases-next_terra_expression : goal.decreases-next_terra_expression
-decreases-next_terra_expression l = 64 * l.levels + 32
-
-abbrev pub decreases-terra_expressions : goal.decreases-terra_expressions
-decreases-terra_expressions l = 64 * l.levels + 33
-
-abbrev pub decreases-terra_arguments : goal.decreases-terra_arguments
-decreases-terra_arguments l = 64 * l.levels + 34
-
 abbrev pub decreases-named_initialiser : goal.decreases-named_initialiser
 decreases-named_initialiser l = 64 * l.levels + 32
 
@@ -375,12 +367,6 @@ invariant-terra_applied-more l = TerraApplying l.fn.levels l.fn.self l.self (ter
 abbrev pub decreases-terra_applied-more : goal.decreases-terra_applied-more
 decreases-terra_applied-more l = length (tokens_left l.self)
 
-abbrev pub invariant-terra_expressions-more : goal.invariant-terra_expressions-more
-invariant-terra_expressions-more l = Listing l.fn.self l.self (terra_expressions_at l.fn.levels (tokens_left l.fn.self)) (λ (before : Tree) (ts : List Token). more_terra_expressions_at l.fn.levels before ts) l.list
-
-abbrev pub decreases-terra_expressions-more : goal.decreases-terra_expressions-more
-decreases-terra_expressions-more l = length (tokens_left l.self)
-
 abbrev pub invariant-initialisers-more : goal.invariant-initialisers-more
 invariant-initialisers-more l = Listing l.fn.self l.self (part_at l.fn.levels Initialisers (tokens_left l.fn.self)) (λ (before : Tree) (ts : List Token). more_initialisers_at l.fn.levels l.named before ts) l.list
 
@@ -396,24 +382,6 @@ decreases-entries-more l = length (tokens_left l.self)
 abbrev pub decreases-written_type : goal.decreases-written_type
 decreases-written_type l = 64 * l.levels + 36
 
-abbrev pub decreases-terra_loop : goal.decreases-terra_loop
-decreases-terra_loop l = 64 * l.levels + 40
-
-abbrev pub decreases-terra_arm : goal.decreases-terra_arm
-decreases-terra_arm l = 64 * l.levels + 40
-
-abbrev pub decreases-next_terra_arm : goal.decreases-next_terra_arm
-decreases-next_terra_arm l = 64 * l.levels + 41
-
-abbrev pub decreases-terra_arms : goal.decreases-terra_arms
-decreases-terra_arms l = 64 * l.levels + 42
-
-abbrev pub decreases-terra_otherwise : goal.decreases-terra_otherwise
-decreases-terra_otherwise l = 64 * l.levels + 40
-
-abbrev pub decreases-terra_step : goal.decreases-terra_step
-decreases-terra_step l = 64 * l.levels + 40
-
 abbrev pub decreases-spliced_variable : goal.decreases-spliced_variable
 decreases-spliced_variable l = 64 * l.levels + 40
 
@@ -428,12 +396,6 @@ decreases-next_terra_variable l = 64 * l.levels + 42
 
 abbrev pub decreases-terra_variables : goal.decreases-terra_variables
 decreases-terra_variables l = 64 * l.levels + 43
-
-abbrev pub decreases-terra_initial_values : goal.decreases-terra_initial_values
-decreases-terra_initial_values l = 64 * l.levels + 40
-
-abbrev pub decreases-terra_returned_values : goal.decreases-terra_returned_values
-decreases-terra_returned_values l = 64 * l.levels + 40
 
 abbrev pub decreases-terra_target : goal.decreases-terra_target
 decreases-terra_target l = 64 * l.levels + 40
@@ -513,12 +475,6 @@ decreases-local_terra l = 64 * l.levels + 37
 abbrev pub decreases-define_struct : goal.decreases-define_struct
 decreases-define_struct l = 64 * l.levels + 36
 
-abbrev pub invariant-terra_arms-more : goal.invariant-terra_arms-more
-invariant-terra_arms-more l = Listing l.fn.self l.self (terra_arms_at l.fn.levels (tokens_left l.fn.self)) (λ (before : Tree) (ts : List Token). more_terra_arms_at l.fn.levels before ts) l.arms
-
-abbrev pub decreases-terra_arms-more : goal.decreases-terra_arms-more
-decreases-terra_arms-more l = length (tokens_left l.self)
-
 abbrev pub invariant-terra_variables-more : goal.invariant-terra_variables-more
 invariant-terra_variables-more l = Listing l.fn.self l.self (terra_variables_at l.fn.levels (tokens_left l.fn.self)) (λ (before : Tree) (ts : List Token). more_terra_variables_at l.fn.levels before ts) l.list
 
@@ -545,3 +501,9 @@ decreases-terra_block-more l = length (tokens_left l.self)
 
 abbrev pub decreases-terra_body : goal.decreases-terra_body
 decreases-terra_body l = 64 * l.levels + 48
+
+abbrev pub decreases-expression_of : goal.decreases-expression_of
+decreases-expression_of l = 64 * l.levels + 36
+
+abbrev pub decreases-block_of : goal.decreases-block_of
+decreases-block_of l = 64 * l.levels + 48

@@ -1,0 +1,58 @@
+-- What both languages have, such as lists of expressions and arms, by the language.
+use Rattle.std.specs.Prelude.{List, [], ◌∷◌}
+use Rattle.tl_tree.specs.declared.symbol.Symbol.{Symbol}
+use Rattle.tl_tree.specs.declared.symbol.Symbol.TheVariants as symbols
+use Rattle.tl_tree.specs.Tree.{Tree, Part, Expression, TerraExpression, Arguments, TerraArguments, Statements, TerraStatements}
+use Rattle.tl_tree.specs.Grammar.{Grammar}
+use Rattle.tl_tree.specs.LuaExpressions as lua
+use Rattle.tl_tree.specs.LuaStatements as statements
+use Rattle.tl_tree.specs.TerraExpressions as terra
+use Rattle.tl_tree.specs.TerraStatements as terra_statements
+use Rattle.tl_parse.specs.declared.parser.Code.{Code}
+use Rattle.tl_parse.specs.declared.parser.Code.TheVariants as codes
+use Rattle.tl_parse.specs.declared.parser.BlockCode.{BlockCode}
+use Rattle.tl_parse.specs.declared.parser.BlockCode.TheVariants as block_codes
+
+-- an expression, as its grammar and as a part
+abbrev pub expression_of : Code → Grammar Tree
+expression_of (codes.Lua m) = lua.expression m
+expression_of codes.Terra = terra.terra_expression
+
+abbrev pub expression_in : Code → Part
+expression_in (codes.Lua m) = Expression m
+expression_in codes.Terra = TerraExpression
+
+-- the tokens that begin an expression
+abbrev pub lua_symbols : List Symbol
+lua_symbols =
+    symbols.Name ∷ symbols.Numeral ∷ symbols.Literal ∷ symbols.Nil ∷ symbols.False ∷ symbols.True ∷ symbols.Ellipsis ∷ symbols.Function
+    ∷ symbols.OpenParen ∷ symbols.OpenBrace ∷ symbols.Not ∷ symbols.Hash ∷ symbols.Minus ∷ symbols.Ampersand
+    ∷ symbols.Terra ∷ symbols.Struct
+    ∷ symbols.Quote ∷ symbols.Backtick ∷ []
+
+abbrev pub first_symbols : Code → List Symbol
+first_symbols (codes.Lua m) = lua_symbols
+first_symbols codes.Terra = terra_statements.terra_expression_symbols
+
+-- what the parentheses of a call hold
+abbrev pub arguments_in : Code → Part
+arguments_in (codes.Lua m) = Arguments m
+arguments_in codes.Terra = TerraArguments
+
+-- the expressions in a block, its statements, and the arms behind those before
+abbrev pub code_of : BlockCode → Code
+code_of (block_codes.Lua c) = codes.Lua c.mode
+code_of block_codes.Terra = codes.Terra
+
+abbrev pub statements_in : BlockCode → Part
+statements_in (block_codes.Lua c) = Statements c
+statements_in block_codes.Terra = TerraStatements
+
+abbrev pub arms_of : BlockCode → Tree → Grammar Tree
+arms_of (block_codes.Lua c) before = statements.arms c before
+arms_of block_codes.Terra before = terra_statements.terra_arms before
+
+-- the block of a loop in a block
+abbrev pub looped_code : BlockCode → BlockCode
+looped_code (block_codes.Lua c) = block_codes.Lua (statements.looped c)
+looped_code block_codes.Terra = block_codes.Terra
