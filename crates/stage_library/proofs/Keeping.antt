@@ -9,7 +9,7 @@ use Rattle.lua_table.proofs.Keeping as heaps
 use Rattle.terra_types.specs.declared.types.TypeForm.{TypeForm}
 use Rattle.terra_types.specs.Keeping.{KeepsTypes}
 use Rattle.terra_types.proofs.Growing.{get-left}
-use Rattle.terra_types.proofs.Staying.{keeps_itself}
+use Rattle.terra_types.proofs.Staying as type_forms
 use Rattle.terra_term.specs.Held.{Held, state_of}
 use Rattle.terra_term.specs.Keeping.{AllStay}
 use Rattle.terra_term.proofs.Staying.{stays-same, stays-then}
@@ -26,7 +26,7 @@ types_front old new front i form at = (
   (
     ap (λ (l : List TypeForm). slice_get l i) front.1
         ∙ get-left old front.0 i (slice_get_within old i form at) ∙ at,
-    keeps_itself form,
+    type_forms.keeps_itself form,
   ),
 )
 

@@ -301,7 +301,11 @@ impl<'a> Parser<'a> {
     /// "do" block "end" or "do" tblock "end", of a loop
     #[cycle(parser)]
     #[tactic(auto, using(crate::proofs::Failing::failing), unfolding(crate::specs::Statements::loop_at))]
-    pub(crate) fn loop_block(&mut self, block: BlockCode, levels: u32) -> Result<NodeId, SyntaxError>
+    pub(crate) fn loop_block(
+        &mut self,
+        block: BlockCode,
+        levels: u32,
+    ) -> Result<NodeId, SyntaxError>
         ensures ok { IfOk result (λ r. TookTree self.old self.new (loop_at levels block (tokens_left self.old)) r) }
         ensures err { IfErr result (λ e. Fails self.old (loop_at levels block (tokens_left self.old)) e) }
     {
@@ -516,7 +520,11 @@ impl<'a> Parser<'a> {
     /// ["=" exps], or ["=" texps]
     #[cycle(parser)]
     #[tactic(auto, using(crate::proofs::Failing::failing), unfolding(crate::specs::Statements::initial_values_at))]
-    pub(crate) fn initial_values(&mut self, code: Code, levels: u32) -> Result<NodeList, SyntaxError>
+    pub(crate) fn initial_values(
+        &mut self,
+        code: Code,
+        levels: u32,
+    ) -> Result<NodeList, SyntaxError>
         ensures ok { IfOk result (λ r. TookList self.old self.new (initial_values_at levels code (tokens_left self.old)) r) }
         ensures err { IfErr result (λ e. Fails self.old (initial_values_at levels code (tokens_left self.old)) e) }
     {
@@ -558,7 +566,11 @@ impl<'a> Parser<'a> {
     /// [exps] or [texps], behind "return"
     #[cycle(parser)]
     #[tactic(auto, using(crate::proofs::Failing::failing), unfolding(crate::specs::Statements::returned_values_at))]
-    pub(crate) fn returned_values(&mut self, code: Code, levels: u32) -> Result<NodeList, SyntaxError>
+    pub(crate) fn returned_values(
+        &mut self,
+        code: Code,
+        levels: u32,
+    ) -> Result<NodeList, SyntaxError>
         ensures ok { IfOk result (λ r. TookList self.old self.new (returned_values_at levels code (tokens_left self.old)) r) }
         ensures err { IfErr result (λ e. Fails self.old (returned_values_at levels code (tokens_left self.old)) e) }
     {
