@@ -1,0 +1,14 @@
+#!/bin/bash
+# link_check.sh LOG PATHS.. : check rv_link over the stub of rv_select
+log=$1; shift
+C=/work/clones/be/crates
+cd $C/select_rows
+declare -A uses
+while IFS=: read -r n d; do [ -z "$n" ] || case "$n" in \#*) ;; *) uses[$n]="$d";; esac; done < $C/../crates.txt
+ext=""
+for n in ${uses[select_rows]}; do [ $n = anyhow ] && continue;
+  if [ -d $C/$n/out/rlib ] && [ -f $C/$n/out/rlib/stamp ]; then ext="$ext --extern $n=$C/$n/out/rlib/$n.rlib"
+  else S=$C; [ -d /nonexistent/$n ] && S=/nonexistent; u="core,std"; for d in ${uses[$n]}; do u="$u,$d"; done; ext="$ext --lib $n:$u=$S/$n/src/lib.rt"; fi
+done
+only=""; for p in "$@"; do only="$only --only $p"; done
+exec timeout ${T:-1700} /opt/rattle/bin/rattle check --crate-name select_rows src/main.rt --extern std=/opt/rattle/rlibs/std.rlib -L dependency=/opt/rattle/rlibs --extern core=/opt/rattle/rlibs/core.rlib --extern indexmap=/opt/rattle/rlibs/indexmap.rlib --extern thiserror=/opt/rattle/rlibs/thiserror.rlib --extern anyhow=/opt/rattle/rlibs/anyhow.rlib --extern byteorder=/opt/rattle/rlibs/byteorder.rlib $ext --antt-project /opt/rattle/rattle/logic/antt-project.json --logic-built /opt/rattle/logic_built --links select_rows= --incremental ${INC:-/work/clones/be-scratch/incs} --jobs 1 --progress $HOLES $only > $log 2>&1

@@ -1,0 +1,6 @@
+#!/bin/bash
+echo -18 > /proc/$$/autogroup
+cd /work/clones/pl/crates/rv_select
+for w in push_instruction push_exit push_compared push_call_jump all_has_code held_after; do
+python3 /work/clones/tools/plants.py $PWD --minutes 20 --only $w > /work/clones/tools/plants-rv_select-$w.txt 2> /work/clones/tools/plants-rv_select-$w.err
+done

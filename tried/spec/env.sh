@@ -1,0 +1,1 @@
+export CRATES=/work/clones/spec-try/crates PYTHONDONTWRITEBYTECODE=1

@@ -1,0 +1,32 @@
+import sys; sys.path.insert(0, "/work/clones/tools/tidy")
+from consts import *
+c = "crates/"
+A = "Rattle.tl_base.specs.declared.limits.TheConstants.{%s}"
+p = c + "elf_image/src/exports.rt"; sub(p, "use crate::rule::Rule;\nuse std::alloc::Global;\n", "use crate::rule::Rule;\nuse std::alloc::Global;\nuse tl_base::limits::TEXT_ADDRESS;\n")
+p = c + "elf_image/src/writing.rt"; sub(p, "use crate::headers::{\n    DATA, MAGIC, NULL, PRIVATE_ADDRESS, REGION_ADDRESS, STRTAB, SYMTAB, Section, TERRA, TEXT,\n    TEXT_ADDRESS,\n};\n", "use crate::headers::{DATA, MAGIC, NULL, STRTAB, SYMTAB, Section, TERRA, TEXT};\n")
+sub(p, "use tl_base::NoMemory;\n", "use tl_base::NoMemory;\nuse tl_base::limits::{PRIVATE_ADDRESS, REGION_ADDRESS, TEXT_ADDRESS};\n")
+p = c + "rv_machine/src/quiet.rt"; sub(p, "    StoreOp,\n};\n", "    StoreOp,\n};\nuse tl_base::limits::{PRIVATE_ADDRESS, REGION_ADDRESS, TEXT_ADDRESS};\n")
+p = c + "machine_rows/src/runs.rt"; sub(p, "use rv_machine::{Machine, Stop, TEXT, run_image};", "use rv_machine::{Machine, Stop, run_image};") if "Stop, TEXT, run_image" in read(p) else sub(p, "use rv_machine::{Machine, Stop, TEXT_ADDRESS, run_image};", "use rv_machine::{Machine, Stop, run_image};")
+sub(p, "use tl_base::{Failed, MemSink, NoMemory, Sink};", "use tl_base::limits::TEXT_ADDRESS;\nuse tl_base::{Failed, MemSink, NoMemory, Sink};")
+s = read(p); s = s.replace("start(TEXT, ", "start(TEXT_ADDRESS, "); write(p, s)
+p = c + "select_rows/src/main.rt"; sub(p, "use rv_machine::{Stop, TEXT_ADDRESS, run_image};", "use rv_machine::{Stop, run_image};")
+sub(p, "use tl_base::{FnId, MemSink, NoMemory, Place};", "use tl_base::limits::TEXT_ADDRESS;\nuse tl_base::{FnId, MemSink, NoMemory, Place};")
+p = c + "rv_link/src/linking.rt"; sub(p, "use tl_base::NoMemory;\n", "use tl_base::NoMemory;\nuse tl_base::limits::TEXT_ADDRESS;\n")
+p = c + "check_library/src/layouts.rt"; sub(p, "/// The address of the first static.\nconst FIRST_STATIC: u64 = 0x4000_0000;\n\n", ""); s = read(p).replace("FIRST_STATIC", "REGION_ADDRESS"); write(p, s)
+sub(p, "use tl_base::{Budget, GlobalId, NoMemory,", "use tl_base::limits::REGION_ADDRESS;\nuse tl_base::{Budget, GlobalId, NoMemory,")
+p = c + "terra_memory/src/region.rt"; sub(p, "/// The address of a region's first byte.\npub const FIRST_ADDRESS: u64 = 0x4000_0000;\n\n", ""); write(p, read(p).replace("FIRST_ADDRESS", "REGION_ADDRESS"))
+sub(p, "use tl_base::NoMemory;\n", "use tl_base::NoMemory;\nuse tl_base::limits::REGION_ADDRESS;\n")
+p = c + "terra_memory/specs/Region.antt"; sub(p, "first_address = 0x4000_0000", "first_address = REGION_ADDRESS"); add_use(p, A % "REGION_ADDRESS")
+for f in ("terra_eval/src/state.rt", "terra_eval/src/program.rt", "terra_eval/src/memory.rt", "meaning_rows/src/machine.rt"):
+    s = read(c + f); print(f, re.findall(r"\nuse tl_base[^;]*;", s))
+    s = s.replace("use terra_memory::region::FIRST_ADDRESS;\n", "").replace("FIRST_ADDRESS", "REGION_ADDRESS")
+    m = re.search(r"^use tl_base[^;]*;\n", s, re.M)
+    if m: s = s[:m.start()] + "use tl_base::limits::REGION_ADDRESS;\n" + s[m.start():]
+    else: print("NO tl_base", f, re.findall(r"\nuse [^;]*;", s))
+    write(c + f, s)
+p = c + "terra_term/src/store.rt"; sub(p, "/// The address of the first static.\nconst FIRST_STATIC: u64 = 0x4000_0000;\n\n", ""); write(p, read(p).replace("FIRST_STATIC", "REGION_ADDRESS"))
+sub(p, "use tl_base::{\n    ConstantId,", "use tl_base::limits::REGION_ADDRESS;\nuse tl_base::{\n    ConstantId,")
+sub(p, "address + size ≤ 0x4000_0000 + 33554432", "address + size ≤ REGION_ADDRESS + MAX_MEMORY / 2")
+p = c + "terra_term/specs/Held.antt"; sub(p, "first_static = 0x4000_0000", "first_static = REGION_ADDRESS"); add_use(p, A % "REGION_ADDRESS")
+p = c + "terra_term/specs/Statics.antt"; sub(p, "end ≤ 0x4000_0000 + 33554432", "end ≤ first_static + MAX_MEMORY / 2"); add_use(p, "Rattle.tl_base.specs.declared.limits.TheConstants.Limits.{MAX_MEMORY}")
+sub(p, "Held.{statics_end}", "Held.{first_static, statics_end}"); sub(p, "{◌≡◌, ℕ, ◌≤◌, ◌+◌, List}", "{◌≡◌, ℕ, ◌≤◌, ◌+◌, ◌/◌, List}")

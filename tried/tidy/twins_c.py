@@ -1,0 +1,18 @@
+import sys; sys.path.insert(0, "/work/clones/tools/tidy")
+from apply_twins import *
+def twin(p, name, path, comment=""):
+    p = c + p; b = set(unused(p)); co = drop_def(p, name); add_pub_use(p, path); print(p, name, "| comment:", co.strip(), "| unused:", [x for x in unused(p) if x not in b])
+p = c + "terra_words/specs/Words.antt"; s = read(p); i = s.index("-- how many calls may be going on at once")
+s = s[:i] + "-- the operators that compare, which give a bool\nabbrev pub is_comparison : BinaryOperator → Bool\nis_comparison Equal = true\nis_comparison NotEqual = true\nis_comparison Less = true\nis_comparison LessEqual = true\nis_comparison Greater = true\nis_comparison GreaterEqual = true\nis_comparison _ = false\n\n" + s[i:]; write(p, s)
+twin("rv_operators/specs/Codes.antt", "is_comparison", "Rattle.terra_words.specs.Words.{is_comparison}")
+twin("terra_term/specs/WellTyped.antt", "compares", "Rattle.terra_words.specs.Words.{is_comparison as compares}")
+twin("terra_stage/specs/Layers.antt", "answer_of", "Rattle.stage_loop.specs.Layers.{answer_of}")
+twin("lua_textlib/specs/Arguments.antt", "text_in", "Rattle.lua_ops.specs.Outcomes.{piece_of as text_in}")
+twin("terra_meaning/specs/Meaning.antt", "types_of", "Rattle.terra_term.specs.WellTyped.{types_in as types_of}")
+twin("lua_base/specs/Arguments.antt", "argument", "Rattle.lua_table.specs.Cells.{nth_value as argument}")
+sub(c + "terra_term/specs/Stores.antt", "abbrev body_in :", "abbrev pub body_in :"); twin("check_sound/specs/Sound.antt", "body_in", "Rattle.terra_term.specs.Stores.{body_in}")
+sub(c + "terra_types/specs/Layouts.antt", "abbrev is_function_form :", "abbrev pub is_function_form :"); twin("terra_term/specs/WellTyped.antt", "function_form", "Rattle.terra_types.specs.Layouts.{is_function_form as function_form}")
+twin("check_stage/specs/Layers.antt", "with_stage", "Rattle.check_expr.specs.Steps.{with_stage}")
+twin("rv_link/specs/Linked.antt", "edge_there", "Rattle.tac_form.specs.Fits.{edge_fits as edge_there}")
+twin("terra_lib/specs/Answers.antt", "type_in", "Rattle.lua_base.specs.Printing.{type_in}")
+p = c + "terrac_call/specs/Statuses.antt"; b = set(unused(p)); print(drop_def(p, "place_text")); add_pub_use(p, "Rattle.check_stage.specs.Texts.{place_text}"); s = read(p); write(p, s.replace("pub use Rattle.check_stage.specs.Texts.{place_text}", "use Rattle.check_stage.specs.Texts.{place_text}")); print([x for x in unused(p) if x not in b])

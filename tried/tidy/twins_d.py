@@ -1,0 +1,16 @@
+import sys; sys.path.insert(0, "/work/clones/tools/tidy")
+from apply_twins import *
+P = "Rattle.std.specs.Prelude"
+p = c + "rv_operators/specs/Codes.antt"; sub(p, "-- The table. The words of x5 and x6 are any, and the result is a word of the width.\n", "-- The table. The words of x5 and x6 are any, and the result is a word of the width: 1 and 0, which comparisons give, are words of every\n-- width.\n")
+p = c + "terra_term/specs/WellTyped.antt"; sub(p, "abbrev pub equates : BinaryOperator", "-- which of the operators that compare do so for equality alone\nabbrev pub equates : BinaryOperator")
+p = c + "rv_link/specs/Linked.antt"; sub(p, "abbrev pub exit_there : Tac", "-- Each way on from a block of code leads to one of its blocks, as in all code that machine code may be made of.\nabbrev pub exit_there : Tac")
+drop_names(p, P, {"nat_lt"}); drop_names(p, "Rattle.tac_form.specs.declared.tac.Edge", {"Edge"})
+p = c + "lua_textlib/specs/Arguments.antt"; sub(p, "pub use Rattle.lua_ops", "-- the bytes that a value is as a text: a number stands for its decimal text (Lua 5.1 manual, section 2.2.1)\npub use Rattle.lua_ops")
+drop_names(p, "Rattle.std.specs.Fmt", {"signed_decimal"}); sub(p, "use Rattle.lua_value.specs.declared.value.Value.TheVariants as values\n", "")
+p = c + "lua_base/specs/Arguments.antt"; sub(p, "pub use Rattle.lua_table", "-- the argument of a number, from 0; one that isn't there reads as nil\npub use Rattle.lua_table"); drop_names(p, P, {"slice_index_or"})
+p = c + "terra_stage/specs/Layers.antt"; sub(p, "pub use Rattle.stage_loop", "-- an end as an answer to the layer that asked\npub use Rattle.stage_loop")
+p = c + "terra_lib/specs/Answers.antt"; sub(p, "pub use Rattle.lua_base", "-- the type that an argument is\npub use Rattle.lua_base"); drop_names(p, "Rattle.tl_base.specs.declared.ids.TypeId", {"TypeId"}); sub(p, "use Rattle.lua_value.specs.declared.value.Value.TheVariants as values\n", "")
+p = c + "terra_meaning/specs/Meaning.antt"; drop_names(p, "Rattle.terra_term.specs.TypedTerms", {"type_of"})
+p = c + "terrac_call/specs/Statuses.antt"; drop_names(p, "Rattle.tl_base.specs.declared.place.Place", {"Place"})
+p = c + "check_stage/specs/Texts.antt"; s = read(p); i = s.index("abbrev pub place_text"); print(s[i-200:i+120])
+for f in ("lua_textlib/specs/Arguments.antt", "lua_base/specs/Arguments.antt", "terra_lib/specs/Answers.antt", "terrac_call/specs/Statuses.antt", "terra_meaning/specs/Meaning.antt", "terra_stage/specs/Layers.antt", "check_stage/specs/Layers.antt", "rv_link/specs/Linked.antt"): print(f, unused(c + f))

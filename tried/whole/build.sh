@@ -1,0 +1,12 @@
+#!/bin/bash
+# build.sh REPO CRATE OUT : a program of CRATE of REPO without proofs
+E=/work/clones/run-scratch
+cd $1/crates/$2 || exit 1
+rm -f $E/saved/*; export SAVED=$E/saved
+W=$(TOP=$1 NAME=$2 python3 $E/try.py | tail -1)
+K=/opt/rattle
+ulimit -c 0
+timeout 1500 $K/bin/rattle-try --toolchain $E/tc --asan $K/c/asan.a --steps 1 --seconds 1 --link $K/c/libos_c.a --link $K/c/liblibc_c.a --stdin /dev/null $W > $E/$3.try 2>&1 || true
+[ -f $E/saved/module.bc ] || { head -40 $E/$3.try | cut -c1-400; exit 1; }
+cp $E/saved/module.bc $E/$3.bc
+$E/comp.sh $E $3
