@@ -34,7 +34,7 @@ const INT64: TypeId = TypeId(3);
 const UINT8: TypeId = TypeId(4);
 
 /// What is called without being typed.
-#[derive(Clone, Copy, Debug)]
+#[derive(Clone, Copy)]
 pub enum Callee {
     Function(FnId),
     Primitive(Primitive),

@@ -131,7 +131,7 @@ pub fn extract(
 }
 
 /// What a type has elements of.
-#[derive(Clone, Copy, Debug)]
+#[derive(Clone, Copy)]
 enum Elements {
     Behind(TypeId),
     Within(TypeId),

@@ -10,7 +10,7 @@ use terra_words::BinaryOperator;
 use tl_base::{FnId, List, Place, TermId, TextId, TypeId};
 
 /// A frame. How it goes on with an end is `after`, of `specs/Frames`.
-#[derive(Debug, Drop)]
+#[derive(Drop)]
 pub enum BodyFrame {
     /// It goes on with a typed expression.
     Made(MadeFrame),
@@ -27,7 +27,7 @@ pub enum BodyFrame {
 }
 
 /// What waits for a typed expression in an expression.
-#[derive(Debug, Drop)]
+#[derive(Drop)]
 pub enum MadeFrame {
     /// The operand of an operator.
     Unary(UnaryOperator, Node),
@@ -72,7 +72,7 @@ pub enum MadeFrame {
 }
 
 /// What waits for a typed expression of a statement.
-#[derive(Debug, Drop)]
+#[derive(Drop)]
 pub enum DoingFrame {
     /// The value of a name of a `var`.
     VarValue(VarName, VarFrame),
@@ -105,7 +105,7 @@ pub enum DoingFrame {
 }
 
 /// An operator on integers, the type at which its operands meet, and the type of its result.
-#[derive(Clone, Copy, Debug)]
+#[derive(Clone, Copy)]
 pub struct MeetFrame {
     pub op: BinaryOperator,
     pub meet: TypeId,
@@ -114,7 +114,7 @@ pub struct MeetFrame {
 }
 
 /// What is called by its name.
-#[derive(Clone, Copy, Debug)]
+#[derive(Clone, Copy)]
 pub enum Target {
     Function(FnId),
     Primitive(Primitive),
@@ -122,7 +122,7 @@ pub enum Target {
 
 /// A call: the operands that are left, the types of the parameters that are left, what was made of the operands before, and whether the
 /// next one is a receiver, which is made to fit.
-#[derive(Debug, Drop)]
+#[derive(Drop)]
 pub struct CallFrame {
     pub target: Target,
     pub operands: Rest<Operand>,
@@ -133,7 +133,7 @@ pub struct CallFrame {
 }
 
 /// A constructor: the entries and the values that are left, and the offsets and values before.
-#[derive(Debug, Drop)]
+#[derive(Drop)]
 pub struct InitialFrame {
     pub of: TypeId,
     pub entries: Rest<Option<Laid>>,
@@ -144,14 +144,14 @@ pub struct InitialFrame {
 }
 
 /// The values of a constructor, and the names of their entries where they have some.
-#[derive(Debug, Drop)]
+#[derive(Drop)]
 pub struct Initials {
     pub names: Option<Rest<TextId>>,
     pub values: Rest<TermId>,
 }
 
 /// A `var` with values: the names and the values that are left, and those before, each name with its type.
-#[derive(Debug, Drop)]
+#[derive(Drop)]
 pub struct VarFrame {
     pub names: Rest<VarName>,
     pub values: Rest<TermId>,
@@ -162,7 +162,7 @@ pub struct VarFrame {
 }
 
 /// The names of a `var` that are left, those before, and the values.
-#[derive(Debug, Drop)]
+#[derive(Drop)]
 pub struct NamesFrame {
     pub names: Rest<VarName>,
     pub named: List<TypedName>,
@@ -172,7 +172,7 @@ pub struct NamesFrame {
 }
 
 /// An assignment at its values: those that are left, those before, and the targets.
-#[derive(Debug, Drop)]
+#[derive(Drop)]
 pub struct ValueFrame {
     pub values: Rest<TermId>,
     pub made: List<Made>,
@@ -182,7 +182,7 @@ pub struct ValueFrame {
 }
 
 /// An assignment at its targets: those that are left, those before, and the values.
-#[derive(Debug, Drop)]
+#[derive(Drop)]
 pub struct TargetFrame {
     pub targets: Rest<TermId>,
     pub places: List<Made>,
@@ -192,7 +192,7 @@ pub struct TargetFrame {
 }
 
 /// An assignment at the conversions of its values: the values and targets that are left, the nodes of all targets, and the values before.
-#[derive(Debug, Drop)]
+#[derive(Drop)]
 pub struct AssignedFrame {
     pub made: Rest<Made>,
     pub places: Rest<Made>,
@@ -203,7 +203,7 @@ pub struct AssignedFrame {
 }
 
 /// A `for` at its bounds: those that are left and those before, with its name and its block.
-#[derive(Debug, Drop)]
+#[derive(Drop)]
 pub struct BoundFrame {
     pub bounds: Rest<TermId>,
     pub made: List<Made>,
@@ -214,7 +214,7 @@ pub struct BoundFrame {
 }
 
 /// A `for` at the conversions of its bounds to a type: those that are left and those before.
-#[derive(Debug, Drop)]
+#[derive(Drop)]
 pub struct CountedFrame {
     pub of: TypeId,
     pub made: Rest<Made>,
@@ -226,7 +226,7 @@ pub struct CountedFrame {
 }
 
 /// A statement of a block, with the statements behind it and those before it.
-#[derive(Debug, Drop)]
+#[derive(Drop)]
 pub struct BlockFrame {
     pub rest: Rest<TermId>,
     pub ids: List<TermId>,
@@ -235,7 +235,7 @@ pub struct BlockFrame {
 }
 
 /// What is done with the statements of a block; the number is that of the variables before it.
-#[derive(Debug, Drop)]
+#[derive(Drop)]
 pub enum BlockThen {
     Do(u64, Place),
     /// They are the first block of an `if`, with its condition and the block behind `else`.
@@ -255,7 +255,7 @@ pub enum BlockThen {
 }
 
 /// What is done once a layout is settled.
-#[derive(Debug, Drop)]
+#[derive(Drop)]
 pub enum LaidThen {
     /// This is the value of its type.
     Value(Made),
@@ -276,7 +276,7 @@ pub enum LaidThen {
 }
 
 /// A function at its parameters: those that are left, all of them as they are in its typed term, and its statements.
-#[derive(Debug, Drop)]
+#[derive(Drop)]
 pub struct ParametersFrame {
     pub parameters: Rest<terra_term::Parameter>,
     pub named: List<TypedName>,

@@ -28,7 +28,7 @@ use tl_base::limits::{MAX_TERM_LEVELS, MAX_TERM_NODES};
 use tl_base::{Budget, FnId, List, NoMemory, Place, Step, TermId, TypeId};
 
 /// What stands in the definition of a function.
-#[derive(Debug, Drop)]
+#[derive(Drop)]
 pub struct Definition {
     pub parameters: Rest<Parameter>,
     pub named: List<TypedName>,

@@ -7,7 +7,7 @@ use tl_base::{Place, Step, TermId};
 pub type BodyStep = Step<BodyJob, PartEnd, BodyQuestion>;
 
 /// A node that is typed: its term, its place, and where in a body it is.
-#[derive(Clone, Copy, Debug)]
+#[derive(Clone, Copy)]
 pub struct Node {
     pub source: TermId,
     pub at: Place,

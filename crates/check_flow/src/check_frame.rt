@@ -4,7 +4,7 @@ use check_model::ReachedList;
 use tl_base::FnId;
 
 /// What waits in a check: for the body of this function, which was taken from this place of the queue.
-#[derive(Debug, Drop)]
+#[derive(Drop)]
 pub struct CheckFrame {
     pub queue: ReachedList,
     pub place: u64,

@@ -6,7 +6,7 @@ use terra_types::Entry;
 use tl_base::{List, Place, TypeId};
 
 /// What waits for the layout of another type.
-#[derive(Debug, Drop)]
+#[derive(Drop)]
 pub enum LayoutFrame {
     /// A struct, at one of its entries: its type, the value that has the entries, those behind the one, all of them, and who asked.
     Part(TypeId, Value, Rest<Entry>, List<Entry>, Place),

@@ -258,7 +258,7 @@ fn begin_entries(world: &mut World, of: TypeId) -> Result<(), NoMemory>
 }
 
 /// How a type is laid out.
-#[derive(Clone, Copy, Debug)]
+#[derive(Clone, Copy)]
 enum Kind {
     Struct,
     Array(TypeId),

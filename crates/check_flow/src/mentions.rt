@@ -14,7 +14,7 @@ use terra_term::{Constant, FunctionState, Operation, Typed, TypedExpression, Typ
 use tl_base::{FnId, NoMemory, Place, TermId};
 
 /// A node that is to be gone through, among the nodes before a number, and whether it stands as a statement.
-#[derive(Clone, Copy, Debug)]
+#[derive(Clone, Copy)]
 pub struct Part {
     pub term: TermId,
     pub below: u64,

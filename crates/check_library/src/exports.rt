@@ -29,7 +29,7 @@ use terra_term::RefusalKind;
 use tl_base::{Budget, FnId, List, NoMemory, Place, TableId, TextId};
 
 /// How an entry of a table fares.
-#[derive(Clone, Copy, Debug, PartialEq, Eq)]
+#[derive(Clone, Copy, PartialEq, Eq)]
 pub enum Fate {
     /// The function is exported under the text.
     Exported(TextId, FnId),

@@ -6,7 +6,7 @@ use terra_term::{Refusal, RefusalKind};
 use tl_base::{TermId, TypeId};
 
 /// How a part of a body ends.
-#[derive(Debug, Drop)]
+#[derive(Drop)]
 pub enum PartEnd {
     /// By a typed expression.
     Made(Made),
@@ -19,21 +19,21 @@ pub enum PartEnd {
 }
 
 /// How a body ends.
-#[derive(Clone, Copy, Debug, PartialEq, Eq)]
+#[derive(Clone, Copy, PartialEq, Eq)]
 pub enum BodyEnd {
     Typed(TermId),
     Refused(Refusal),
 }
 
 /// How a check ends.
-#[derive(Clone, Copy, Debug, PartialEq, Eq)]
+#[derive(Clone, Copy, PartialEq, Eq)]
 pub enum CheckEnd {
     Done,
     Refused(Refusal),
 }
 
 /// How a layout ends.
-#[derive(Clone, Copy, Debug, PartialEq, Eq)]
+#[derive(Clone, Copy, PartialEq, Eq)]
 pub enum LayoutEnd {
     Done,
     Refused(RefusalKind),

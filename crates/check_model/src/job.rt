@@ -11,7 +11,7 @@ use std::marker::Model;
 use tl_base::{FnId, List, NoMemory, Place, TermId, TypeId};
 
 /// What a call is given: a term that is typed in its turn, or what was typed before.
-#[derive(Clone, Copy, Debug, PartialEq, Eq)]
+#[derive(Clone, Copy, PartialEq, Eq)]
 pub enum Operand {
     Untyped(TermId),
     Typed(Made),
@@ -21,7 +21,7 @@ pub enum Operand {
 pub type OperandList = List<Operand>;
 
 /// A node of a body is typed.
-#[derive(Debug, Drop)]
+#[derive(Drop)]
 pub enum BodyJob {
     Expression(TermId, Site),
     Statement(TermId, Site),
@@ -30,14 +30,14 @@ pub enum BodyJob {
 }
 
 /// A function that a check reached, with the place and the function of the first call that reached it.
-#[derive(Clone, Copy, Debug, PartialEq, Eq)]
+#[derive(Clone, Copy, PartialEq, Eq)]
 pub struct Reached {
     pub function: FnId,
     pub by: Option<(Place, FnId)>,
 }
 
 /// Functions in the order in which they were reached, and found by their numbers. Contracts see the list.
-#[derive(Debug, Drop)]
+#[derive(Drop)]
 pub struct ReachedList {
     by: IndexMap<FnId, Option<(Place, FnId)>>,
 }
@@ -99,13 +99,13 @@ impl ReachedList {
 
 /// A function is taken from the queue of a check: the one at this place, from 0, among all that were reached so far. All later ones
 /// follow it.
-#[derive(Debug, Drop)]
+#[derive(Drop)]
 pub enum CheckJob {
     Take(ReachedList, u64),
 }
 
 /// A type whose layout is to be settled, for a node or a call at a place.
-#[derive(Clone, Copy, Debug, PartialEq, Eq)]
+#[derive(Clone, Copy, PartialEq, Eq)]
 pub struct LayoutTask {
     pub of: TypeId,
     pub at: Place,

@@ -3,7 +3,7 @@
 use tl_base::TypeId;
 
 /// What is known of the result type of a function.
-#[derive(Clone, Copy, Debug, PartialEq, Eq)]
+#[derive(Clone, Copy, PartialEq, Eq)]
 pub enum KnownResult {
     /// It is written, declared, or found.
     Is(TypeId),

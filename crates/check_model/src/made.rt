@@ -3,7 +3,7 @@
 use tl_base::{Place, TermId, TypeId};
 
 /// A typed expression: its node, the term from which it was typed, its place in the text, its type, and whether it is a place.
-#[derive(Clone, Copy, Debug, PartialEq, Eq)]
+#[derive(Clone, Copy, PartialEq, Eq)]
 pub struct Made {
     pub id: TermId,
     pub source: TermId,

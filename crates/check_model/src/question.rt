@@ -5,7 +5,7 @@ use terra_term::{Refusal, RefusalKind};
 use tl_base::{FnId, Place, TypeId};
 
 /// What the typing of a body asks.
-#[derive(Debug, Drop)]
+#[derive(Drop)]
 pub enum BodyQuestion {
     /// To call a value of Lua with these arguments, for a node at this place.
     CallLua(Value, Values, Place),
@@ -16,14 +16,14 @@ pub enum BodyQuestion {
 }
 
 /// What a check asks.
-#[derive(Clone, Copy, Debug, PartialEq, Eq)]
+#[derive(Clone, Copy, PartialEq, Eq)]
 pub enum CheckQuestion {
     /// To type the body of a function that is defined.
     Body(FnId),
 }
 
 /// What a layout asks.
-#[derive(Debug, Drop)]
+#[derive(Drop)]
 pub enum LayoutQuestion {
     /// To call a value of Lua with these arguments, for a node or a call at this place.
     CallLua(Value, Values, Place),
@@ -32,7 +32,7 @@ pub enum LayoutQuestion {
 }
 
 /// What begins each of the three, and what answers their questions.
-#[derive(Debug, Drop)]
+#[derive(Drop)]
 pub enum CheckAnswer {
     Go,
     /// What a call gave.

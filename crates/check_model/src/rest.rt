@@ -8,7 +8,7 @@ use std::marker::Model;
 use tl_base::{List, NoMemory};
 
 /// The items of a list that are left. Contracts see these.
-#[derive(Debug, Drop)]
+#[derive(Drop)]
 pub struct Rest<T> {
     items: Vec<T>,
     next: usize,

@@ -3,14 +3,14 @@
 use tl_base::TypeId;
 
 /// Whether a cast is written.
-#[derive(Clone, Copy, Debug, PartialEq, Eq)]
+#[derive(Clone, Copy, PartialEq, Eq)]
 pub enum Mode {
     Implicit,
     Explicit,
 }
 
 /// How an operator works on operands of two types.
-#[derive(Clone, Copy, Debug, PartialEq, Eq)]
+#[derive(Clone, Copy, PartialEq, Eq)]
 pub enum Rule {
     /// At the meet of two integer types, with a result of that type.
     Meets,

@@ -4,7 +4,7 @@ use tl_base::{FnId, TypeId};
 
 /// Where a node of a body is typed: the function, how many variables stand before its own, whether a loop is around it, whether it is
 /// among the statements of a `let`, and the result type, where that is written or was found.
-#[derive(Clone, Copy, Debug, PartialEq, Eq)]
+#[derive(Clone, Copy, PartialEq, Eq)]
 pub struct Site {
     pub function: FnId,
     pub base: u64,

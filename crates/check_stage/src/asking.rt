@@ -17,7 +17,7 @@ use lua_value::Values;
 use tl_base::{Budget, NoMemory, Place, Turn};
 
 /// What asks.
-#[derive(Debug, Drop)]
+#[derive(Drop)]
 pub enum Asked {
     /// A call of a function of the library that asks.
     Call(LibCall),

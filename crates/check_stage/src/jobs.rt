@@ -11,7 +11,7 @@ use terra_term::{Refusal, RefusalKind};
 use tl_base::{FnId, Place, TypeId};
 
 /// What a layer is asked to do.
-#[derive(Debug, Drop)]
+#[derive(Drop)]
 pub enum Job {
     /// What needs no check and no layout by itself: Lua code, the specialisation of Terra code, and most of the library.
     Stage(Task),
@@ -30,7 +30,7 @@ pub enum Job {
 }
 
 /// How a layer ends.
-#[derive(Debug, Drop)]
+#[derive(Drop)]
 pub enum JobEnd {
     /// Lua code gave these values.
     Values(Values),

@@ -31,7 +31,7 @@ use tl_rename::resolve;
 use tl_tree::Tree;
 
 /// How a staging goes on behind the chunk.
-#[derive(Clone, Copy, Debug, PartialEq, Eq)]
+#[derive(Clone, Copy, PartialEq, Eq)]
 pub enum Mode {
     /// It makes the exports at the end of the chunk.
     Exports,
@@ -40,7 +40,7 @@ pub enum Mode {
 }
 
 /// What a check came to.
-#[derive(Clone, Copy, Debug, PartialEq, Eq)]
+#[derive(Clone, Copy, PartialEq, Eq)]
 pub struct CheckLine {
     pub function: FnId,
     /// `None` where it has no refusal.
@@ -48,7 +48,7 @@ pub struct CheckLine {
 }
 
 /// How a staging ends.
-#[derive(Debug, Drop)]
+#[derive(Drop)]
 pub enum End {
     Done,
     /// By an error: its text, and the place of what raised it.

@@ -21,7 +21,7 @@ use tl_base::{Bytes, FnId, NoMemory, Place, TypeId};
 use tl_tree::Tree;
 
 /// What is written of a staging: what was printed, how it ended, and lines of what it came to.
-#[derive(Debug, Drop)]
+#[derive(Drop)]
 pub struct Written {
     pub printed: Bytes,
     pub end: End,

@@ -24,7 +24,7 @@ const HEADERS_SIZE: usize = 232;
 const SECTIONS_SIZE: u64 = 384;
 
 /// The fields of a section header that do not depend on the file.
-#[derive(Clone, Copy, Debug)]
+#[derive(Clone, Copy)]
 pub struct Section {
     pub name: u32,
     pub kind: u32,

@@ -9,7 +9,7 @@ use tl_base::{Bytes, List};
 pub type Words = List<u32>;
 
 /// A function that can be called from outside.
-#[derive(Debug, Drop)]
+#[derive(Drop)]
 pub struct Symbol {
     /// Its name: 1 to 255 bytes, none of them zero.
     pub name: Bytes,
@@ -26,7 +26,7 @@ pub struct Symbol {
 pub type Symbols = List<Symbol>;
 
 /// A linked program: what is loaded into a machine's memories, and the functions that can be called.
-#[derive(Debug, Drop)]
+#[derive(Drop)]
 pub struct Image {
     /// The instruction words, from address 0x10000 on.
     pub text: Words,

@@ -1,7 +1,7 @@
 // Where the parts of an image's file lie.
 
 /// A run of bytes of the file. One of size 0 has no byte, wherever it lies.
-#[derive(Clone, Copy, Debug)]
+#[derive(Clone, Copy)]
 pub struct Part {
     /// The offset of its first byte.
     pub offset: u64,
@@ -10,7 +10,7 @@ pub struct Part {
 }
 
 /// What the headers of a file say: the parts behind them, and the sizes of the memories.
-#[derive(Clone, Copy, Debug)]
+#[derive(Clone, Copy)]
 pub struct Layout {
     /// The offset of the section headers.
     pub sections: u64,

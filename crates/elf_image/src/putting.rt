@@ -9,7 +9,7 @@ use byteorder::{ByteOrder, LittleEndian};
 use std::alloc::AllocError;
 
 /// A number of a file, in as many bytes as its type has.
-#[derive(Clone, Copy, Debug)]
+#[derive(Clone, Copy)]
 pub enum Number {
     U8(u8),
     U16(u16),

@@ -4,7 +4,7 @@ use crate::fault::Fault;
 use tl_base::TermId;
 
 /// What a value becomes where one term is wanted: a term, or the error that is raised in its place.
-#[derive(Clone, Copy, Debug, PartialEq, Eq)]
+#[derive(Clone, Copy, PartialEq, Eq)]
 pub enum Became {
     Term(TermId),
     Refused(Fault),

@@ -9,7 +9,7 @@ use std::alloc::Global;
 use tl_base::NoMemory;
 
 /// Why specialising, or a function of the library that works on Terra code, raises.
-#[derive(Clone, Copy, Debug, PartialEq, Eq)]
+#[derive(Clone, Copy, PartialEq, Eq)]
 pub enum Fault {
     /// A value stands where a type is wanted.
     NotAType,

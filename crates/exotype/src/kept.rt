@@ -11,7 +11,7 @@ use std::marker::Model;
 use tl_base::{NoMemory, TableId};
 
 /// The Lua tables of a struct.
-#[derive(Clone, Copy, Debug, PartialEq, Eq)]
+#[derive(Clone, Copy, PartialEq, Eq)]
 pub struct StructTables {
     pub entries: TableId,
     pub methods: TableId,

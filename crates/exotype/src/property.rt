@@ -15,7 +15,7 @@ use terra_term::RefusalKind;
 use tl_base::{NoMemory, TextId, TypeId};
 
 /// A property of a type, for which Lua code is asked at most once.
-#[derive(Clone, Copy, Debug)]
+#[derive(Clone, Copy)]
 pub enum Property {
     /// The entries of a struct. It is being asked for from the first asking until the layout is found or refused.
     Entries(TypeId),
@@ -24,7 +24,7 @@ pub enum Property {
 }
 
 /// How far the asking for a property has come.
-#[derive(Clone, Copy, Debug, PartialEq, Eq)]
+#[derive(Clone, Copy, PartialEq, Eq)]
 pub enum Known {
     /// It wasn't asked for, or its asking was given up as incomplete.
     Unasked,

@@ -4,7 +4,7 @@ ghost use Rattle.std.specs.Prelude.{◌≡◌};
 ghost use Rattle.layer_examples.specs.Ends.{reply_of, end_of};
 
 /// What begins a layer, and what answers its questions.
-#[derive(Clone, Copy, Debug)]
+#[derive(Clone, Copy)]
 pub enum Answer {
     Go,
     Done(u64),
@@ -19,7 +19,7 @@ pub enum End {
 }
 
 /// How what is inside a task ends: by its value, by what was raised, or by leaving it.
-#[derive(Clone, Copy, Debug)]
+#[derive(Clone, Copy)]
 pub enum Flow {
     Value(u64),
     Thrown(u64),

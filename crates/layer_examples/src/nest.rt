@@ -10,14 +10,14 @@ use std::alloc::Global;
 use tl_base::{Budget, Layer, Machine, NoMemory, Step, Suspended, Turn};
 
 /// What is done in the innermost task: a loop, and a turn of it, which leaves it.
-#[derive(Debug, Drop)]
+#[derive(Drop)]
 pub enum NestJob {
     Loop,
     Turn,
 }
 
 /// What waits for the end above it.
-#[derive(Debug, Drop)]
+#[derive(Drop)]
 pub enum NestFrame {
     /// The question for the task below.
     Caught,

@@ -13,7 +13,7 @@ use std::alloc::Global;
 use tl_base::{Budget, Layer, NoMemory, Turn};
 
 /// What a layer is asked to do.
-#[derive(Clone, Copy, Debug)]
+#[derive(Clone, Copy)]
 pub enum Task {
     /// To add what the world's numbers come to, from a number on.
     SumUp(u64),
@@ -124,7 +124,7 @@ impl Layer for Staged<'_> {
 }
 
 /// The stage of these layers, over a table.
-#[derive(Clone, Copy, Debug)]
+#[derive(Clone, Copy)]
 pub struct Examples<'a> {
     pub table: &'a Table,
 }

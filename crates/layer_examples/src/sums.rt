@@ -7,7 +7,7 @@ use std::alloc::Global;
 use tl_base::{Budget, Layer, Machine, NoMemory, Step, Suspended, Turn};
 
 /// What is to be done.
-#[derive(Debug, Drop)]
+#[derive(Drop)]
 pub enum SumJob {
     /// To ask for one number, which costs two units more, and for another in place of a zero.
     One,
@@ -16,7 +16,7 @@ pub enum SumJob {
 }
 
 /// What waits for the end of the job above it.
-#[derive(Debug, Drop)]
+#[derive(Drop)]
 pub enum SumFrame {
     /// A sum that waits for its first number, with the count of its others.
     First(u64),
@@ -27,14 +27,14 @@ pub enum SumFrame {
 }
 
 /// What begins a sum, and what answers its questions.
-#[derive(Clone, Copy, Debug)]
+#[derive(Clone, Copy)]
 pub enum SumAnswer {
     Go,
     Number(u64),
 }
 
 /// How a sum ends: by its value, or by `Full`, where it stays at the largest of 64 bits.
-#[derive(Clone, Copy, Debug, PartialEq, Eq)]
+#[derive(Clone, Copy, PartialEq, Eq)]
 pub enum SumEnd {
     Sum(u64),
     Full,

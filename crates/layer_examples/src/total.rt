@@ -11,7 +11,7 @@ use std::alloc::Global;
 use tl_base::{Budget, Layer, Machine, NoMemory, Step, Suspended, Turn};
 
 /// What totals look up: it is borrowed, as the tree of a source is.
-#[derive(Debug, Drop)]
+#[derive(Drop)]
 pub struct Table {
     /// A larger number is asked for as this one.
     pub largest: u64,

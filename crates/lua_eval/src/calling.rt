@@ -36,7 +36,7 @@ use tl_tree::{Expression, Node, Tree};
 
 /// What is left of a call, of which some was done at once. A value that it gave stands beside it, since what borrows the tree
 /// holds no value.
-#[derive(Clone, Copy, Debug)]
+#[derive(Clone, Copy)]
 pub enum Called<'a> {
     /// Nothing is left: it gave no values.
     Nothing,
@@ -182,7 +182,7 @@ pub fn find_all<'a>(
 }
 
 /// A function of Lua code with the arguments of a call, and the units that are left behind their evaluation.
-#[derive(Debug, Drop)]
+#[derive(Drop)]
 struct Prepared {
     closure: ClosureId,
     args: Values,

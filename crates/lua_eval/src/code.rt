@@ -10,7 +10,7 @@ use tl_tree::code::path_method;
 use tl_tree::{Node, Piece, Statement, Tree};
 
 /// What a function has: whether it has an implicit `self`, its parameters, whether `...` is one more, and its block.
-#[derive(Clone, Copy, Debug)]
+#[derive(Clone, Copy)]
 pub struct Parts<'a> {
     pub method: bool,
     pub names: &'a [NodeId],

@@ -25,7 +25,7 @@ use tl_tree::code::name;
 use tl_tree::{Expression, Node, Tree};
 
 /// Where an assignment stores.
-#[derive(Clone, Copy, Debug)]
+#[derive(Clone, Copy)]
 pub enum Spot {
     /// A local: how many environments outwards, and at which position there.
     Local(u32, u32),
@@ -34,7 +34,7 @@ pub enum Spot {
 }
 
 /// Where an assignment stores, and the units that are left behind the evaluation of its target.
-#[derive(Clone, Copy, Debug)]
+#[derive(Clone, Copy)]
 pub struct Aimed {
     pub spot: Spot,
     pub left: u64,
@@ -188,7 +188,7 @@ fn named_spot(heap: &Heap, object: Value, name: &[u8]) -> Option<Spot>
 }
 
 /// The object and the key of a target, which of a local are nil.
-#[derive(Clone, Copy, Debug)]
+#[derive(Clone, Copy)]
 pub struct Held {
     pub object: Value,
     pub key: Value,

@@ -165,7 +165,7 @@ fn type_function(key: &Value) -> LibFn
 }
 
 /// What a value is read from.
-#[derive(Clone, Copy, Debug)]
+#[derive(Clone, Copy)]
 pub enum Source {
     /// A table.
     Table(TableId),

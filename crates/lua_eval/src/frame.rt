@@ -7,7 +7,7 @@ use tl_base::{NodeId, Place, TableId};
 use tl_tree::{BinaryOperator, UnaryOperator};
 
 /// A frame. How it goes on with an end is `after`, of `specs/Frames`. An error passes through all but the last four.
-#[derive(Debug, Drop)]
+#[derive(Drop)]
 pub enum LuaFrame<'a> {
     /// It goes on with one value.
     One(OneFrame<'a>),
@@ -24,7 +24,7 @@ pub enum LuaFrame<'a> {
 }
 
 /// What waits for one value.
-#[derive(Debug, Drop)]
+#[derive(Drop)]
 pub enum OneFrame<'a> {
     Value(ValueFrame),
     /// An expression in a list with others behind it.
@@ -37,7 +37,7 @@ pub enum OneFrame<'a> {
 }
 
 /// What waits for all values.
-#[derive(Debug, Drop)]
+#[derive(Drop)]
 pub enum AllFrame<'a> {
     /// The last expression of a list; no node is behind it.
     Last(ListFrame<'a>),
@@ -58,7 +58,7 @@ pub enum AllFrame<'a> {
 }
 
 /// What a statement does with the values of the call that it makes.
-#[derive(Clone, Copy, Debug)]
+#[derive(Clone, Copy)]
 pub enum Wait<'a> {
     /// They are dropped.
     Nothing,
@@ -69,7 +69,7 @@ pub enum Wait<'a> {
 }
 
 /// What an expression waits for.
-#[derive(Clone, Copy, Debug)]
+#[derive(Clone, Copy)]
 pub enum ValueFrame {
     /// To give it, and no others.
     First,
@@ -91,7 +91,7 @@ pub enum ValueFrame {
 }
 
 /// An expression in a list, with the nodes behind it and the values before it.
-#[derive(Debug, Drop)]
+#[derive(Drop)]
 pub struct ListFrame<'a> {
     pub rest: &'a [NodeId],
     pub scope: Scope,
@@ -100,7 +100,7 @@ pub struct ListFrame<'a> {
 }
 
 /// What is done with the values of a list.
-#[derive(Debug, Drop)]
+#[derive(Drop)]
 pub enum Then<'a> {
     /// The function is called with them.
     Call(Value, Place),
@@ -114,7 +114,7 @@ pub enum Then<'a> {
 }
 
 /// What a call waits for.
-#[derive(Debug, Drop)]
+#[derive(Drop)]
 pub enum CallFrame<'a> {
     /// The function, with the arguments.
     Function(&'a [NodeId], Place, Scope),
@@ -126,7 +126,7 @@ pub enum CallFrame<'a> {
 
 /// A field of a constructor, with the table, the number that the next field without a key takes, and the fields behind
 /// it.
-#[derive(Clone, Copy, Debug)]
+#[derive(Clone, Copy)]
 pub struct TableFrame<'a> {
     pub table: TableId,
     pub next: u64,
@@ -136,7 +136,7 @@ pub struct TableFrame<'a> {
 }
 
 /// What a field waits for.
-#[derive(Clone, Copy, Debug)]
+#[derive(Clone, Copy)]
 pub enum FieldFrame {
     /// The value of a field without a key, which has others behind it.
     Next,
@@ -149,7 +149,7 @@ pub enum FieldFrame {
 }
 
 /// What a target or a path waits for.
-#[derive(Debug, Drop)]
+#[derive(Drop)]
 pub enum TargetFrame<'a> {
     /// The object of a target, with the key.
     Object(NodeId, Scope),
@@ -162,7 +162,7 @@ pub enum TargetFrame<'a> {
 }
 
 /// What a loop waits for.
-#[derive(Debug, Drop)]
+#[derive(Drop)]
 pub enum LoopFrame {
     /// The condition of a `while`.
     While(NodeId, Scope, Values),
@@ -177,7 +177,7 @@ pub enum LoopFrame {
 }
 
 /// How a loop goes on behind a turn.
-#[derive(Debug, Drop)]
+#[derive(Drop)]
 pub enum TurnFrame<'a> {
     /// By the condition.
     While(NodeId),
@@ -190,7 +190,7 @@ pub enum TurnFrame<'a> {
 }
 
 /// What a statement waits for.
-#[derive(Debug, Drop)]
+#[derive(Drop)]
 pub enum StatementFrame<'a> {
     /// The value that is emitted.
     Emit,

@@ -375,7 +375,7 @@ fn ask<'a>(
 }
 
 /// What an operator does with its two operands.
-#[derive(Clone, Copy, Debug)]
+#[derive(Clone, Copy)]
 pub enum Operation {
     Calculates(Arithmetic),
     Compares(Comparison),

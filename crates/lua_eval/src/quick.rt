@@ -36,7 +36,7 @@ use tl_tree::code::name;
 use tl_tree::{BinaryOperator, Expression, Node, Tree, UnaryOperator};
 
 /// A value, and the units that are left behind its evaluation.
-#[derive(Clone, Copy, Debug)]
+#[derive(Clone, Copy)]
 pub struct Found {
     pub value: Value,
     pub left: u64,

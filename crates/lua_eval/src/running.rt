@@ -222,7 +222,7 @@ fn flat<'a>(
 }
 
 /// The block that an `if` executes, where there is one, and the units that are left behind its conditions.
-#[derive(Clone, Copy, Debug)]
+#[derive(Clone, Copy)]
 struct Opened {
     block: Option<NodeId>,
     left: u64,
@@ -284,7 +284,7 @@ fn find_block<'a>(
 }
 
 /// What is left of a statement: these statements of its block, in this environment.
-#[derive(Clone, Copy, Debug)]
+#[derive(Clone, Copy)]
 struct Entered<'a> {
     list: &'a [NodeId],
     env: EnvId,
@@ -414,7 +414,7 @@ fn chosen_by<'a>(
 }
 
 /// What is left of statements, of which some were executed at once.
-#[derive(Clone, Copy, Debug)]
+#[derive(Clone, Copy)]
 pub enum Halt<'a> {
     /// These statements.
     At(&'a [NodeId]),

@@ -271,7 +271,7 @@ fn while_first<'a>(
 }
 
 /// What is left of an `if`.
-#[derive(Clone, Copy, Debug)]
+#[derive(Clone, Copy)]
 pub enum Choice<'a> {
     /// The block of an arm whose condition is true.
     Block(NodeId),

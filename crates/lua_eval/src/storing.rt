@@ -59,7 +59,7 @@ fn put(heap: &mut Heap, scope: &Scope, spot: Spot, value: Value) -> Result<(), N
 }
 
 /// What an assignment stores and where, and the units that are left.
-#[derive(Clone, Copy, Debug)]
+#[derive(Clone, Copy)]
 struct Ready {
     spot: Spot,
     value: Value,
@@ -153,7 +153,7 @@ fn are_bare(heap: &Heap, first: Spot, second: Spot) -> bool
 }
 
 /// What an assignment of two values to two targets stores and where, and the units that are left.
-#[derive(Clone, Copy, Debug)]
+#[derive(Clone, Copy)]
 struct Pair {
     first: Spot,
     second: Spot,

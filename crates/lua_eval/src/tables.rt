@@ -56,7 +56,7 @@ pub fn store_values(
 }
 
 /// What a field is.
-#[derive(Clone, Copy, Debug)]
+#[derive(Clone, Copy)]
 pub enum FieldKind {
     /// With a name and a value.
     Named(NodeId, NodeId),
@@ -78,7 +78,7 @@ fn field_kind(node: &Node<'_>) -> FieldKind
 }
 
 /// Fields that are left, and the number of the next one without a key.
-#[derive(Clone, Copy, Debug)]
+#[derive(Clone, Copy)]
 struct Remaining<'a> {
     rest: &'a [NodeId],
     next: u64,

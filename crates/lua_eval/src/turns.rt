@@ -50,7 +50,7 @@ fn block_in(statement: &Statement) -> Option<NodeId>
 
 /// Where the turns of a numeric `for` stop that are done at once. The number of the turn stands beside it, since what borrows
 /// the tree holds no number.
-#[derive(Clone, Copy, Debug)]
+#[derive(Clone, Copy)]
 pub enum Turned<'a> {
     /// The loop is over.
     Over,

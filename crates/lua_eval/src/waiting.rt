@@ -43,7 +43,7 @@ use tl_rename::Slots;
 use tl_tree::{Node, Statement, Tree};
 
 /// The expression that a statement evaluates, what it does with the values, and the units that are left before.
-#[derive(Clone, Copy, Debug)]
+#[derive(Clone, Copy)]
 struct Begun<'a> {
     node: NodeId,
     wait: Wait<'a>,
@@ -164,7 +164,7 @@ pub fn take_all(
 }
 
 /// What is left of a statement that makes a call.
-#[derive(Clone, Copy, Debug)]
+#[derive(Clone, Copy)]
 enum Passed<'a> {
     /// Nothing.
     Done,
@@ -264,7 +264,7 @@ fn pass_statement<'a>(
 }
 
 /// What is left of statements, of which some were executed at once with the calls that they make.
-#[derive(Clone, Copy, Debug)]
+#[derive(Clone, Copy)]
 pub enum Stop<'a> {
     /// What is left of them alone.
     Plain(Halt<'a>),

@@ -4,7 +4,7 @@ use lua_value::{Value, Values};
 use tl_base::Place;
 
 /// How what is done inside ends.
-#[derive(Debug, Drop)]
+#[derive(Drop)]
 pub enum End {
     /// By the value of an expression.
     One(Value),
@@ -21,7 +21,7 @@ pub enum End {
 }
 
 /// How what was asked for ends.
-#[derive(Debug, Drop)]
+#[derive(Drop)]
 pub enum LuaEnd {
     /// With these values: those of a call, the one of an expression, or those that were emitted.
     Done(Values),

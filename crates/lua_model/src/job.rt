@@ -5,7 +5,7 @@ use lua_value::{Number, Value, Values};
 use tl_base::{ClosureId, EnvId, NodeId, Place, TextId};
 
 /// What the evaluation of Lua code is asked to do. It pays for what it does, and nothing for being asked.
-#[derive(Debug, Drop)]
+#[derive(Drop)]
 pub enum LuaJob {
     /// The whole source.
     Chunk,
@@ -20,7 +20,7 @@ pub enum LuaJob {
 }
 
 /// A loop that begins a turn, with what its turns hand on.
-#[derive(Clone, Copy, Debug)]
+#[derive(Clone, Copy)]
 pub enum Loop {
     While,
     Repeat,
@@ -31,14 +31,14 @@ pub enum Loop {
 }
 
 /// Who calls a value: a node of Lua code, which has paid, or a function of the library, an event or Terra code.
-#[derive(Clone, Copy, Debug)]
+#[derive(Clone, Copy)]
 pub enum Caller {
     ByNode,
     ByOther,
 }
 
 /// What pays one unit before it is done. All else is part of one of these.
-#[derive(Debug, Drop)]
+#[derive(Drop)]
 pub enum Job {
     /// An expression is evaluated.
     Expression(NodeId, Scope),

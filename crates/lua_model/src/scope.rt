@@ -7,7 +7,7 @@ use tl_base::{CellId, EnvId, Place};
 ///
 /// The values of `...` stand in `count` cells from `extra` on, which belong to no environment. The chunk, and Lua code
 /// in Terra code outside of functions in it, were not called.
-#[derive(Clone, Copy, Debug)]
+#[derive(Clone, Copy)]
 pub struct Scope {
     pub env: EnvId,
     pub extra: CellId,

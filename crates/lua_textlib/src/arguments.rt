@@ -14,7 +14,7 @@ use tl_base::{NoMemory, TableId, Text, TextId};
 
 /// The bytes that an argument is as a text: those of a text, which stay in the heap, the decimal text of a number, or none where the
 /// argument may be left out.
-#[derive(Debug, Drop)]
+#[derive(Drop)]
 pub enum Piece {
     Text(TextId),
     Decimal(Text),

@@ -15,7 +15,7 @@ use lua_value::{LibFn, Value};
 use tl_base::{Budget, Bytes, NoMemory, Place};
 
 /// What is made of the bytes of a format that are read so far.
-#[derive(Debug, Drop)]
+#[derive(Drop)]
 pub struct Formatting {
     pub made: Bytes,
     /// The byte before was a `%` that begins a directive.

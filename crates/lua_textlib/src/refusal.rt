@@ -1,7 +1,7 @@
 // What ends the making of a text.
 
 /// Why a function that makes a text step by step makes none.
-#[derive(Clone, Copy, Debug, PartialEq, Eq)]
+#[derive(Clone, Copy, PartialEq, Eq)]
 pub enum Refusal {
     /// The argument of this position, from 1, isn't of its form.
     BadArgument(usize),

@@ -5,7 +5,7 @@ ghost use Rattle.lua_value.specs.Library.{library_text, library_number};
 
 /// A function of the library: one that the opening globals name (manual, section 5.1), or one that the language itself calls where
 /// Lua code works on a Terra value.
-#[derive(Clone, Copy, Debug, PartialEq, Eq, Hash)]
+#[derive(Clone, Copy, PartialEq, Eq, Hash)]
 pub enum LibFn {
     // The basic functions (section 5.1).
     Assert,

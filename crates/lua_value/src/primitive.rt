@@ -5,7 +5,7 @@ ghost use Rattle.lua_value.specs.Library.{primitive_text};
 ghost use Rattle.lua_value.specs.Values.{primitive_number};
 
 /// A function that Terra's library gives. It is called in Terra code alone.
-#[derive(Clone, Copy, Debug, PartialEq, Eq, Hash)]
+#[derive(Clone, Copy, PartialEq, Eq, Hash)]
 pub enum Primitive {
     PutByte,
     Write,

@@ -9,7 +9,7 @@ use tac_form::Step;
 use tl_base::NoMemory;
 
 /// The temporaries that are live where a block begins. Contracts see the flags.
-#[derive(Debug, Drop)]
+#[derive(Drop)]
 pub struct TempSet {
     items: Vec<bool>,
 }

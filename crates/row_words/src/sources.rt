@@ -4,7 +4,7 @@ use std::alloc::Global;
 use tl_base::NoMemory;
 
 /// A source, with the units that it is given and what it shows.
-#[derive(Debug, Drop)]
+#[derive(Drop)]
 pub struct SourceRow {
     pub units: u64,
     pub name: String,

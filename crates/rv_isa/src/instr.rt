@@ -9,7 +9,7 @@ use crate::operation::{
 };
 
 /// An instruction of RV64IM. Every value has a word, and no two have the same.
-#[derive(Clone, Copy, PartialEq, Eq, Debug)]
+#[derive(Clone, Copy, PartialEq, Eq)]
 pub enum Instr {
     /// LUI: rd is the immediate over twelve zeros, extended by its sign.
     Lui {

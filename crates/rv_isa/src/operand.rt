@@ -4,7 +4,7 @@ ghost use Rattle.std.specs.Prelude.{pos, negsuc, ◌≡◌, ◌<◌, ◌≤◌, 
 ghost use Rattle.rv_isa.specs.Formats.{twos_complement};
 
 /// One of the registers x0 to x31.
-#[derive(Clone, Copy, PartialEq, Eq, Debug)]
+#[derive(Clone, Copy, PartialEq, Eq)]
 pub struct Register {
     /// From 0 to 31.
     pub number: u8,
@@ -29,7 +29,7 @@ impl Register {
 }
 
 /// A signed number of twelve bits: the immediate of ADDI and its like, and the offset in bytes of JALR, loads and stores.
-#[derive(Clone, Copy, PartialEq, Eq, Debug)]
+#[derive(Clone, Copy, PartialEq, Eq)]
 pub struct Immediate {
     /// From -2048 to 2047.
     pub value: i16,
@@ -78,7 +78,7 @@ impl Immediate {
 }
 
 /// The upper twenty bits that LUI and AUIPC put over twelve zeros. `lui x5, 74565` has the value 74565, and loads 0x12345000.
-#[derive(Clone, Copy, PartialEq, Eq, Debug)]
+#[derive(Clone, Copy, PartialEq, Eq)]
 pub struct UpperImmediate {
     /// From 0 to 1048575.
     pub value: u32,
@@ -100,7 +100,7 @@ impl UpperImmediate {
 }
 
 /// How far a branch goes, in bytes from its own address.
-#[derive(Clone, Copy, PartialEq, Eq, Debug)]
+#[derive(Clone, Copy, PartialEq, Eq)]
 pub struct BranchOffset {
     /// An even number from -4096 to 4094.
     pub bytes: i16,
@@ -152,7 +152,7 @@ impl BranchOffset {
 }
 
 /// How far JAL goes, in bytes from its own address.
-#[derive(Clone, Copy, PartialEq, Eq, Debug)]
+#[derive(Clone, Copy, PartialEq, Eq)]
 pub struct JumpOffset {
     /// An even number from -1048576 to 1048574.
     pub bytes: i32,
@@ -204,7 +204,7 @@ impl JumpOffset {
 }
 
 /// How many bits SLLI, SRLI and SRAI shift by.
-#[derive(Clone, Copy, PartialEq, Eq, Debug)]
+#[derive(Clone, Copy, PartialEq, Eq)]
 pub struct ShiftCount {
     /// From 0 to 63.
     pub count: u8,
@@ -226,7 +226,7 @@ impl ShiftCount {
 }
 
 /// How many bits SLLIW, SRLIW and SRAIW shift by.
-#[derive(Clone, Copy, PartialEq, Eq, Debug)]
+#[derive(Clone, Copy, PartialEq, Eq)]
 pub struct WordShiftCount {
     /// From 0 to 31.
     pub count: u8,
@@ -248,7 +248,7 @@ impl WordShiftCount {
 }
 
 /// The upper twelve bits of FENCE: fm, then the predecessor set, then the successor set, four bits each.
-#[derive(Clone, Copy, PartialEq, Eq, Debug)]
+#[derive(Clone, Copy, PartialEq, Eq)]
 pub struct FenceFields {
     /// From 0 to 4095.
     pub bits: u16,

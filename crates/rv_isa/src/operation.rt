@@ -4,7 +4,7 @@ ghost use Rattle.std.specs.Prelude.{◌≡◌};
 ghost use Rattle.rv_isa.specs.Finds.{Finds, FindsBoth};
 
 /// When a branch is taken: BEQ, BNE, BLT, BGE, BLTU and BGEU.
-#[derive(Clone, Copy, PartialEq, Eq, Debug)]
+#[derive(Clone, Copy, PartialEq, Eq)]
 pub enum BranchCondition {
     Eq,
     Ne,
@@ -46,7 +46,7 @@ impl BranchCondition {
 }
 
 /// What a load reads: 1, 2, 4 or 8 bytes, extended by the sign or, with a last `u`, by zeros.
-#[derive(Clone, Copy, PartialEq, Eq, Debug)]
+#[derive(Clone, Copy, PartialEq, Eq)]
 pub enum LoadOp {
     Lb,
     Lh,
@@ -91,7 +91,7 @@ impl LoadOp {
 }
 
 /// What a store writes: the low 1, 2, 4 or 8 bytes.
-#[derive(Clone, Copy, PartialEq, Eq, Debug)]
+#[derive(Clone, Copy, PartialEq, Eq)]
 pub enum StoreOp {
     Sb,
     Sh,
@@ -127,7 +127,7 @@ impl StoreOp {
 }
 
 /// An operation on a register and an immediate of twelve bits.
-#[derive(Clone, Copy, PartialEq, Eq, Debug)]
+#[derive(Clone, Copy, PartialEq, Eq)]
 pub enum ImmediateOp {
     Addi,
     Slti,
@@ -169,7 +169,7 @@ impl ImmediateOp {
 }
 
 /// A shift by a count that stands in the instruction. The same three shift 64 bits and, as SLLIW, SRLIW and SRAIW, 32 bits.
-#[derive(Clone, Copy, PartialEq, Eq, Debug)]
+#[derive(Clone, Copy, PartialEq, Eq)]
 pub enum ShiftOp {
     Slli,
     Srli,
@@ -233,7 +233,7 @@ impl ShiftOp {
 }
 
 /// An operation on two registers, of RV64I and, from `Mul` on, of the extension M.
-#[derive(Clone, Copy, PartialEq, Eq, Debug)]
+#[derive(Clone, Copy, PartialEq, Eq)]
 pub enum RegisterOp {
     Add,
     Sub,
@@ -336,7 +336,7 @@ impl RegisterOp {
 }
 
 /// An operation on the low 32 bits of two registers, of RV64I and, from `Mulw` on, of the extension M.
-#[derive(Clone, Copy, PartialEq, Eq, Debug)]
+#[derive(Clone, Copy, PartialEq, Eq)]
 pub enum RegisterWordOp {
     Addw,
     Subw,

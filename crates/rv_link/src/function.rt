@@ -6,7 +6,7 @@ use tac_form::Tac;
 use tl_base::FnId;
 
 /// A function that was selected: its number, its three-address code, the homes of its temporaries, and its machine code.
-#[derive(Debug, Drop)]
+#[derive(Drop)]
 pub struct Function {
     pub id: FnId,
     pub tac: Tac,
@@ -15,7 +15,7 @@ pub struct Function {
 }
 
 /// The text of functions.
-#[derive(Debug, Drop)]
+#[derive(Drop)]
 pub struct Linked {
     /// The words of the text, which begins at address 0x10000.
     pub words: Vec<u32>,

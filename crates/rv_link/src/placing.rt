@@ -62,7 +62,7 @@ fn put_first(table: &mut Vec<u64>, index: u64, number: u64) -> Result<(), NoMemo
 }
 
 /// Where functions stand.
-#[derive(Debug, Drop)]
+#[derive(Drop)]
 pub(crate) struct Places {
     /// The address at which each begins as the entry, in order.
     pub(crate) starts: Vec<u64>,

@@ -12,7 +12,7 @@ use rv_isa::{
 
 /// A word of text, decoded. The commonest instructions have a variant of their own, so that a quiet step asks only once which one it
 /// is to carry out; and no variant holds an [`Instr`], so that a word takes eight bytes and its place is found by one multiplication.
-#[derive(Clone, Copy, PartialEq, Eq, Debug)]
+#[derive(Clone, Copy, PartialEq, Eq)]
 pub enum Decoded {
     /// The word is no instruction.
     Illegal,

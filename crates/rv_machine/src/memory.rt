@@ -12,7 +12,7 @@ use terra_memory::number::{number_at, put_number};
 use tl_base::limits::{PRIVATE_ADDRESS, REGION_ADDRESS};
 
 /// Where bytes lie: in which of the two areas, and how far from its begin.
-#[derive(Clone, Copy, PartialEq, Eq, Debug)]
+#[derive(Clone, Copy, PartialEq, Eq)]
 pub enum Place {
     /// So many bytes from the begin of the region.
     Region(usize),

@@ -16,7 +16,7 @@ pub enum MachineKind {
 }
 
 /// Why a run stops.
-#[derive(Clone, Copy, PartialEq, Eq, Debug)]
+#[derive(Clone, Copy, PartialEq, Eq)]
 pub enum Stop {
     /// The program counter is 0: the run is over, with the value of x10.
     Returned(u64),

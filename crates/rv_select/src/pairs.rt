@@ -14,7 +14,7 @@ use terra_words::BinaryOperator;
 use tl_base::NoMemory;
 
 /// How often a temporary is read.
-#[derive(Clone, Copy, Debug, PartialEq, Eq)]
+#[derive(Clone, Copy, PartialEq, Eq)]
 pub enum Reads {
     Never,
     Once,
@@ -22,7 +22,7 @@ pub enum Reads {
 }
 
 /// A comparison and the branch that alone reads its result.
-#[derive(Clone, Copy, Debug, PartialEq, Eq)]
+#[derive(Clone, Copy, PartialEq, Eq)]
 pub struct Pair {
     pub operator: BinaryOperator,
     pub form: Number,

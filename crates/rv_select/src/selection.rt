@@ -356,7 +356,7 @@ fn push_call_head(
 }
 
 /// What there is to know of a function's code besides its words.
-#[derive(Debug, Drop)]
+#[derive(Drop)]
 struct Head {
     entry: u64,
     frame: u64,
@@ -418,7 +418,7 @@ fn push_body(
 }
 
 /// Where the blocks begin, and where the code that leaves the function does.
-#[derive(Debug, Drop)]
+#[derive(Drop)]
 struct Places {
     starts: Vec<u64>,
     last: u64,

@@ -6,7 +6,7 @@ ghost use Rattle.rv_select.specs.Settings.{falls, follower, is_next, next_of, se
 use tac_form::Edge;
 
 /// Whether a function is near and whether it is short, how many blocks it has, and whether it makes calls.
-#[derive(Clone, Copy, Debug, PartialEq, Eq)]
+#[derive(Clone, Copy, PartialEq, Eq)]
 pub struct Extent {
     pub near: bool,
     pub short: bool,
@@ -16,7 +16,7 @@ pub struct Extent {
 
 /// Where a block's end stands: whether in a near or a short function, and before which block. Behind the last block stands the code
 /// that leaves the function.
-#[derive(Clone, Copy, Debug, PartialEq, Eq)]
+#[derive(Clone, Copy, PartialEq, Eq)]
 pub struct Setting {
     pub near: bool,
     pub short: bool,
@@ -24,7 +24,7 @@ pub struct Setting {
 }
 
 /// Which of a branch's blocks stands behind it.
-#[derive(Clone, Copy, Debug, PartialEq, Eq)]
+#[derive(Clone, Copy, PartialEq, Eq)]
 pub enum Follows {
     Neither,
     First,

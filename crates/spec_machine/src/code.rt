@@ -21,7 +21,7 @@ pub fn escaped(tree: &Tree<'_>, node: NodeId) -> Option<NodeId>
 }
 
 /// A name and its type, of a parameter, a variable or an entry.
-#[derive(Clone, Copy, Debug)]
+#[derive(Clone, Copy)]
 pub struct Typing {
     pub name: NodeId,
     pub of: Option<NodeId>,
@@ -57,7 +57,7 @@ pub fn typing_at(tree: &Tree<'_>, node: NodeId) -> Typing
 }
 
 /// A Terra function's parameters, its result type and its block.
-#[derive(Clone, Copy, Debug)]
+#[derive(Clone, Copy)]
 pub struct TerraParts<'a> {
     pub parameters: &'a [NodeId],
     pub of: Option<NodeId>,
@@ -85,7 +85,7 @@ pub fn terra_parts<'a>(tree: &'a Tree<'a>, body: NodeId) -> TerraParts<'a>
 }
 
 /// A quote's block and its expression.
-#[derive(Clone, Copy, Debug)]
+#[derive(Clone, Copy)]
 pub struct QuotedParts {
     pub block: NodeId,
     pub value: Option<NodeId>,
@@ -109,7 +109,7 @@ pub fn quoted_parts(tree: &Tree<'_>, quote: NodeId) -> QuotedParts
 }
 
 /// The name and the value of an initialiser.
-#[derive(Clone, Copy, Debug)]
+#[derive(Clone, Copy)]
 pub struct Initial {
     pub name: NodeId,
     pub value: NodeId,

@@ -5,7 +5,7 @@ use tl_base::{EnvId, FnId, List, NodeId, Place, SymId, TableId, TermId, TextId, 
 use tl_tree::{BinaryOperator, UnaryOperator};
 
 /// A frame. How it goes on with an end is `after`, of `specs/Frames`.
-#[derive(Debug, Drop)]
+#[derive(Drop)]
 pub enum SpecFrame<'a> {
     /// It goes on with one term.
     Term(TermFrame<'a>),
@@ -26,7 +26,7 @@ pub enum SpecFrame<'a> {
 }
 
 /// What waits for one term.
-#[derive(Debug, Drop)]
+#[derive(Drop)]
 pub enum TermFrame<'a> {
     /// The left operand of an operator, with the right one.
     Left(BinaryOperator, NodeId, Place, EnvId),
@@ -62,7 +62,7 @@ pub enum TermFrame<'a> {
 }
 
 /// An initialiser with a name, with those behind it, and the names and terms before it.
-#[derive(Debug, Drop)]
+#[derive(Drop)]
 pub struct InitialFrame<'a> {
     pub name: NodeId,
     pub rest: &'a [NodeId],
@@ -72,7 +72,7 @@ pub struct InitialFrame<'a> {
 }
 
 /// What a constructor makes: of which type, where, and in which environment.
-#[derive(Clone, Copy, Debug)]
+#[derive(Clone, Copy)]
 pub struct NewFrame {
     pub of: TypeId,
     pub place: Place,
@@ -81,7 +81,7 @@ pub struct NewFrame {
 
 /// A `for`: its node, its symbol where an escape gave one, the place of its name, its block, its place and its
 /// environment.
-#[derive(Clone, Copy, Debug)]
+#[derive(Clone, Copy)]
 pub struct ForFrame {
     pub node: NodeId,
     pub symbol: Option<SymId>,
@@ -92,7 +92,7 @@ pub struct ForFrame {
 }
 
 /// An arm of an `if` that is done but for what comes behind its `else`: its place, its condition and its statements.
-#[derive(Debug, Drop)]
+#[derive(Drop)]
 pub struct Arm {
     pub place: Place,
     pub test: TermId,
@@ -101,7 +101,7 @@ pub struct Arm {
 
 /// An `if` at one of its arms: the arms behind it and the block behind `else`, the arm's place, the environment, and
 /// the arms before it.
-#[derive(Debug, Drop)]
+#[derive(Drop)]
 pub struct ArmsFrame<'a> {
     pub rest: &'a [NodeId],
     pub otherwise: Option<NodeId>,
@@ -111,7 +111,7 @@ pub struct ArmsFrame<'a> {
 }
 
 /// An expression in a list position, with the nodes behind it and the terms before it.
-#[derive(Debug, Drop)]
+#[derive(Drop)]
 pub struct TermsFrame<'a> {
     pub rest: &'a [NodeId],
     pub env: EnvId,
@@ -120,7 +120,7 @@ pub struct TermsFrame<'a> {
 }
 
 /// What is done with the terms of a list.
-#[derive(Debug, Drop)]
+#[derive(Drop)]
 pub enum TermsThen<'a> {
     /// This is called with them.
     Call(TermId, Place),
@@ -138,7 +138,7 @@ pub enum TermsThen<'a> {
 }
 
 /// A statement of a block, with the statements behind it and the terms before it.
-#[derive(Debug, Drop)]
+#[derive(Drop)]
 pub struct BlockFrame<'a> {
     pub rest: &'a [NodeId],
     pub env: EnvId,
@@ -147,7 +147,7 @@ pub struct BlockFrame<'a> {
 }
 
 /// What is done with the statements of a block.
-#[derive(Debug, Drop)]
+#[derive(Drop)]
 pub enum BlockThen<'a> {
     Do(Place),
     /// They are a `while`'s, with its condition.
@@ -168,7 +168,7 @@ pub enum BlockThen<'a> {
 
 /// A function that is being defined: its number, the node of its body, the owner of its environment, its place, the
 /// environment around it, and whether the definition gives it as a value.
-#[derive(Clone, Copy, Debug)]
+#[derive(Clone, Copy)]
 pub struct Definition {
     pub function: FnId,
     pub body: NodeId,
@@ -179,7 +179,7 @@ pub struct Definition {
 }
 
 /// What stands before a constructor's initialisers: its place, the initialisers, and the constructor's place.
-#[derive(Clone, Copy, Debug)]
+#[derive(Clone, Copy)]
 pub struct ConstructFrame<'a> {
     pub at: Place,
     pub initials: &'a [NodeId],
@@ -188,7 +188,7 @@ pub struct ConstructFrame<'a> {
 }
 
 /// What waits for a value.
-#[derive(Debug, Drop)]
+#[derive(Drop)]
 pub enum ValueFrame<'a> {
     /// It is found at this place.
     Found(Place),
@@ -217,7 +217,7 @@ pub enum ValueFrame<'a> {
 }
 
 /// What a name behind `.` or `:` is for.
-#[derive(Clone, Copy, Debug)]
+#[derive(Clone, Copy)]
 pub enum MemberThen<'a> {
     /// It is read from a table.
     Table(TableId, Place),
@@ -229,7 +229,7 @@ pub enum MemberThen<'a> {
 
 /// A `var`: the variables that are left, the nodes of its values, its place, the environment, and what stands in the
 /// place of the variables before.
-#[derive(Debug, Drop)]
+#[derive(Drop)]
 pub struct VarFrame<'a> {
     pub rest: &'a [NodeId],
     pub values: &'a [NodeId],
@@ -239,7 +239,7 @@ pub struct VarFrame<'a> {
 }
 
 /// A function's parameters: those that are left, and those before.
-#[derive(Debug, Drop)]
+#[derive(Drop)]
 pub struct ParameterFrame<'a> {
     pub definition: Definition,
     pub rest: &'a [NodeId],
@@ -247,7 +247,7 @@ pub struct ParameterFrame<'a> {
 }
 
 /// The names of a path that are left, the method's name, and what is done at the path's end.
-#[derive(Clone, Copy, Debug)]
+#[derive(Clone, Copy)]
 pub struct PathFrame<'a> {
     pub rest: &'a [NodeId],
     pub method: Option<NodeId>,
@@ -257,7 +257,7 @@ pub struct PathFrame<'a> {
 }
 
 /// What is defined under a path.
-#[derive(Clone, Copy, Debug)]
+#[derive(Clone, Copy)]
 pub enum TargetThen<'a> {
     /// The function with this body, by this statement.
     Terra(NodeId, NodeId),
@@ -269,7 +269,7 @@ pub enum TargetThen<'a> {
 
 /// The entries of a struct: those that are left, the struct, the number of the next one, the environment, and whether
 /// the struct is given as a value.
-#[derive(Clone, Copy, Debug)]
+#[derive(Clone, Copy)]
 pub struct EntryFrame<'a> {
     pub rest: &'a [NodeId],
     pub of: TypeId,
@@ -279,7 +279,7 @@ pub struct EntryFrame<'a> {
 }
 
 /// What goes on whatever ended: a list whose last item needed nothing.
-#[derive(Debug, Drop)]
+#[derive(Drop)]
 pub enum NextFrame<'a> {
     Var(VarFrame<'a>),
     Parameters(ParameterFrame<'a>),

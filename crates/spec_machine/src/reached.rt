@@ -7,7 +7,7 @@ use tl_base::Step;
 pub type SpecStep = Step<Job, End, SpecQuestion>;
 
 /// What comes of something that waits for nothing.
-#[derive(Debug, Drop)]
+#[derive(Drop)]
 pub enum Reached<T> {
     /// A value, with which it goes on.
     Value(T),

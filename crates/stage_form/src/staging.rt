@@ -10,7 +10,7 @@ use std::alloc::Global;
 use tl_base::{Budget, Layer, NoMemory, Turn};
 
 /// What a question comes to: the end of its layer, or a payment above what was left.
-#[derive(Debug, Drop)]
+#[derive(Drop)]
 pub enum Outcome<E> {
     Ends(E),
     Spent,

@@ -19,7 +19,7 @@ use tl_base::{Bytes, FnId, Limits, NoMemory, Place};
 use tl_tree::Tree;
 
 /// What a staging is for a caller that runs or writes the image of its exports.
-#[derive(Debug, Drop)]
+#[derive(Drop)]
 pub struct Emitted {
     /// What was printed.
     pub printed: Bytes,
@@ -29,7 +29,7 @@ pub struct Emitted {
 }
 
 /// How a staging ends, with the image of its exports where it is done.
-#[derive(Debug, Drop)]
+#[derive(Drop)]
 pub enum Made {
     Image(Image),
     /// By an error: its text, and the place of what raised it.

@@ -5,7 +5,7 @@ use lua_table::LibCall;
 use tl_base::{EnvId, NodeId, Place, TypeId};
 
 /// What a layer is asked to do.
-#[derive(Debug, Drop)]
+#[derive(Drop)]
 pub enum Task {
     /// To evaluate Lua code.
     Evaluate(LuaJob),

@@ -12,7 +12,7 @@ use tl_tree::Tree;
 const MEMORY: u64 = 1_048_576;
 
 /// What is written of a row.
-#[derive(Clone, Copy, Debug, PartialEq, Eq)]
+#[derive(Clone, Copy, PartialEq, Eq)]
 pub enum Kind {
     /// What it prints, how it ends and the units that are left, and the same with one unit less.
     Ends,
@@ -23,7 +23,7 @@ pub enum Kind {
 }
 
 /// A row: a source, and what is written of it.
-#[derive(Debug, Drop)]
+#[derive(Drop)]
 pub struct Row {
     pub kind: Kind,
     pub source: SourceRow,

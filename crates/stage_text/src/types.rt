@@ -15,7 +15,7 @@ use terra_types::{Integer, TypeForm, Types};
 use tl_base::{Bytes, NoMemory, Text, TypeId};
 
 /// What is still to be written of a text.
-#[derive(Clone, Copy, Debug)]
+#[derive(Clone, Copy)]
 pub enum Part {
     Integer(Integer),
     Bool,

@@ -6,7 +6,7 @@ use tl_base::List;
 pub type TempList = List<u64>;
 
 /// The temporaries that an instruction reads, and the one that it writes.
-#[derive(Debug, Drop)]
+#[derive(Drop)]
 pub struct Step {
     pub reads: TempList,
     pub write: Option<u64>,
@@ -16,7 +16,7 @@ pub struct Step {
 pub type StepList = List<Step>;
 
 /// The steps of a block, and the temporaries that its exit reads and the blocks that follow.
-#[derive(Debug, Drop)]
+#[derive(Drop)]
 pub struct FlowBlock {
     pub steps: StepList,
     pub reads: TempList,

@@ -4,7 +4,7 @@ use terra_words::{BinaryOperator, FaultKind};
 use tl_base::{FnId, List, Place, TypeId};
 
 /// How many bytes a number has.
-#[derive(Clone, Copy, Debug, PartialEq, Eq)]
+#[derive(Clone, Copy, PartialEq, Eq)]
 pub enum Size {
     One,
     Two,
@@ -13,42 +13,42 @@ pub enum Size {
 }
 
 /// What a word stands for: a number of a size, and whether the bits above repeat its sign or are zero.
-#[derive(Clone, Copy, Debug, PartialEq, Eq)]
+#[derive(Clone, Copy, PartialEq, Eq)]
 pub struct Number {
     pub signed: bool,
     pub size: Size,
 }
 
 /// A temporary, or a constant of 64 bits.
-#[derive(Clone, Copy, Debug, PartialEq, Eq)]
+#[derive(Clone, Copy, PartialEq, Eq)]
 pub enum Operand {
     Temp(u64),
     Constant(u64),
 }
 
 /// An address in the region: a word, or an offset in the call's frame.
-#[derive(Clone, Copy, Debug, PartialEq, Eq)]
+#[derive(Clone, Copy, PartialEq, Eq)]
 pub enum Address {
     Word(Operand),
     Frame(u64),
 }
 
 /// Where bytes are: in the region, where an access faults with this place, or in an area from an offset on.
-#[derive(Clone, Copy, Debug, PartialEq, Eq)]
+#[derive(Clone, Copy, PartialEq, Eq)]
 pub enum Spot {
     Region(Place, Address),
     Area(u64, u64),
 }
 
 /// What is passed to a call or given back: a word, or the bytes of an area.
-#[derive(Clone, Copy, Debug, PartialEq, Eq)]
+#[derive(Clone, Copy, PartialEq, Eq)]
 pub enum Part {
     Word(Operand),
     Area(u64),
 }
 
 /// Where a parameter or the result of a call goes.
-#[derive(Clone, Copy, Debug, PartialEq, Eq)]
+#[derive(Clone, Copy, PartialEq, Eq)]
 pub enum Destination {
     Temp(u64),
     Area(u64),
@@ -61,14 +61,14 @@ pub type PartList = List<Part>;
 pub type TypeIds = List<TypeId>;
 
 /// The types of a function's parameters and of its result.
-#[derive(Debug, Drop)]
+#[derive(Drop)]
 pub struct Signature {
     pub params: TypeIds,
     pub result: TypeId,
 }
 
 /// An instruction. A temporary that it writes stands first.
-#[derive(Debug, Drop)]
+#[derive(Drop)]
 pub enum Instruction {
     /// An operator on numbers of a form. Of a division the divisor is a constant other than 0, or was tested.
     Compute(u64, BinaryOperator, Number, Operand, Operand),
@@ -96,14 +96,14 @@ pub enum Instruction {
 }
 
 /// The way to a block, and whether it counts.
-#[derive(Clone, Copy, Debug, PartialEq, Eq)]
+#[derive(Clone, Copy, PartialEq, Eq)]
 pub struct Edge {
     pub block: u64,
     pub counts: bool,
 }
 
 /// How a block ends.
-#[derive(Clone, Copy, Debug, PartialEq, Eq)]
+#[derive(Clone, Copy, PartialEq, Eq)]
 pub enum Exit {
     Jump(Edge),
     /// The first edge where the word isn't zero, and else the second.
@@ -116,7 +116,7 @@ pub enum Exit {
 pub type InstructionList = List<Instruction>;
 
 /// Instructions, and how they end.
-#[derive(Debug, Drop)]
+#[derive(Drop)]
 pub struct Block {
     pub instructions: InstructionList,
     pub exit: Exit,
@@ -132,7 +132,7 @@ pub type DestinationList = List<Destination>;
 pub type SizeList = List<u64>;
 
 /// The code of a function.
-#[derive(Debug, Drop)]
+#[derive(Drop)]
 pub struct Tac {
     /// The number of typed nodes of its function.
     pub nodes: u64,

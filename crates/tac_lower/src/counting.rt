@@ -16,7 +16,7 @@ use terra_words::BinaryOperator;
 use tl_base::NoMemory;
 
 /// A `for`: its numbers, and what holds its value, its limit and its step.
-#[derive(Clone, Copy, Debug)]
+#[derive(Clone, Copy)]
 pub(crate) struct Counting {
     pub(crate) number: Number,
     pub(crate) value: u64,

@@ -9,7 +9,7 @@ use terra_words::FaultKind;
 use tl_base::Place;
 
 /// How a block ends. Blocks ahead are named by how many are passed, and blocks behind by how many are gone back.
-#[derive(Clone, Copy, Debug)]
+#[derive(Clone, Copy)]
 pub(crate) enum Ending {
     /// Past so many blocks.
     Skips(u64),
@@ -26,7 +26,7 @@ pub(crate) enum Ending {
 }
 
 /// An instruction, or the end of a block.
-#[derive(Debug, Drop)]
+#[derive(Drop)]
 pub(crate) enum Item {
     Does(Instruction),
     Ends(Ending),

@@ -9,14 +9,14 @@ use tac_form::{Address, Destination, Operand, Part};
 use tl_base::SymId;
 
 /// What is asked of an expression: its value, or the address of the place that it is.
-#[derive(Clone, Copy, Debug)]
+#[derive(Clone, Copy)]
 pub(crate) enum Wanted {
     Value,
     Address,
 }
 
 /// What a piece of code gives: a word, the bytes of an area, or the address of an offset of the frame.
-#[derive(Clone, Copy, Debug)]
+#[derive(Clone, Copy)]
 pub(crate) enum Value {
     Word(Operand),
     Area(u64),
@@ -24,21 +24,21 @@ pub(crate) enum Value {
 }
 
 /// Where a variable is: a temporary, or an offset of the frame.
-#[derive(Clone, Copy, Debug)]
+#[derive(Clone, Copy)]
 pub(crate) enum Holder {
     Temp(u64),
     Offset(u64),
 }
 
 /// A variable in scope.
-#[derive(Clone, Copy, Debug)]
+#[derive(Clone, Copy)]
 pub(crate) struct Bound {
     pub(crate) symbol: SymId,
     pub(crate) holder: Holder,
 }
 
 /// What an assignment goes to: a variable without an address, or what lies at an address.
-#[derive(Clone, Copy, Debug)]
+#[derive(Clone, Copy)]
 pub(crate) enum Target {
     Temp(u64),
     Place(Value),

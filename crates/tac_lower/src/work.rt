@@ -47,7 +47,7 @@ impl Model for Work {
 }
 
 /// Where an ending stands that isn't whole yet: its position, and how many blocks end up to it.
-#[derive(Clone, Copy, Debug)]
+#[derive(Clone, Copy)]
 pub(crate) struct Mark {
     pub(crate) position: usize,
     pub(crate) ended: u64,

@@ -18,14 +18,14 @@ pub(crate) struct Call<'a> {
 }
 
 /// What is asked of an expression: its value, or the address of the place that it is.
-#[derive(Clone, Copy, Debug)]
+#[derive(Clone, Copy)]
 pub(crate) enum Wanted {
     Value,
     Address,
 }
 
 /// How a statement ends: it goes on, leaves the loop, or gives the function's value.
-#[derive(Debug, Drop)]
+#[derive(Drop)]
 pub(crate) enum Way {
     GoesOn,
     Breaks,

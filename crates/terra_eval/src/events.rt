@@ -14,7 +14,7 @@ use terra_term::{Constant, Operation, Store, TypedExpression, TypedName, TypedSt
 use tl_base::{FnId, NoMemory, Place, SymId, TermId, TypeId};
 
 /// What is done with a name.
-#[derive(Clone, Copy, Debug)]
+#[derive(Clone, Copy)]
 pub(crate) enum Event {
     Opens,
     Closes,

@@ -22,14 +22,14 @@ use terra_types::Types;
 use tl_base::{NoMemory, TypeId};
 
 /// Where a declaration's variable is: a value alone, or at an offset of the frame.
-#[derive(Clone, Copy, Debug)]
+#[derive(Clone, Copy)]
 pub enum Home {
     ByValue,
     InFrame(u64),
 }
 
 /// A frame: the homes of the declarations in order, and how many bytes it has.
-#[derive(Debug, Drop)]
+#[derive(Drop)]
 pub struct Frame {
     pub homes: Vec<Home>,
     pub size: u64,

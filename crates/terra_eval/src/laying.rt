@@ -13,7 +13,7 @@ use std::alloc::Global;
 use tl_base::{NoMemory, SymId};
 
 /// A declaration in scope: its symbol, and its number among the declarations of the function.
-#[derive(Clone, Copy, Debug)]
+#[derive(Clone, Copy)]
 pub(crate) struct InScope {
     pub(crate) symbol: SymId,
     pub(crate) number: u64,
@@ -21,7 +21,7 @@ pub(crate) struct InScope {
 
 /// The declarations in scope, the nearest first, those of the scopes around, how many there were so far, and the numbers of those
 /// whose address was taken.
-#[derive(Debug, Drop)]
+#[derive(Drop)]
 pub(crate) struct Scopes {
     alloc: Global,
     here: Vec<InScope>,

@@ -19,14 +19,14 @@ use tl_base::SymId;
 use tl_base::limits::REGION_ADDRESS;
 
 /// What a variable is: a word, or an address at which it lies.
-#[derive(Clone, Copy, Debug)]
+#[derive(Clone, Copy)]
 pub(crate) enum Held {
     Word(u64),
     At(u64),
 }
 
 /// A variable in scope.
-#[derive(Clone, Copy, Debug)]
+#[derive(Clone, Copy)]
 pub(crate) struct Variable {
     pub(crate) symbol: SymId,
     pub(crate) is: Held,

@@ -8,7 +8,7 @@ use terra_words::FaultKind;
 use tl_base::{NoMemory, Place};
 
 /// How a run ends; code that typing has passed is never stuck.
-#[derive(Debug, Drop)]
+#[derive(Drop)]
 pub enum End {
     Returned(Value),
     Fault(FaultKind, Place),
@@ -16,14 +16,14 @@ pub enum End {
 }
 
 /// A run: an end, or the need of one more call or turn; with the output.
-#[derive(Debug, Drop)]
+#[derive(Drop)]
 pub enum Run {
     Over(End, Vec<u8>),
     More(Vec<u8>),
 }
 
 /// What stops a run before its function returns.
-#[derive(Clone, Copy, Debug)]
+#[derive(Clone, Copy)]
 pub(crate) enum Halt {
     Fault(FaultKind, Place),
     Stuck,
@@ -31,7 +31,7 @@ pub(crate) enum Halt {
 }
 
 /// Why evaluation goes no further: the run stops, or memory wasn't found.
-#[derive(Clone, Copy, Debug)]
+#[derive(Clone, Copy)]
 pub(crate) enum Stop {
     NoMemory,
     Halted(Halt),

@@ -7,14 +7,14 @@ use std::alloc::{AllocError, Global};
 use std::marker::Model;
 
 /// What a value is.
-#[derive(Debug, Drop)]
+#[derive(Drop)]
 pub(crate) enum Datum {
     Word(u64),
     Bytes(Vec<u8>),
 }
 
 /// A value: a word for an integer, a bool, a pointer or a function value, all bytes of an aggregate; and 0 for unit.
-#[derive(Debug, Drop)]
+#[derive(Drop)]
 pub struct Value {
     datum: Datum,
 }

@@ -8,7 +8,7 @@ use tl_base::{List, NoMemory};
 /// Items in order, behind one pointer. Contracts see the list.
 ///
 /// Terms hold lists: with a `List` in the node itself a node takes 104 bytes, and with one pointer 56.
-#[derive(Debug, Drop)]
+#[derive(Drop)]
 pub struct HeapList<T> {
     items: Box<List<T>>,
 }

@@ -8,7 +8,7 @@ use std::marker::Model;
 use tl_base::{NoMemory, Place, SymId, TermId, TextId, TypeId};
 
 /// A parameter of a definition: the symbol that it declares, its type, and the place of its declaration.
-#[derive(Clone, Copy, Debug, PartialEq, Eq)]
+#[derive(Clone, Copy, PartialEq, Eq)]
 pub struct Parameter {
     pub symbol: SymId,
     pub of: TypeId,
@@ -16,7 +16,7 @@ pub struct Parameter {
 }
 
 /// A name that a `var` declares, with its type where that is written or the symbol's own.
-#[derive(Clone, Copy, Debug, PartialEq, Eq)]
+#[derive(Clone, Copy, PartialEq, Eq)]
 pub struct VarName {
     pub symbol: SymId,
     pub of: Option<TypeId>,
@@ -24,7 +24,7 @@ pub struct VarName {
 }
 
 /// The name that a `for` declares, behind one pointer. Contracts see the name.
-#[derive(Debug, Drop)]
+#[derive(Drop)]
 pub struct LoopName {
     name: Box<VarName>,
 }
@@ -56,7 +56,7 @@ impl LoopName {
 }
 
 /// A variable with its type.
-#[derive(Clone, Copy, Debug, PartialEq, Eq)]
+#[derive(Clone, Copy, PartialEq, Eq)]
 pub struct TypedName {
     pub symbol: SymId,
     pub of: TypeId,

@@ -12,7 +12,7 @@ use terra_words::BinaryOperator;
 use tl_base::{FnId, MacroId, SymId, TermId, TextId, TypeId};
 
 /// Fixed texts.
-#[derive(Clone, Copy, Debug, PartialEq, Eq)]
+#[derive(Clone, Copy, PartialEq, Eq)]
 pub enum Word {
     Open,
     Close,
@@ -57,7 +57,7 @@ pub enum Word {
 }
 
 /// A piece of a text: one that is written at once, or the text of a node.
-#[derive(Clone, Copy, Debug, PartialEq, Eq)]
+#[derive(Clone, Copy, PartialEq, Eq)]
 pub enum Piece {
     Word(Word),
     Unary(UnaryOperator),
@@ -82,7 +82,7 @@ pub enum Piece {
 }
 
 /// Whether a part is wanted as an expression or as a statement.
-#[derive(Clone, Copy, Debug, PartialEq, Eq)]
+#[derive(Clone, Copy, PartialEq, Eq)]
 pub enum PartKind {
     Expression,
     Statement,

@@ -4,7 +4,7 @@ ghost use Rattle.std.specs.Prelude.{◌≡◌};
 ghost use Rattle.terra_term.specs.Sizes.{above, capped, joined, leaf, names_size, none};
 
 /// How many nodes and levels a term has: at most 4,294,967,295 nodes and 65,535 levels. A larger number is kept as that one.
-#[derive(Clone, Copy, Debug, PartialEq, Eq)]
+#[derive(Clone, Copy, PartialEq, Eq)]
 pub struct Size {
     pub nodes: u32,
     pub levels: u16,
@@ -66,7 +66,7 @@ impl Size {
 }
 
 /// What a node is, with its size. The numbers stand in each variant, so that one takes eight bytes.
-#[derive(Clone, Copy, Debug, PartialEq, Eq)]
+#[derive(Clone, Copy, PartialEq, Eq)]
 pub(crate) enum SizedNode {
     Expression { levels: u16, nodes: u32 },
     Statement { levels: u16, nodes: u32 },

@@ -29,13 +29,13 @@ use tl_base::{
 };
 
 /// A symbol, with its type if it has one.
-#[derive(Clone, Copy, Debug, PartialEq, Eq)]
+#[derive(Clone, Copy, PartialEq, Eq)]
 pub struct Symbol {
     pub of: Option<TypeId>,
 }
 
 /// How far a function has come, with its term once it is defined, and its typed term once it is typed.
-#[derive(Clone, Copy, Debug, PartialEq, Eq)]
+#[derive(Clone, Copy, PartialEq, Eq)]
 pub enum FunctionState {
     Undefined,
     Defined(TermId),
@@ -45,7 +45,7 @@ pub enum FunctionState {
 }
 
 /// A function: its place, its type where it was declared, and how far it has come.
-#[derive(Clone, Copy, Debug, PartialEq, Eq)]
+#[derive(Clone, Copy, PartialEq, Eq)]
 pub struct Function {
     pub place: Place,
     pub declared: Option<TypeId>,
@@ -53,7 +53,7 @@ pub struct Function {
 }
 
 /// A quote.
-#[derive(Debug, Drop)]
+#[derive(Drop)]
 pub enum Quote {
     Expression(TermId),
     Statements(TermList),
@@ -62,21 +62,21 @@ pub enum Quote {
 }
 
 /// A global variable: its type and address.
-#[derive(Clone, Copy, Debug, PartialEq, Eq)]
+#[derive(Clone, Copy, PartialEq, Eq)]
 pub struct TerraGlobal {
     pub of: TypeId,
     pub address: u64,
 }
 
 /// A constant that Lua made: its type, and its value's 64 bits.
-#[derive(Clone, Copy, Debug, PartialEq, Eq)]
+#[derive(Clone, Copy, PartialEq, Eq)]
 pub struct TerraConstant {
     pub of: TypeId,
     pub value: u64,
 }
 
 /// Bytes that are there from the begin: a text with a zero byte, which all equal texts share, or a global.
-#[derive(Debug, Drop)]
+#[derive(Drop)]
 pub struct Static {
     pub address: u64,
     pub is_text: bool,
@@ -84,14 +84,14 @@ pub struct Static {
 }
 
 /// The bytes of a name.
-#[derive(Debug, Drop)]
+#[derive(Drop)]
 pub struct TextBytes {
     pub text: TextId,
     pub bytes: Text,
 }
 
 /// An exported function.
-#[derive(Debug, Drop)]
+#[derive(Drop)]
 pub struct Export {
     pub name: Text,
     pub function: FnId,

@@ -9,7 +9,7 @@ ghost use Rattle.terra_types.specs.Elements.{elements_of};
 use tl_base::TypeId;
 
 /// The elements of an array, those of arrays in it counted one by one. Numbers end at the last one of 64 bits.
-#[derive(Clone, Copy, Debug)]
+#[derive(Clone, Copy)]
 pub struct Elements {
     /// What they are: no array.
     pub of: TypeId,

@@ -4,7 +4,7 @@ use crate::types::Integer;
 use tl_base::TypeId;
 
 /// What a type is made of, or a struct's number. Two types are one exactly where their keys are equal.
-#[derive(Debug, Drop, PartialEq, Eq, Hash)]
+#[derive(Drop, PartialEq, Eq, Hash)]
 pub enum TypeKey {
     Integer(Integer),
     Bool,

@@ -9,14 +9,14 @@ use std::marker::Model;
 use tl_base::{NoMemory, TextId, TypeId};
 
 /// An entry of a struct: the field's name and its type.
-#[derive(Clone, Copy, Debug, PartialEq, Eq)]
+#[derive(Clone, Copy, PartialEq, Eq)]
 pub struct Entry {
     pub field: TextId,
     pub of: TypeId,
 }
 
 /// An entry of a struct whose layout is settled, with its offset in bytes.
-#[derive(Clone, Copy, Debug, PartialEq, Eq)]
+#[derive(Clone, Copy, PartialEq, Eq)]
 pub struct Laid {
     pub field: TextId,
     pub offset: u64,
@@ -24,14 +24,14 @@ pub struct Laid {
 }
 
 /// Where an entry lies, and its type.
-#[derive(Clone, Copy, Debug)]
+#[derive(Clone, Copy)]
 pub struct Spot {
     offset: u64,
     of: TypeId,
 }
 
 /// Entries that are laid out, in order, and found by their names. Contracts see the list.
-#[derive(Debug, Drop)]
+#[derive(Drop)]
 pub struct LaidList {
     spots: IndexMap<TextId, Spot>,
 }
@@ -48,7 +48,7 @@ impl Model for LaidList {
 }
 
 /// The layout of a struct: its size and alignment in bytes, and its entries.
-#[derive(Debug, Drop)]
+#[derive(Drop)]
 pub struct Layout {
     pub size: u64,
     pub align: u64,
@@ -56,7 +56,7 @@ pub struct Layout {
 }
 
 /// What settling a layout answers.
-#[derive(Clone, Copy, Debug, PartialEq, Eq)]
+#[derive(Clone, Copy, PartialEq, Eq)]
 pub enum Settled {
     /// The struct has its layout.
     Done,

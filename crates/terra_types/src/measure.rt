@@ -4,7 +4,7 @@
 pub const LARGEST_SIZE: u64 = 67_108_864;
 
 /// How many bytes a type has, and what its addresses are multiples of.
-#[derive(Clone, Copy, Debug, PartialEq, Eq)]
+#[derive(Clone, Copy, PartialEq, Eq)]
 pub struct Measure {
     pub size: u64,
     pub align: u64,

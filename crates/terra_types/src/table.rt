@@ -15,7 +15,7 @@ use std::alloc::Global;
 use tl_base::{NoMemory, TypeId};
 
 /// What is kept of a type: what it is, and of an array what its elements are.
-#[derive(Debug, Drop)]
+#[derive(Drop)]
 pub struct Kept {
     pub form: TypeForm,
     pub elements: Option<Elements>,

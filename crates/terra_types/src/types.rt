@@ -21,7 +21,7 @@ use std::marker::Model;
 use tl_base::{List, NoMemory, Place, TextId, TypeId};
 
 /// The integer types.
-#[derive(Clone, Copy, Debug, PartialEq, Eq, Hash)]
+#[derive(Clone, Copy, PartialEq, Eq, Hash)]
 pub enum Integer {
     Int8,
     Int16,
@@ -63,7 +63,7 @@ impl Integer {
 pub type TypeList = List<TypeId>;
 
 /// What a type is.
-#[derive(Debug, Drop)]
+#[derive(Drop)]
 pub enum TypeForm {
     Integer(Integer),
     Bool,
@@ -82,7 +82,7 @@ pub enum TypeForm {
 /// The types. A type's id is its place in the list.
 ///
 /// Equal types have one id, and each struct is a type of its own. A type is made of earlier ones. Contracts see the list.
-#[derive(Debug, Drop)]
+#[derive(Drop)]
 pub struct Types {
     alloc: Global,
     table: Table,

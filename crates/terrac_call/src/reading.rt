@@ -10,7 +10,7 @@ use std::alloc::Global;
 use tl_base::{NoMemory, Source};
 
 /// Why a source was not read.
-#[derive(Clone, Copy, PartialEq, Eq, Debug)]
+#[derive(Clone, Copy, PartialEq, Eq)]
 pub(crate) enum ReadError {
     /// A read failed.
     Unread,

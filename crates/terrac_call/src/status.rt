@@ -9,7 +9,7 @@ use tl_base::{Bytes, Place};
 use tl_lex::SyntaxKind;
 
 /// How a call ends. Each status but [`Status::Ok`] has a line on `notes`.
-#[derive(Debug, Drop)]
+#[derive(Drop)]
 pub enum Status {
     /// What was asked for was written.
     Ok,
@@ -42,7 +42,7 @@ pub enum Status {
 }
 
 /// With which fault a program ends.
-#[derive(Clone, Copy, Debug, PartialEq, Eq)]
+#[derive(Clone, Copy, PartialEq, Eq)]
 pub enum FaultKind {
     /// An access isn't wholly in the region.
     BadAddress,
@@ -57,7 +57,7 @@ pub enum FaultKind {
 }
 
 /// Why bytes are no image.
-#[derive(Clone, Copy, Debug, PartialEq, Eq)]
+#[derive(Clone, Copy, PartialEq, Eq)]
 pub enum ImageFault {
     /// There are more than 268,435,456.
     TooLong,

@@ -19,7 +19,7 @@ use std::alloc::Global;
 use std::mem;
 
 /// What a machine does next.
-#[derive(Debug, Drop)]
+#[derive(Drop)]
 pub enum Step<J, R, Q> {
     /// To pay one unit and begin a job.
     Enter(J),
@@ -32,7 +32,7 @@ pub enum Step<J, R, Q> {
 }
 
 /// What a machine waits for: to begin, or for the answer to its question.
-#[derive(Debug, Drop)]
+#[derive(Drop)]
 pub enum Waiting<T> {
     Begin(T),
     Asked,

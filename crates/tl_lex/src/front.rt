@@ -20,7 +20,7 @@ use tl_base::Text;
 const LONGEST_VALUE: usize = Text::MAX_LEN;
 
 /// What stands at the front of a text.
-#[derive(Clone, Copy, Debug, PartialEq, Eq)]
+#[derive(Clone, Copy, PartialEq, Eq)]
 pub(crate) enum Front {
     /// So many bytes of white space, or of a comment.
     Blank(usize),

@@ -10,7 +10,7 @@ use crate::{LONGEST_TEXT, LexError, TokenKind};
 use tl_base::Place;
 
 /// Gives the tokens of a text, one after the other.
-#[derive(Debug, Drop)]
+#[derive(Drop)]
 pub struct Lexer<'a> {
     /// The text that is left.
     rest: &'a str,

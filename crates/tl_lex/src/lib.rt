@@ -32,7 +32,7 @@ pub use token::Token;
 pub use value::literal_value;
 
 /// What a token is.
-#[derive(Clone, Copy, Debug, PartialEq, Eq)]
+#[derive(Clone, Copy, PartialEq, Eq)]
 pub enum TokenKind {
     /// A letter or `_`, then letters, digits and `_`, that is no reserved word.
     Name,

@@ -18,7 +18,7 @@ pub(crate) fn line_end_len(bytes: &[u8]) -> usize
 }
 
 /// The first character of a text: a line end, which is an LF, or a byte.
-#[derive(Clone, Copy, Debug, PartialEq, Eq)]
+#[derive(Clone, Copy, PartialEq, Eq)]
 pub(crate) struct FirstCharacter {
     /// How many bytes it has.
     pub(crate) len: usize,
@@ -45,7 +45,7 @@ pub(crate) fn first_character(bytes: &[u8]) -> FirstCharacter
 }
 
 /// What a text is when each line end is one LF.
-#[derive(Clone, Copy, Debug, PartialEq, Eq)]
+#[derive(Clone, Copy, PartialEq, Eq)]
 pub(crate) struct Unified {
     /// How many bytes it has then.
     pub(crate) len: usize,

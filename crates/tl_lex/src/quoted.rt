@@ -9,7 +9,7 @@ use crate::line_ends::line_end_len;
 
 /// A character of a literal in quotes: how many bytes it has in the source, and the byte that it stands for, which is above 255
 /// at a bad escape.
-#[derive(Clone, Copy, Debug, PartialEq, Eq)]
+#[derive(Clone, Copy, PartialEq, Eq)]
 pub(crate) struct Character {
     pub(crate) len: usize,
     pub(crate) value: u16,
@@ -99,7 +99,7 @@ pub(crate) fn quoted_character(quote: u8, bytes: &[u8]) -> Character
 }
 
 /// The characters of a text in quotes, up to what is none.
-#[derive(Clone, Copy, Debug, PartialEq, Eq)]
+#[derive(Clone, Copy, PartialEq, Eq)]
 pub(crate) struct Characters {
     /// How many bytes they have in the source.
     pub(crate) source_len: usize,

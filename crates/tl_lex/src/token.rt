@@ -3,7 +3,7 @@ use crate::TokenKind;
 use tl_base::Place;
 
 /// A token, with its slice of the source.
-#[derive(Clone, Copy, Debug)]
+#[derive(Clone, Copy)]
 pub struct Token<'a> {
     pub kind: TokenKind,
     /// The bytes of the token, quotes and brackets included; empty at the end.

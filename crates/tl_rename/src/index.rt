@@ -11,7 +11,7 @@ use tl_base::{NoMemory, NodeId};
 use tl_tree::{Binder, Node, Scope, Tree};
 
 /// The last declarations of each owner by their names, and by the owner's number how many of its declarations were read.
-#[derive(Debug, Drop)]
+#[derive(Drop)]
 pub struct Index<'a> {
     latest: Latest<'a>,
     reached: Vec<u64>,

@@ -10,7 +10,7 @@ use tl_base::NoMemory;
 use tl_tree::Binder;
 
 /// By owner and name what was found last. Contracts see the entries.
-#[derive(Debug, Drop)]
+#[derive(Drop)]
 pub struct Latest<'a> {
     entries: IndexMap<(u64, &'a str), Binder>,
 }

@@ -13,7 +13,7 @@ use tl_base::{NoMemory, NodeId};
 use tl_tree::{Binder, Tree};
 
 /// What each use of a local finds, by its node. Contracts see the list.
-#[derive(Debug, Drop)]
+#[derive(Drop)]
 pub struct Slots {
     binders: Vec<Option<Binder>>,
 }

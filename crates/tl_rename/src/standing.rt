@@ -23,7 +23,7 @@ pub fn count_to(n: NodeId) -> Result<u64, NoMemory>
 }
 
 /// Where nodes stand, by their numbers. Contracts see the list.
-#[derive(Debug, Drop)]
+#[derive(Drop)]
 pub struct Standing {
     scopes: Vec<Option<Scope>>,
 }

@@ -143,7 +143,7 @@ pub fn sees_itself(tree: &Tree, n: NodeId) -> bool
 
 /// The nodes within a node: those that stand where it stands, the names that it declares, the statements of the block that is the scope of
 /// these, and those behind the block.
-#[derive(Debug, Drop)]
+#[derive(Drop)]
 pub struct Inside {
     pub around: NodeList,
     pub names: NodeList,

@@ -1,7 +1,7 @@
 // How code is read.
 
 /// How Lua code is read.
-#[derive(Clone, Copy, Debug, PartialEq, Eq)]
+#[derive(Clone, Copy, PartialEq, Eq)]
 pub enum Mode {
     /// In a function without `...`, and in an escape.
     Plain,
@@ -12,7 +12,7 @@ pub enum Mode {
 }
 
 /// Where a block of Lua code stands.
-#[derive(Clone, Copy, Debug, PartialEq, Eq)]
+#[derive(Clone, Copy, PartialEq, Eq)]
 pub struct Context {
     /// How its expressions are read.
     pub mode: Mode,
@@ -23,7 +23,7 @@ pub struct Context {
 }
 
 /// What a token does besides opening a level of nesting.
-#[derive(Clone, Copy, Debug, PartialEq, Eq)]
+#[derive(Clone, Copy, PartialEq, Eq)]
 pub enum Extra {
     Plain,
     /// It continues a chain, which so many tokens may continue.
@@ -37,7 +37,7 @@ pub enum Extra {
 }
 
 /// What an expression is, as far as what may follow depends on it.
-#[derive(Clone, Copy, Debug, PartialEq, Eq)]
+#[derive(Clone, Copy, PartialEq, Eq)]
 pub enum Shape {
     /// A name alone.
     Name,

@@ -3,7 +3,7 @@
 use tl_base::{List, NodeId, Place};
 
 /// The operators between two operands of Lua and Terra code (Lua 5.1 manual, section 2.5).
-#[derive(Clone, Copy, Debug, PartialEq, Eq)]
+#[derive(Clone, Copy, PartialEq, Eq)]
 pub enum BinaryOperator {
     /// `->`, from the types of parameters to a type of results.
     Arrow,
@@ -27,7 +27,7 @@ pub enum BinaryOperator {
 }
 
 /// The operators before one operand.
-#[derive(Clone, Copy, Debug, PartialEq, Eq)]
+#[derive(Clone, Copy, PartialEq, Eq)]
 pub enum UnaryOperator {
     Not,
     /// `#`
@@ -43,7 +43,7 @@ pub enum UnaryOperator {
 pub type NodeList = List<NodeId>;
 
 /// An expression of Lua code that is no name, number or text (Lua 5.1 manual, section 2.5).
-#[derive(Debug, Drop)]
+#[derive(Drop)]
 pub enum Expression {
     Nil,
     False,
@@ -77,7 +77,7 @@ pub enum Expression {
 }
 
 /// A statement of Lua code (Lua 5.1 manual, section 2.4).
-#[derive(Debug, Drop)]
+#[derive(Drop)]
 pub enum Statement {
     /// The targets and the expressions.
     Assign(NodeList, NodeList),
@@ -118,7 +118,7 @@ pub enum Statement {
 }
 
 /// An expression of Terra code that is no name, number or text.
-#[derive(Debug, Drop)]
+#[derive(Drop)]
 pub enum TerraExpression {
     Nil,
     False,
@@ -141,7 +141,7 @@ pub enum TerraExpression {
 }
 
 /// A statement of Terra code.
-#[derive(Debug, Drop)]
+#[derive(Drop)]
 pub enum TerraStatement {
     /// The targets and the expressions.
     Assign(NodeList, NodeList),
@@ -167,7 +167,7 @@ pub enum TerraStatement {
 }
 
 /// What a node has within it that is no expression and no statement.
-#[derive(Debug, Drop)]
+#[derive(Drop)]
 pub enum Piece {
     /// The statements of a block, of Lua or of Terra code.
     Block(NodeList),
@@ -197,7 +197,7 @@ pub enum Piece {
 }
 
 /// A node of a tree. Texts are slices of the source.
-#[derive(Debug, Drop)]
+#[derive(Drop)]
 pub enum Node<'a> {
     /// A name: an expression where one stands, and else what is declared, selected or called. Between its place and
     /// its text is the offset of its token, in bytes of the source.

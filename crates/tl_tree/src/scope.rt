@@ -4,7 +4,7 @@ use tl_base::NodeId;
 
 /// Where a node stands: the innermost owner of declarations around it, and how many of this owner's declarations are in scope. Around the
 /// owner those are in scope that are where the owner stands.
-#[derive(Clone, Copy, Debug, PartialEq, Eq)]
+#[derive(Clone, Copy, PartialEq, Eq)]
 pub struct Scope {
     pub owner: NodeId,
     pub count: u64,
@@ -12,7 +12,7 @@ pub struct Scope {
 
 /// The declaration that a use of a local finds: how many owners to go outwards, the position among the owner's declarations, from 0, and
 /// the node that makes it, which is the name that is declared, or for an implicit `self` the function.
-#[derive(Clone, Copy, Debug, PartialEq, Eq)]
+#[derive(Clone, Copy, PartialEq, Eq)]
 pub struct Binder {
     pub depth: u32,
     pub position: u32,

@@ -6,7 +6,7 @@ use crate::node::{Expression, Node};
 use tl_base::{NodeId, Place};
 
 /// The tree of a text: its nodes in the order of the text, a node's children before it, so that the root is the last.
-#[derive(Debug, Drop)]
+#[derive(Drop)]
 pub struct Tree<'a> {
     nodes: Vec<Node<'a>>,
     /// The place of the end of the text.
