@@ -1,6 +1,6 @@
 // The table of types.
 
-ghost use Rattle.std.specs.Prelude.{◌≡◌, ◌+◌, ◌≤◌, length, IfOk, OnOk, OnErr};
+ghost use Rattle.std.specs.Prelude.{◌≡◌, ◌+◌, ◌≤◌, length, [], IfOk, OnOk, OnErr};
 ghost use Rattle.std.specs.Option.{option_copied};
 ghost use Rattle.terra_types.specs.Kept.{Fits, AllFit, forms_in, elements_at, kept_at, plain, with_kept, with_laid};
 ghost use Rattle.terra_types.specs.Holding.{opening_entries};
@@ -49,31 +49,41 @@ pub(crate) fn opening_table(alloc: Global) -> Result<Table, NoMemory>
     ensures { IfOk result (λ table. table.entries ≡ opening_entries) }
 {
     let mut table = IndexMap::new(alloc);
-    open_integer(&mut table, Integer::Int8)?;
-    open_integer(&mut table, Integer::Int16)?;
-    open_integer(&mut table, Integer::Int32)?;
-    open_integer(&mut table, Integer::Int64)?;
-    open_integer(&mut table, Integer::Uint8)?;
-    open_integer(&mut table, Integer::Uint16)?;
-    open_integer(&mut table, Integer::Uint32)?;
-    open_integer(&mut table, Integer::Uint64)?;
+    open(&mut table)?;
+    Ok(table)
+}
+
+/// Puts the types that are there from the begin into an empty table.
+// (The table is borrowed: one that is owned would be dropped behind each of these calls, and its proof would take six times as long.)
+fn open(table: &mut Table) -> Result<(), NoMemory>
+    requires { table.old.entries ≡ [] }
+    ensures { OnOk result (table.new.entries ≡ opening_entries) }
+{
+    open_integer(table, Integer::Int8)?;
+    open_integer(table, Integer::Int16)?;
+    open_integer(table, Integer::Int32)?;
+    open_integer(table, Integer::Int64)?;
+    open_integer(table, Integer::Uint8)?;
+    open_integer(table, Integer::Uint16)?;
+    open_integer(table, Integer::Uint32)?;
+    open_integer(table, Integer::Uint64)?;
     let boolean = Kept {
         form: TypeForm::Bool,
         elements: None,
     };
-    intern(&mut table, TypeKey::Bool, boolean)?;
+    intern(table, TypeKey::Bool, boolean)?;
     let unit = Kept {
         form: TypeForm::Unit,
         elements: None,
     };
-    intern(&mut table, TypeKey::Unit, unit)?;
+    intern(table, TypeKey::Unit, unit)?;
     let int8 = TypeId(0);
     let text = Kept {
         form: TypeForm::Pointer(int8),
         elements: None,
     };
-    intern(&mut table, TypeKey::Pointer(int8), text)?;
-    Ok(table)
+    intern(table, TypeKey::Pointer(int8), text)?;
+    Ok(())
 }
 
 /// Puts an integer type behind the others of a table.
