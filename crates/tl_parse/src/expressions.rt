@@ -213,7 +213,7 @@ impl<'a> Parser<'a> {
         ensures ok { IfOk result (λ r. TookTree self.old self.new (next_expression_at levels code (tokens_left self.old)) r) }
         ensures err { IfErr result (λ e. Fails self.old (next_expression_at levels code (tokens_left self.old)) e) }
     {
-        read!(self.take(Symbol::Comma));
+        pass!(self.take(Symbol::Comma));
         self.expression_of(code, levels)
     }
 
@@ -242,7 +242,7 @@ impl<'a> Parser<'a> {
     {
         let place = read!(self.open(Symbol::OpenParen, levels));
         let inner = read!(self.expression(mode, levels - 1));
-        read!(self.take(Symbol::CloseParen));
+        pass!(self.take(Symbol::CloseParen));
         self.push_operand(
             Node::Expression(place, Expression::Paren(inner)),
             CHAIN,
@@ -278,7 +278,7 @@ impl<'a> Parser<'a> {
     {
         let place = read!(self.open_call(levels, a.left));
         let arguments = read!(self.arguments(Code::Lua(mode), levels - 1));
-        read!(self.take(Symbol::CloseParen));
+        pass!(self.take(Symbol::CloseParen));
         self.push_operand(
             Node::Expression(place, Expression::Call(a.node, arguments)),
             a.left - 1,
@@ -295,7 +295,7 @@ impl<'a> Parser<'a> {
     {
         let place = read!(self.open_suffix(Symbol::OpenBracket, levels, a.left));
         let key = read!(self.expression(mode, levels - 1));
-        read!(self.take(Symbol::CloseBracket));
+        pass!(self.take(Symbol::CloseBracket));
         self.push_operand(
             Node::Expression(place, Expression::Index(a.node, key)),
             a.left - 1,
@@ -344,7 +344,7 @@ impl<'a> Parser<'a> {
     {
         let token = read!(self.raise(Symbol::OpenBrace, levels, a.left));
         let fields = read!(self.fields(mode, levels - 1));
-        read!(self.take(Symbol::CloseBrace));
+        pass!(self.take(Symbol::CloseBrace));
         let table = read!(self.push(Node::Expression(token.place, Expression::Table(fields))));
         let arguments = read!(self.one_node(table));
         let node = read!(self.push(Node::Expression(
@@ -381,9 +381,9 @@ impl<'a> Parser<'a> {
         ensures ok { IfOk result (λ r. TookList self.old self.new (listed_arguments_at levels mode (tokens_left self.old)) r) }
         ensures err { IfErr result (λ e. Fails self.old (listed_arguments_at levels mode (tokens_left self.old)) e) }
     {
-        read!(self.open(Symbol::OpenParen, levels));
+        pass!(self.open(Symbol::OpenParen, levels));
         let arguments = read!(self.arguments(Code::Lua(mode), levels - 1));
-        read!(self.take(Symbol::CloseParen));
+        pass!(self.take(Symbol::CloseParen));
         Ok(arguments)
     }
 
@@ -396,7 +396,7 @@ impl<'a> Parser<'a> {
     {
         let place = read!(self.open(Symbol::OpenBrace, levels));
         let fields = read!(self.fields(mode, levels - 1));
-        read!(self.take(Symbol::CloseBrace));
+        pass!(self.take(Symbol::CloseBrace));
         let table = read!(self.push(Node::Expression(place, Expression::Table(fields))));
         self.one_node(table)
     }
@@ -495,7 +495,7 @@ impl<'a> Parser<'a> {
         ensures err { IfErr result (λ e. Fails self.old (function_at levels (tokens_left self.old)) e) }
     {
         let place = read!(self.take(Symbol::Function));
-        read!(self.open(Symbol::OpenParen, levels));
+        pass!(self.open(Symbol::OpenParen, levels));
         let body = read!(self.function_body(levels - 1));
         self.push(Node::Expression(place, Expression::Function(body)))
     }

@@ -11,6 +11,15 @@ macro_rules! read {
     };
 }
 
+// The same of what gives no value that is kept.
+macro_rules! pass {
+    ($e:expr) => {
+        if let Err(e) = $e {
+            return Err(e);
+        }
+    };
+}
+
 pub mod chunk;
 pub mod error;
 mod expressions;

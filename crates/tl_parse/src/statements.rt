@@ -164,7 +164,7 @@ impl<'a> Parser<'a> {
         ensures ok { IfOk result (λ r. TookTree self.old self.new (next_name_at (tokens_left self.old)) r) }
         ensures err { IfErr result (λ e. Fails self.old (next_name_at (tokens_left self.old)) e) }
     {
-        read!(self.take(Symbol::Comma));
+        pass!(self.take(Symbol::Comma));
         self.name()
     }
 
@@ -248,7 +248,7 @@ impl<'a> Parser<'a> {
         ensures ok { IfOk result (λ r. TookTree self.old self.new (next_target_at levels mode (tokens_left self.old)) r) }
         ensures err { IfErr result (λ e. Fails self.old (next_target_at levels mode (tokens_left self.old)) e) }
     {
-        read!(self.take(Symbol::Comma));
+        pass!(self.take(Symbol::Comma));
         self.variable(mode, levels)
     }
 
@@ -259,7 +259,7 @@ impl<'a> Parser<'a> {
         ensures ok { IfOk result (λ r. TookList self.old self.new (values_at levels code (tokens_left self.old)) r) }
         ensures err { IfErr result (λ e. Fails self.old (values_at levels code (tokens_left self.old)) e) }
     {
-        read!(self.take(Symbol::Equal));
+        pass!(self.take(Symbol::Equal));
         self.expressions(code, levels)
     }
 
@@ -294,7 +294,7 @@ impl<'a> Parser<'a> {
     {
         let place = read!(self.open(Symbol::Do, levels));
         let block = read!(self.block(context, levels - 1));
-        read!(self.take(Symbol::End));
+        pass!(self.take(Symbol::End));
         self.push(Node::Statement(place, Statement::Do(block)))
     }
 
@@ -309,9 +309,9 @@ impl<'a> Parser<'a> {
         ensures ok { IfOk result (λ r. TookTree self.old self.new (loop_at levels block (tokens_left self.old)) r) }
         ensures err { IfErr result (λ e. Fails self.old (loop_at levels block (tokens_left self.old)) e) }
     {
-        read!(self.open(Symbol::Do, levels));
+        pass!(self.open(Symbol::Do, levels));
         let body = read!(self.block_of(looped_code(block), levels - 1));
-        read!(self.take(Symbol::End));
+        pass!(self.take(Symbol::End));
         Ok(body)
     }
 
@@ -337,7 +337,7 @@ impl<'a> Parser<'a> {
     {
         let place = read!(self.open(Symbol::Repeat, levels));
         let block = read!(self.block(looped(context), levels - 1));
-        read!(self.take(Symbol::Until));
+        pass!(self.take(Symbol::Until));
         let condition = read!(self.expression(context.mode, levels));
         self.push(Node::Statement(place, Statement::Repeat(block, condition)))
     }
@@ -350,7 +350,7 @@ impl<'a> Parser<'a> {
         ensures err { IfErr result (λ e. Fails self.old (arm_at levels block (tokens_left self.old)) e) }
     {
         let condition = read!(self.expression_of(code_of(block), levels));
-        read!(self.open(Symbol::Then, levels));
+        pass!(self.open(Symbol::Then, levels));
         let body = read!(self.block_of(block, levels - 1));
         self.push(Node::Piece(Piece::Arm(condition, body)))
     }
@@ -362,7 +362,7 @@ impl<'a> Parser<'a> {
         ensures ok { IfOk result (λ r. TookTree self.old self.new (next_arm_at levels block (tokens_left self.old)) r) }
         ensures err { IfErr result (λ e. Fails self.old (next_arm_at levels block (tokens_left self.old)) e) }
     {
-        read!(self.take(Symbol::Elseif));
+        pass!(self.take(Symbol::Elseif));
         self.arm(block, levels)
     }
 
@@ -394,7 +394,7 @@ impl<'a> Parser<'a> {
         ensures err { IfErr result (λ e. Fails self.old (otherwise_at levels block (tokens_left self.old)) e) }
     {
         if self.next_is(Symbol::Else) {
-            read!(self.open(Symbol::Else, levels));
+            pass!(self.open(Symbol::Else, levels));
             let body = read!(self.block_of(block, levels - 1));
             return Ok(Some(body));
         }
@@ -411,7 +411,7 @@ impl<'a> Parser<'a> {
         let place = read!(self.take(Symbol::If));
         let arms = read!(self.arms(BlockCode::Lua(context), levels));
         let otherwise = read!(self.otherwise(BlockCode::Lua(context), levels));
-        read!(self.take(Symbol::End));
+        pass!(self.take(Symbol::End));
         self.push(Node::Statement(place, Statement::If(arms, otherwise)))
     }
 
@@ -423,7 +423,7 @@ impl<'a> Parser<'a> {
         ensures err { IfErr result (λ e. Fails self.old (step_at levels code (tokens_left self.old)) e) }
     {
         if self.next_is(Symbol::Comma) {
-            read!(self.take(Symbol::Comma));
+            pass!(self.take(Symbol::Comma));
             let step = read!(self.expression_of(code, levels));
             return Ok(Some(step));
         }
@@ -437,9 +437,9 @@ impl<'a> Parser<'a> {
         ensures ok { IfOk result (λ r. TookNumeric self.old self.new (numeric_at levels context (tokens_left self.old)) r) }
         ensures err { IfErr result (λ e. Fails self.old (numeric_at levels context (tokens_left self.old)) e) }
     {
-        read!(self.take(Symbol::Equal));
+        pass!(self.take(Symbol::Equal));
         let from = read!(self.expression(context.mode, levels));
-        read!(self.take(Symbol::Comma));
+        pass!(self.take(Symbol::Comma));
         let limit = read!(self.expression(context.mode, levels));
         let step = read!(self.step(Code::Lua(context.mode), levels));
         let block = read!(self.loop_block(BlockCode::Lua(context), levels));
@@ -458,7 +458,7 @@ impl<'a> Parser<'a> {
         ensures ok { IfOk result (λ r. TookGeneric self.old self.new (generic_at levels context (tokens_left self.old)) r.0 r.1) }
         ensures err { IfErr result (λ e. Fails self.old (generic_at levels context (tokens_left self.old)) e) }
     {
-        read!(self.take(Symbol::In));
+        pass!(self.take(Symbol::In));
         let values = read!(self.expressions(Code::Lua(context.mode), levels));
         let block = read!(self.loop_block(BlockCode::Lua(context), levels));
         Ok((values, block))
@@ -498,7 +498,7 @@ impl<'a> Parser<'a> {
     {
         let place = read!(self.take(Symbol::Function));
         let path = read!(self.path(levels));
-        read!(self.open(Symbol::OpenParen, levels));
+        pass!(self.open(Symbol::OpenParen, levels));
         let body = read!(self.function_body(levels - 1));
         self.push(Node::Statement(place, Statement::Function(path, body)))
     }
@@ -510,9 +510,9 @@ impl<'a> Parser<'a> {
         ensures ok { IfOk result (λ r. TookTree self.old self.new (local_function_at levels place (tokens_left self.old)) r) }
         ensures err { IfErr result (λ e. Fails self.old (local_function_at levels place (tokens_left self.old)) e) }
     {
-        read!(self.take(Symbol::Function));
+        pass!(self.take(Symbol::Function));
         let name = read!(self.name());
-        read!(self.open(Symbol::OpenParen, levels));
+        pass!(self.open(Symbol::OpenParen, levels));
         let body = read!(self.function_body(levels - 1));
         self.push(Node::Statement(place, Statement::LocalFunction(name, body)))
     }
@@ -676,7 +676,7 @@ impl<'a> Parser<'a> {
         let ends = self.next_is_among(&LAST);
         let node = read!(self.statement(context, levels));
         if self.next_is(Symbol::Semicolon) {
-            read!(self.take(Symbol::Semicolon));
+            pass!(self.take(Symbol::Semicolon));
             return Ok((node, ends));
         }
         Ok((node, ends))
@@ -719,7 +719,7 @@ impl<'a> Parser<'a> {
         ensures err { IfErr result (λ e. Fails self.old (parameter_at (tokens_left self.old)) e) }
     {
         if self.next_is(Symbol::Ellipsis) {
-            read!(self.take(Symbol::Ellipsis));
+            pass!(self.take(Symbol::Ellipsis));
             return Ok(None);
         }
         let name = read!(self.name());
@@ -732,7 +732,7 @@ impl<'a> Parser<'a> {
         ensures ok { IfOk result (λ r. TookMaybe self.old self.new (next_parameter_at (tokens_left self.old)) r) }
         ensures err { IfErr result (λ e. Fails self.old (next_parameter_at (tokens_left self.old)) e) }
     {
-        read!(self.take(Symbol::Comma));
+        pass!(self.take(Symbol::Comma));
         self.parameter()
     }
 

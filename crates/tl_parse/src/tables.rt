@@ -23,7 +23,7 @@ impl<'a> Parser<'a> {
     {
         let place = read!(self.open(Symbol::OpenBrace, levels));
         let fields = read!(self.fields(mode, levels - 1));
-        read!(self.take(Symbol::CloseBrace));
+        pass!(self.take(Symbol::CloseBrace));
         self.push(Node::Expression(place, Expression::Table(fields)))
     }
 
@@ -34,10 +34,10 @@ impl<'a> Parser<'a> {
         ensures ok { IfOk result (λ r. TookTree self.old self.new (keyed_field_at levels mode (tokens_left self.old)) r) }
         ensures err { IfErr result (λ e. Fails self.old (keyed_field_at levels mode (tokens_left self.old)) e) }
     {
-        read!(self.open(Symbol::OpenBracket, levels));
+        pass!(self.open(Symbol::OpenBracket, levels));
         let key = read!(self.expression(mode, levels - 1));
-        read!(self.take(Symbol::CloseBracket));
-        read!(self.take(Symbol::Equal));
+        pass!(self.take(Symbol::CloseBracket));
+        pass!(self.take(Symbol::Equal));
         let value = read!(self.expression(mode, levels));
         self.push(Node::Piece(Piece::KeyedField(key, value)))
     }
@@ -55,7 +55,7 @@ impl<'a> Parser<'a> {
         let e = read!(self.chained(mode, levels));
         if is_name(e.shape) {
             if self.next_is(Symbol::Equal) {
-                read!(self.take(Symbol::Equal));
+                pass!(self.take(Symbol::Equal));
                 let value = read!(self.expression(mode, levels));
                 return self.push(Node::Piece(Piece::NamedField(e.node, value)));
             }
@@ -70,7 +70,7 @@ impl<'a> Parser<'a> {
         ensures ok { IfOk result (λ r. TookMaybe self.old self.new (next_field_at levels mode (tokens_left self.old)) r) }
         ensures err { IfErr result (λ e. Fails self.old (next_field_at levels mode (tokens_left self.old)) e) }
     {
-        read!(self.take_among(&SEPARATOR));
+        pass!(self.take_among(&SEPARATOR));
         if self.next_is(Symbol::CloseBrace) {
             return Ok(None);
         }

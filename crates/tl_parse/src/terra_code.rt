@@ -36,9 +36,9 @@ impl<'a> Parser<'a> {
         ensures ok { IfOk result (λ r. TookList self.old self.new (struct_body_at levels mode (tokens_left self.old)) r) }
         ensures err { IfErr result (λ e. Fails self.old (struct_body_at levels mode (tokens_left self.old)) e) }
     {
-        read!(self.open(Symbol::OpenBrace, levels));
+        pass!(self.open(Symbol::OpenBrace, levels));
         let entries = read!(self.entries(mode, levels - 1));
-        read!(self.take(Symbol::CloseBrace));
+        pass!(self.take(Symbol::CloseBrace));
         Ok(entries)
     }
 
@@ -63,7 +63,7 @@ impl<'a> Parser<'a> {
     {
         let place = read!(self.open(Symbol::Quote, levels));
         let code = read!(self.quoted_code(levels - 1));
-        read!(self.take(Symbol::End));
+        pass!(self.take(Symbol::End));
         self.push(Node::Expression(place, Expression::Quote(code)))
     }
 
@@ -105,7 +105,7 @@ impl<'a> Parser<'a> {
         ensures err { IfErr result (λ e. Fails self.old (separator_at (tokens_left self.old)) e) }
     {
         if self.next_is_among(&SEPARATOR) {
-            read!(self.take_among(&SEPARATOR));
+            pass!(self.take_among(&SEPARATOR));
         }
         Ok(())
     }
@@ -118,9 +118,9 @@ impl<'a> Parser<'a> {
         ensures err { IfErr result (λ e. Fails self.old (entry_at levels mode (tokens_left self.old)) e) }
     {
         let name = read!(self.name());
-        read!(self.take(Symbol::Colon));
+        pass!(self.take(Symbol::Colon));
         let value = read!(self.expression(mode, levels));
-        read!(self.separator());
+        pass!(self.separator());
         self.push(Node::Piece(Piece::Entry(name, value)))
     }
 

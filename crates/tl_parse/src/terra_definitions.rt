@@ -35,7 +35,7 @@ impl<'a> Parser<'a> {
         let place = read!(self.take(Symbol::Terra));
         let path = read!(self.path(levels));
         if self.next_is(Symbol::DoubleColon) {
-            read!(self.take(Symbol::DoubleColon));
+            pass!(self.take(Symbol::DoubleColon));
             let declared = read!(self.expression(mode, levels));
             return self.push(Node::Statement(place, Statement::DeclareTerra(path, declared)));
         }
@@ -59,7 +59,7 @@ impl<'a> Parser<'a> {
         let start = read!(self.take(Symbol::Terra));
         let name = read!(self.name());
         if self.next_is(Symbol::DoubleColon) {
-            read!(self.take(Symbol::DoubleColon));
+            pass!(self.take(Symbol::DoubleColon));
             let declared = read!(self.expression(mode, levels));
             return self.push(Node::Statement(
                 place,

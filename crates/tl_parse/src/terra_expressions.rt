@@ -194,7 +194,7 @@ impl<'a> Parser<'a> {
     {
         let place = read!(self.open(Symbol::OpenBracket, levels));
         let code = read!(self.expression(Mode::Plain, levels - 1));
-        read!(self.take(Symbol::CloseBracket));
+        pass!(self.take(Symbol::CloseBracket));
         self.push(Node::TerraExpression(place, TerraExpression::Escape(code)))
     }
 
@@ -220,7 +220,7 @@ impl<'a> Parser<'a> {
     {
         let place = read!(self.open(Symbol::OpenParen, levels));
         let inner = read!(self.terra_expression(levels - 1));
-        read!(self.take(Symbol::CloseParen));
+        pass!(self.take(Symbol::CloseParen));
         self.push_operand(
             Node::TerraExpression(place, TerraExpression::Paren(inner)),
             CHAIN,
@@ -263,7 +263,7 @@ impl<'a> Parser<'a> {
     {
         let place = read!(self.open_call(levels, a.left));
         let arguments = read!(self.arguments(Code::Terra, levels - 1));
-        read!(self.take(Symbol::CloseParen));
+        pass!(self.take(Symbol::CloseParen));
         self.push_operand(
             Node::TerraExpression(place, TerraExpression::Call(a.node, arguments)),
             a.left - 1,
@@ -280,7 +280,7 @@ impl<'a> Parser<'a> {
     {
         let place = read!(self.open_suffix(Symbol::OpenBracket, levels, a.left));
         let key = read!(self.terra_expression(levels - 1));
-        read!(self.take(Symbol::CloseBracket));
+        pass!(self.take(Symbol::CloseBracket));
         self.push_operand(
             Node::TerraExpression(place, TerraExpression::Index(a.node, key)),
             a.left - 1,
@@ -315,9 +315,9 @@ impl<'a> Parser<'a> {
     {
         let place = read!(self.suffix_sign(&COLON, a.left));
         let name = read!(self.terra_name(levels));
-        read!(self.open(Symbol::OpenParen, levels));
+        pass!(self.open(Symbol::OpenParen, levels));
         let arguments = read!(self.arguments(Code::Terra, levels - 1));
-        read!(self.take(Symbol::CloseParen));
+        pass!(self.take(Symbol::CloseParen));
         self.push_operand(
             Node::TerraExpression(place, TerraExpression::Method(a.node, name, arguments)),
             a.left - 1,
@@ -334,7 +334,7 @@ impl<'a> Parser<'a> {
     {
         let place = read!(self.open_suffix(Symbol::OpenBrace, levels, a.left));
         let initialisers = read!(self.initialisers(levels - 1));
-        read!(self.take(Symbol::CloseBrace));
+        pass!(self.take(Symbol::CloseBrace));
         self.push_operand(
             Node::TerraExpression(place, TerraExpression::Construct(a.node, initialisers)),
             a.left - 1,
@@ -566,7 +566,7 @@ impl<'a> Parser<'a> {
         ensures err { IfErr result (λ e. Fails self.old (named_initialiser_at levels (tokens_left self.old)) e) }
     {
         let name = read!(self.name());
-        read!(self.take(Symbol::Equal));
+        pass!(self.take(Symbol::Equal));
         let value = read!(self.terra_expression(levels));
         self.push(Node::Piece(Piece::NamedField(name, value)))
     }
@@ -594,7 +594,7 @@ impl<'a> Parser<'a> {
         let e = read!(self.terra_binary(TerraPrecedence::Disjunction, levels, CHAIN));
         if is_name(e.shape) {
             if self.next_is(Symbol::Equal) {
-                read!(self.take(Symbol::Equal));
+                pass!(self.take(Symbol::Equal));
                 let value = read!(self.terra_expression(levels));
                 let node = read!(self.push(Node::Piece(Piece::NamedField(e.node, value))));
                 return Ok((node, true));
@@ -610,7 +610,7 @@ impl<'a> Parser<'a> {
         ensures ok { IfOk result (λ r. TookMaybe self.old self.new (next_initialiser_at levels named (tokens_left self.old)) r) }
         ensures err { IfErr result (λ e. Fails self.old (next_initialiser_at levels named (tokens_left self.old)) e) }
     {
-        read!(self.take_among(&SEPARATOR));
+        pass!(self.take_among(&SEPARATOR));
         if self.next_is(Symbol::CloseBrace) {
             return Ok(None);
         }

@@ -73,7 +73,7 @@ impl<'a> Parser<'a> {
         ensures err { IfErr result (λ e. Fails self.old (written_type_at levels (tokens_left self.old)) e) }
     {
         if self.next_is(Symbol::Colon) {
-            read!(self.take(Symbol::Colon));
+            pass!(self.take(Symbol::Colon));
             let written = read!(self.expression(Mode::Types, levels));
             return Ok(Some(written));
         }
@@ -89,7 +89,7 @@ impl<'a> Parser<'a> {
     {
         let place = read!(self.open(Symbol::OpenBracket, levels));
         let code = read!(self.expression(Mode::Plain, levels - 1));
-        read!(self.take(Symbol::CloseBracket));
+        pass!(self.take(Symbol::CloseBracket));
         let escape = Node::TerraExpression(place, TerraExpression::Escape(code));
         let name = read!(self.push(escape));
         let written = read!(self.written_type(levels));
@@ -129,7 +129,7 @@ impl<'a> Parser<'a> {
         ensures ok { IfOk result (λ r. TookTree self.old self.new (next_terra_variable_at levels (tokens_left self.old)) r) }
         ensures err { IfErr result (λ e. Fails self.old (next_terra_variable_at levels (tokens_left self.old)) e) }
     {
-        read!(self.take(Symbol::Comma));
+        pass!(self.take(Symbol::Comma));
         self.terra_variable(levels)
     }
 
@@ -202,7 +202,7 @@ impl<'a> Parser<'a> {
     {
         let place = read!(self.open(Symbol::Do, levels));
         let block = read!(self.terra_block(levels - 1));
-        read!(self.take(Symbol::End));
+        pass!(self.take(Symbol::End));
         self.push(Node::TerraStatement(place, TerraStatement::Do(block)))
     }
 
@@ -228,7 +228,7 @@ impl<'a> Parser<'a> {
     {
         let place = read!(self.open(Symbol::Repeat, levels));
         let block = read!(self.terra_block(levels - 1));
-        read!(self.take(Symbol::Until));
+        pass!(self.take(Symbol::Until));
         let condition = read!(self.terra_expression(levels));
         self.push(Node::TerraStatement(place, TerraStatement::Repeat(block, condition)))
     }
@@ -243,7 +243,7 @@ impl<'a> Parser<'a> {
         let place = read!(self.take(Symbol::If));
         let arms = read!(self.arms(BlockCode::Terra, levels));
         let otherwise = read!(self.otherwise(BlockCode::Terra, levels));
-        read!(self.take(Symbol::End));
+        pass!(self.take(Symbol::End));
         self.push(Node::TerraStatement(place, TerraStatement::If(arms, otherwise)))
     }
 
@@ -256,9 +256,9 @@ impl<'a> Parser<'a> {
     {
         let place = read!(self.take(Symbol::For));
         let name = read!(self.terra_name(levels));
-        read!(self.take(Symbol::Equal));
+        pass!(self.take(Symbol::Equal));
         let first = read!(self.terra_expression(levels));
-        read!(self.take(Symbol::Comma));
+        pass!(self.take(Symbol::Comma));
         let limit = read!(self.terra_expression(levels));
         let step = read!(self.step(Code::Terra, levels));
         let block = read!(self.loop_block(BlockCode::Terra, levels));
@@ -287,7 +287,7 @@ impl<'a> Parser<'a> {
     {
         let place = read!(self.open(Symbol::Escape, levels));
         let block = read!(self.block(EMITTING, levels - 1));
-        read!(self.take(Symbol::End));
+        pass!(self.take(Symbol::End));
         self.push(Node::TerraStatement(place, TerraStatement::Escape(block)))
     }
 
@@ -362,7 +362,7 @@ impl<'a> Parser<'a> {
         let ends = self.next_is_among(&LAST);
         let node = read!(self.terra_statement(levels));
         if self.next_is(Symbol::Semicolon) {
-            read!(self.take(Symbol::Semicolon));
+            pass!(self.take(Symbol::Semicolon));
             return Ok((node, ends));
         }
         Ok((node, ends))
@@ -405,7 +405,7 @@ impl<'a> Parser<'a> {
     {
         let place = read!(self.open(Symbol::OpenBracket, levels));
         let code = read!(self.expression(Mode::Plain, levels - 1));
-        read!(self.take(Symbol::CloseBracket));
+        pass!(self.take(Symbol::CloseBracket));
         let escape = Node::TerraExpression(place, TerraExpression::Escape(code));
         let name = read!(self.push(escape));
         self.push(Node::Piece(Piece::SpliceParameter(place, name)))
@@ -420,7 +420,7 @@ impl<'a> Parser<'a> {
     {
         let token = read!(self.take_token(Symbol::Name));
         let name = read!(self.push(Node::Name(token.place, token.offset, token.text)));
-        read!(self.take(Symbol::Colon));
+        pass!(self.take(Symbol::Colon));
         let written = read!(self.expression(Mode::Types, levels));
         self.push(Node::Piece(Piece::Parameter(token.place, name, written)))
     }
@@ -445,7 +445,7 @@ impl<'a> Parser<'a> {
         ensures ok { IfOk result (λ r. TookTree self.old self.new (next_terra_parameter_at levels (tokens_left self.old)) r) }
         ensures err { IfErr result (λ e. Fails self.old (next_terra_parameter_at levels (tokens_left self.old)) e) }
     {
-        read!(self.take(Symbol::Comma));
+        pass!(self.take(Symbol::Comma));
         self.terra_parameter(levels)
     }
 
@@ -476,10 +476,10 @@ impl<'a> Parser<'a> {
         ensures err { IfErr result (λ e. Fails self.old (terra_function_body_at levels place (tokens_left self.old)) e) }
     {
         let parameters = read!(self.terra_parameters(levels));
-        read!(self.take(Symbol::CloseParen));
+        pass!(self.take(Symbol::CloseParen));
         let written = read!(self.written_type(levels));
         let block = read!(self.terra_block(levels));
-        read!(self.take(Symbol::End));
+        pass!(self.take(Symbol::End));
         self.push(Node::Piece(Piece::TerraBody(place, parameters, written, block)))
     }
 
@@ -506,7 +506,7 @@ impl<'a> Parser<'a> {
         ensures err { IfErr result (λ e. Fails self.old (quoted_expression_at levels (tokens_left self.old)) e) }
     {
         if self.next_is(Symbol::In) {
-            read!(self.take(Symbol::In));
+            pass!(self.take(Symbol::In));
             let expression = read!(self.terra_expression(levels));
             return Ok(Some(expression));
         }
