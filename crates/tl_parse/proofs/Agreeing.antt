@@ -17,8 +17,11 @@ use Rattle.tl_tree.proofs.Unrolling.{bind_again}
 use Rattle.tl_parse.specs.Using.{reading, part_at, used, sign_at, open_at, prefix_at, raise_at, number_at}
 use Rattle.tl_parse.specs.Expressions.{name_at, paren_at, base_at, method_arguments_at, listed_arguments_at, table_argument_at, applied_at, suffixes_at, prefixed_at, number_tree_at, literal_at, constant, constant_at, function_at, table_at, simple_at, is_simple, primary_at, right_at, power_at, unary_at, inner_of, more_at, ranks_at, binary_at, chained_at, is_name, field_behind_at, keyed_field_at, field_at}
 pub use Rattle.tl_parse.proofs.Following.{sign_then, opened_then, open_then, then, either_is}
+use Rattle.tl_parse.proofs.Following.{behind_give}
 use Rattle.tl_parse.proofs.TerraCodeAgreeing.{terra_code_agrees}
+use Rattle.tl_parse.specs.Codes.{expression_behind_at}
 use Rattle.tl_parse.specs.TerraCode.{terra_code_at}
+use Rattle.tl_parse.specs.declared.parser.Code.TheVariants as codes
 use Rattle.tl_parse.proofs.Uses.{both, bind_same, opening_is, plain_is}
 
 -- ---- names, prefix expressions
@@ -228,13 +231,12 @@ field_behind_agrees : (levels : ℕ) (m : Mode) (e : Chained) (ts : List Token) 
 field_behind_agrees levels m e ts = go e.shape
   where
     named : Outcome Tree
-    named = cond (begins (is symbols.Equal) ts) (sign_at symbols.Equal ts >>= λ y a. part_at levels (Expression m) a >>= λ v rest. Took (NamedField e.tree v) rest) (Took e.tree ts)
+    named = cond (begins (is symbols.Equal) ts) (expression_behind_at levels symbols.Equal (codes.Lua m) ts >>= λ v rest. Took (NamedField e.tree v) rest) (Took e.tree ts)
 
     go : (shape : Shape) → reading levels (lua.field_behind m shape e.tree) ts ≡ cond (is_name shape) named (Took e.tree ts)
     go shapes.Name =
-        either_is (begins (is symbols.Equal) ts) (reading levels (bind (sign symbols.Equal) λ y. bind (lua.expression m) λ v. give (NamedField e.tree v)) ts) (Took e.tree ts) (sign_at symbols.Equal ts >>= λ y a. part_at levels (Expression m) a >>= λ v rest. Took (NamedField e.tree v) rest) (Took e.tree ts)
-        (sign_then levels symbols.Equal (λ y. bind (lua.expression m) λ v. give (NamedField e.tree v)) (λ y a. part_at levels (Expression m) a >>= λ v rest. Took (NamedField e.tree v) rest)
-        (λ y us. then levels (lua.expression m) (λ v. give (NamedField e.tree v)) (λ us. part_at levels (Expression m) us) (λ v rest. Took (NamedField e.tree v) rest) (λ us. expression_agrees levels m us) (λ v us. refl) us) ts)
+        either_is (begins (is symbols.Equal) ts) (reading levels (bind (sign symbols.Equal) λ y. bind (lua.expression m) λ v. give (NamedField e.tree v)) ts) (Took e.tree ts) (expression_behind_at levels symbols.Equal (codes.Lua m) ts >>= λ v rest. Took (NamedField e.tree v) rest) (Took e.tree ts)
+        (behind_give levels symbols.Equal (codes.Lua m) (λ v. NamedField e.tree v) ts)
         refl
     go shapes.Variable = refl
     go shapes.Call = refl
@@ -245,10 +247,9 @@ keyed_field_agrees : (levels : ℕ) (m : Mode) (ts : List Token) → reading lev
 unfolding keyed_field_at
 keyed_field_agrees levels m ts =
     open_then levels symbols.OpenBracket (Expression m) (λ k. bind (sign symbols.CloseBracket) λ y. bind (sign symbols.Equal) λ z. bind (lua.expression m) λ v. give (KeyedField k.1 v))
-    (λ t k b. sign_at symbols.CloseBracket b >>= λ y c. sign_at symbols.Equal c >>= λ z d. part_at levels (Expression m) d >>= λ v rest. Took (KeyedField k v) rest)
-    (λ t k b. sign_then levels symbols.CloseBracket (λ y. bind (sign symbols.Equal) λ z. bind (lua.expression m) λ v. give (KeyedField k v)) (λ y c. sign_at symbols.Equal c >>= λ z d. part_at levels (Expression m) d >>= λ v rest. Took (KeyedField k v) rest)
-    (λ y c. sign_then levels symbols.Equal (λ z. bind (lua.expression m) λ v. give (KeyedField k v)) (λ z d. part_at levels (Expression m) d >>= λ v rest. Took (KeyedField k v) rest)
-    (λ z d. then levels (lua.expression m) (λ v. give (KeyedField k v)) (λ us. part_at levels (Expression m) us) (λ v rest. Took (KeyedField k v) rest) (λ us. expression_agrees levels m us) (λ v us. refl) d) c) b) ts
+    (λ t k b. sign_at symbols.CloseBracket b >>= λ y c. expression_behind_at levels symbols.Equal (codes.Lua m) c >>= λ v rest. Took (KeyedField k v) rest)
+    (λ t k b. sign_then levels symbols.CloseBracket (λ y. bind (sign symbols.Equal) λ z. bind (lua.expression m) λ v. give (KeyedField k v)) (λ y c. expression_behind_at levels symbols.Equal (codes.Lua m) c >>= λ v rest. Took (KeyedField k v) rest)
+    (λ y c. behind_give levels symbols.Equal (codes.Lua m) (λ v. KeyedField k v) c) b) ts
 
 pub field_agrees : (levels : ℕ) (m : Mode) (ts : List Token) → reading levels (lua.field m) ts ≡ field_at levels m ts
 unfolding field_at

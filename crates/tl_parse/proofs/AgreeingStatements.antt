@@ -27,7 +27,7 @@ use Rattle.tl_parse.specs.Expressions.{method_arguments_at, method_suffix_at, ta
 use Rattle.tl_parse.specs.Expressions as suffixed
 use Rattle.tl_parse.specs.Statements.{is_unsettled, settling, settle_at, variable_at, more_targets_at, is_call, values_at}
 use Rattle.tl_parse.specs.Statements.{call_or_assignment_at, do_at, loop_at, while_at, repeat_at, arm_at, more_arms_at, arms_at}
-use Rattle.tl_parse.specs.Statements.{otherwise_at, if_at, step_at, numeric_at, generic, generic_at, for_at, function_statement_at}
+use Rattle.tl_parse.specs.Statements.{otherwise_at, if_at, numeric_at, generic, generic_at, for_at, function_statement_at}
 use Rattle.tl_parse.specs.Statements.{local_function_at, initial_values_at, local_names_at, definition_symbols, local_at}
 use Rattle.tl_parse.specs.Statements.{returned_values_at, return_at, break_at, emit_at, statement_at, last_symbols, next_statement_at}
 use Rattle.tl_parse.specs.Statements.{goes_on, parameter_at, with_parameter, more_parameters, more_parameters_at, parameters_at, body_at}
@@ -39,7 +39,9 @@ use Rattle.tl_parse.proofs.Agreeing.{sign_then, open_then, then, either_is, name
 use Rattle.tl_parse.proofs.Turns.{with_suffix, used_here, used_use, use_same, suffix_turn_of}
 use Rattle.tl_parse.proofs.Paths.{names_agree, path_agrees}
 use Rattle.tl_parse.proofs.TerraDefinitionAgreeing.{define_terra_is, define_struct_is, local_terra_agrees}
-use Rattle.tl_parse.specs.Codes.{lua_symbols}
+use Rattle.tl_parse.proofs.Following.{behind_give, optional_agrees}
+use Rattle.tl_parse.proofs.TerraStatementAgreeing.{numeric_then}
+use Rattle.tl_parse.specs.Codes.{expression_behind_at, lua_symbols}
 use Rattle.tl_parse.specs.declared.parser.Code.TheVariants as codes
 use Rattle.tl_parse.specs.declared.parser.BlockCode.TheVariants as block_codes
 
@@ -256,27 +258,9 @@ otherwise_agrees levels c ts =
     either_is (begins (is symbols.Else) ts) (reading levels (bind (opening symbols.Else (Statements c)) λ x. give (Just x.1)) ts) (Took Nothing ts) (open_at symbols.Else levels ts >>= λ t a. part_at (levels - 1) (Statements c) a >>= λ x rest. Took (Just x) rest) (Took Nothing ts)
     (open_then levels symbols.Else (Statements c) (λ x. give (Just x.1)) (λ t x rest. Took (Just x) rest) (λ t x us. refl) ts) refl
 
-step_agrees : (levels : ℕ) (m : Mode) (ts : List Token) → reading levels (lua.step m) ts ≡ step_at levels (codes.Lua m) ts
-unfolding step_at
-step_agrees levels m ts =
-    either_is (begins (is symbols.Comma) ts) (reading levels (bind (sign symbols.Comma) λ y. bind (expressions.expression m) λ e. give (Just e)) ts) (Took Nothing ts) (sign_at symbols.Comma ts >>= λ y a. part_at levels (Expression m) a >>= λ e rest. Took (Just e) rest) (Took Nothing ts)
-    (sign_then levels symbols.Comma (λ y. bind (expressions.expression m) λ e. give (Just e)) (λ y a. part_at levels (Expression m) a >>= λ e rest. Took (Just e) rest)
-    (λ y a. then levels (expressions.expression m) (λ e. give (Just e)) (λ us. part_at levels (Expression m) us) (λ e rest. Took (Just e) rest) (λ us. expression_agrees levels m us) (λ e us. refl) a) ts) refl
-
-numeric_agrees : (levels : ℕ) (c : Context) (t : Token) (n : Tree) (ts : List Token) → reading levels (lua.numeric_for c t n) ts ≡ (numeric_at levels c ts >>= λ r rest. Took (trees.NumericFor t.place n r.from r.limit r.step r.block) rest)
-unfolding numeric_at
+numeric_agrees : (levels : ℕ) (c : Context) (t : Token) (n : Tree) (ts : List Token) → reading levels (lua.numeric_for c t n) ts ≡ (numeric_at levels (block_codes.Lua c) ts >>= λ r rest. Took (trees.NumericFor t.place n r.from r.limit r.step r.block) rest)
 numeric_agrees levels c t n ts =
-    sign_then levels symbols.Equal (λ x'. bind {A = Tree} {B = Tree} (expressions.expression c.mode) (λ a. bind {A = Token × Tree} {B = Tree} (sign symbols.Comma) (λ z. bind {A = Tree} {B = Tree} (expressions.expression c.mode) (λ b. bind {A = Tree} {B = Tree} (lua.step c.mode) (λ s. bind {A = Tree} {B = Tree} (lua.loop c) (λ x''. give {A = Tree} (trees.NumericFor t.place n a b s x''))))))) (λ y a. part_at levels (Expression c.mode) a >>= λ from b. sign_at symbols.Comma b >>= λ z d. part_at levels (Expression c.mode) d >>= λ limit f. step_at levels (codes.Lua c.mode) f >>= λ s g. loop_at levels (block_codes.Lua c) g >>= λ x rest. made from limit s x rest)
-    (λ y a. then levels (expressions.expression c.mode) (λ x'. bind {A = Token × Tree} {B = Tree} (sign symbols.Comma) (λ z. bind {A = Tree} {B = Tree} (expressions.expression c.mode) (λ b. bind {A = Tree} {B = Tree} (lua.step c.mode) (λ s. bind {A = Tree} {B = Tree} (lua.loop c) (λ x''. give {A = Tree} (trees.NumericFor t.place n x' b s x'')))))) (λ us. part_at levels (Expression c.mode) us) (λ from b. sign_at symbols.Comma b >>= λ z d. part_at levels (Expression c.mode) d >>= λ limit f. step_at levels (codes.Lua c.mode) f >>= λ s g. loop_at levels (block_codes.Lua c) g >>= λ x rest. made from limit s x rest) (λ us. expression_agrees levels c.mode us)
-    (λ from b. sign_then levels symbols.Comma (λ x'. bind {A = Tree} {B = Tree} (expressions.expression c.mode) (λ b'. bind {A = Tree} {B = Tree} (lua.step c.mode) (λ s. bind {A = Tree} {B = Tree} (lua.loop c) (λ x''. give {A = Tree} (trees.NumericFor t.place n from b' s x''))))) (λ z d. part_at levels (Expression c.mode) d >>= λ limit f. step_at levels (codes.Lua c.mode) f >>= λ s g. loop_at levels (block_codes.Lua c) g >>= λ x rest. made from limit s x rest)
-    (λ z d. then levels (expressions.expression c.mode) (λ x'. bind {A = Tree} {B = Tree} (lua.step c.mode) (λ s. bind {A = Tree} {B = Tree} (lua.loop c) (λ x''. give {A = Tree} (trees.NumericFor t.place n from x' s x'')))) (λ us. part_at levels (Expression c.mode) us) (λ limit f. step_at levels (codes.Lua c.mode) f >>= λ s g. loop_at levels (block_codes.Lua c) g >>= λ x rest. made from limit s x rest) (λ us. expression_agrees levels c.mode us)
-    (λ limit f. then levels (lua.step c.mode) (λ s. bind (lua.loop c) λ x. give (trees.NumericFor t.place n from limit s x)) (λ us. step_at levels (codes.Lua c.mode) us) (λ s g. loop_at levels (block_codes.Lua c) g >>= λ x rest. made from limit s x rest) (λ us. step_agrees levels c.mode us)
-    (λ s g. then levels (lua.loop c) (λ x. give (trees.NumericFor t.place n from limit s x)) (λ us. loop_at levels (block_codes.Lua c) us) (λ x rest. made from limit s x rest) (λ us. loop_agrees levels c us) (λ x us. refl) g) f) d) b) a) ts
-    ∙ sym (bind_again (sign_at symbols.Equal ts) _ _ ∙ bind_same (sign_at symbols.Equal ts) _ _ (λ y a. bind_again (part_at levels (Expression c.mode) a) _ _ ∙ bind_same (part_at levels (Expression c.mode) a) _ _ (λ from b. bind_again (sign_at symbols.Comma b) _ _ ∙ bind_same (sign_at symbols.Comma b) _ _
-    (λ z d. bind_again (part_at levels (Expression c.mode) d) _ _ ∙ bind_same (part_at levels (Expression c.mode) d) _ _ (λ limit f. bind_again (step_at levels (codes.Lua c.mode) f) _ _ ∙ bind_same (step_at levels (codes.Lua c.mode) f) _ _ (λ s g. bind_again (loop_at levels (block_codes.Lua c) g) _ _))))))
-  where
-    made : Tree → Tree → Tree → Tree → List Token → Outcome Tree
-    made from limit s x rest = Took (trees.NumericFor t.place n from limit s x) rest
+    numeric_then levels (block_codes.Lua c) (lua.step c.mode) (lua.loop c) (λ a b s x. trees.NumericFor t.place n a b s x) (λ us. optional_agrees levels symbols.Comma (codes.Lua c.mode) us) (λ us. loop_agrees levels c us) ts
 
 generic_agrees : (levels : ℕ) (c : Context) (t : Token) (ns : Tree) (ts : List Token) →
     reading levels (bind (sign symbols.In) λ y. bind (expressions.expressions c.mode) λ es. bind (lua.loop c) λ x. give (trees.GenericFor t.place ns es x)) ts ≡ (generic_at levels c ts >>= λ r rest. Took (trees.GenericFor t.place ns r.values r.block) rest)
@@ -440,14 +424,14 @@ if_behind levels c place ts =
 
 for_behind : (levels : ℕ) (c : Context) (t : Token) (ts : List Token) →
     reading levels (bind name λ n. when (is symbols.Equal) (lua.numeric_for c t n) (lua.generic_for c t n)) ts
-    ≡ (name_at ts >>= λ n b. cond (begins (is symbols.Equal) b) (numeric_at levels c b >>= λ r rest. Took (trees.NumericFor t.place n r.from r.limit r.step r.block) rest)
+    ≡ (name_at ts >>= λ n b. cond (begins (is symbols.Equal) b) (numeric_at levels (block_codes.Lua c) b >>= λ r rest. Took (trees.NumericFor t.place n r.from r.limit r.step r.block) rest)
     (more_names_at levels (More Nothing n) b >>= λ ns d. generic_at levels c d >>= λ r rest. Took (trees.GenericFor t.place ns r.values r.block) rest))
 unfolding more_names_at
 for_behind levels c t ts =
     then levels name (λ n. when (is symbols.Equal) (lua.numeric_for c t n) (lua.generic_for c t n)) (λ us. name_at us)
-    (λ n b. cond (begins (is symbols.Equal) b) (numeric_at levels c b >>= λ r rest. Took (trees.NumericFor t.place n r.from r.limit r.step r.block) rest) (more_names_at levels (More Nothing n) b >>= λ ns d. generic_at levels c d >>= λ r rest. Took (trees.GenericFor t.place ns r.values r.block) rest))
+    (λ n b. cond (begins (is symbols.Equal) b) (numeric_at levels (block_codes.Lua c) b >>= λ r rest. Took (trees.NumericFor t.place n r.from r.limit r.step r.block) rest) (more_names_at levels (More Nothing n) b >>= λ ns d. generic_at levels c d >>= λ r rest. Took (trees.GenericFor t.place ns r.values r.block) rest))
     (λ us. name_agrees levels us)
-    (λ n b. either_is (begins (is symbols.Equal) b) (reading levels (lua.numeric_for c t n) b) (reading levels (lua.generic_for c t n) b) (numeric_at levels c b >>= λ r rest. Took (trees.NumericFor t.place n r.from r.limit r.step r.block) rest) (more_names_at levels (More Nothing n) b >>= λ ns d. generic_at levels c d >>= λ r rest. Took (trees.GenericFor t.place ns r.values r.block) rest)
+    (λ n b. either_is (begins (is symbols.Equal) b) (reading levels (lua.numeric_for c t n) b) (reading levels (lua.generic_for c t n) b) (numeric_at levels (block_codes.Lua c) b >>= λ r rest. Took (trees.NumericFor t.place n r.from r.limit r.step r.block) rest) (more_names_at levels (More Nothing n) b >>= λ ns d. generic_at levels c d >>= λ r rest. Took (trees.GenericFor t.place ns r.values r.block) rest)
     (numeric_agrees levels c t n b)
     (then levels (listed_behind name (More Nothing n)) (λ ns. bind (sign symbols.In) λ y. bind (expressions.expressions c.mode) λ es. bind (lua.loop c) λ x. give (trees.GenericFor t.place ns es x)) (λ us. more_names_at levels (More Nothing n) us) (λ ns d. generic_at levels c d >>= λ r rest. Took (trees.GenericFor t.place ns r.values r.block) rest) (λ us. refl) (λ ns d. generic_agrees levels c t ns d) b)) ts
 
@@ -478,17 +462,16 @@ statement_by levels c symbols.While text place offset first ts h =
     (λ e b. then levels (lua.loop c) (λ x. give (trees.While place e x)) (λ us. loop_at levels (block_codes.Lua c) us) (λ x rest. Took (trees.While place e x) rest) (λ us. loop_agrees levels c us) (λ x us. refl) b) ts)
 statement_by levels c symbols.Repeat text place offset first ts h =
     let t : Token = token_with symbols.Repeat text place offset first in
-    use_same (barred true levels Plain t) t ts (λ u mid. behind levels c t mid) (λ t a. part_at (levels - 1) (Statements (looped c)) a >>= λ x b. sign_at symbols.Until b >>= λ y d. part_at levels (Expression c.mode) d >>= λ e rest. Took (trees.Repeat t.place x e) rest)
-    (bind_same (part_at (levels - 1) (Statements (looped c)) ts) (λ x rest. reading levels (bind (sign symbols.Until) λ y. bind (expressions.expression c.mode) λ e. give (trees.Repeat place x e)) rest) (λ x b. sign_at symbols.Until b >>= λ y d. part_at levels (Expression c.mode) d >>= λ e rest. Took (trees.Repeat place x e) rest)
-    (λ x b. sign_then levels symbols.Until (λ y. bind (expressions.expression c.mode) λ e. give (trees.Repeat place x e)) (λ y d. part_at levels (Expression c.mode) d >>= λ e rest. Took (trees.Repeat place x e) rest)
-    (λ y d. then levels (expressions.expression c.mode) (λ e. give (trees.Repeat place x e)) (λ us. part_at levels (Expression c.mode) us) (λ e rest. Took (trees.Repeat place x e) rest) (λ us. expression_agrees levels c.mode us) (λ e us. refl) d) b))
+    use_same (barred true levels Plain t) t ts (λ u mid. behind levels c t mid) (λ t a. part_at (levels - 1) (Statements (looped c)) a >>= λ x b. expression_behind_at levels symbols.Until (codes.Lua c.mode) b >>= λ e rest. Took (trees.Repeat t.place x e) rest)
+    (bind_same (part_at (levels - 1) (Statements (looped c)) ts) (λ x rest. reading levels (bind (sign symbols.Until) λ y. bind (expressions.expression c.mode) λ e. give (trees.Repeat place x e)) rest) (λ x b. expression_behind_at levels symbols.Until (codes.Lua c.mode) b >>= λ e rest. Took (trees.Repeat place x e) rest)
+    (λ x b. behind_give levels symbols.Until (codes.Lua c.mode) (λ e. trees.Repeat place x e) b))
 statement_by levels c symbols.If text place offset first ts h =
     let t : Token = token_with symbols.If text place offset first in
     use_same (barred false levels Plain t) t ts (λ u mid. behind levels c t mid) (λ t a. arms_at levels (block_codes.Lua c) a >>= λ all b. otherwise_at levels (block_codes.Lua c) b >>= λ o d. sign_at symbols.End d >>= λ y rest. Took (trees.If t.place all o) rest) (if_behind levels c place ts)
 statement_by levels c symbols.For text place offset first ts h =
     let t : Token = token_with symbols.For text place offset first in
     use_same (barred false levels Plain t) t ts (λ u mid. behind levels c t mid)
-    (λ t a. name_at a >>= λ n b. cond (begins (is symbols.Equal) b) (numeric_at levels c b >>= λ r rest. Took (trees.NumericFor t.place n r.from r.limit r.step r.block) rest) (more_names_at levels (More Nothing n) b >>= λ ns d. generic_at levels c d >>= λ r rest. Took (trees.GenericFor t.place ns r.values r.block) rest))
+    (λ t a. name_at a >>= λ n b. cond (begins (is symbols.Equal) b) (numeric_at levels (block_codes.Lua c) b >>= λ r rest. Took (trees.NumericFor t.place n r.from r.limit r.step r.block) rest) (more_names_at levels (More Nothing n) b >>= λ ns d. generic_at levels c d >>= λ r rest. Took (trees.GenericFor t.place ns r.values r.block) rest))
     (for_behind levels c t ts)
 statement_by levels c symbols.Function text place offset first ts h =
     let t : Token = token_with symbols.Function text place offset first in

@@ -1,13 +1,16 @@
 -- What reading forms of grammars one after the other gives.
-use Rattle.std.proofs.Common.{◌≡◌, ℕ, ◌-◌, Bool, true, false, cond, List, refl, ap, ◌∙◌}
+use Rattle.std.proofs.Common.{◌≡◌, ℕ, ◌-◌, Bool, true, false, cond, List, refl, sym, ap, ◌∙◌}
 use Rattle.tl_base.specs.declared.place.Place.{Place}
 use Rattle.tl_tree.specs.declared.symbol.Symbol.{Symbol}
-use Rattle.tl_tree.specs.Tokens.{Token}
-use Rattle.tl_tree.specs.Tree.{Tree, Nothing, Part}
-use Rattle.tl_tree.specs.Grammar.{Grammar, bind, Outcome, Took, Stop, ◌>>=◌}
+use Rattle.tl_tree.specs.Tokens.{Token, is}
+use Rattle.tl_tree.specs.Tree.{Tree, Nothing, Just, Part}
+use Rattle.tl_tree.specs.Grammar.{Grammar, give, bind, when, Outcome, Took, Stop, ◌>>=◌, begins}
 use Rattle.tl_tree.specs.Forms.{sign, opening, opening_at}
 use Rattle.tl_tree.proofs.Unrolling.{bind_again}
 use Rattle.tl_parse.specs.Using.{reading, part_at, sign_at, open_at}
+use Rattle.tl_parse.specs.Codes.{expression_of, expression_in, expression_behind_at, optional_expression_at}
+use Rattle.tl_parse.specs.declared.parser.Code.{Code}
+use Rattle.tl_parse.specs.declared.parser.Code.TheVariants as codes
 use Rattle.tl_parse.proofs.Uses.{both, bind_same, sign_is, open_is, opening_at_is}
 
 pub sign_then : {A : Type 0} (levels : ℕ) (s : Symbol) (h : Token × Tree → Grammar A) (k : Token → List Token → Outcome A) → ((t : Token) (us : List Token) → reading levels (h (both t Nothing)) us ≡ k t us) → (ts : List Token) → reading levels (bind (sign s) h) ts ≡ (sign_at s ts >>= λ t rest. k t rest)
@@ -40,3 +43,33 @@ then {A} levels g h g_at k same follows ts =
 pub either_is : {A : Type 0} (b : Bool) (x y u v : Outcome A) → x ≡ u → y ≡ v → cond b x y ≡ cond b u v
 either_is true x y u v p q = p
 either_is false x y u v p q = q
+
+-- ---- expressions behind signs
+
+-- an expression of either language
+expression_agrees : (levels : ℕ) (code : Code) (ts : List Token) → reading levels (expression_of code) ts ≡ part_at levels (expression_in code) ts
+unfolding part_at
+expression_agrees levels (codes.Lua m) ts = refl
+expression_agrees levels codes.Terra ts = refl
+
+-- a sign and an expression, and what goes on with it
+pub behind_then : {A : Type 0} (levels : ℕ) (s : Symbol) (code : Code) (h : Tree → Grammar A) (k : Tree → List Token → Outcome A) → ((e : Tree) (us : List Token) → reading levels (h e) us ≡ k e us) → (ts : List Token) →
+    reading levels (bind (sign s) λ y. bind (expression_of code) λ e. h e) ts ≡ (expression_behind_at levels s code ts >>= λ e rest. k e rest)
+unfolding expression_behind_at
+behind_then levels s code h k same ts =
+    sign_then levels s (λ y. bind (expression_of code) λ e. h e) (λ y a. part_at levels (expression_in code) a >>= λ e rest. k e rest)
+    (λ y us. then levels (expression_of code) (λ e. h e) (λ vs. part_at levels (expression_in code) vs) (λ e rest. k e rest) (λ vs. expression_agrees levels code vs) same us) ts
+    ∙ sym (bind_again (sign_at s ts) (λ y a. part_at levels (expression_in code) a) (λ e rest. k e rest))
+
+-- a value that is made of the expression
+pub behind_give : {A : Type 0} (levels : ℕ) (s : Symbol) (code : Code) (make : Tree → A) (ts : List Token) →
+    reading levels (bind (sign s) λ y. bind (expression_of code) λ e. give (make e)) ts ≡ (expression_behind_at levels s code ts >>= λ e rest. Took (make e) rest)
+behind_give levels s code make ts = behind_then levels s code (λ e. give (make e)) (λ e rest. Took (make e) rest) (λ e us. refl) ts
+
+-- the same if the sign is there
+pub optional_agrees : (levels : ℕ) (s : Symbol) (code : Code) (ts : List Token) →
+    reading levels (when (is s) (bind (sign s) λ y. bind (expression_of code) λ e. give (Just e)) (give Nothing)) ts ≡ optional_expression_at levels s code ts
+unfolding optional_expression_at
+optional_agrees levels s code ts =
+    either_is (begins (is s) ts) (reading levels (bind (sign s) λ y. bind (expression_of code) λ e. give (Just e)) ts) (Took Nothing ts) (expression_behind_at levels s code ts >>= λ e rest. Took (Just e) rest) (Took Nothing ts)
+    (behind_give levels s code (λ e. Just e) ts) refl

@@ -25,6 +25,7 @@ use Rattle.tl_parse.specs.declared.parser.Parser.{Parser}
 use Rattle.tl_parse.proofs.Failing.{fails_bind, fails_from}
 use Rattle.tl_parse.proofs.StatementTurns.{targets_go, names_go, body_part}
 use Rattle.tl_parse.specs.declared.parser.Code.TheVariants as codes
+use Rattle.tl_parse.specs.declared.parser.BlockCode.TheVariants as block_codes
 
 pub listing_first : (start now : Parser) (o : Outcome Tree) (more : Tree → List Token → Outcome Tree) (e : Tree) (n : NodeId) (numbers : List NodeId) → o ≡ more (More Nothing e) (tokens_left now) → end_of now ≡ end_of start → items_of now ≡ (laid e (items_of start)).items → n ≡ last_of (items_of now) → numbers ≡ n ∷ [] → Listing start now o more numbers
 listing_first start now o more e n numbers goes finish items is_last list =
@@ -95,7 +96,7 @@ names_begin levels c ts us vs t n sign named isnt =
   where
     chosen : Place → Tree → Bool → List Token → Outcome Tree
     chosen place n b us =
-        cond b (numeric_at levels c us >>= λ r rest. Took (NumericFor place n r.from r.limit r.step r.block) rest) (more_names_at levels (More Nothing n) us >>= λ ns d. generic_at levels c d >>= λ r rest. Took (GenericFor place ns r.values r.block) rest)
+        cond b (numeric_at levels (block_codes.Lua c) us >>= λ r rest. Took (NumericFor place n r.from r.limit r.step r.block) rest) (more_names_at levels (More Nothing n) us >>= λ ns d. generic_at levels c d >>= λ r rest. Took (GenericFor place ns r.values r.block) rest)
 
 pub names_next : (levels : ℕ) (c : Context) (place : Place) (before e : Tree) (ts us : List Token) → begins (is symbols.Comma) ts ≡ true → next_name_at ts ≡ Took e us →
     (more_names_at levels before ts >>= λ ns d. generic_at levels c d >>= λ r rest. Took (GenericFor place ns r.values r.block) rest) ≡ (more_names_at levels (More before e) us >>= λ ns d. generic_at levels c d >>= λ r rest. Took (GenericFor place ns r.values r.block) rest)

@@ -24,9 +24,11 @@ use Rattle.tl_parse.specs.TerraExpressions.{terra_primary_at, terra_prefixed_at,
 use Rattle.tl_parse.specs.TerraExpressions.{terra_first_at, terra_more_at, terra_binary_at, named_initialiser_at, initialiser_of}
 use Rattle.tl_parse.specs.TerraExpressions.{initialiser_at, more_initialisers_at, initialiser_behind_at, first_initialiser_at}
 use Rattle.tl_parse.specs.TerraExpressions.{initialisers_at}
+use Rattle.tl_parse.specs.Codes.{expression_behind_at}
+use Rattle.tl_parse.specs.declared.parser.Code.TheVariants as codes
 use Rattle.tl_parse.specs.declared.terra_expressions.TerraPrecedence.TheVariants as precedences
-use Rattle.tl_parse.proofs.Uses.{both, bind_same, opening_is, plain_is}
-use Rattle.tl_parse.proofs.Following.{sign_then, opened_then, open_then, then, either_is}
+use Rattle.tl_parse.proofs.Uses.{both, opening_is, plain_is}
+use Rattle.tl_parse.proofs.Following.{sign_then, opened_then, open_then, then, either_is, behind_then, behind_give}
 use Rattle.tl_parse.proofs.Agreeing as lua
 use Rattle.tl_parse.proofs.Agreeing.{name_agrees, literal_agrees}
 
@@ -164,10 +166,9 @@ terra_expression_agrees levels ts = refl
 named_initialiser_agrees : (levels : ℕ) (ts : List Token) → reading levels terra.named_initialiser ts ≡ named_initialiser_at levels ts
 unfolding named_initialiser_at
 named_initialiser_agrees levels ts =
-    then levels name (λ n. bind (sign symbols.Equal) λ y. bind terra.terra_expression λ v. give (NamedField n v)) (λ us. name_at us) (λ n a. sign_at symbols.Equal a >>= λ y b. part_at levels TerraExpression b >>= λ v rest. Took (NamedField n v) rest)
+    then levels name (λ n. bind (sign symbols.Equal) λ y. bind terra.terra_expression λ v. give (NamedField n v)) (λ us. name_at us) (λ n a. expression_behind_at levels symbols.Equal codes.Terra a >>= λ v rest. Took (NamedField n v) rest)
     (λ us. name_agrees levels us)
-    (λ n a. sign_then levels symbols.Equal (λ y. bind terra.terra_expression λ v. give (NamedField n v)) (λ y b. part_at levels TerraExpression b >>= λ v rest. Took (NamedField n v) rest)
-    (λ y b. then levels terra.terra_expression (λ v. give (NamedField n v)) (λ us. part_at levels TerraExpression us) (λ v rest. Took (NamedField n v) rest) (λ us. terra_expression_agrees levels us) (λ v us. refl) b) a) ts
+    (λ n a. behind_give levels symbols.Equal codes.Terra (λ v. NamedField n v) a) ts
 
 pub initialiser_agrees : (levels : ℕ) (named : Bool) (ts : List Token) → reading levels (initialiser_of named) ts ≡ initialiser_at levels named ts
 unfolding initialiser_at
@@ -183,14 +184,11 @@ with_name e named = (e, named)
 
 named_behind : (levels : ℕ) (e : Tree) (ts : List Token) →
     reading levels (bind (sign symbols.Equal) λ y. bind terra.terra_expression λ v. separated_behind terra.named_initialiser (More Nothing (NamedField e v))) ts
-    ≡ ((sign_at symbols.Equal ts >>= λ y a. part_at levels TerraExpression a >>= λ v rest. Took (with_name (NamedField e v) true) rest) >>= λ f rest. behind_first levels f rest)
+    ≡ ((expression_behind_at levels symbols.Equal codes.Terra ts >>= λ v rest. Took (with_name (NamedField e v) true) rest) >>= λ f rest. behind_first levels f rest)
 unfolding more_initialisers_at
 named_behind levels e ts =
-    sign_then levels symbols.Equal (λ y. bind terra.terra_expression λ v. separated_behind terra.named_initialiser (More Nothing (NamedField e v))) (λ y a. part_at levels TerraExpression a >>= λ v rest. more_initialisers_at levels true (More Nothing (NamedField e v)) rest)
-    (λ y a. then levels terra.terra_expression (λ v. separated_behind terra.named_initialiser (More Nothing (NamedField e v))) (λ us. part_at levels TerraExpression us) (λ v rest. more_initialisers_at levels true (More Nothing (NamedField e v)) rest) (λ us. terra_expression_agrees levels us) (λ v us. refl) a) ts
-    ∙ sym (bind_again (sign_at symbols.Equal ts) (λ y a. part_at levels TerraExpression a >>= λ v rest. Took (with_name (NamedField e v) true) rest) (λ f rest. behind_first levels f rest)
-    ∙ bind_same (sign_at symbols.Equal ts) (λ y a. (part_at levels TerraExpression a >>= λ v rest. Took (with_name (NamedField e v) true) rest) >>= λ f rest. behind_first levels f rest) (λ y a. part_at levels TerraExpression a >>= λ v rest. more_initialisers_at levels true (More Nothing (NamedField e v)) rest)
-    (λ y a. bind_again (part_at levels TerraExpression a) (λ v rest. Took (with_name (NamedField e v) true) rest) (λ f rest. behind_first levels f rest)))
+    behind_then levels symbols.Equal codes.Terra (λ v. separated_behind terra.named_initialiser (More Nothing (NamedField e v))) (λ v rest. more_initialisers_at levels true (More Nothing (NamedField e v)) rest) (λ v us. refl) ts
+    ∙ sym (bind_again (expression_behind_at levels symbols.Equal codes.Terra ts) (λ v rest. Took (with_name (NamedField e v) true) rest) (λ f rest. behind_first levels f rest))
 
 initialisers_behind_agrees : (levels : ℕ) (e : Chained) (ts : List Token) → reading levels (terra.initialisers_behind e.shape e.tree) ts ≡ (initialiser_behind_at levels e ts >>= λ f rest. behind_first levels f rest)
 unfolding more_initialisers_at
@@ -200,12 +198,12 @@ initialisers_behind_agrees levels e ts = go e.shape
     positional = refl
 
     by : (b : Bool) → cond b (reading levels (bind (sign symbols.Equal) λ y. bind terra.terra_expression λ v. separated_behind terra.named_initialiser (More Nothing (NamedField e.tree v))) ts) (reading levels (terra.positional_initialisers e.tree) ts)
-        ≡ (cond b (sign_at symbols.Equal ts >>= λ y a. part_at levels TerraExpression a >>= λ v rest. Took (with_name (NamedField e.tree v) true) rest) (Took (with_name e.tree false) ts) >>= λ f rest. behind_first levels f rest)
+        ≡ (cond b (expression_behind_at levels symbols.Equal codes.Terra ts >>= λ v rest. Took (with_name (NamedField e.tree v) true) rest) (Took (with_name e.tree false) ts) >>= λ f rest. behind_first levels f rest)
     by true = named_behind levels e.tree ts
     by false = positional
 
     named : Outcome (Tree × Bool)
-    named = cond (begins (is symbols.Equal) ts) (sign_at symbols.Equal ts >>= λ y a. part_at levels TerraExpression a >>= λ v rest. Took (with_name (NamedField e.tree v) true) rest) (Took (with_name e.tree false) ts)
+    named = cond (begins (is symbols.Equal) ts) (expression_behind_at levels symbols.Equal codes.Terra ts >>= λ v rest. Took (with_name (NamedField e.tree v) true) rest) (Took (with_name e.tree false) ts)
 
     go : (shape : Shape) → reading levels (terra.initialisers_behind shape e.tree) ts ≡ (cond (is_name shape) named (Took (with_name e.tree false) ts) >>= λ f rest. behind_first levels f rest)
     go shapes.Name = by (begins (is symbols.Equal) ts)

@@ -1,11 +1,10 @@
 -- What reading the Lua statements that define Terra functions and types gives is what their grammar gives.
 use Rattle.std.proofs.Common.{◌≡◌, ℕ, ◌-◌, true, cond, List, ◌∷◌, refl}
-use Rattle.tl_tree.specs.declared.mode.Mode.{Mode}
 use Rattle.tl_tree.specs.declared.mode.Context.{Context}
 use Rattle.tl_tree.specs.declared.symbol.Symbol.TheVariants as symbols
 use Rattle.tl_tree.specs.Tokens.{Token, is}
 use Rattle.tl_tree.specs.Tree.{Tree, Nothing, More, Path, DefineTerra, DeclareTerra, LocalTerra, LocalDeclareTerra, DefineStruct}
-use Rattle.tl_tree.specs.Tree.{LocalStruct, Expression, TerraFunctionBody}
+use Rattle.tl_tree.specs.Tree.{LocalStruct, TerraFunctionBody}
 use Rattle.tl_tree.specs.Grammar.{give, bind, Outcome, Took, ◌>>=◌, begins, is_of}
 use Rattle.tl_tree.specs.Forms.{sign, opening_at, name, path_names}
 use Rattle.tl_tree.specs.LuaExpressions as expressions
@@ -16,7 +15,9 @@ use Rattle.tl_parse.specs.Paths.{path_names_at, path_at}
 use Rattle.tl_parse.specs.TerraCode.{struct_body_at}
 use Rattle.tl_parse.specs.TerraDefinitions.{struct_path_at, define_terra_at, local_terra_function_at, local_struct_at, local_terra_at}
 use Rattle.tl_parse.specs.TerraDefinitions.{define_struct_at}
-use Rattle.tl_parse.proofs.Following.{sign_then, open_at_then, then, either_is}
+use Rattle.tl_parse.specs.Codes.{expression_behind_at}
+use Rattle.tl_parse.specs.declared.parser.Code.TheVariants as codes
+use Rattle.tl_parse.proofs.Following.{sign_then, open_at_then, then, either_is, behind_give}
 use Rattle.tl_parse.proofs.Agreeing.{name_agrees}
 use Rattle.tl_parse.proofs.TerraCodeAgreeing.{struct_body_agrees}
 use Rattle.tl_parse.proofs.TerraStatementAgreeing.{then_give, signed_form}
@@ -28,18 +29,13 @@ struct_path_agrees levels ts =
     then levels name (λ n. bind (path_names (More Nothing n)) λ ns. give (Path ns Nothing)) (λ us. name_at us) (λ n a. path_names_at levels (More Nothing n) a >>= λ ns rest. Took (Path ns Nothing) rest) (λ us. name_agrees levels us)
     (λ n us. then_give levels (path_names (More Nothing n)) (λ ns. Path ns Nothing) (λ vs. path_names_at levels (More Nothing n) vs) (λ vs. refl) us) ts
 
-expression_is : (levels : ℕ) (m : Mode) (ts : List Token) → reading levels (expressions.expression m) ts ≡ part_at levels (Expression m) ts
-unfolding part_at
-expression_is levels m ts = refl
-
 -- a type behind `::`, or a function
 definition_is : (levels : ℕ) (c : Context) (declare define : Tree → Tree) (ts : List Token) → reading levels (lua.terra_definition c declare define) ts
-    ≡ cond (begins (is symbols.DoubleColon) ts) (sign_at symbols.DoubleColon ts >>= λ y d. part_at levels (Expression c.mode) d >>= λ e rest. Took (declare e) rest) (open_at symbols.OpenParen levels ts >>= λ y d. part_at (levels - 1) (TerraFunctionBody y.place) d >>= λ x rest. Took (define x) rest)
+    ≡ cond (begins (is symbols.DoubleColon) ts) (expression_behind_at levels symbols.DoubleColon (codes.Lua c.mode) ts >>= λ e rest. Took (declare e) rest) (open_at symbols.OpenParen levels ts >>= λ y d. part_at (levels - 1) (TerraFunctionBody y.place) d >>= λ x rest. Took (define x) rest)
 definition_is levels c declare define ts =
     either_is (begins (is symbols.DoubleColon) ts) (reading levels (bind (sign symbols.DoubleColon) λ y. bind (expressions.expression c.mode) λ e. give (declare e)) ts) (reading levels (bind (opening_at symbols.OpenParen TerraFunctionBody) λ b. give (define b.1)) ts)
-    (sign_at symbols.DoubleColon ts >>= λ y d. part_at levels (Expression c.mode) d >>= λ e rest. Took (declare e) rest) (open_at symbols.OpenParen levels ts >>= λ y d. part_at (levels - 1) (TerraFunctionBody y.place) d >>= λ x rest. Took (define x) rest)
-    (sign_then levels symbols.DoubleColon (λ y. bind (expressions.expression c.mode) λ e. give (declare e)) (λ y d. part_at levels (Expression c.mode) d >>= λ e rest. Took (declare e) rest)
-    (λ y us. then_give levels (expressions.expression c.mode) declare (λ vs. part_at levels (Expression c.mode) vs) (λ vs. expression_is levels c.mode vs) us) ts)
+    (expression_behind_at levels symbols.DoubleColon (codes.Lua c.mode) ts >>= λ e rest. Took (declare e) rest) (open_at symbols.OpenParen levels ts >>= λ y d. part_at (levels - 1) (TerraFunctionBody y.place) d >>= λ x rest. Took (define x) rest)
+    (behind_give levels symbols.DoubleColon (codes.Lua c.mode) declare ts)
     (open_at_then levels symbols.OpenParen TerraFunctionBody (λ b. give (define b.1)) (λ y x rest. Took (define x) rest) (λ y x us. refl) ts)
 
 -- the statements behind their first token
@@ -47,9 +43,9 @@ pub define_terra_is : (levels : ℕ) (c : Context) (t : Token) (ts : List Token)
 unfolding define_terra_at
 define_terra_is levels c t ts h =
     signed_form levels symbols.Terra t ts (lua.statement c lua.FromTerra t Nothing)
-    (λ u a. path_at levels a >>= λ p b. cond (begins (is symbols.DoubleColon) b) (sign_at symbols.DoubleColon b >>= λ y d. part_at levels (Expression c.mode) d >>= λ e rest. Took (DeclareTerra u.place p e) rest) (open_at symbols.OpenParen levels b >>= λ y d. part_at (levels - 1) (TerraFunctionBody y.place) d >>= λ x rest. Took (DefineTerra u.place p x) rest)) h
+    (λ u a. path_at levels a >>= λ p b. cond (begins (is symbols.DoubleColon) b) (expression_behind_at levels symbols.DoubleColon (codes.Lua c.mode) b >>= λ e rest. Took (DeclareTerra u.place p e) rest) (open_at symbols.OpenParen levels b >>= λ y d. part_at (levels - 1) (TerraFunctionBody y.place) d >>= λ x rest. Took (DefineTerra u.place p x) rest)) h
     (then levels lua.path (λ p. lua.terra_definition c (DeclareTerra t.place p) (DefineTerra t.place p)) (λ us. path_at levels us)
-    (λ p b. cond (begins (is symbols.DoubleColon) b) (sign_at symbols.DoubleColon b >>= λ y d. part_at levels (Expression c.mode) d >>= λ e rest. Took (DeclareTerra t.place p e) rest) (open_at symbols.OpenParen levels b >>= λ y d. part_at (levels - 1) (TerraFunctionBody y.place) d >>= λ x rest. Took (DefineTerra t.place p x) rest))
+    (λ p b. cond (begins (is symbols.DoubleColon) b) (expression_behind_at levels symbols.DoubleColon (codes.Lua c.mode) b >>= λ e rest. Took (DeclareTerra t.place p e) rest) (open_at symbols.OpenParen levels b >>= λ y d. part_at (levels - 1) (TerraFunctionBody y.place) d >>= λ x rest. Took (DefineTerra t.place p x) rest))
     (λ us. path_agrees levels us) (λ p us. definition_is levels c (DeclareTerra t.place p) (DefineTerra t.place p) us) ts)
 
 pub define_struct_is : (levels : ℕ) (c : Context) (t : Token) (ts : List Token) → is_of (is symbols.Struct) t ≡ true → reading levels (lua.statement c lua.FromStruct t Nothing) ts ≡ define_struct_at levels c.mode (t ∷ ts)
@@ -75,4 +71,4 @@ local_terra_agrees levels c t ts =
     (λ n vs. definition_is levels c (LocalDeclareTerra t.place u.place n) (LocalTerra t.place u.place n) vs) us) ts)
   where
     defined : Token → Tree → List Token → Outcome Tree
-    defined u n b = cond (begins (is symbols.DoubleColon) b) (sign_at symbols.DoubleColon b >>= λ y d. part_at levels (Expression c.mode) d >>= λ e rest. Took (LocalDeclareTerra t.place u.place n e) rest) (open_at symbols.OpenParen levels b >>= λ y d. part_at (levels - 1) (TerraFunctionBody y.place) d >>= λ x rest. Took (LocalTerra t.place u.place n x) rest)
+    defined u n b = cond (begins (is symbols.DoubleColon) b) (expression_behind_at levels symbols.DoubleColon (codes.Lua c.mode) b >>= λ e rest. Took (LocalDeclareTerra t.place u.place n e) rest) (open_at symbols.OpenParen levels b >>= λ y d. part_at (levels - 1) (TerraFunctionBody y.place) d >>= λ x rest. Took (LocalTerra t.place u.place n x) rest)

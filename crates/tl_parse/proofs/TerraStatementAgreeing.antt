@@ -15,7 +15,7 @@ use Rattle.tl_tree.specs.Tokens.{Token, is, among}
 use Rattle.tl_tree.specs.Tree.{Tree, Nothing, More, Just, Name, TerraUnary, TerraParen, Escape, TerraAssign, Splice, TerraDo, TerraWhile}
 use Rattle.tl_tree.specs.Tree.{TerraRepeat, TerraIf, TerraFor, Var, EscapeBlock, TerraReturn, TerraBreak, Arm, Parameter, SpliceParameter}
 use Rattle.tl_tree.specs.Tree.{Variable, Part, Expression, Statements, TerraExpression, TerraOperand, TerraStatements}
-use Rattle.tl_tree.specs.Grammar.{Grammar, give, bind, when, Outcome, Took, Stop, ◌>>=◌, begins, is_of}
+use Rattle.tl_tree.specs.Grammar.{Grammar, give, bind, Outcome, Took, Stop, ◌>>=◌, begins, is_of}
 use Rattle.tl_tree.specs.Forms.{sign, opening, listed, listed_behind, named, Chained, chained, chain, operand, operators, unary_of}
 use Rattle.tl_tree.specs.Forms.{comparisons, additive, multiplicative}
 use Rattle.tl_tree.specs.TerraExpressions.{shifts, terra_prefix_symbols}
@@ -36,12 +36,15 @@ use Rattle.tl_parse.specs.TerraStatements.{escape_block_at, terra_return_at, ter
 use Rattle.tl_parse.specs.TerraStatements.{more_terra_parameters_at, terra_parameters_at}
 use Rattle.tl_parse.specs.declared.terra_expressions.TerraPrecedence.TheVariants as precedences
 use Rattle.tl_parse.proofs.Uses.{never, bind_same, opens_any, opened_at}
-use Rattle.tl_parse.proofs.Following.{sign_then, open_then, then, either_is}
+use Rattle.tl_parse.proofs.Following.{sign_then, open_then, then, either_is, behind_then, behind_give, optional_agrees}
 use Rattle.tl_parse.proofs.Turns.{used_here, used_use}
 use Rattle.tl_parse.proofs.TerraAgreeing.{terra_name_agrees, terra_unary_agrees, terra_expression_agrees}
 use Rattle.tl_parse.specs.Expressions.{expressions_at, more_expressions_at}
-use Rattle.tl_parse.specs.Statements.{arm_at, arms_at, initial_values_at, loop_at, more_arms_at, otherwise_at, returned_values_at, step_at, values_at}
+use Rattle.tl_parse.specs.Statements.{arm_at, arms_at, initial_values_at, loop_at, more_arms_at, otherwise_at, returned_values_at, values_at}
+use Rattle.tl_parse.specs.Statements.{Numeric, numeric, numeric_at}
+use Rattle.tl_parse.specs.Codes.{expression_of, expression_behind_at, optional_expression_at, code_of}
 use Rattle.tl_parse.specs.declared.parser.Code.TheVariants as codes
+use Rattle.tl_parse.specs.declared.parser.BlockCode.{BlockCode}
 use Rattle.tl_parse.specs.declared.parser.BlockCode.TheVariants as block_codes
 
 -- ---- one form after the other
@@ -57,22 +60,10 @@ then_give {A} levels g make g_at same ts = ap (λ (o : Outcome A). o >>= λ e re
 pub sign_give : {A : Type 0} (levels : ℕ) (s : Symbol) (v : A) (ts : List Token) → reading levels (bind (sign s) λ y. give v) ts ≡ (sign_at s ts >>= λ y rest. Took v rest)
 sign_give levels s v ts = sign_then levels s (λ y. give v) (λ y rest. Took v rest) (λ y us. refl) ts
 
--- a sign, and what is behind it, if the sign is there
-pub optional : (levels : ℕ) (s : Symbol) (g : Grammar Tree) (g_at : List Token → Outcome Tree) → ((us : List Token) → reading levels g us ≡ g_at us) → (ts : List Token) →
-    reading levels (when (is s) (bind (sign s) λ y. bind g λ e. give (Just e)) (give Nothing)) ts ≡ cond (begins (is s) ts) (sign_at s ts >>= λ y a. g_at a >>= λ e rest. Took (Just e) rest) (Took Nothing ts)
-optional levels s g g_at same ts =
-    either_is (begins (is s) ts) (reading levels (bind (sign s) λ y. bind g λ e. give (Just e)) ts) (Took Nothing ts) (sign_at s ts >>= λ y a. g_at a >>= λ e rest. Took (Just e) rest) (Took Nothing ts)
-    (sign_then levels s (λ y. bind g λ e. give (Just e)) (λ y a. g_at a >>= λ e rest. Took (Just e) rest) (λ y us. then_give levels g (λ e. Just e) g_at same us) ts) refl
-
 -- ---- parts of statements
 
-pub type_agrees : (levels : ℕ) (ts : List Token) → reading levels terra.terra_type ts ≡ part_at levels (Expression modes.Types) ts
-unfolding part_at
-type_agrees levels ts = refl
-
 pub written_type_agrees : (levels : ℕ) (ts : List Token) → reading levels terra.written_type ts ≡ written_type_at levels ts
-unfolding written_type_at
-written_type_agrees levels ts = optional levels symbols.Colon terra.terra_type (λ us. part_at levels (Expression modes.Types) us) (λ us. type_agrees levels us) ts
+written_type_agrees levels ts = optional_agrees levels symbols.Colon (codes.Lua modes.Types) ts
 
 pub terra_loop_agrees : (levels : ℕ) (ts : List Token) → reading levels terra.terra_loop ts ≡ loop_at levels block_codes.Terra ts
 unfolding loop_at
@@ -96,9 +87,30 @@ terra_otherwise_agrees levels ts =
     either_is (begins (is symbols.Else) ts) (reading levels (bind (opening symbols.Else TerraStatements) λ x. give (Just x.1)) ts) (Took Nothing ts) (open_at symbols.Else levels ts >>= λ t a. part_at (levels - 1) TerraStatements a >>= λ x rest. Took (Just x) rest) (Took Nothing ts)
     (open_then levels symbols.Else TerraStatements (λ x. give (Just x.1)) (λ t x rest. Took (Just x) rest) (λ t x us. refl) ts) refl
 
-pub terra_step_agrees : (levels : ℕ) (ts : List Token) → reading levels terra.terra_step ts ≡ step_at levels codes.Terra ts
-unfolding step_at
-terra_step_agrees levels ts = optional levels symbols.Comma expressions.terra_expression (λ us. part_at levels TerraExpression us) (λ us. terra_expression_agrees levels us) ts
+-- what both languages have behind `for` and a name
+pub numeric_then : (levels : ℕ) (block : BlockCode) (step loop : Grammar Tree) (make : Tree → Tree → Tree → Tree → Tree) → ((us : List Token) → reading levels step us ≡ optional_expression_at levels symbols.Comma (code_of block) us) → ((us : List Token) → reading levels loop us ≡ loop_at levels block us) → (ts : List Token) →
+    reading levels (bind (sign symbols.Equal) λ y. bind (expression_of (code_of block)) λ a. bind (sign symbols.Comma) λ z. bind (expression_of (code_of block)) λ b. bind step λ s. bind loop λ x. give (make a b s x)) ts
+    ≡ (numeric_at levels block ts >>= λ r rest. Took (make r.from r.limit r.step r.block) rest)
+unfolding numeric_at
+numeric_then levels block step loop make step_is loop_is ts =
+    behind_then levels symbols.Equal (code_of block) (λ a. bind (sign symbols.Comma) λ z. bind (expression_of (code_of block)) λ b. bind step λ s. bind loop λ x. give (make a b s x)) limited
+    (λ a us. behind_then levels symbols.Comma (code_of block) (λ b. bind step λ s. bind loop λ x. give (make a b s x)) (λ b vs. stepped a b vs)
+    (λ b vs. then levels step (λ s. bind loop λ x. give (make a b s x)) (λ ws. optional_expression_at levels symbols.Comma (code_of block) ws) (λ s ws. loops a b s ws) step_is
+    (λ s ws. then_give levels loop (λ x. make a b s x) (λ us. loop_at levels block us) loop_is ws) vs) us) ts
+    ∙ sym (after (expression_behind_at levels symbols.Equal (code_of block) ts) _ made limited (λ a us. after (expression_behind_at levels symbols.Comma (code_of block) us) _ made (λ b vs. stepped a b vs)
+    (λ b vs. after (optional_expression_at levels symbols.Comma (code_of block) vs) _ made (λ s ws. loops a b s ws) (λ s ws. bind_again (loop_at levels block ws) (λ x rest. Took (numeric a b s x) rest) made))))
+  where
+    made : Numeric → List Token → Outcome Tree
+    made r rest = Took (make r.from r.limit r.step r.block) rest
+
+    loops : Tree → Tree → Tree → List Token → Outcome Tree
+    loops a b s ws = loop_at levels block ws >>= λ x rest. Took (make a b s x) rest
+
+    stepped : Tree → Tree → List Token → Outcome Tree
+    stepped a b vs = optional_expression_at levels symbols.Comma (code_of block) vs >>= λ s ws. loops a b s ws
+
+    limited : Tree → List Token → Outcome Tree
+    limited a us = expression_behind_at levels symbols.Comma (code_of block) us >>= λ b vs. stepped a b vs
 
 variable_behind_agrees : (levels : ℕ) (place : Place) (n : Tree) (ts : List Token) → reading levels (terra.variable_behind place n) ts ≡ (written_type_at levels ts >>= λ e rest. Took (Variable place n e) rest)
 variable_behind_agrees levels place n ts = then_give levels terra.written_type (λ e. Variable place n e) (λ vs. written_type_at levels vs) (λ vs. written_type_agrees levels vs) ts
@@ -142,12 +154,11 @@ unfolding terra_parameter_at spliced_parameter_at named_parameter_at
 terra_parameter_agrees levels ts =
     either_is (begins (is symbols.OpenBracket) ts) (reading levels (expressions.escaped λ place e. give (SpliceParameter place e)) ts) (reading levels (named λ place n. bind (sign symbols.Colon) λ y. bind terra.terra_type λ e. give (Parameter place n e)) ts)
     (open_at symbols.OpenBracket levels ts >>= λ t a. part_at (levels - 1) (Expression modes.Plain) a >>= λ x b. sign_at symbols.CloseBracket b >>= λ y rest. Took (SpliceParameter t.place (Escape t.place x)) rest)
-    (sign_at symbols.Name ts >>= λ n a. sign_at symbols.Colon a >>= λ y b. part_at levels (Expression modes.Types) b >>= λ e rest. Took (Parameter n.place (Name n.place n.offset n.text) e) rest)
+    (sign_at symbols.Name ts >>= λ n a. expression_behind_at levels symbols.Colon (codes.Lua modes.Types) a >>= λ e rest. Took (Parameter n.place (Name n.place n.offset n.text) e) rest)
     (open_then levels symbols.OpenBracket (Expression modes.Plain) (λ x. bind (sign symbols.CloseBracket) λ y. give (SpliceParameter x.0.place (Escape x.0.place x.1))) (λ t x us. sign_at symbols.CloseBracket us >>= λ y rest. Took (SpliceParameter t.place (Escape t.place x)) rest)
     (λ t x us. sign_then levels symbols.CloseBracket (λ y. give (SpliceParameter t.place (Escape t.place x))) (λ y rest. Took (SpliceParameter t.place (Escape t.place x)) rest) (λ y vs. refl) us) ts)
-    (sign_then levels symbols.Name (λ n. bind (sign symbols.Colon) λ y. bind terra.terra_type λ e. give (Parameter n.0.place (Name n.0.place n.0.offset n.0.text) e)) (λ n a. sign_at symbols.Colon a >>= λ y b. part_at levels (Expression modes.Types) b >>= λ e rest. Took (Parameter n.place (Name n.place n.offset n.text) e) rest)
-    (λ n us. sign_then levels symbols.Colon (λ y. bind terra.terra_type λ e. give (Parameter n.place (Name n.place n.offset n.text) e)) (λ y b. part_at levels (Expression modes.Types) b >>= λ e rest. Took (Parameter n.place (Name n.place n.offset n.text) e) rest)
-    (λ y vs. then_give levels terra.terra_type (λ e. Parameter n.place (Name n.place n.offset n.text) e) (λ ws. part_at levels (Expression modes.Types) ws) (λ ws. type_agrees levels ws) vs) us) ts)
+    (sign_then levels symbols.Name (λ n. bind (sign symbols.Colon) λ y. bind terra.terra_type λ e. give (Parameter n.0.place (Name n.0.place n.0.offset n.0.text) e)) (λ n a. expression_behind_at levels symbols.Colon (codes.Lua modes.Types) a >>= λ e rest. Took (Parameter n.place (Name n.place n.offset n.text) e) rest)
+    (λ n us. behind_give levels symbols.Colon (codes.Lua modes.Types) (λ e. Parameter n.place (Name n.place n.offset n.text) e) us) ts)
 
 pub terra_parameters_agree : (levels : ℕ) (ts : List Token) → reading levels terra.terra_parameters ts ≡ terra_parameters_at levels ts
 unfolding terra_parameters_at more_terra_parameters_at
@@ -218,9 +229,8 @@ do_is levels t ts h =
 repeat_is : (levels : ℕ) (t : Token) (ts : List Token) → is_of (is symbols.Repeat) t ≡ true → (used_here (barred true levels Plain t) t ts >>= λ u mid. part_at (levels - 1) TerraStatements mid >>= λ x rest. reading levels (terra.terra_statement terra.FromRepeat t x) rest) ≡ terra_repeat_at levels (t ∷ ts)
 unfolding terra_repeat_at
 repeat_is levels t ts h =
-    opened_form levels symbols.Repeat TerraStatements t ts (λ x. terra.terra_statement terra.FromRepeat t x) (λ u x b. sign_at symbols.Until b >>= λ y d. part_at levels TerraExpression d >>= λ e rest. Took (TerraRepeat u.place x e) rest) h
-    (λ x us. sign_then levels symbols.Until (λ y. bind expressions.terra_expression λ e. give (TerraRepeat t.place x e)) (λ y d. part_at levels TerraExpression d >>= λ e rest. Took (TerraRepeat t.place x e) rest)
-    (λ y vs. then_give levels expressions.terra_expression (λ e. TerraRepeat t.place x e) (λ ws. part_at levels TerraExpression ws) (λ ws. terra_expression_agrees levels ws) vs) us)
+    opened_form levels symbols.Repeat TerraStatements t ts (λ x. terra.terra_statement terra.FromRepeat t x) (λ u x b. expression_behind_at levels symbols.Until codes.Terra b >>= λ e rest. Took (TerraRepeat u.place x e) rest) h
+    (λ x us. behind_give levels symbols.Until codes.Terra (λ e. TerraRepeat t.place x e) us)
 
 escape_is : (levels : ℕ) (t : Token) (ts : List Token) → is_of (is symbols.Escape) t ≡ true → (used_here (barred true levels Plain t) t ts >>= λ u mid. part_at (levels - 1) (Statements terra.emitting) mid >>= λ x rest. reading levels (terra.terra_statement terra.FromEscape t x) rest) ≡ escape_block_at levels (t ∷ ts)
 unfolding escape_block_at
@@ -256,20 +266,10 @@ if_is levels t ts h =
 for_is : (levels : ℕ) (t : Token) (ts : List Token) → is_of (is symbols.For) t ≡ true → reading levels (terra.terra_statement terra.FromFor t Nothing) ts ≡ terra_for_at levels (t ∷ ts)
 unfolding terra_for_at
 for_is levels t ts h =
-    signed_form levels symbols.For t ts (terra.terra_statement terra.FromFor t Nothing)
-    (λ u a. terra_name_at levels a >>= λ n b. sign_at symbols.Equal b >>= λ y d. part_at levels TerraExpression d >>= λ from e. sign_at symbols.Comma e >>= λ z f. part_at levels TerraExpression f >>= λ limit g. step_at levels codes.Terra g >>= λ s i. loop_at levels block_codes.Terra i >>= λ x rest. Took (TerraFor u.place n from limit s x) rest) h
+    signed_form levels symbols.For t ts (terra.terra_statement terra.FromFor t Nothing) (λ u a. terra_name_at levels a >>= λ n b. numeric_at levels block_codes.Terra b >>= λ r rest. Took (TerraFor u.place n r.from r.limit r.step r.block) rest) h
     (then levels expressions.terra_name (λ n. bind (sign symbols.Equal) λ y. bind expressions.terra_expression λ a. bind (sign symbols.Comma) λ z. bind expressions.terra_expression λ b. bind terra.terra_step λ s. bind terra.terra_loop λ d. give (TerraFor t.place n a b s d)) (λ us. terra_name_at levels us)
-    (λ n b. sign_at symbols.Equal b >>= λ y d. part_at levels TerraExpression d >>= λ from e. sign_at symbols.Comma e >>= λ z f. part_at levels TerraExpression f >>= λ limit g. step_at levels codes.Terra g >>= λ s i. loop_at levels block_codes.Terra i >>= λ x rest. Took (TerraFor t.place n from limit s x) rest) (λ us. terra_name_agrees levels us)
-    (λ n us. sign_then levels symbols.Equal (λ y. bind expressions.terra_expression λ a. bind (sign symbols.Comma) λ z. bind expressions.terra_expression λ b. bind terra.terra_step λ s. bind terra.terra_loop λ d. give (TerraFor t.place n a b s d))
-    (λ y d. part_at levels TerraExpression d >>= λ from e. sign_at symbols.Comma e >>= λ z f. part_at levels TerraExpression f >>= λ limit g. step_at levels codes.Terra g >>= λ s i. loop_at levels block_codes.Terra i >>= λ x rest. Took (TerraFor t.place n from limit s x) rest)
-    (λ y us. then levels expressions.terra_expression (λ a. bind (sign symbols.Comma) λ z. bind expressions.terra_expression λ b. bind terra.terra_step λ s. bind terra.terra_loop λ d. give (TerraFor t.place n a b s d)) (λ vs. part_at levels TerraExpression vs)
-    (λ from e. sign_at symbols.Comma e >>= λ z f. part_at levels TerraExpression f >>= λ limit g. step_at levels codes.Terra g >>= λ s i. loop_at levels block_codes.Terra i >>= λ x rest. Took (TerraFor t.place n from limit s x) rest) (λ vs. terra_expression_agrees levels vs)
-    (λ from us. sign_then levels symbols.Comma (λ z. bind expressions.terra_expression λ b. bind terra.terra_step λ s. bind terra.terra_loop λ d. give (TerraFor t.place n from b s d))
-    (λ z f. part_at levels TerraExpression f >>= λ limit g. step_at levels codes.Terra g >>= λ s i. loop_at levels block_codes.Terra i >>= λ x rest. Took (TerraFor t.place n from limit s x) rest)
-    (λ z us. then levels expressions.terra_expression (λ b. bind terra.terra_step λ s. bind terra.terra_loop λ d. give (TerraFor t.place n from b s d)) (λ vs. part_at levels TerraExpression vs)
-    (λ limit g. step_at levels codes.Terra g >>= λ s i. loop_at levels block_codes.Terra i >>= λ x rest. Took (TerraFor t.place n from limit s x) rest) (λ vs. terra_expression_agrees levels vs)
-    (λ limit us. then levels terra.terra_step (λ s. bind terra.terra_loop λ d. give (TerraFor t.place n from limit s d)) (λ vs. step_at levels codes.Terra vs) (λ s i. loop_at levels block_codes.Terra i >>= λ x rest. Took (TerraFor t.place n from limit s x) rest) (λ vs. terra_step_agrees levels vs)
-    (λ s us. then_give levels terra.terra_loop (λ d. TerraFor t.place n from limit s d) (λ vs. loop_at levels block_codes.Terra vs) (λ vs. terra_loop_agrees levels vs) us) us) us) us) us) us) ts)
+    (λ n b. numeric_at levels block_codes.Terra b >>= λ r rest. Took (TerraFor t.place n r.from r.limit r.step r.block) rest) (λ us. terra_name_agrees levels us)
+    (λ n us. numeric_then levels block_codes.Terra terra.terra_step terra.terra_loop (λ a b s x. TerraFor t.place n a b s x) (λ vs. optional_agrees levels symbols.Comma codes.Terra vs) (λ vs. terra_loop_agrees levels vs) us) ts)
 
 var_is : (levels : ℕ) (t : Token) (ts : List Token) → is_of (is symbols.Var) t ≡ true → reading levels (terra.terra_statement terra.FromVar t Nothing) ts ≡ terra_var_at levels (t ∷ ts)
 unfolding terra_var_at

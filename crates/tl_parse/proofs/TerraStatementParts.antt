@@ -3,7 +3,7 @@ use Rattle.std.proofs.Common.{◌≡◌, ℕ, Bool, true, false, cond, List, ref
 use Rattle.tl_base.specs.declared.place.Place.{Place}
 use Rattle.tl_tree.specs.declared.symbol.Symbol.TheVariants as symbols
 use Rattle.tl_tree.specs.Tokens.{Token, is}
-use Rattle.tl_tree.specs.Tree.{Tree, Nothing, Just, TerraBody, Quoted, TerraExpression, TerraStatements, TerraFunctionBody, QuotedCode}
+use Rattle.tl_tree.specs.Tree.{Tree, Nothing, Just, TerraBody, Quoted, TerraStatements, TerraFunctionBody, QuotedCode}
 use Rattle.tl_tree.specs.Grammar.{give, bind, when, Took, ◌>>=◌, begins}
 use Rattle.tl_tree.specs.Forms.{sign}
 use Rattle.tl_tree.specs.TerraExpressions as expressions
@@ -11,10 +11,11 @@ use Rattle.tl_tree.specs.TerraStatements as terra
 use Rattle.tl_tree.proofs.Unrolling.{bind_again}
 use Rattle.tl_parse.specs.Using.{reading, part_at, sign_at}
 use Rattle.tl_parse.specs.TerraStatements.{more_terra_statements_at, terra_block_at, written_type_at, terra_parameters_at}
-use Rattle.tl_parse.specs.TerraStatements.{terra_function_body_at, quoted_expression_at, quoted_code_at}
-use Rattle.tl_parse.proofs.Following.{sign_then, then}
-use Rattle.tl_parse.proofs.TerraAgreeing.{terra_expression_agrees}
-use Rattle.tl_parse.proofs.TerraStatementAgreeing.{then_give, sign_give, written_type_agrees, terra_parameters_agree}
+use Rattle.tl_parse.specs.TerraStatements.{terra_function_body_at, quoted_code_at}
+use Rattle.tl_parse.specs.Codes.{expression_behind_at, optional_expression_at}
+use Rattle.tl_parse.specs.declared.parser.Code.TheVariants as codes
+use Rattle.tl_parse.proofs.Following.{sign_then, then, behind_give}
+use Rattle.tl_parse.proofs.TerraStatementAgreeing.{sign_give, written_type_agrees, terra_parameters_agree}
 use Rattle.tl_parse.proofs.Failing.{fails_after, fails_bind, fails_same}
 
 pub terra_block_part : (levels : ℕ) (ts : List Token) → part_at levels TerraStatements ts ≡ terra_block_at levels ts
@@ -44,24 +45,20 @@ terra_function_body_part levels place ts = function_body_is levels place ts ∙ 
 
 -- a block, and the expression behind it
 behind_block : (levels : ℕ) (b : Tree) (ts : List Token) →
-    reading levels (when (is symbols.In) (bind (sign symbols.In) λ y. bind expressions.terra_expression λ e. give (Quoted b (Just e))) (give (Quoted b Nothing))) ts ≡ (quoted_expression_at levels ts >>= λ e rest. Took (Quoted b e) rest)
-unfolding quoted_expression_at
+    reading levels (when (is symbols.In) (bind (sign symbols.In) λ y. bind expressions.terra_expression λ e. give (Quoted b (Just e))) (give (Quoted b Nothing))) ts ≡ (optional_expression_at levels symbols.In codes.Terra ts >>= λ e rest. Took (Quoted b e) rest)
+unfolding optional_expression_at
 behind_block levels b ts = by (begins (is symbols.In) ts)
   where
     by : (c : Bool) → cond c (reading levels (bind (sign symbols.In) λ y. bind expressions.terra_expression λ e. give (Quoted b (Just e))) ts) (Took (Quoted b Nothing) ts)
-        ≡ (cond c (sign_at symbols.In ts >>= λ y a. part_at levels TerraExpression a >>= λ e rest. Took (Just e) rest) (Took Nothing ts) >>= λ e rest. Took (Quoted b e) rest)
+        ≡ (cond c (expression_behind_at levels symbols.In codes.Terra ts >>= λ e rest. Took (Just e) rest) (Took Nothing ts) >>= λ e rest. Took (Quoted b e) rest)
     by false = refl
-    by true =
-        sign_then levels symbols.In (λ y. bind expressions.terra_expression λ e. give (Quoted b (Just e))) (λ y a. (part_at levels TerraExpression a >>= λ e rest. Took (Just e) rest) >>= λ e rest. Took (Quoted b e) rest)
-        (λ y us. then_give levels expressions.terra_expression (λ e. Quoted b (Just e)) (λ vs. part_at levels TerraExpression vs) (λ vs. terra_expression_agrees levels vs) us
-        ∙ sym (bind_again (part_at levels TerraExpression us) (λ e rest. Took (Just e) rest) (λ e rest. Took (Quoted b e) rest))) ts
-        ∙ sym (bind_again (sign_at symbols.In ts) (λ y a. part_at levels TerraExpression a >>= λ e rest. Took (Just e) rest) (λ e rest. Took (Quoted b e) rest))
+    by true = behind_give levels symbols.In codes.Terra (λ e. Quoted b (Just e)) ts ∙ sym (bind_again (expression_behind_at levels symbols.In codes.Terra ts) (λ e rest. Took (Just e) rest) (λ e rest. Took (Quoted b e) rest))
 
 quoted_code_agrees : (levels : ℕ) (ts : List Token) → reading levels terra.quoted_code ts ≡ quoted_code_at levels ts
 unfolding quoted_code_at
 quoted_code_agrees levels ts =
     then levels terra.terra_block (λ b. when (is symbols.In) (bind (sign symbols.In) λ y. bind expressions.terra_expression λ e. give (Quoted b (Just e))) (give (Quoted b Nothing))) (λ us. part_at levels TerraStatements us)
-    (λ b a. quoted_expression_at levels a >>= λ e rest. Took (Quoted b e) rest) (λ us. block_agrees levels us) (λ b us. behind_block levels b us) ts
+    (λ b a. optional_expression_at levels symbols.In codes.Terra a >>= λ e rest. Took (Quoted b e) rest) (λ us. block_agrees levels us) (λ b us. behind_block levels b us) ts
 
 quoted_code_is : (levels : ℕ) (ts : List Token) → part_at levels QuotedCode ts ≡ reading levels terra.quoted_code ts
 unfolding part_at

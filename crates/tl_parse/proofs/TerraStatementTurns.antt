@@ -29,7 +29,8 @@ use Rattle.tl_parse.proofs.AgreeingStatements.{arm_turn}
 use Rattle.tl_parse.proofs.Failing.{fails_after, fails_bind, fails_from, fails_same}
 use Rattle.tl_parse.proofs.Taking.{next_of}
 use Rattle.tl_parse.proofs.TerraStatementParts.{terra_block_part}
-use Rattle.tl_parse.specs.Expressions.{expressions_at, more_expressions_at, next_expression_at}
+use Rattle.tl_parse.specs.Codes.{expression_behind_at}
+use Rattle.tl_parse.specs.Expressions.{expressions_at, more_expressions_at}
 use Rattle.tl_parse.specs.Statements.{arm_at, more_arms_at, next_arm_at}
 use Rattle.tl_parse.specs.declared.parser.Code.TheVariants as codes
 use Rattle.tl_parse.specs.declared.parser.BlockCode.{BlockCode}
@@ -101,18 +102,18 @@ terra_parameter_shorter levels x ts rest e = list_shorter_with levels terra.terr
 
 -- ---- targets
 
-pub terra_targets_go : (levels : ℕ) (place : Place) (before : Tree) (ts : List Token) → begins (is symbols.Comma) ts ≡ true → terra_assignment_at levels place before ts ≡ (next_expression_at levels codes.Terra ts >>= λ e rest. terra_assignment_at levels place (More before e) rest)
+pub terra_targets_go : (levels : ℕ) (place : Place) (before : Tree) (ts : List Token) → begins (is symbols.Comma) ts ≡ true → terra_assignment_at levels place before ts ≡ (expression_behind_at levels symbols.Comma codes.Terra ts >>= λ e rest. terra_assignment_at levels place (More before e) rest)
 unfolding terra_assignment_at
 terra_targets_go levels place before ts h =
     ap (λ (o : Outcome Tree). o >>= λ targets a. sign_at symbols.Equal a >>= λ y b. expressions_at levels codes.Terra b >>= λ es rest. Took (trees.TerraAssign place targets es) rest) (expressions_go levels codes.Terra before ts h)
-    ∙ bind_again (next_expression_at levels codes.Terra ts) (λ e rest. more_expressions_at levels codes.Terra (More before e) rest) (λ targets a. sign_at symbols.Equal a >>= λ y b. expressions_at levels codes.Terra b >>= λ es rest. Took (trees.TerraAssign place targets es) rest)
+    ∙ bind_again (expression_behind_at levels symbols.Comma codes.Terra ts) (λ e rest. more_expressions_at levels codes.Terra (More before e) rest) (λ targets a. sign_at symbols.Equal a >>= λ y b. expressions_at levels codes.Terra b >>= λ es rest. Took (trees.TerraAssign place targets es) rest)
 
 pub terra_targets_end : (levels : ℕ) (place : Place) (before : Tree) (ts : List Token) → begins (is symbols.Comma) ts ≡ false → terra_assignment_at levels place before ts ≡ (sign_at symbols.Equal ts >>= λ y b. expressions_at levels codes.Terra b >>= λ es rest. Took (trees.TerraAssign place before es) rest)
 unfolding terra_assignment_at
 terra_targets_end levels place before ts h =
     ap (λ (o : Outcome Tree). o >>= λ targets a. sign_at symbols.Equal a >>= λ y b. expressions_at levels codes.Terra b >>= λ es rest. Took (trees.TerraAssign place targets es) rest) (expressions_end levels codes.Terra before ts h)
 
-pub terra_target_shorter : (levels : ℕ) (x : Tree) (ts rest : List Token) → next_expression_at levels codes.Terra ts ≡ Took x rest → length rest < length ts
+pub terra_target_shorter : (levels : ℕ) (x : Tree) (ts rest : List Token) → expression_behind_at levels symbols.Comma codes.Terra ts ≡ Took x rest → length rest < length ts
 terra_target_shorter levels x ts rest e = expression_shorter levels codes.Terra x ts rest e
 
 -- ---- blocks

@@ -10,7 +10,7 @@ use Rattle.tl_tree.specs.declared.symbol.Symbol.{Symbol}
 use Rattle.tl_tree.specs.declared.symbol.Symbol.TheVariants as symbols
 use Rattle.tl_tree.specs.Tokens.{Token, is, among, sample}
 use Rattle.tl_tree.specs.Tree.{Tree, Nothing, More, Name, Entry, TerraMethod, TerraSelect, TerraCall, TerraIndex, Construct, Part}
-use Rattle.tl_tree.specs.Tree.{Expression, TerraExpression, TerraArguments, Initialisers}
+use Rattle.tl_tree.specs.Tree.{TerraExpression, TerraArguments, Initialisers}
 use Rattle.tl_tree.specs.Grammar.{give, token, bind, when, Outcome, Took, Stop, ◌>>=◌, begins, is_of, down}
 use Rattle.tl_tree.specs.Forms.{sign, opening, separator, Chained, chained, operand}
 use Rattle.tl_tree.specs.LuaExpressions as lua
@@ -27,8 +27,9 @@ use Rattle.tl_parse.specs.TerraExpressions as suffixed
 use Rattle.tl_parse.specs.Entries.{separator_at, entry_at, more_entries_at}
 use Rattle.tl_parse.specs.declared.terra_expressions.TerraPrecedence.{TerraPrecedence}
 use Rattle.tl_parse.proofs.Uses.{never, both, operator_with, opened_at, opens_any, token_is, plain_is, sign_is, repeats, ends, shorter_turn}
-use Rattle.tl_parse.proofs.Following.{sign_then, open_then, then, either_is}
-use Rattle.tl_parse.proofs.Agreeing.{expression_agrees}
+use Rattle.tl_parse.specs.Codes.{expression_behind_at}
+use Rattle.tl_parse.specs.declared.parser.Code.TheVariants as codes
+use Rattle.tl_parse.proofs.Following.{sign_then, open_then, then, either_is, behind_then}
 use Rattle.tl_parse.proofs.TerraAgreeing.{terra_name_agrees, initialiser_agrees}
 use Rattle.tl_parse.proofs.Turns.{operators_goes, operators_turn, fields_turn, used_here, used_use}
 use Rattle.tl_parse.proofs.Turns.{use_behind}
@@ -85,25 +86,20 @@ entries_turn : (levels : ℕ) (m : Mode) (before : Tree) (ts : List Token) →
 unfolding entry_at name_at
 entries_turn levels m before ts =
     sign_then levels symbols.Name (λ x. bind (sign symbols.Colon) λ y. bind (lua.expression m) λ e. bind separator λ z. give (More before (Entry (Name x.0.place x.0.offset x.0.text) e))) (λ t a. behind_name (Name t.place t.offset t.text) a)
-    (λ t a. sign_then levels symbols.Colon (λ y. bind (lua.expression m) λ e. bind separator λ z. give (More before (Entry (Name t.place t.offset t.text) e))) (λ y b. part_at levels (Expression m) b >>= λ e c. separator_at c >>= λ z rest. Took (More before (Entry (Name t.place t.offset t.text) e)) rest)
-    (λ y b. then levels (lua.expression m) (λ e. bind separator λ z. give (More before (Entry (Name t.place t.offset t.text) e))) (λ us. part_at levels (Expression m) us) (λ e c. separator_at c >>= λ z rest. Took (More before (Entry (Name t.place t.offset t.text) e)) rest) (λ us. expression_agrees levels m us)
-    (λ e c. then levels separator (λ z. give (More before (Entry (Name t.place t.offset t.text) e))) (λ us. separator_at us) (λ z rest. Took (More before (Entry (Name t.place t.offset t.text) e)) rest) (λ us. separator_agrees levels us) (λ z us. refl) c) b) a) ts
+    (λ t a. behind_then levels symbols.Colon (codes.Lua m) (λ e. bind separator λ z. give (More before (Entry (Name t.place t.offset t.text) e))) (λ e b. separator_at b >>= λ z rest. Took (More before (Entry (Name t.place t.offset t.text) e)) rest)
+    (λ e b. then levels separator (λ z. give (More before (Entry (Name t.place t.offset t.text) e))) (λ us. separator_at us) (λ z rest. Took (More before (Entry (Name t.place t.offset t.text) e)) rest) (λ us. separator_agrees levels us) (λ z us. refl) b) a) ts
     ∙ sym (go (sign_at symbols.Name ts))
   where
     behind_name : Tree → List Token → Outcome Tree
-    behind_name n a = sign_at symbols.Colon a >>= λ y b. part_at levels (Expression m) b >>= λ e c. separator_at c >>= λ z rest. Took (More before (Entry n e)) rest
+    behind_name n a = expression_behind_at levels symbols.Colon (codes.Lua m) a >>= λ e b. separator_at b >>= λ z rest. Took (More before (Entry n e)) rest
 
-    value : (n : Tree) (o : Outcome Tree) → ((o >>= λ e c. separator_at c >>= λ z rest. Took (Entry n e) rest) >>= λ e rest. Took (More before e) rest) ≡ (o >>= λ e c. separator_at c >>= λ z rest. Took (More before (Entry n e)) rest)
-    value n (Took e c) = bind_again (separator_at c) (λ z rest. Took (Entry n e) rest) (λ e rest. Took (More before e) rest)
+    value : (n : Tree) (o : Outcome Tree) → ((o >>= λ e b. separator_at b >>= λ z rest. Took (Entry n e) rest) >>= λ e rest. Took (More before e) rest) ≡ (o >>= λ e b. separator_at b >>= λ z rest. Took (More before (Entry n e)) rest)
+    value n (Took e b) = bind_again (separator_at b) (λ z rest. Took (Entry n e) rest) (λ e rest. Took (More before e) rest)
     value n (Stop kind rest) = refl
 
-    colon : (n : Tree) (o : Outcome Token) → ((o >>= λ y b. part_at levels (Expression m) b >>= λ e c. separator_at c >>= λ z rest. Took (Entry n e) rest) >>= λ e rest. Took (More before e) rest) ≡ (o >>= λ y b. part_at levels (Expression m) b >>= λ e c. separator_at c >>= λ z rest. Took (More before (Entry n e)) rest)
-    colon n (Took y b) = value n (part_at levels (Expression m) b)
-    colon n (Stop kind rest) = refl
-
-    go : (o : Outcome Token) → (((o >>= λ t rest. Took (Name t.place t.offset t.text) rest) >>= λ n a. sign_at symbols.Colon a >>= λ y b. part_at levels (Expression m) b >>= λ e c. separator_at c >>= λ z rest. Took (Entry n e) rest) >>= λ e rest. Took (More before e) rest)
+    go : (o : Outcome Token) → (((o >>= λ t rest. Took (Name t.place t.offset t.text) rest) >>= λ n a. expression_behind_at levels symbols.Colon (codes.Lua m) a >>= λ e b. separator_at b >>= λ z rest. Took (Entry n e) rest) >>= λ e rest. Took (More before e) rest)
         ≡ (o >>= λ t a. behind_name (Name t.place t.offset t.text) a)
-    go (Took t a) = colon (Name t.place t.offset t.text) (sign_at symbols.Colon a)
+    go (Took t a) = value (Name t.place t.offset t.text) (expression_behind_at levels symbols.Colon (codes.Lua m) a)
     go (Stop kind rest) = refl
 
 pub entries_go : (levels : ℕ) (m : Mode) (before : Tree) (ts : List Token) → begins (is symbols.Name) ts ≡ true → more_entries_at levels m before ts ≡ (entry_at levels m ts >>= λ e rest. more_entries_at levels m (More before e) rest)

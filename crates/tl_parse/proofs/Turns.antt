@@ -16,13 +16,14 @@ use Rattle.tl_tree.specs.LuaExpressions as lua
 use Rattle.tl_tree.specs.TerraExpressions as terra
 use Rattle.tl_tree.proofs.Unrolling.{bind_again}
 use Rattle.tl_parse.specs.Using.{reading, part_at, used, barred, sign_at, sign_among_at, operator_at, raise_at, call_at}
-use Rattle.tl_parse.specs.Expressions.{name_at, more_expressions_at, next_expression_at, Suffixed, attached, shape_of, call_suffix_at, index_suffix_at, select_suffix_at, method_arguments_at, method_suffix_at, table_suffix_at, literal_suffix_at, suffix_at, suffixes_at, separators, field_at, more_fields_at, next_field_at, more_if}
+use Rattle.tl_parse.specs.Expressions.{name_at, more_expressions_at, Suffixed, attached, shape_of, call_suffix_at, index_suffix_at, select_suffix_at, method_arguments_at, method_suffix_at, table_suffix_at, literal_suffix_at, suffix_at, suffixes_at, separators, field_at, more_fields_at, next_field_at, more_if}
 use Rattle.tl_parse.specs.Expressions as suffixed
 use Rattle.tl_tree.specs.Tree as trees
 use Rattle.tl_parse.proofs.Uses.{never, both, operator_with, bind_same, opened_at, opens_any, token_is, plain_is, sign_is, repeats, ends, shorter_turn}
 use Rattle.tl_parse.proofs.Agreeing.{name_agrees, method_arguments_agree, field_agrees}
 use Rattle.tl_parse.proofs.Failing.{fails_after, fails_bind, fails_from, fails_same, fails_unexpected}
 use Rattle.tl_parse.proofs.Parts.{fields_part}
+use Rattle.tl_parse.specs.Codes.{expression_behind_at}
 use Rattle.tl_parse.specs.declared.parser.Code.{Code}
 use Rattle.tl_parse.specs.declared.parser.Code.TheVariants as codes
 
@@ -51,8 +52,8 @@ pub list_shorter : (levels : ℕ) (x : Grammar Tree) (e : Tree) (ts rest : List 
 list_shorter levels x e ts rest h =
     shorter_turn levels (λ t. is symbols.Comma t) (λ t. Plain) (λ t. None) (sample symbols.Comma) (λ y. bind x λ e. give (More Nothing e)) (sign_at symbols.Comma ts >>= λ y rest. reading levels x rest) (λ e. More Nothing e) e ts rest (list_turn levels x Nothing ts) h
 
-pub expressions_go : (levels : ℕ) (code : Code) (before : Tree) (ts : List Token) → begins (is symbols.Comma) ts ≡ true → more_expressions_at levels code before ts ≡ (next_expression_at levels code ts >>= λ e rest. more_expressions_at levels code (More before e) rest)
-unfolding more_expressions_at next_expression_at part_at
+pub expressions_go : (levels : ℕ) (code : Code) (before : Tree) (ts : List Token) → begins (is symbols.Comma) ts ≡ true → more_expressions_at levels code before ts ≡ (expression_behind_at levels symbols.Comma code ts >>= λ e rest. more_expressions_at levels code (More before e) rest)
+unfolding more_expressions_at expression_behind_at part_at
 expressions_go levels (codes.Lua m) before ts h = list_goes levels (lua.expression m) before ts h
 expressions_go levels codes.Terra before ts h = list_goes levels terra.terra_expression before ts h
 
@@ -61,8 +62,8 @@ unfolding more_expressions_at
 expressions_end levels (codes.Lua m) before ts h = list_ends levels (lua.expression m) before ts h
 expressions_end levels codes.Terra before ts h = list_ends levels terra.terra_expression before ts h
 
-pub expression_shorter : (levels : ℕ) (code : Code) (x : Tree) (ts rest : List Token) → next_expression_at levels code ts ≡ Took x rest → length rest < length ts
-unfolding next_expression_at part_at
+pub expression_shorter : (levels : ℕ) (code : Code) (x : Tree) (ts rest : List Token) → expression_behind_at levels symbols.Comma code ts ≡ Took x rest → length rest < length ts
+unfolding expression_behind_at part_at
 expression_shorter levels (codes.Lua m) x ts rest e = list_shorter levels (lua.expression m) x ts rest e
 expression_shorter levels codes.Terra x ts rest e = list_shorter levels terra.terra_expression x ts rest e
 

@@ -1,13 +1,16 @@
 -- What both languages have, such as lists of expressions and arms, by the language.
-use Rattle.std.specs.Prelude.{List, [], ◌∷◌}
+use Rattle.std.specs.Prelude.{ℕ, List, [], ◌∷◌, if◌then◌else◌}
 use Rattle.tl_tree.specs.declared.symbol.Symbol.{Symbol}
 use Rattle.tl_tree.specs.declared.symbol.Symbol.TheVariants as symbols
-use Rattle.tl_tree.specs.Tree.{Tree, Part, Expression, TerraExpression, Arguments, TerraArguments, Statements, TerraStatements}
-use Rattle.tl_tree.specs.Grammar.{Grammar}
+use Rattle.tl_tree.specs.Tokens.{Token, is}
+use Rattle.tl_tree.specs.Tree.{Tree, Nothing, Just, Part, Expression, TerraExpression, Arguments, TerraArguments, Statements}
+use Rattle.tl_tree.specs.Tree.{TerraStatements}
+use Rattle.tl_tree.specs.Grammar.{Grammar, Outcome, Took, ◌>>=◌, begins}
 use Rattle.tl_tree.specs.LuaExpressions as lua
 use Rattle.tl_tree.specs.LuaStatements as statements
 use Rattle.tl_tree.specs.TerraExpressions as terra
 use Rattle.tl_tree.specs.TerraStatements as terra_statements
+use Rattle.tl_parse.specs.Using.{part_at, sign_at}
 use Rattle.tl_parse.specs.declared.parser.Code.{Code}
 use Rattle.tl_parse.specs.declared.parser.Code.TheVariants as codes
 use Rattle.tl_parse.specs.declared.parser.BlockCode.{BlockCode}
@@ -21,6 +24,15 @@ expression_of codes.Terra = terra.terra_expression
 abbrev pub expression_in : Code → Part
 expression_in (codes.Lua m) = Expression m
 expression_in codes.Terra = TerraExpression
+
+-- a sign or word, and an expression behind it
+unfoldable pub expression_behind_at : ℕ → Symbol → Code → List Token → Outcome Tree
+expression_behind_at levels s code ts = sign_at s ts >>= λ y a. part_at levels (expression_in code) a
+
+-- the same if the sign or word is there
+unfoldable pub optional_expression_at : ℕ → Symbol → Code → List Token → Outcome Tree
+optional_expression_at levels s code ts =
+    if begins (is s) ts then (expression_behind_at levels s code ts >>= λ e rest. Took (Just e) rest) else Took Nothing ts
 
 -- the tokens that begin an expression
 abbrev pub lua_symbols : List Symbol

@@ -4,11 +4,13 @@ use Rattle.tl_tree.specs.declared.symbol.Symbol.TheVariants as symbols
 use Rattle.tl_tree.specs.declared.mode.Mode.{Mode}
 use Rattle.tl_tree.specs.declared.mode.Extra.TheVariants.{Plain}
 use Rattle.tl_tree.specs.Tokens.{Token, among, is}
-use Rattle.tl_tree.specs.Tree.{Tree, Nothing, More, Name, Entry, Expression}
+use Rattle.tl_tree.specs.Tree.{Tree, Nothing, More, Name, Entry}
 use Rattle.tl_tree.specs.Grammar.{Grammar, Outcome, Took, ◌>>=◌, give, bind, many, begins}
 use Rattle.tl_tree.specs.Forms.{sign, separator}
 use Rattle.tl_tree.specs.LuaExpressions as lua
-use Rattle.tl_parse.specs.Using.{reading, part_at, sign_at, sign_among_at}
+use Rattle.tl_parse.specs.Using.{reading, sign_among_at}
+use Rattle.tl_parse.specs.Codes.{expression_behind_at}
+use Rattle.tl_parse.specs.declared.parser.Code.TheVariants as codes
 use Rattle.tl_parse.specs.Expressions.{name_at, separators}
 
 -- a separator if one follows
@@ -18,7 +20,7 @@ separator_at ts = if begins (among separators) ts then (sign_among_at separators
 
 unfoldable pub entry_at : ℕ → Mode → List Token → Outcome Tree
 entry_at levels m ts =
-    name_at ts >>= λ n a. sign_at symbols.Colon a >>= λ y b. part_at levels (Expression m) b >>= λ e c. separator_at c
+    name_at ts >>= λ n a. expression_behind_at levels symbols.Colon (codes.Lua m) a >>= λ e b. separator_at b
     >>= λ z rest. Took (Entry n e) rest
 
 -- entries behind a list of them

@@ -19,9 +19,10 @@ use Rattle.tl_tree.specs.LuaExpressions as lua
 use Rattle.tl_tree.specs.LuaExpressions.{is_varargs}
 use Rattle.tl_parse.specs.Using.{reading, part_at, sign_at, open_at, prefix_at, operator_at, raise_at, call_at}
 use Rattle.tl_parse.specs.Using.{number_at, sign_among_at}
-use Rattle.tl_parse.specs.Codes.{expression_of, expression_in}
+use Rattle.tl_parse.specs.Codes.{expression_of, expression_in, expression_behind_at}
 use Rattle.tl_parse.specs.TerraCode.{terra_code_at}
 use Rattle.tl_parse.specs.declared.parser.Code.{Code}
+use Rattle.tl_parse.specs.declared.parser.Code.TheVariants as codes
 use Rattle.tl_parse.specs.Ranks.{ranked_at}
 
 unfoldable pub name_at : List Token → Outcome Tree
@@ -31,9 +32,6 @@ name_at ts = sign_at symbols.Name ts >>= λ t rest. Took (Name t.place t.offset 
 
 unfoldable pub more_expressions_at : ℕ → Code → Tree → List Token → Outcome Tree
 more_expressions_at levels code before ts = reading levels (listed_behind (expression_of code) before) ts
-
-unfoldable pub next_expression_at : ℕ → Code → List Token → Outcome Tree
-next_expression_at levels code ts = sign_at symbols.Comma ts >>= λ y mid. part_at levels (expression_in code) mid
 
 unfoldable pub expressions_at : ℕ → Code → List Token → Outcome Tree
 expressions_at levels code ts = part_at levels (expression_in code) ts >>= λ e mid.
@@ -280,15 +278,15 @@ is_name _ = false
 
 abbrev pub field_behind_at : ℕ → Mode → Chained → List Token → Outcome Tree
 field_behind_at levels m e ts =
-    if is_name e.shape then (if begins (is symbols.Equal) ts then (sign_at symbols.Equal ts >>= λ y a.
-    part_at levels (Expression m) a >>= λ v rest. Took (NamedField e.tree v) rest) else Took e.tree ts)
+    if is_name e.shape then (if begins (is symbols.Equal) ts then (expression_behind_at levels symbols.Equal (codes.Lua m) ts
+    >>= λ v rest. Took (NamedField e.tree v) rest) else Took e.tree ts)
     else Took e.tree ts
 
 unfoldable pub keyed_field_at : ℕ → Mode → List Token → Outcome Tree
 keyed_field_at levels m ts =
     open_at symbols.OpenBracket levels ts >>= λ t a. part_at (levels - 1) (Expression m) a >>= λ k b.
-    sign_at symbols.CloseBracket b >>= λ y c. sign_at symbols.Equal c >>= λ z d.
-    part_at levels (Expression m) d >>= λ v rest. Took (KeyedField k v) rest
+    sign_at symbols.CloseBracket b >>= λ y c. expression_behind_at levels symbols.Equal (codes.Lua m) c
+    >>= λ v rest. Took (KeyedField k v) rest
 
 unfoldable pub field_at : ℕ → Mode → List Token → Outcome Tree
 field_at levels m ts =

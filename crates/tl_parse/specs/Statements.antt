@@ -21,7 +21,8 @@ use Rattle.tl_parse.specs.Using.{reading, part_at, sign_at, open_at}
 use Rattle.tl_parse.specs.Expressions.{name_at, expressions_at, base_at, applied_at}
 use Rattle.tl_parse.specs.Paths.{more_names_at, names_at, path_at}
 use Rattle.tl_parse.specs.TerraDefinitions.{define_terra_at, define_struct_at, local_terra_at}
-use Rattle.tl_parse.specs.Codes.{expression_in, code_of, statements_in, arms_of, looped_code, first_symbols}
+use Rattle.tl_parse.specs.Codes.{expression_in, expression_behind_at, optional_expression_at, code_of, statements_in, arms_of}
+use Rattle.tl_parse.specs.Codes.{looped_code, first_symbols}
 use Rattle.tl_parse.specs.declared.parser.Code.{Code}
 use Rattle.tl_parse.specs.declared.parser.Code.TheVariants as codes
 use Rattle.tl_parse.specs.declared.parser.BlockCode.{BlockCode}
@@ -90,8 +91,7 @@ while_at levels c ts = sign_at symbols.While ts >>= λ t a. part_at levels (Expr
 unfoldable pub repeat_at : ℕ → Context → List Token → Outcome Tree
 repeat_at levels c ts =
     open_at symbols.Repeat levels ts >>= λ t a. part_at (levels - 1) (Statements (looped c)) a >>= λ x b.
-    sign_at symbols.Until b >>= λ y d. part_at levels (Expression c.mode) d >>= λ e rest.
-    Took (Repeat t.place x e) rest
+    expression_behind_at levels symbols.Until (codes.Lua c.mode) b >>= λ e rest. Took (Repeat t.place x e) rest
 
 unfoldable pub arm_at : ℕ → BlockCode → List Token → Outcome Tree
 arm_at levels block ts =
@@ -118,10 +118,6 @@ if_at levels c ts =
     otherwise_at levels (block_codes.Lua c) b >>= λ o d.
     sign_at symbols.End d >>= λ y rest. Took (If t.place all o) rest
 
-unfoldable pub step_at : ℕ → Code → List Token → Outcome Tree
-step_at levels code ts = if begins (is symbols.Comma) ts then (sign_at symbols.Comma ts >>= λ y a.
-    part_at levels (expression_in code) a >>= λ e rest. Took (Just e) rest) else Took Nothing ts
-
 -- what a numeric `for` has behind its name
 pub record Numeric : Type 0 where
   pub from : Tree
@@ -132,11 +128,12 @@ pub record Numeric : Type 0 where
 abbrev pub numeric : Tree → Tree → Tree → Tree → Numeric
 numeric a b s x = record { from = a; limit = b; step = s; block = x }
 
-unfoldable pub numeric_at : ℕ → Context → List Token → Outcome Numeric
-numeric_at levels c ts =
-    sign_at symbols.Equal ts >>= λ y a. part_at levels (Expression c.mode) a >>= λ from b. sign_at symbols.Comma b
-    >>= λ z d. part_at levels (Expression c.mode) d >>= λ limit f.
-    step_at levels (codes.Lua c.mode) f >>= λ s g. loop_at levels (block_codes.Lua c) g >>= λ x rest. Took (numeric from limit s x) rest
+unfoldable pub numeric_at : ℕ → BlockCode → List Token → Outcome Numeric
+numeric_at levels block ts =
+    expression_behind_at levels symbols.Equal (code_of block) ts >>= λ from a.
+    expression_behind_at levels symbols.Comma (code_of block) a >>= λ limit b.
+    optional_expression_at levels symbols.Comma (code_of block) b >>= λ s d.
+    loop_at levels block d >>= λ x rest. Took (numeric from limit s x) rest
 
 -- what a generic `for` has behind its names
 pub record Generic : Type 0 where
@@ -154,7 +151,7 @@ generic_at levels c ts =
 unfoldable pub for_at : ℕ → Context → List Token → Outcome Tree
 for_at levels c ts =
     sign_at symbols.For ts >>= λ t a. name_at a >>= λ n b.
-    if begins (is symbols.Equal) b then (numeric_at levels c b
+    if begins (is symbols.Equal) b then (numeric_at levels (block_codes.Lua c) b
     >>= λ r rest. Took (NumericFor t.place n r.from r.limit r.step r.block) rest)
     else (more_names_at levels (More Nothing n) b >>= λ ns d. generic_at levels c d
     >>= λ r rest. Took (GenericFor t.place ns r.values r.block) rest)

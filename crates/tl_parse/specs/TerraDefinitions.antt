@@ -5,12 +5,14 @@ use Rattle.tl_tree.specs.declared.symbol.Symbol.TheVariants as symbols
 use Rattle.tl_tree.specs.declared.mode.Mode.{Mode}
 use Rattle.tl_tree.specs.Tokens.{Token, is}
 use Rattle.tl_tree.specs.Tree.{Tree, Nothing, More, Path, DefineTerra, DeclareTerra, LocalTerra, LocalDeclareTerra}
-use Rattle.tl_tree.specs.Tree.{DefineStruct, LocalStruct, Expression, TerraFunctionBody}
+use Rattle.tl_tree.specs.Tree.{DefineStruct, LocalStruct, TerraFunctionBody}
 use Rattle.tl_tree.specs.Grammar.{Outcome, Took, ◌>>=◌, begins}
 use Rattle.tl_parse.specs.Using.{part_at, sign_at, open_at}
+use Rattle.tl_parse.specs.Codes.{expression_behind_at}
 use Rattle.tl_parse.specs.Expressions.{name_at}
 use Rattle.tl_parse.specs.Paths.{path_names_at, path_at}
 use Rattle.tl_parse.specs.TerraCode.{struct_body_at}
+use Rattle.tl_parse.specs.declared.parser.Code.TheVariants as codes
 
 -- the path of a struct, which has no method
 unfoldable pub struct_path_at : ℕ → List Token → Outcome Tree
@@ -23,7 +25,7 @@ struct_path_at levels ts = name_at ts >>= λ n a. path_names_at levels (More Not
 unfoldable pub define_terra_at : ℕ → Mode → List Token → Outcome Tree
 define_terra_at levels m ts =
     sign_at symbols.Terra ts >>= λ t a. path_at levels a >>= λ p b.
-    if begins (is symbols.DoubleColon) b then (sign_at symbols.DoubleColon b >>= λ y d. part_at levels (Expression m) d
+    if begins (is symbols.DoubleColon) b then (expression_behind_at levels symbols.DoubleColon (codes.Lua m) b
     >>= λ e rest. Took (DeclareTerra t.place p e) rest)
     else (open_at symbols.OpenParen levels b >>= λ y d. part_at (levels - 1) (TerraFunctionBody y.place) d
     >>= λ x rest. Took (DefineTerra t.place p x) rest)
@@ -32,7 +34,7 @@ define_terra_at levels m ts =
 unfoldable pub local_terra_function_at : ℕ → Mode → Place → List Token → Outcome Tree
 local_terra_function_at levels m place ts =
     sign_at symbols.Terra ts >>= λ t a. name_at a >>= λ n b.
-    if begins (is symbols.DoubleColon) b then (sign_at symbols.DoubleColon b >>= λ y d. part_at levels (Expression m) d
+    if begins (is symbols.DoubleColon) b then (expression_behind_at levels symbols.DoubleColon (codes.Lua m) b
     >>= λ e rest. Took (LocalDeclareTerra place t.place n e) rest)
     else (open_at symbols.OpenParen levels b >>= λ y d. part_at (levels - 1) (TerraFunctionBody y.place) d
     >>= λ x rest. Took (LocalTerra place t.place n x) rest)

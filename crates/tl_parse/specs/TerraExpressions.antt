@@ -19,7 +19,9 @@ use Rattle.tl_tree.specs.TerraExpressions as terra
 use Rattle.tl_tree.specs.TerraExpressions.{terra_numerals, terra_prefix_symbols, shifts}
 use Rattle.tl_parse.specs.Using.{reading, part_at, used, sign_at, open_at, prefix_at, operator_at, raise_at, call_at}
 use Rattle.tl_parse.specs.Using.{sign_among_at}
+use Rattle.tl_parse.specs.Codes.{expression_behind_at}
 use Rattle.tl_parse.specs.Expressions.{name_at, literal_at, is_name, separators}
+use Rattle.tl_parse.specs.declared.parser.Code.TheVariants as codes
 use Rattle.tl_parse.specs.declared.terra_expressions.TerraPrecedence.{TerraPrecedence}
 use Rattle.tl_parse.specs.declared.terra_expressions.TerraPrecedence.TheVariants as precedences
 
@@ -208,8 +210,8 @@ terra_unary_at levels left ts = if begins (among terra_prefix_symbols) ts then t
 -- ---- initialisers
 
 unfoldable pub named_initialiser_at : ℕ → List Token → Outcome Tree
-named_initialiser_at levels ts = name_at ts >>= λ n a. sign_at symbols.Equal a >>= λ y b.
-    part_at levels TerraExpression b >>= λ v rest. Took (NamedField n v) rest
+named_initialiser_at levels ts = name_at ts >>= λ n a. expression_behind_at levels symbols.Equal codes.Terra a
+    >>= λ v rest. Took (NamedField n v) rest
 
 -- initialisers behind the first, where they are named or aren't
 abbrev pub initialiser_of : Bool → Grammar Tree
@@ -231,8 +233,8 @@ next_initialiser_at levels named ts =
 -- The first initialiser, and whether it is named: a name alone before "=" is.
 abbrev pub initialiser_behind_at : ℕ → Chained → List Token → Outcome (Tree × Bool)
 initialiser_behind_at levels e ts =
-    if is_name e.shape then (if begins (is symbols.Equal) ts then (sign_at symbols.Equal ts >>= λ y a.
-    part_at levels TerraExpression a >>= λ v rest. Took (NamedField e.tree v, true) rest)
+    if is_name e.shape then (if begins (is symbols.Equal) ts then (expression_behind_at levels symbols.Equal codes.Terra ts
+    >>= λ v rest. Took (NamedField e.tree v, true) rest)
     else Took (e.tree, false) ts)
     else Took (e.tree, false) ts
 

@@ -8,7 +8,7 @@ use Rattle.tl_tree.specs.declared.mode.Extra.TheVariants.{Plain}
 use Rattle.tl_tree.specs.declared.mode.Shape.{Shape}
 use Rattle.tl_tree.specs.declared.mode.Shape.TheVariants as shapes
 use Rattle.tl_tree.specs.Tokens.{Token, among, is}
-use Rattle.tl_tree.specs.Tree.{Tree, Nothing, More, Just, Name, Escape, TerraAssign, TerraPerform, Splice, TerraDo}
+use Rattle.tl_tree.specs.Tree.{Tree, Nothing, More, Name, Escape, TerraAssign, TerraPerform, Splice, TerraDo}
 use Rattle.tl_tree.specs.Tree.{TerraWhile, TerraRepeat, TerraIf, TerraFor, Var, EscapeBlock, TerraReturn, TerraBreak}
 use Rattle.tl_tree.specs.Tree.{Block, Quoted, TerraBody, Parameter, SpliceParameter, Variable, Expression}
 use Rattle.tl_tree.specs.Tree.{Statements, TerraExpression, TerraStatements}
@@ -21,16 +21,16 @@ use Rattle.tl_parse.specs.Statements.{first_place, is_call, last_symbols, return
 use Rattle.tl_parse.specs.TerraExpressions.{terra_name_at}
 use Rattle.tl_parse.specs.TerraExpressions.{terra_applied_at}
 use Rattle.tl_parse.specs.Expressions.{expressions_at, more_expressions_at}
-use Rattle.tl_parse.specs.Statements.{arms_at, initial_values_at, loop_at, otherwise_at, step_at}
+use Rattle.tl_parse.specs.Statements.{arms_at, initial_values_at, loop_at, numeric_at, otherwise_at}
+use Rattle.tl_parse.specs.Codes.{expression_behind_at, optional_expression_at}
 use Rattle.tl_parse.specs.declared.parser.Code.TheVariants as codes
 use Rattle.tl_parse.specs.declared.parser.BlockCode.TheVariants as block_codes
 
 -- ---- parts of statements
 
-unfoldable pub written_type_at : ℕ → List Token → Outcome Tree
-written_type_at levels ts =
-    if begins (is symbols.Colon) ts then (sign_at symbols.Colon ts >>= λ y a. part_at levels (Expression modes.Types) a
-    >>= λ e rest. Took (Just e) rest) else Took Nothing ts
+-- ":" and a type, if they are there
+abbrev pub written_type_at : ℕ → List Token → Outcome Tree
+written_type_at levels ts = optional_expression_at levels symbols.Colon (codes.Lua modes.Types) ts
 
 -- a variable whose name Lua code gives
 unfoldable pub spliced_variable_at : ℕ → List Token → Outcome Tree
@@ -105,8 +105,7 @@ terra_while_at levels ts = sign_at symbols.While ts >>= λ t a. part_at levels T
 unfoldable pub terra_repeat_at : ℕ → List Token → Outcome Tree
 terra_repeat_at levels ts =
     open_at symbols.Repeat levels ts >>= λ t a. part_at (levels - 1) TerraStatements a >>= λ x b.
-    sign_at symbols.Until b >>= λ y d.
-    part_at levels TerraExpression d >>= λ e rest. Took (TerraRepeat t.place x e) rest
+    expression_behind_at levels symbols.Until codes.Terra b >>= λ e rest. Took (TerraRepeat t.place x e) rest
 
 unfoldable pub terra_if_at : ℕ → List Token → Outcome Tree
 terra_if_at levels ts =
@@ -116,11 +115,8 @@ terra_if_at levels ts =
 
 unfoldable pub terra_for_at : ℕ → List Token → Outcome Tree
 terra_for_at levels ts =
-    sign_at symbols.For ts >>= λ t a. terra_name_at levels a >>= λ n b. sign_at symbols.Equal b >>= λ y d.
-    part_at levels TerraExpression d >>= λ first e.
-    sign_at symbols.Comma e >>= λ z f. part_at levels TerraExpression f >>= λ limit g. step_at levels codes.Terra g >>= λ s h.
-    loop_at levels block_codes.Terra h >>= λ x rest.
-    Took (TerraFor t.place n first limit s x) rest
+    sign_at symbols.For ts >>= λ t a. terra_name_at levels a >>= λ n b. numeric_at levels block_codes.Terra b
+    >>= λ r rest. Took (TerraFor t.place n r.from r.limit r.step r.block) rest
 
 unfoldable pub terra_var_at : ℕ → List Token → Outcome Tree
 terra_var_at levels ts =
@@ -193,9 +189,8 @@ spliced_parameter_at levels ts =
 -- a parameter by its name, with its type
 unfoldable pub named_parameter_at : ℕ → List Token → Outcome Tree
 named_parameter_at levels ts =
-    sign_at symbols.Name ts >>= λ n a. sign_at symbols.Colon a >>= λ y b. part_at levels (Expression modes.Types) b
-    >>= λ e rest.
-    Took (Parameter n.place (Name n.place n.offset n.text) e) rest
+    sign_at symbols.Name ts >>= λ n a. expression_behind_at levels symbols.Colon (codes.Lua modes.Types) a
+    >>= λ e rest. Took (Parameter n.place (Name n.place n.offset n.text) e) rest
 
 unfoldable pub terra_parameter_at : ℕ → List Token → Outcome Tree
 terra_parameter_at levels ts =
@@ -219,11 +214,6 @@ terra_function_body_at levels place ts =
     >>= λ r d. part_at levels TerraStatements d >>= λ x e.
     sign_at symbols.End e >>= λ z rest. Took (TerraBody place ps r x) rest
 
-unfoldable pub quoted_expression_at : ℕ → List Token → Outcome Tree
-quoted_expression_at levels ts =
-    if begins (is symbols.In) ts then (sign_at symbols.In ts >>= λ y a. part_at levels TerraExpression a
-    >>= λ e rest. Took (Just e) rest) else Took Nothing ts
-
 unfoldable pub quoted_code_at : ℕ → List Token → Outcome Tree
-quoted_code_at levels ts = part_at levels TerraStatements ts >>= λ x a. quoted_expression_at levels a
+quoted_code_at levels ts = part_at levels TerraStatements ts >>= λ x a. optional_expression_at levels symbols.In codes.Terra a
     >>= λ e rest. Took (Quoted x e) rest

@@ -1,16 +1,16 @@
 // Reading of Lua expressions (Lua 5.1 manual, section 2.5), and of lists of expressions of either language.
 ghost use Rattle.std.specs.Prelude.{◌≡◌, ◌<◌, ◌≤◌, ◌-◌, ℕ, length, true, false, IfOk, IfErr, [], ◌∷◌};
-ghost use Rattle.tl_tree.specs.Symbols.{has};
+ghost use Rattle.tl_tree.specs.Symbols.{has, is_bad};
 ghost use Rattle.tl_tree.specs.Forms as forms;
 ghost use Rattle.tl_tree.specs.LuaExpressions as lua;
 ghost use Rattle.tl_tree.specs.Tokens.{among};
 ghost use Rattle.tl_tree.specs.Tree as parts;
 ghost use Rattle.tl_tree.specs.Grammar.{begins};
 ghost use Rattle.tl_parse.specs.Parsing.{tokens_left, Fails, TookToken, TookTree, TookOperand, TookList};
-ghost use Rattle.tl_parse.specs.Parsing.{TookMaybe};
+ghost use Rattle.tl_parse.specs.Parsing.{TookMaybe, TookOption};
 ghost use Rattle.tl_parse.specs.Using.{part_at, number_at};
-ghost use Rattle.tl_parse.specs.Codes.{expression_in, arguments_in};
-ghost use Rattle.tl_parse.specs.Expressions.{name_at, expressions_at, next_expression_at, arguments_at, paren_at};
+ghost use Rattle.tl_parse.specs.Codes.{expression_in, expression_behind_at, optional_expression_at, arguments_in};
+ghost use Rattle.tl_parse.specs.Expressions.{name_at, expressions_at, arguments_at, paren_at};
 ghost use Rattle.tl_parse.specs.Expressions.{base_at, call_suffix_at, index_suffix_at, select_suffix_at};
 ghost use Rattle.tl_parse.specs.Expressions.{listed_arguments_at, table_argument_at, method_arguments_at, method_suffix_at};
 ghost use Rattle.tl_parse.specs.Expressions.{table_suffix_at, literal_suffix_at, suffix_at, applied_at, prefixed_at, number_tree_at};
@@ -171,6 +171,43 @@ impl<'a> Parser<'a> {
         }
     }
 
+    /// sign exp, or sign texp
+    #[cycle(parser)]
+    #[tactic(auto, using(crate::proofs::Failing::failing), unfolding(crate::specs::Codes::expression_behind_at))]
+    pub(crate) fn expression_behind(
+        &mut self,
+        symbol: Symbol,
+        code: Code,
+        levels: u32,
+    ) -> Result<NodeId, SyntaxError>
+        requires { is_bad symbol ≡ false }
+        ensures ok { IfOk result (λ r. TookTree self.old self.new (expression_behind_at levels symbol code (tokens_left self.old)) r) }
+        ensures err { IfErr result (λ e. Fails self.old (expression_behind_at levels symbol code (tokens_left self.old)) e) }
+    {
+        pass!(self.take(symbol));
+        self.expression_of(code, levels)
+    }
+
+    /// [sign exp], or [sign texp]
+    #[cycle(parser)]
+    #[tactic(auto, using(crate::proofs::Failing::failing), unfolding(crate::specs::Codes::optional_expression_at))]
+    pub(crate) fn optional_expression(
+        &mut self,
+        symbol: Symbol,
+        code: Code,
+        levels: u32,
+    ) -> Result<Option<NodeId>, SyntaxError>
+        requires { is_bad symbol ≡ false }
+        ensures ok { IfOk result (λ r. TookOption self.old self.new (optional_expression_at levels symbol code (tokens_left self.old)) r) }
+        ensures err { IfErr result (λ e. Fails self.old (optional_expression_at levels symbol code (tokens_left self.old)) e) }
+    {
+        if self.next_is(symbol) {
+            let expression = read!(self.expression_behind(symbol, code, levels));
+            return Ok(Some(expression));
+        }
+        Ok(None)
+    }
+
     /// exp = .. operator exp: the operand of a prefix operator, and the right operand of "^"
     #[cycle(parser)]
     #[tactic(auto, using(crate::proofs::Failing::failing_same, crate::proofs::Parts::operand_part))]
@@ -206,17 +243,6 @@ impl<'a> Parser<'a> {
         self.expressions(code, levels)
     }
 
-    /// "," exp, or "," texp
-    #[cycle(parser)]
-    #[tactic(auto, using(crate::proofs::Failing::failing), unfolding(crate::specs::Expressions::next_expression_at))]
-    pub(crate) fn next_expression(&mut self, code: Code, levels: u32) -> Result<NodeId, SyntaxError>
-        ensures ok { IfOk result (λ r. TookTree self.old self.new (next_expression_at levels code (tokens_left self.old)) r) }
-        ensures err { IfErr result (λ e. Fails self.old (next_expression_at levels code (tokens_left self.old)) e) }
-    {
-        pass!(self.take(Symbol::Comma));
-        self.expression_of(code, levels)
-    }
-
     /// exps = exp {"," exp}, or texps = texp {"," texp}
     #[cycle(parser)]
     #[tactic(auto, using(crate::proofs::Turns::expressions), unfolding(crate::specs::Expressions::expressions_at))]
@@ -227,7 +253,7 @@ impl<'a> Parser<'a> {
         let first = read!(self.expression_of(code, levels));
         let mut list = read!(self.one_node(first));
         'more: while self.next_is(Symbol::Comma) {
-            let next = read!(self.next_expression(code, levels));
+            let next = read!(self.expression_behind(Symbol::Comma, code, levels));
             read!(add(&mut list, next));
         }
         Ok(list)

@@ -11,7 +11,7 @@ ghost use Rattle.tl_parse.specs.Using.{part_at};
 ghost use Rattle.tl_parse.specs.Codes.{code_of, statements_in, looped_code, first_symbols};
 ghost use Rattle.tl_parse.specs.Statements.{first_place, is_unsettled, variable_at, next_target_at, is_call};
 ghost use Rattle.tl_parse.specs.Statements.{values_at, call_or_assignment_at, do_at, loop_at, while_at, repeat_at};
-ghost use Rattle.tl_parse.specs.Statements.{arm_at, next_arm_at, arms_at, otherwise_at, if_at, step_at, numeric_at};
+ghost use Rattle.tl_parse.specs.Statements.{arm_at, next_arm_at, arms_at, otherwise_at, if_at, numeric_at};
 ghost use Rattle.tl_parse.specs.Statements.{generic_at, for_at, function_statement_at, local_function_at};
 ghost use Rattle.tl_parse.specs.Statements.{initial_values_at, local_names_at, local_at, returned_values_at};
 ghost use Rattle.tl_parse.specs.Statements.{return_at, break_at, emit_at, statement_at, last_symbols};
@@ -28,10 +28,10 @@ use tl_tree::{Context, Mode, Node, NodeList, Piece, Shape, Statement, Symbol};
 /// What a numeric `for` has behind its name.
 #[derive(Clone, Copy)]
 pub(crate) struct Numeric {
-    from: NodeId,
-    limit: NodeId,
-    step: Option<NodeId>,
-    block: NodeId,
+    pub(crate) from: NodeId,
+    pub(crate) limit: NodeId,
+    pub(crate) step: Option<NodeId>,
+    pub(crate) block: NodeId,
 }
 
 static EXPRESSION: [Symbol; 18] = [
@@ -337,8 +337,11 @@ impl<'a> Parser<'a> {
     {
         let place = read!(self.open(Symbol::Repeat, levels));
         let block = read!(self.block(looped(context), levels - 1));
-        pass!(self.take(Symbol::Until));
-        let condition = read!(self.expression(context.mode, levels));
+        let condition = read!(self.expression_behind(
+            Symbol::Until,
+            Code::Lua(context.mode),
+            levels
+        ));
         self.push(Node::Statement(place, Statement::Repeat(block, condition)))
     }
 
@@ -415,39 +418,23 @@ impl<'a> Parser<'a> {
         self.push(Node::Statement(place, Statement::If(arms, otherwise)))
     }
 
-    /// ["," exp], or ["," texp]
-    #[cycle(parser)]
-    #[tactic(auto, using(crate::proofs::Failing::failing), unfolding(crate::specs::Statements::step_at))]
-    pub(crate) fn step(&mut self, code: Code, levels: u32) -> Result<Option<NodeId>, SyntaxError>
-        ensures ok { IfOk result (λ r. TookOption self.old self.new (step_at levels code (tokens_left self.old)) r) }
-        ensures err { IfErr result (λ e. Fails self.old (step_at levels code (tokens_left self.old)) e) }
-    {
-        if self.next_is(Symbol::Comma) {
-            pass!(self.take(Symbol::Comma));
-            let step = read!(self.expression_of(code, levels));
-            return Ok(Some(step));
-        }
-        Ok(None)
-    }
-
-    /// "=" exp "," exp ["," exp] "do" block "end", behind "for" Name
+    /// "=" exp "," exp ["," exp] "do" block "end", or "=" texp .. "end", behind "for" and a name
     #[cycle(parser)]
     #[tactic(auto, using(crate::proofs::Failing::failing), unfolding(crate::specs::Statements::numeric_at))]
-    fn numeric(&mut self, context: Context, levels: u32) -> Result<Numeric, SyntaxError>
-        ensures ok { IfOk result (λ r. TookNumeric self.old self.new (numeric_at levels context (tokens_left self.old)) r) }
-        ensures err { IfErr result (λ e. Fails self.old (numeric_at levels context (tokens_left self.old)) e) }
+    pub(crate) fn numeric(&mut self, block: BlockCode, levels: u32) -> Result<Numeric, SyntaxError>
+        ensures ok { IfOk result (λ r. TookNumeric self.old self.new (numeric_at levels block (tokens_left self.old)) r) }
+        ensures err { IfErr result (λ e. Fails self.old (numeric_at levels block (tokens_left self.old)) e) }
     {
-        pass!(self.take(Symbol::Equal));
-        let from = read!(self.expression(context.mode, levels));
-        pass!(self.take(Symbol::Comma));
-        let limit = read!(self.expression(context.mode, levels));
-        let step = read!(self.step(Code::Lua(context.mode), levels));
-        let block = read!(self.loop_block(BlockCode::Lua(context), levels));
+        let code = code_of(block);
+        let from = read!(self.expression_behind(Symbol::Equal, code, levels));
+        let limit = read!(self.expression_behind(Symbol::Comma, code, levels));
+        let step = read!(self.optional_expression(Symbol::Comma, code, levels));
+        let body = read!(self.loop_block(block, levels));
         Ok(Numeric {
             from,
             limit,
             step,
-            block,
+            block: body,
         })
     }
 
@@ -474,7 +461,7 @@ impl<'a> Parser<'a> {
         let place = read!(self.take(Symbol::For));
         let name = read!(self.name());
         if self.next_is(Symbol::Equal) {
-            let r = read!(self.numeric(context, levels));
+            let r = read!(self.numeric(BlockCode::Lua(context), levels));
             return self.push(Node::Statement(
                 place,
                 Statement::NumericFor(name, r.from, r.limit, r.step, r.block),

@@ -7,7 +7,7 @@ ghost use Rattle.tl_parse.specs.Expressions.{table_at, keyed_field_at, field_at,
 
 use crate::error::SyntaxError;
 use crate::expressions::is_name;
-use crate::parser::{Parser, add};
+use crate::parser::{Code, Parser, add};
 use tl_base::NodeId;
 use tl_tree::{Expression, Mode, Node, NodeList, Piece, Symbol};
 
@@ -37,8 +37,7 @@ impl<'a> Parser<'a> {
         pass!(self.open(Symbol::OpenBracket, levels));
         let key = read!(self.expression(mode, levels - 1));
         pass!(self.take(Symbol::CloseBracket));
-        pass!(self.take(Symbol::Equal));
-        let value = read!(self.expression(mode, levels));
+        let value = read!(self.expression_behind(Symbol::Equal, Code::Lua(mode), levels));
         self.push(Node::Piece(Piece::KeyedField(key, value)))
     }
 
@@ -55,8 +54,7 @@ impl<'a> Parser<'a> {
         let e = read!(self.chained(mode, levels));
         if is_name(e.shape) {
             if self.next_is(Symbol::Equal) {
-                pass!(self.take(Symbol::Equal));
-                let value = read!(self.expression(mode, levels));
+                let value = read!(self.expression_behind(Symbol::Equal, Code::Lua(mode), levels));
                 return self.push(Node::Piece(Piece::NamedField(e.node, value)));
             }
         }

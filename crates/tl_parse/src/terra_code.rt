@@ -9,7 +9,7 @@ ghost use Rattle.tl_parse.specs.Entries.{separator_at, entry_at};
 ghost use Rattle.tl_parse.specs.TerraGoing.{TookNothing};
 
 use crate::error::SyntaxError;
-use crate::parser::{Parser, add};
+use crate::parser::{Code, Parser, add};
 use tl_base::NodeId;
 use tl_tree::{Expression, Mode, Node, NodeList, Piece, Symbol};
 
@@ -118,8 +118,7 @@ impl<'a> Parser<'a> {
         ensures err { IfErr result (λ e. Fails self.old (entry_at levels mode (tokens_left self.old)) e) }
     {
         let name = read!(self.name());
-        pass!(self.take(Symbol::Colon));
-        let value = read!(self.expression(mode, levels));
+        let value = read!(self.expression_behind(Symbol::Colon, Code::Lua(mode), levels));
         pass!(self.separator());
         self.push(Node::Piece(Piece::Entry(name, value)))
     }

@@ -5,7 +5,7 @@ ghost use Rattle.tl_parse.specs.TerraDefinitions.{struct_path_at, define_terra_a
 ghost use Rattle.tl_parse.specs.TerraDefinitions.{local_struct_at, local_terra_at, define_struct_at};
 
 use crate::error::SyntaxError;
-use crate::parser::{Parser, add};
+use crate::parser::{Code, Parser, add};
 use tl_base::{NodeId, Place};
 use tl_tree::{Mode, Node, Piece, Statement, Symbol};
 
@@ -35,8 +35,11 @@ impl<'a> Parser<'a> {
         let place = read!(self.take(Symbol::Terra));
         let path = read!(self.path(levels));
         if self.next_is(Symbol::DoubleColon) {
-            pass!(self.take(Symbol::DoubleColon));
-            let declared = read!(self.expression(mode, levels));
+            let declared = read!(self.expression_behind(
+                Symbol::DoubleColon,
+                Code::Lua(mode),
+                levels
+            ));
             return self.push(Node::Statement(place, Statement::DeclareTerra(path, declared)));
         }
         let paren = read!(self.open(Symbol::OpenParen, levels));
@@ -59,8 +62,11 @@ impl<'a> Parser<'a> {
         let start = read!(self.take(Symbol::Terra));
         let name = read!(self.name());
         if self.next_is(Symbol::DoubleColon) {
-            pass!(self.take(Symbol::DoubleColon));
-            let declared = read!(self.expression(mode, levels));
+            let declared = read!(self.expression_behind(
+                Symbol::DoubleColon,
+                Code::Lua(mode),
+                levels
+            ));
             return self.push(Node::Statement(
                 place,
                 Statement::LocalDeclareTerra(start, name, declared),

@@ -566,8 +566,7 @@ impl<'a> Parser<'a> {
         ensures err { IfErr result (λ e. Fails self.old (named_initialiser_at levels (tokens_left self.old)) e) }
     {
         let name = read!(self.name());
-        pass!(self.take(Symbol::Equal));
-        let value = read!(self.terra_expression(levels));
+        let value = read!(self.expression_behind(Symbol::Equal, Code::Terra, levels));
         self.push(Node::Piece(Piece::NamedField(name, value)))
     }
 
@@ -594,8 +593,7 @@ impl<'a> Parser<'a> {
         let e = read!(self.terra_binary(TerraPrecedence::Disjunction, levels, CHAIN));
         if is_name(e.shape) {
             if self.next_is(Symbol::Equal) {
-                pass!(self.take(Symbol::Equal));
-                let value = read!(self.terra_expression(levels));
+                let value = read!(self.expression_behind(Symbol::Equal, Code::Terra, levels));
                 let node = read!(self.push(Node::Piece(Piece::NamedField(e.node, value))));
                 return Ok((node, true));
             }

@@ -4,16 +4,14 @@ ghost use Rattle.tl_tree.specs.TerraStatements as terra;
 ghost use Rattle.tl_tree.specs.Tree as parts;
 ghost use Rattle.tl_tree.specs.Grammar.{begins};
 ghost use Rattle.tl_parse.specs.Parsing.{tokens_left, HasNext, Fails, TookTree, TookOperand, TookList};
-ghost use Rattle.tl_parse.specs.Parsing.{TookOption};
 ghost use Rattle.tl_parse.specs.Using.{part_at};
 ghost use Rattle.tl_parse.specs.Going.{TookStatement};
 ghost use Rattle.tl_parse.specs.Statements.{is_call};
-ghost use Rattle.tl_parse.specs.TerraStatements.{written_type_at};
 ghost use Rattle.tl_parse.specs.TerraStatements.{terra_variable_at, spliced_variable_at, named_variable_at};
 ghost use Rattle.tl_parse.specs.TerraStatements.{next_terra_variable_at, terra_variables_at};
 ghost use Rattle.tl_parse.specs.TerraStatements.{terra_target_at};
 ghost use Rattle.tl_parse.specs.TerraStatements.{terra_simple_statement_at, is_escape, terra_goes_on};
-ghost use Rattle.tl_parse.specs.TerraStatements.{terra_function_body_at, quoted_expression_at, quoted_code_at};
+ghost use Rattle.tl_parse.specs.TerraStatements.{terra_function_body_at, quoted_code_at};
 ghost use Rattle.tl_parse.specs.TerraStatements.{terra_do_at, terra_while_at, terra_repeat_at, terra_if_at};
 ghost use Rattle.tl_parse.specs.TerraStatements.{terra_for_at, terra_var_at, escape_block_at, terra_return_at};
 ghost use Rattle.tl_parse.specs.TerraStatements.{terra_break_at, terra_statement_at, next_terra_statement_at};
@@ -27,6 +25,9 @@ use tl_base::{NodeId, Place};
 use tl_tree::{
     Context, Mode, Node, NodeList, Piece, Shape, Symbol, TerraExpression, TerraStatement,
 };
+
+/// The types of Terra code.
+const TYPES: Code = Code::Lua(Mode::Types);
 
 /// The block of an `escape`.
 const EMITTING: Context = Context {
@@ -65,21 +66,6 @@ fn is_escape(shape: Shape) -> bool
 }
 
 impl<'a> Parser<'a> {
-    /// [":" exp]
-    #[cycle(parser)]
-    #[tactic(auto, using(crate::proofs::Failing::failing), unfolding(crate::specs::TerraStatements::written_type_at))]
-    fn written_type(&mut self, levels: u32) -> Result<Option<NodeId>, SyntaxError>
-        ensures ok { IfOk result (λ r. TookOption self.old self.new (written_type_at levels (tokens_left self.old)) r) }
-        ensures err { IfErr result (λ e. Fails self.old (written_type_at levels (tokens_left self.old)) e) }
-    {
-        if self.next_is(Symbol::Colon) {
-            pass!(self.take(Symbol::Colon));
-            let written = read!(self.expression(Mode::Types, levels));
-            return Ok(Some(written));
-        }
-        Ok(None)
-    }
-
     /// "[" exp "]" [":" exp]
     #[cycle(parser)]
     #[tactic(auto, using(crate::proofs::Failing::failing), unfolding(crate::specs::TerraStatements::spliced_variable_at))]
@@ -92,7 +78,7 @@ impl<'a> Parser<'a> {
         pass!(self.take(Symbol::CloseBracket));
         let escape = Node::TerraExpression(place, TerraExpression::Escape(code));
         let name = read!(self.push(escape));
-        let written = read!(self.written_type(levels));
+        let written = read!(self.optional_expression(Symbol::Colon, TYPES, levels));
         self.push(Node::Piece(Piece::Variable(place, name, written)))
     }
 
@@ -105,7 +91,7 @@ impl<'a> Parser<'a> {
     {
         let token = read!(self.take_token(Symbol::Name));
         let name = read!(self.push(Node::Name(token.place, token.offset, token.text)));
-        let written = read!(self.written_type(levels));
+        let written = read!(self.optional_expression(Symbol::Colon, TYPES, levels));
         self.push(Node::Piece(Piece::Variable(token.place, name, written)))
     }
 
@@ -185,7 +171,7 @@ impl<'a> Parser<'a> {
         }
         let mut targets = read!(self.one_node(first.node));
         'more: while self.next_is(Symbol::Comma) {
-            let next = read!(self.next_expression(Code::Terra, levels));
+            let next = read!(self.expression_behind(Symbol::Comma, Code::Terra, levels));
             read!(add(&mut targets, next));
         }
         read!(self.take(Symbol::Equal));
@@ -228,8 +214,7 @@ impl<'a> Parser<'a> {
     {
         let place = read!(self.open(Symbol::Repeat, levels));
         let block = read!(self.terra_block(levels - 1));
-        pass!(self.take(Symbol::Until));
-        let condition = read!(self.terra_expression(levels));
+        let condition = read!(self.expression_behind(Symbol::Until, Code::Terra, levels));
         self.push(Node::TerraStatement(place, TerraStatement::Repeat(block, condition)))
     }
 
@@ -256,13 +241,11 @@ impl<'a> Parser<'a> {
     {
         let place = read!(self.take(Symbol::For));
         let name = read!(self.terra_name(levels));
-        pass!(self.take(Symbol::Equal));
-        let first = read!(self.terra_expression(levels));
-        pass!(self.take(Symbol::Comma));
-        let limit = read!(self.terra_expression(levels));
-        let step = read!(self.step(Code::Terra, levels));
-        let block = read!(self.loop_block(BlockCode::Terra, levels));
-        self.push(Node::TerraStatement(place, TerraStatement::For(name, first, limit, step, block)))
+        let r = read!(self.numeric(BlockCode::Terra, levels));
+        self.push(Node::TerraStatement(
+            place,
+            TerraStatement::For(name, r.from, r.limit, r.step, r.block),
+        ))
     }
 
     /// tstat = "var" tvar {"," tvar} ["=" texps]
@@ -420,8 +403,7 @@ impl<'a> Parser<'a> {
     {
         let token = read!(self.take_token(Symbol::Name));
         let name = read!(self.push(Node::Name(token.place, token.offset, token.text)));
-        pass!(self.take(Symbol::Colon));
-        let written = read!(self.expression(Mode::Types, levels));
+        let written = read!(self.expression_behind(Symbol::Colon, TYPES, levels));
         self.push(Node::Piece(Piece::Parameter(token.place, name, written)))
     }
 
@@ -477,7 +459,7 @@ impl<'a> Parser<'a> {
     {
         let parameters = read!(self.terra_parameters(levels));
         pass!(self.take(Symbol::CloseParen));
-        let written = read!(self.written_type(levels));
+        let written = read!(self.optional_expression(Symbol::Colon, TYPES, levels));
         let block = read!(self.terra_block(levels));
         pass!(self.take(Symbol::End));
         self.push(Node::Piece(Piece::TerraBody(place, parameters, written, block)))
@@ -498,21 +480,6 @@ impl<'a> Parser<'a> {
         self.terra_body(place, levels)
     }
 
-    /// ["in" texp]
-    #[cycle(parser)]
-    #[tactic(auto, using(crate::proofs::Failing::failing), unfolding(crate::specs::TerraStatements::quoted_expression_at))]
-    fn quoted_expression(&mut self, levels: u32) -> Result<Option<NodeId>, SyntaxError>
-        ensures ok { IfOk result (λ r. TookOption self.old self.new (quoted_expression_at levels (tokens_left self.old)) r) }
-        ensures err { IfErr result (λ e. Fails self.old (quoted_expression_at levels (tokens_left self.old)) e) }
-    {
-        if self.next_is(Symbol::In) {
-            pass!(self.take(Symbol::In));
-            let expression = read!(self.terra_expression(levels));
-            return Ok(Some(expression));
-        }
-        Ok(None)
-    }
-
     /// tblock ["in" texp], behind "quote"
     #[cycle(parser)]
     #[tactic(auto, using(crate::proofs::TerraStatementParts::quoted_code), unfolding(crate::specs::TerraStatements::quoted_code_at))]
@@ -521,7 +488,7 @@ impl<'a> Parser<'a> {
         ensures err { IfErr result (λ e. Fails self.old (part_at levels parts.QuotedCode (tokens_left self.old)) e) }
     {
         let block = read!(self.terra_block(levels));
-        let expression = read!(self.quoted_expression(levels));
+        let expression = read!(self.optional_expression(Symbol::In, Code::Terra, levels));
         self.push(Node::Piece(Piece::Quoted(block, expression)))
     }
 }

@@ -1,5 +1,6 @@
 use Rattle.std.proofs.Common.{◌≡◌, ℕ, ◌<◌, ◌≤◌, arith, sym, ap, subst, ◌∙◌, cond, Bool, List, length}
 use Rattle.tl_tree.specs.declared.mode.Shape.{Shape}
+use Rattle.tl_tree.specs.declared.symbol.Symbol.TheVariants as symbols
 use Rattle.tl_tree.specs.Tokens.{Token}
 use Rattle.tl_tree.specs.Item.{Item}
 use Rattle.tl_tree.specs.Nodes.{laid}
@@ -8,7 +9,8 @@ use Rattle.tl_tree.specs.Grammar.{Outcome, Took, ◌>>=◌, down}
 use Rattle.tl_tree.specs.Forms.{Chained, chained}
 use Rattle.tl_tree.specs.LuaStatements.{Sequence, sequence}
 use Rattle.tl_parse.specs.Parsing.{token_of, placed, tokens_left, items_of}
-use Rattle.tl_parse.specs.Expressions.{Suffixed, attached, shape_of, suffixes_at, expressions_at, more_expressions_at, next_expression_at, field_at, fields_at, more_fields_at, suffix_at, next_field_at, more_if}
+use Rattle.tl_parse.specs.Expressions.{Suffixed, attached, shape_of, suffixes_at, expressions_at, more_expressions_at, field_at, fields_at, more_fields_at, suffix_at, next_field_at, more_if}
+use Rattle.tl_parse.specs.Codes.{expression_behind_at}
 use Rattle.tl_parse.specs.Ranks.{rank_at}
 use Rattle.tl_parse.specs.Statements.{arms_at, more_arms_at, variable_at, settle_at, more_statements_at, next_arm_at, next_statement_at}
 use Rattle.tl_parse.specs.TerraExpressions.{TerraSuffixed, terra_attached, terra_shape_of, terra_suffixes_at, terra_applied_at, terra_suffix_at, next_initialiser_at, more_initialisers_at}
@@ -106,8 +108,8 @@ expressions-more-init t c =
 
 pub expressions-more-preserved : goal.expressions-more-preserved
 expressions-more-preserved t c =
-    let e = c.in-Ok-next_expression.ensures.ok in
-    listing_next c.args.self.now c.more.self c.next_expression.new.self _ _ e.tree c.in-Ok-next_expression.x c.more.list c.add.new.list c.more.invariant
+    let e = c.in-Ok-expression_behind.ensures.ok in
+    listing_next c.args.self.now c.more.self c.expression_behind.new.self _ _ e.tree c.in-Ok-expression_behind.x c.more.list c.add.new.list c.more.invariant
     (expressions_go c.args.levels c.args.code c.more.invariant.tree (tokens_left c.more.self) (sym c.next_is.ensures ∙ c.more-test.true) ∙ ap (λ (o : Outcome Tree). o >>= λ e rest. more_expressions_at c.args.levels c.args.code (More c.more.invariant.tree e) rest) e.took) e.finish e.items e.is_last c.in-Ok-add.ensures.ok
 
 pub arms-more-init : goal.arms-more-init
@@ -225,8 +227,8 @@ entries-more-preserved t c =
 
 pub terra_simple_statement-more-preserved : goal.terra_simple_statement-more-preserved
 terra_simple_statement-more-preserved t c =
-    let e = c.in-Ok-next_expression.ensures.ok in
-    listing_next c.args.self.now c.more.self c.next_expression.new.self _ _ e.tree c.in-Ok-next_expression.x c.more.targets c.add.new.list c.more.invariant
+    let e = c.in-Ok-expression_behind.ensures.ok in
+    listing_next c.args.self.now c.more.self c.expression_behind.new.self _ _ e.tree c.in-Ok-expression_behind.x c.more.targets c.add.new.list c.more.invariant
     (terra_targets_go c.args.levels c.next_place-place.result c.more.invariant.tree (tokens_left c.more.self) (sym c.next_is.ensures ∙ c.more-test.true) ∙ ap (λ (o : Outcome Tree). o >>= λ e rest. terra_assignment_at c.args.levels c.next_place-place.result (More c.more.invariant.tree e) rest) e.took) e.finish e.items e.is_last c.in-Ok-add.ensures.ok
 
 pub block-more-preserved : goal.block-more-preserved
@@ -380,12 +382,12 @@ pub terra_inner-returns-in-Disjunction-clause-err : goal.terra_inner-returns-in-
 terra_inner-returns-in-Disjunction-clause-err t c = grind (arith, terra_parts.inner_disjunction, fails_same)
 
 pub expressions-more-smaller : goal.expressions-more-smaller
-expressions-more-smaller t c = let e = c.in-Ok-next_expression.ensures.ok in expression_shorter c.args.levels c.args.code e.tree (tokens_left c.more.self) (tokens_left c.next_expression.new.self) e.took
+expressions-more-smaller t c = let e = c.in-Ok-expression_behind.ensures.ok in expression_shorter c.args.levels c.args.code e.tree (tokens_left c.more.self) (tokens_left c.expression_behind.new.self) e.took
 
-pub expressions-returns-in-Err-next_expression-clause-err : goal.expressions-returns-in-Err-next_expression-clause-err
-expressions-returns-in-Err-next_expression-clause-err t c =
+pub expressions-returns-in-Err-expression_behind-clause-err : goal.expressions-returns-in-Err-expression_behind-clause-err
+expressions-returns-in-Err-expression_behind-clause-err t c =
     let i = c.more.invariant in
-    listing_stops c.args.self.now c.more.self _ _ c.more.list i (next_expression_at c.args.levels c.args.code (tokens_left c.more.self)) (λ e rest. more_expressions_at c.args.levels c.args.code (More i.tree e) rest) c.in-Err-next_expression.e (expressions_go c.args.levels c.args.code i.tree (tokens_left c.more.self) (sym c.next_is.ensures ∙ c.more-test.true)) c.in-Err-next_expression.ensures.err
+    listing_stops c.args.self.now c.more.self _ _ c.more.list i (expression_behind_at c.args.levels symbols.Comma c.args.code (tokens_left c.more.self)) (λ e rest. more_expressions_at c.args.levels c.args.code (More i.tree e) rest) c.in-Err-expression_behind.e (expressions_go c.args.levels c.args.code i.tree (tokens_left c.more.self) (sym c.next_is.ensures ∙ c.more-test.true)) c.in-Err-expression_behind.ensures.err
 
 pub expressions-returns-clause-ok : goal.expressions-returns-clause-ok
 expressions-returns-clause-ok t c =
@@ -466,13 +468,13 @@ initialisers-returns-clause-ok t c =
     listing_ends c.args.self.now c.more.self _ _ c.more.list i (initialisers_end c.args.levels c.in-Ok.x.1 i.tree (tokens_left c.more.self) (sym c.next_is_among.ensures ∙ c.more-test.false))
 
 pub terra_simple_statement-more-smaller : goal.terra_simple_statement-more-smaller
-terra_simple_statement-more-smaller t c = let e = c.in-Ok-next_expression.ensures.ok in terra_target_shorter c.args.levels e.tree (tokens_left c.more.self) (tokens_left c.next_expression.new.self) e.took
+terra_simple_statement-more-smaller t c = let e = c.in-Ok-expression_behind.ensures.ok in terra_target_shorter c.args.levels e.tree (tokens_left c.more.self) (tokens_left c.expression_behind.new.self) e.took
 
-pub terra_simple_statement-returns-in-Err-next_expression-clause-err : goal.terra_simple_statement-returns-in-Err-next_expression-clause-err
-terra_simple_statement-returns-in-Err-next_expression-clause-err t c =
+pub terra_simple_statement-returns-in-Err-expression_behind-clause-err : goal.terra_simple_statement-returns-in-Err-expression_behind-clause-err
+terra_simple_statement-returns-in-Err-expression_behind-clause-err t c =
     let i = c.more.invariant in
     let place = c.next_place-place.result in
-    listing_stops c.args.self.now c.more.self _ _ c.more.targets i (next_expression_at c.args.levels codes.Terra (tokens_left c.more.self)) (λ e rest. terra_assignment_at c.args.levels place (More i.tree e) rest) c.in-Err-next_expression.e (terra_targets_go c.args.levels place i.tree (tokens_left c.more.self) (sym c.next_is.ensures ∙ c.more-test.true)) c.in-Err-next_expression.ensures.err
+    listing_stops c.args.self.now c.more.self _ _ c.more.targets i (expression_behind_at c.args.levels symbols.Comma codes.Terra (tokens_left c.more.self)) (λ e rest. terra_assignment_at c.args.levels place (More i.tree e) rest) c.in-Err-expression_behind.e (terra_targets_go c.args.levels place i.tree (tokens_left c.more.self) (sym c.next_is.ensures ∙ c.more-test.true)) c.in-Err-expression_behind.ensures.err
 
 pub applied-returns-in-Err-suffix-clause-err : goal.applied-returns-in-Err-suffix-clause-err
 applied-returns-in-Err-suffix-clause-err t c =

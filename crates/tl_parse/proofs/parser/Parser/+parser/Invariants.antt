@@ -62,10 +62,10 @@ abbrev pub decreases-expressions : goal.decreases-expressions
 decreases-expressions l = 64 * l.levels + 38
 
 abbrev pub decreases-field : goal.decreases-field
-decreases-field l = 64 * l.levels + 37
+decreases-field l = 64 * l.levels + 39
 
 abbrev pub decreases-fields : goal.decreases-fields
-decreases-fields l = 64 * l.levels + 39
+decreases-fields l = 64 * l.levels + 41
 
 abbrev pub decreases-for_statement : goal.decreases-for_statement
 decreases-for_statement l = 64 * l.levels + 40
@@ -92,7 +92,7 @@ abbrev pub decreases-initial_values : goal.decreases-initial_values
 decreases-initial_values l = 64 * l.levels + 40
 
 abbrev pub decreases-keyed_field : goal.decreases-keyed_field
-decreases-keyed_field l = 64 * l.levels + 36
+decreases-keyed_field l = 64 * l.levels + 38
 
 abbrev pub decreases-local_function : goal.decreases-local_function
 decreases-local_function l = 64 * l.levels + 10
@@ -121,11 +121,8 @@ decreases-method_suffix l = 64 * l.levels + 11
 abbrev pub decreases-next_arm : goal.decreases-next_arm
 decreases-next_arm l = 64 * l.levels + 38
 
-abbrev pub decreases-next_expression : goal.decreases-next_expression
-decreases-next_expression l = 64 * l.levels + 37
-
 abbrev pub decreases-next_field : goal.decreases-next_field
-decreases-next_field l = 64 * l.levels + 38
+decreases-next_field l = 64 * l.levels + 40
 
 abbrev pub decreases-next_statement : goal.decreases-next_statement
 decreases-next_statement l = 64 * l.levels + 44
@@ -134,7 +131,7 @@ abbrev pub decreases-next_target : goal.decreases-next_target
 decreases-next_target l = 64 * l.levels + 14
 
 abbrev pub decreases-numeric : goal.decreases-numeric
-decreases-numeric l = 64 * l.levels + 38
+decreases-numeric l = 64 * l.levels + 39
 
 abbrev pub decreases-operand : goal.decreases-operand
 decreases-operand l = 64 * l.levels + 18
@@ -155,7 +152,7 @@ abbrev pub decreases-primary : goal.decreases-primary
 decreases-primary l = 64 * l.levels + 15
 
 abbrev pub decreases-repeat_statement : goal.decreases-repeat_statement
-decreases-repeat_statement l = 64 * l.levels + 36
+decreases-repeat_statement l = 64 * l.levels + 38
 
 abbrev pub decreases-return_statement : goal.decreases-return_statement
 decreases-return_statement l = 64 * l.levels + 40
@@ -168,9 +165,6 @@ decreases-simple l = 64 * l.levels + 12
 
 abbrev pub decreases-statement : goal.decreases-statement
 decreases-statement l = 64 * l.levels + 43
-
-abbrev pub decreases-step : goal.decreases-step
-decreases-step l = 64 * l.levels + 37
 
 abbrev pub decreases-suffix : goal.decreases-suffix
 decreases-suffix l = 64 * l.levels + 12
@@ -305,19 +299,19 @@ abbrev pub decreases-terra_expression : goal.decreases-terra_expression
 decreases-terra_expression l = 64 * l.levels + 31
 
 abbrev pub decreases-named_initialiser : goal.decreases-named_initialiser
-decreases-named_initialiser l = 64 * l.levels + 32
+decreases-named_initialiser l = 64 * l.levels + 38
 
 abbrev pub decreases-initialiser : goal.decreases-initialiser
-decreases-initialiser l = 64 * l.levels + 33
+decreases-initialiser l = 64 * l.levels + 39
 
 abbrev pub decreases-first_initialiser : goal.decreases-first_initialiser
-decreases-first_initialiser l = 64 * l.levels + 34
+decreases-first_initialiser l = 64 * l.levels + 38
 
 abbrev pub decreases-next_initialiser : goal.decreases-next_initialiser
-decreases-next_initialiser l = 64 * l.levels + 34
+decreases-next_initialiser l = 64 * l.levels + 40
 
 abbrev pub decreases-initialisers : goal.decreases-initialisers
-decreases-initialisers l = 64 * l.levels + 35
+decreases-initialisers l = 64 * l.levels + 41
 
 abbrev pub decreases-terra_function : goal.decreases-terra_function
 decreases-terra_function l = 64 * l.levels + 10
@@ -338,10 +332,10 @@ abbrev pub decreases-terra_code : goal.decreases-terra_code
 decreases-terra_code l = 64 * l.levels + 11
 
 abbrev pub decreases-entry : goal.decreases-entry
-decreases-entry l = 64 * l.levels + 36
+decreases-entry l = 64 * l.levels + 38
 
 abbrev pub decreases-entries : goal.decreases-entries
-decreases-entries l = 64 * l.levels + 37
+decreases-entries l = 64 * l.levels + 39
 
 abbrev pub decreases-terra_inner : goal.decreases-terra_inner
 decreases-terra_inner l = 64 * l.levels + (terra_rank_of l.precedence + 0)
@@ -378,9 +372,6 @@ invariant-entries-more l = Listing l.fn.self l.self (part_at l.fn.levels (Entrie
 
 abbrev pub decreases-entries-more : goal.decreases-entries-more
 decreases-entries-more l = length (tokens_left l.self)
-
-abbrev pub decreases-written_type : goal.decreases-written_type
-decreases-written_type l = 64 * l.levels + 36
 
 abbrev pub decreases-spliced_variable : goal.decreases-spliced_variable
 decreases-spliced_variable l = 64 * l.levels + 40
@@ -454,23 +445,20 @@ decreases-terra_parameters l = 64 * l.levels + 42
 abbrev pub decreases-terra_function_body : goal.decreases-terra_function_body
 decreases-terra_function_body l = 64 * l.levels + 49
 
-abbrev pub decreases-quoted_expression : goal.decreases-quoted_expression
-decreases-quoted_expression l = 64 * l.levels + 40
-
 abbrev pub decreases-quoted_code : goal.decreases-quoted_code
 decreases-quoted_code l = 64 * l.levels + 48
 
 abbrev pub decreases-define_terra : goal.decreases-define_terra
-decreases-define_terra l = 64 * l.levels + 36
+decreases-define_terra l = 64 * l.levels + 38
 
 abbrev pub decreases-local_terra_function : goal.decreases-local_terra_function
-decreases-local_terra_function l = 64 * l.levels + 36
+decreases-local_terra_function l = 64 * l.levels + 38
 
 abbrev pub decreases-local_struct : goal.decreases-local_struct
 decreases-local_struct l = 64 * l.levels + 36
 
 abbrev pub decreases-local_terra : goal.decreases-local_terra
-decreases-local_terra l = 64 * l.levels + 37
+decreases-local_terra l = 64 * l.levels + 39
 
 abbrev pub decreases-define_struct : goal.decreases-define_struct
 decreases-define_struct l = 64 * l.levels + 36
@@ -507,3 +495,9 @@ decreases-expression_of l = 64 * l.levels + 36
 
 abbrev pub decreases-block_of : goal.decreases-block_of
 decreases-block_of l = 64 * l.levels + 48
+
+abbrev pub decreases-expression_behind : goal.decreases-expression_behind
+decreases-expression_behind l = 64 * l.levels + 37
+
+abbrev pub decreases-optional_expression : goal.decreases-optional_expression
+decreases-optional_expression l = 64 * l.levels + 38
