@@ -106,7 +106,7 @@ terra_operand levels m left ts = as_operand levels left (lua.terra_code m) (terr
 -- by the first token
 primary_by : (levels : ℕ) (m : Mode) (left : ℕ) (symbol : Symbol) (text : List ℕ) (place : Place) (offset : ℕ) (first : Bool) (ts : List Token) →
     reading levels (lua.primary m left) (record { symbol = symbol; text = text; place = place; offset = offset; first_on_line = first } ∷ ts) ≡ primary_at levels m left (record { symbol = symbol; text = text; place = place; offset = offset; first_on_line = first } ∷ ts)
-unfolding primary_at is_simple simple_at
+unfolding primary_at is_simple simple_at constant
 primary_by levels m left symbols.Numeral text place offset first ts =
     let us : List Token = record { symbol = symbols.Numeral; text = text; place = place; offset = offset; first_on_line = first } ∷ ts in as_operand levels left lua.number (number_tree_at us) us (number_agrees levels us)
 primary_by levels m left symbols.Literal text place offset first ts =

@@ -1,5 +1,6 @@
 pub mod Looking
 pub mod Failing
+pub mod Constants
 pub mod Taking
 pub mod Numbers
 pub mod Uses

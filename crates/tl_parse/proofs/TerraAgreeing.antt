@@ -85,7 +85,7 @@ terra_constant_agrees levels s ts = sign_then levels s (λ x. give (terra_consta
 -- by the first token
 terra_primary_by : (levels left : ℕ) (symbol : Symbol) (text : List ℕ) (place : Place) (offset : ℕ) (first : Bool) (ts : List Token) →
     reading levels (terra.terra_primary left) (record { symbol = symbol; text = text; place = place; offset = offset; first_on_line = first } ∷ ts) ≡ terra_primary_at levels left (record { symbol = symbol; text = text; place = place; offset = offset; first_on_line = first } ∷ ts)
-unfolding terra_primary_at terra_simple_at
+unfolding terra_primary_at terra_simple_at terra_constant
 terra_primary_by levels left symbols.Numeral text place offset first ts =
     let us : List Token = record { symbol = symbols.Numeral; text = text; place = place; offset = offset; first_on_line = first } ∷ ts in lua.as_operand levels left terra.terra_number (terra_number_tree_at us) us (terra_number_agrees levels us)
 terra_primary_by levels left symbols.LongNumeral text place offset first ts =

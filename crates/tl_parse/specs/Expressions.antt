@@ -8,6 +8,8 @@ use Rattle.tl_tree.specs.declared.mode.Mode.{Mode}
 use Rattle.tl_tree.specs.declared.mode.Mode.TheVariants as modes
 use Rattle.tl_tree.specs.declared.mode.Shape.{Shape}
 use Rattle.tl_tree.specs.declared.mode.Shape.TheVariants as shapes
+use Rattle.tl_tree.specs.declared.node.Expression as nodes
+use Rattle.tl_tree.specs.declared.node.Expression.TheVariants as expressions
 use Rattle.tl_tree.specs.Tokens.{Token, among, is}
 use Rattle.tl_tree.specs.Tree.{Tree, Nothing, More, Name, Numeral, Literal, Nil, False, True, Varargs, Function}
 use Rattle.tl_tree.specs.Tree.{Table, Unary, Paren, Index, Select, Call, Method, NamedField, KeyedField, Part}
@@ -153,11 +155,18 @@ unfoldable pub literal_at : List Token → Outcome Tree
 literal_at ts = sign_at symbols.Literal ts >>= λ t rest. Took (Literal t.place t.text) rest
 
 -- a word or sign that is an expression
-abbrev pub constant : Symbol → Place → Tree
+unfoldable pub constant : Symbol → Place → Tree
 constant symbols.Nil place = Nil place
 constant symbols.False place = False place
 constant symbols.True place = True place
 constant _ place = Varargs place
+
+-- the same in its node
+abbrev pub constant_of : Symbol → nodes.Expression
+constant_of symbols.Nil = expressions.Nil
+constant_of symbols.False = expressions.False
+constant_of symbols.True = expressions.True
+constant_of _ = expressions.Varargs
 
 unfoldable pub constant_at : Symbol → List Token → Outcome Tree
 constant_at s ts = sign_at s ts >>= λ t rest. Took (constant s t.place) rest

@@ -8,6 +8,8 @@ use Rattle.tl_tree.specs.declared.mode.Mode.TheVariants as modes
 use Rattle.tl_tree.specs.declared.mode.Extra.TheVariants.{TerraNumber}
 use Rattle.tl_tree.specs.declared.mode.Shape.{Shape}
 use Rattle.tl_tree.specs.declared.mode.Shape.TheVariants as shapes
+use Rattle.tl_tree.specs.declared.node.TerraExpression as nodes
+use Rattle.tl_tree.specs.declared.node.TerraExpression.TheVariants as expressions
 use Rattle.tl_tree.specs.Tokens.{Token, among, is}
 use Rattle.tl_tree.specs.Tree.{Tree, Nothing, More, Numeral, NamedField, TerraNil, TerraFalse, TerraTrue, TerraUnary}
 use Rattle.tl_tree.specs.Tree.{TerraParen, Escape, TerraIndex, TerraSelect, TerraCall, TerraMethod, Construct}
@@ -118,10 +120,16 @@ unfoldable pub terra_number_tree_at : List Token → Outcome Tree
 terra_number_tree_at ts = terra_number_at ts >>= λ t rest. Took (Numeral t.place t.text) rest
 
 -- a word that is an expression
-abbrev pub terra_constant : Symbol → Place → Tree
+unfoldable pub terra_constant : Symbol → Place → Tree
 terra_constant symbols.Nil place = TerraNil place
 terra_constant symbols.False place = TerraFalse place
 terra_constant _ place = TerraTrue place
+
+-- the same in its node
+abbrev pub terra_constant_of : Symbol → nodes.TerraExpression
+terra_constant_of symbols.Nil = expressions.Nil
+terra_constant_of symbols.False = expressions.False
+terra_constant_of _ = expressions.True
 
 unfoldable pub terra_constant_at : Symbol → List Token → Outcome Tree
 terra_constant_at s ts = sign_at s ts >>= λ t rest. Took (terra_constant s t.place) rest

@@ -14,7 +14,7 @@ ghost use Rattle.tl_parse.specs.Expressions.{name_at, expressions_at, arguments_
 ghost use Rattle.tl_parse.specs.Expressions.{base_at, call_suffix_at, index_suffix_at, select_suffix_at};
 ghost use Rattle.tl_parse.specs.Expressions.{listed_arguments_at, table_argument_at, method_arguments_at, method_suffix_at};
 ghost use Rattle.tl_parse.specs.Expressions.{table_suffix_at, literal_suffix_at, suffix_at, applied_at, prefixed_at, number_tree_at};
-ghost use Rattle.tl_parse.specs.Expressions.{literal_at, constant, constant_at, function_at, table_at, simple_at};
+ghost use Rattle.tl_parse.specs.Expressions.{literal_at, constant_of, constant_at, function_at, table_at, simple_at};
 ghost use Rattle.tl_parse.specs.Expressions.{is_simple, primary_at, power_at, unary_at};
 ghost use Rattle.tl_parse.specs.Expressions.{one_more_at, binary_at, chained_at, is_name, is_other};
 ghost use Rattle.tl_parse.specs.Expressions.{field_behind_at, keyed_field_at, field_at, next_field_at, fields_at};
@@ -55,6 +55,18 @@ pub(crate) fn unary_of(symbol: Symbol) -> UnaryOperator
         Symbol::Ampersand => UnaryOperator::Address,
         Symbol::At => UnaryOperator::Dereference,
         _ => UnaryOperator::Negate,
+    }
+}
+
+/// The expression that a word or sign is.
+fn constant_of(symbol: Symbol) -> Expression
+    ensures { result ≡ constant_of symbol }
+{
+    match symbol {
+        Symbol::Nil => Expression::Nil,
+        Symbol::False => Expression::False,
+        Symbol::True => Expression::True,
+        _ => Expression::Varargs,
     }
 }
 
@@ -107,44 +119,15 @@ impl<'a> Parser<'a> {
         self.push(Node::Literal(token.place, token.text))
     }
 
-    /// "nil"
-    #[tactic(auto, using(crate::proofs::Failing::failing), unfolding(crate::specs::Expressions::constant_at))]
-    fn nil(&mut self) -> Result<NodeId, SyntaxError>
-        ensures ok { IfOk result (λ r. TookTree self.old self.new (constant_at Symbol.Nil (tokens_left self.old)) r) }
-        ensures err { IfErr result (λ e. Fails self.old (constant_at Symbol.Nil (tokens_left self.old)) e) }
+    /// "nil" | "false" | "true" | "..."
+    #[tactic(auto, using(crate::proofs::Constants::constants), unfolding(crate::specs::Expressions::constant_at))]
+    fn constant(&mut self, symbol: Symbol) -> Result<NodeId, SyntaxError>
+        requires { is_bad symbol ≡ false }
+        ensures ok { IfOk result (λ r. TookTree self.old self.new (constant_at symbol (tokens_left self.old)) r) }
+        ensures err { IfErr result (λ e. Fails self.old (constant_at symbol (tokens_left self.old)) e) }
     {
-        let place = read!(self.take(Symbol::Nil));
-        self.push(Node::Expression(place, Expression::Nil))
-    }
-
-    /// "false"
-    #[tactic(auto, using(crate::proofs::Failing::failing), unfolding(crate::specs::Expressions::constant_at))]
-    fn false_constant(&mut self) -> Result<NodeId, SyntaxError>
-        ensures ok { IfOk result (λ r. TookTree self.old self.new (constant_at Symbol.False (tokens_left self.old)) r) }
-        ensures err { IfErr result (λ e. Fails self.old (constant_at Symbol.False (tokens_left self.old)) e) }
-    {
-        let place = read!(self.take(Symbol::False));
-        self.push(Node::Expression(place, Expression::False))
-    }
-
-    /// "true"
-    #[tactic(auto, using(crate::proofs::Failing::failing), unfolding(crate::specs::Expressions::constant_at))]
-    fn true_constant(&mut self) -> Result<NodeId, SyntaxError>
-        ensures ok { IfOk result (λ r. TookTree self.old self.new (constant_at Symbol.True (tokens_left self.old)) r) }
-        ensures err { IfErr result (λ e. Fails self.old (constant_at Symbol.True (tokens_left self.old)) e) }
-    {
-        let place = read!(self.take(Symbol::True));
-        self.push(Node::Expression(place, Expression::True))
-    }
-
-    /// "..."
-    #[tactic(auto, using(crate::proofs::Failing::failing), unfolding(crate::specs::Expressions::constant_at))]
-    fn varargs(&mut self) -> Result<NodeId, SyntaxError>
-        ensures ok { IfOk result (λ r. TookTree self.old self.new (constant_at Symbol.Ellipsis (tokens_left self.old)) r) }
-        ensures err { IfErr result (λ e. Fails self.old (constant_at Symbol.Ellipsis (tokens_left self.old)) e) }
-    {
-        let place = read!(self.take(Symbol::Ellipsis));
-        self.push(Node::Expression(place, Expression::Varargs))
+        let place = read!(self.take(symbol));
+        self.push(Node::Expression(place, constant_of(symbol)))
     }
 
     /// exp
@@ -540,16 +523,16 @@ impl<'a> Parser<'a> {
             return self.literal();
         }
         if self.next_is(Symbol::Nil) {
-            return self.nil();
+            return self.constant(Symbol::Nil);
         }
         if self.next_is(Symbol::False) {
-            return self.false_constant();
+            return self.constant(Symbol::False);
         }
         if self.next_is(Symbol::True) {
-            return self.true_constant();
+            return self.constant(Symbol::True);
         }
         if self.next_is(Symbol::Ellipsis) {
-            return self.varargs();
+            return self.constant(Symbol::Ellipsis);
         }
         if self.next_is(Symbol::Function) {
             return self.function(levels);

@@ -1,6 +1,6 @@
 // Reading of Terra expressions.
 ghost use Rattle.std.specs.Prelude.{◌≡◌, ◌<◌, ◌≤◌, ◌-◌, ℕ, length, true, false, IfOk, IfErr, [], ◌∷◌};
-ghost use Rattle.tl_tree.specs.Symbols.{has};
+ghost use Rattle.tl_tree.specs.Symbols.{has, is_bad};
 ghost use Rattle.tl_tree.specs.Tokens.{among};
 ghost use Rattle.tl_tree.specs.Tree as parts;
 ghost use Rattle.tl_tree.specs.Grammar.{begins};
@@ -13,7 +13,7 @@ ghost use Rattle.tl_parse.specs.TerraExpressions.{escape_at, terra_name_at, terr
 ghost use Rattle.tl_parse.specs.TerraExpressions.{terra_call_suffix_at, terra_index_suffix_at};
 ghost use Rattle.tl_parse.specs.TerraExpressions.{terra_select_suffix_at, terra_method_suffix_at};
 ghost use Rattle.tl_parse.specs.TerraExpressions.{construct_suffix_at, terra_suffix_at, terra_applied_at};
-ghost use Rattle.tl_parse.specs.TerraExpressions.{terra_number_at, terra_number_tree_at, terra_constant_at};
+ghost use Rattle.tl_parse.specs.TerraExpressions.{terra_number_at, terra_number_tree_at, terra_constant_of, terra_constant_at};
 ghost use Rattle.tl_parse.specs.TerraExpressions.{terra_simple_at, terra_simple_symbols, terra_primary_at};
 ghost use Rattle.tl_parse.specs.TerraExpressions.{terra_prefixed_at, terra_exponent_at, terra_unary_at};
 ghost use Rattle.tl_parse.specs.TerraExpressions.{terra_symbols_of, terra_inner_at, terra_first_at};
@@ -102,6 +102,17 @@ fn terra_symbols_of(precedence: TerraPrecedence) -> &'static [Symbol]
     }
 }
 
+/// The expression that a word is.
+fn terra_constant_of(symbol: Symbol) -> TerraExpression
+    ensures { result ≡ terra_constant_of symbol }
+{
+    match symbol {
+        Symbol::Nil => TerraExpression::Nil,
+        Symbol::False => TerraExpression::False,
+        _ => TerraExpression::True,
+    }
+}
+
 impl<'a> Parser<'a> {
     /// Numeral, of Terra code
     #[tactic(auto, using(crate::proofs::Failing::failing), unfolding(crate::specs::TerraExpressions::terra_number_tree_at))]
@@ -113,34 +124,15 @@ impl<'a> Parser<'a> {
         self.push(Node::Numeral(token.place, token.text))
     }
 
-    /// "nil"
-    #[tactic(auto, using(crate::proofs::Failing::failing), unfolding(crate::specs::TerraExpressions::terra_constant_at))]
-    fn terra_nil(&mut self) -> Result<NodeId, SyntaxError>
-        ensures ok { IfOk result (λ r. TookTree self.old self.new (terra_constant_at Symbol.Nil (tokens_left self.old)) r) }
-        ensures err { IfErr result (λ e. Fails self.old (terra_constant_at Symbol.Nil (tokens_left self.old)) e) }
+    /// "nil" | "false" | "true"
+    #[tactic(auto, using(crate::proofs::Constants::constants), unfolding(crate::specs::TerraExpressions::terra_constant_at))]
+    fn terra_constant(&mut self, symbol: Symbol) -> Result<NodeId, SyntaxError>
+        requires { is_bad symbol ≡ false }
+        ensures ok { IfOk result (λ r. TookTree self.old self.new (terra_constant_at symbol (tokens_left self.old)) r) }
+        ensures err { IfErr result (λ e. Fails self.old (terra_constant_at symbol (tokens_left self.old)) e) }
     {
-        let place = read!(self.take(Symbol::Nil));
-        self.push(Node::TerraExpression(place, TerraExpression::Nil))
-    }
-
-    /// "false"
-    #[tactic(auto, using(crate::proofs::Failing::failing), unfolding(crate::specs::TerraExpressions::terra_constant_at))]
-    fn terra_false(&mut self) -> Result<NodeId, SyntaxError>
-        ensures ok { IfOk result (λ r. TookTree self.old self.new (terra_constant_at Symbol.False (tokens_left self.old)) r) }
-        ensures err { IfErr result (λ e. Fails self.old (terra_constant_at Symbol.False (tokens_left self.old)) e) }
-    {
-        let place = read!(self.take(Symbol::False));
-        self.push(Node::TerraExpression(place, TerraExpression::False))
-    }
-
-    /// "true"
-    #[tactic(auto, using(crate::proofs::Failing::failing), unfolding(crate::specs::TerraExpressions::terra_constant_at))]
-    fn terra_true(&mut self) -> Result<NodeId, SyntaxError>
-        ensures ok { IfOk result (λ r. TookTree self.old self.new (terra_constant_at Symbol.True (tokens_left self.old)) r) }
-        ensures err { IfErr result (λ e. Fails self.old (terra_constant_at Symbol.True (tokens_left self.old)) e) }
-    {
-        let place = read!(self.take(Symbol::True));
-        self.push(Node::TerraExpression(place, TerraExpression::True))
+        let place = read!(self.take(symbol));
+        self.push(Node::TerraExpression(place, terra_constant_of(symbol)))
     }
 
     /// "nil" | "false" | "true" | Numeral | Text
@@ -156,12 +148,12 @@ impl<'a> Parser<'a> {
             return self.literal();
         }
         if self.next_is(Symbol::Nil) {
-            return self.terra_nil();
+            return self.terra_constant(Symbol::Nil);
         }
         if self.next_is(Symbol::False) {
-            return self.terra_false();
+            return self.terra_constant(Symbol::False);
         }
-        self.terra_true()
+        self.terra_constant(Symbol::True)
     }
 
     /// Adds an operator with its operands, in a chain that so many tokens may continue.
