@@ -21,11 +21,11 @@ use Rattle.tl_tree.specs.LuaStatements as lua
 use Rattle.tl_tree.specs.LuaStatements.{looped, fresh, body_mode, Sequence, sequence, Parameters, parameters_of}
 use Rattle.tl_tree.proofs.Unrolling.{bind_again}
 use Rattle.tl_parse.specs.Using.{reading, part_at, used, barred, sign_at, open_at, call_at, operator_at, raise_at}
-use Rattle.tl_parse.specs.Expressions.{name_at, expressions_at, more_expressions_at, paren_at, base_at, is_other, applied_at, suffixes_at}
+use Rattle.tl_parse.specs.Expressions.{name_at, paren_at, base_at, is_other, applied_at, suffixes_at}
 use Rattle.tl_parse.specs.Expressions.{Suffixed, shape_of, suffix_at, call_suffix_at, index_suffix_at, select_suffix_at}
 use Rattle.tl_parse.specs.Expressions.{method_arguments_at, method_suffix_at, table_suffix_at, literal_suffix_at}
 use Rattle.tl_parse.specs.Expressions as suffixed
-use Rattle.tl_parse.specs.Statements.{is_unsettled, settling, settle_at, variable_at, more_targets_at, is_call, values_at}
+use Rattle.tl_parse.specs.Statements.{is_unsettled, settling, settle_at, variable_at, is_call, values_at}
 use Rattle.tl_parse.specs.Statements.{call_or_assignment_at, do_at, loop_at, while_at, repeat_at, arm_at, more_arms_at, arms_at}
 use Rattle.tl_parse.specs.Statements.{otherwise_at, if_at, numeric_at, generic, generic_at, for_at, function_statement_at}
 use Rattle.tl_parse.specs.Statements.{local_function_at, initial_values_at, local_names_at, definition_symbols, local_at}
@@ -43,6 +43,8 @@ use Rattle.tl_parse.proofs.Following.{behind_give, optional_agrees}
 use Rattle.tl_parse.proofs.TerraStatementAgreeing.{numeric_then}
 use Rattle.tl_parse.specs.Codes.{expression_behind_at, lua_symbols}
 use Rattle.tl_parse.specs.declared.parser.Code.TheVariants as codes
+use Rattle.tl_parse.specs.Lists.{element_at, more_elements_at, elements_at, expressions_at}
+use Rattle.tl_parse.specs.declared.parser.Element.TheVariants as elements
 use Rattle.tl_parse.specs.declared.parser.BlockCode.TheVariants as block_codes
 
 -- the same where an outcome is known
@@ -51,7 +53,7 @@ bind_where (Took a mid) f g h = h a mid refl
 bind_where (Stop kind rest) f g h = refl
 
 expressions_agree : (levels : ℕ) (m : Mode) (ts : List Token) → reading levels (expressions.expressions m) ts ≡ expressions_at levels (codes.Lua m) ts
-unfolding expressions_at more_expressions_at part_at
+unfolding elements_at element_at more_elements_at
 expressions_agree levels m ts = refl
 
 -- ---- targets
@@ -325,18 +327,18 @@ returned_values_agree levels m ts =
 -- ---- calls and assignments
 
 target_agrees : (levels : ℕ) (m : Mode) (place : Place) (shape : Shape) (e : Tree) (t : Token) (ts : List Token) → t.place ≡ place →
-    reading levels (lua.call_or_assignment m t shape e) ts ≡ cond (is_call shape) (Took (trees.Perform place e) ts) (more_targets_at levels m (More Nothing e) ts >>= λ targets c. values_at levels (codes.Lua m) c >>= λ es rest. Took (trees.Assign place targets es) rest)
-unfolding more_targets_at
+    reading levels (lua.call_or_assignment m t shape e) ts ≡ cond (is_call shape) (Took (trees.Perform place e) ts) (more_elements_at levels (elements.Target m) (More Nothing e) ts >>= λ targets c. values_at levels (codes.Lua m) c >>= λ es rest. Took (trees.Assign place targets es) rest)
+unfolding more_elements_at
 target_agrees levels m place shape e t ts p = by shape
   where
-    assigns : reading levels (lua.assignment m t e) ts ≡ (more_targets_at levels m (More Nothing e) ts >>= λ targets c. values_at levels (codes.Lua m) c >>= λ es rest. Took (trees.Assign place targets es) rest)
+    assigns : reading levels (lua.assignment m t e) ts ≡ (more_elements_at levels (elements.Target m) (More Nothing e) ts >>= λ targets c. values_at levels (codes.Lua m) c >>= λ es rest. Took (trees.Assign place targets es) rest)
     assigns =
-        then levels (listed_behind (lua.variable m) (More Nothing e)) (λ targets. bind (sign symbols.Equal) λ y. bind (expressions.expressions m) λ es. give (trees.Assign t.place targets es)) (λ us. more_targets_at levels m (More Nothing e) us) (λ targets c. values_at levels (codes.Lua m) c >>= λ es rest. Took (trees.Assign place targets es) rest) (λ us. refl)
+        then levels (listed_behind (lua.variable m) (More Nothing e)) (λ targets. bind (sign symbols.Equal) λ y. bind (expressions.expressions m) λ es. give (trees.Assign t.place targets es)) (λ us. more_elements_at levels (elements.Target m) (More Nothing e) us) (λ targets c. values_at levels (codes.Lua m) c >>= λ es rest. Took (trees.Assign place targets es) rest) (λ us. refl)
         (λ targets c. sym (bind_again (reading levels (sign symbols.Equal) c) (λ y us. reading levels (expressions.expressions m) us) (λ es rest. Took (trees.Assign t.place targets es) rest))
         ∙ ap (λ (o : Outcome Tree). o >>= λ es rest. Took (trees.Assign t.place targets es) rest) (values_agree levels m c)
         ∙ ap (λ (q : Place). values_at levels (codes.Lua m) c >>= λ es rest. Took (trees.Assign q targets es) rest) p) ts
 
-    by : (shape : Shape) → reading levels (lua.call_or_assignment m t shape e) ts ≡ cond (is_call shape) (Took (trees.Perform place e) ts) (more_targets_at levels m (More Nothing e) ts >>= λ targets c. values_at levels (codes.Lua m) c >>= λ es rest. Took (trees.Assign place targets es) rest)
+    by : (shape : Shape) → reading levels (lua.call_or_assignment m t shape e) ts ≡ cond (is_call shape) (Took (trees.Perform place e) ts) (more_elements_at levels (elements.Target m) (More Nothing e) ts >>= λ targets c. values_at levels (codes.Lua m) c >>= λ es rest. Took (trees.Assign place targets es) rest)
     by shapes.Call = ap (λ (q : Place). Took (trees.Perform q e) ts) p
     by shapes.Name = assigns
     by shapes.Variable = assigns
@@ -368,7 +370,7 @@ behind levels c t mid = opened_at levels (lua.statement_opens c (lua.statement_o
 -- what such a call or assignment has behind its prefix expression
 abbrev target_behind : ℕ → Mode → Place → Chained → List Token → Outcome Tree
 target_behind levels m place a b =
-    cond (is_call a.shape) (Took (trees.Perform place a.tree) b) (more_targets_at levels m (More Nothing a.tree) b >>= λ targets c. values_at levels (codes.Lua m) c >>= λ es rest. Took (trees.Assign place targets es) rest)
+    cond (is_call a.shape) (Took (trees.Perform place a.tree) b) (more_elements_at levels (elements.Target m) (More Nothing a.tree) b >>= λ targets c. values_at levels (codes.Lua m) c >>= λ es rest. Took (trees.Assign place targets es) rest)
 
 name_statement : (levels : ℕ) (c : Context) (text : List ℕ) (place : Place) (offset : ℕ) (first : Bool) (ts : List Token) (b : Option SyntaxKind) →
     let t : Token = token_with symbols.Name text place offset first in

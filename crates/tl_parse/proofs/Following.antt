@@ -47,7 +47,7 @@ either_is false x y u v p q = q
 -- ---- expressions behind signs
 
 -- an expression of either language
-expression_agrees : (levels : ℕ) (code : Code) (ts : List Token) → reading levels (expression_of code) ts ≡ part_at levels (expression_in code) ts
+pub expression_agrees : (levels : ℕ) (code : Code) (ts : List Token) → reading levels (expression_of code) ts ≡ part_at levels (expression_in code) ts
 unfolding part_at
 expression_agrees levels (codes.Lua m) ts = refl
 expression_agrees levels codes.Terra ts = refl

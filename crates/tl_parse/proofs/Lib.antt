@@ -24,5 +24,6 @@ pub mod TerraStatementAgreeing
 pub mod TerraStatementTurns
 pub mod TerraStatementParts
 pub mod TerraDefinitionAgreeing
+pub mod Elements
 pub mod Paths
 pub mod Whole

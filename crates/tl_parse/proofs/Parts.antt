@@ -7,8 +7,9 @@ use Rattle.tl_tree.specs.Tree.{Tree, Nothing, More, Expression, Operand, Concate
 use Rattle.tl_tree.specs.Grammar.{Outcome, Took, ◌>>=◌, begins}
 use Rattle.tl_tree.specs.Forms.{Chained, chain}
 use Rattle.tl_parse.specs.Using.{part_at}
-use Rattle.tl_parse.specs.Expressions.{arguments_at, expressions_at, more_expressions_at, unary_at, chained_at, binary_at, more_fields_at, fields_at}
+use Rattle.tl_parse.specs.Expressions.{arguments_at, unary_at, chained_at, binary_at, more_fields_at, fields_at}
 use Rattle.tl_parse.specs.Codes.{arguments_in}
+use Rattle.tl_parse.specs.Lists.{element_at, more_elements_at, elements_at}
 use Rattle.tl_parse.specs.declared.parser.Code.{Code}
 use Rattle.tl_parse.specs.declared.parser.Code.TheVariants as codes
 use Rattle.tl_parse.proofs.Agreeing.{unary_agrees, binary_agrees, chained_agrees, field_agrees}
@@ -28,7 +29,7 @@ unfolding part_at
 concatenation_part levels m ts = ap (λ (o : Outcome Chained). o >>= λ a rest. Took a.tree rest) (binary_agrees 3 levels m chain ts (omega arith))
 
 pub arguments_part : (levels : ℕ) (code : Code) (ts : List Token) → part_at levels (arguments_in code) ts ≡ arguments_at levels code ts
-unfolding part_at arguments_at expressions_at more_expressions_at
+unfolding part_at arguments_at elements_at element_at more_elements_at
 arguments_part levels (codes.Lua m) ts = refl
 arguments_part levels codes.Terra ts = refl
 

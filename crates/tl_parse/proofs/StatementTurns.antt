@@ -20,14 +20,14 @@ use Rattle.tl_tree.specs.LuaStatements.{Sequence, sequence, parameters_of}
 use Rattle.tl_parse.specs.Parsing.{tokens_left, token_of, with_token_by, HasNext}
 use Rattle.tl_parse.specs.Using.{reading, part_at, sign_at}
 use Rattle.tl_parse.specs.Expressions.{name_at, attached, shape_of, suffix_at}
-use Rattle.tl_parse.specs.Statements.{first_place, plain_statements, is_unsettled, settling, settle_at, variable_at, more_targets_at, next_target_at, goes_on, block_at, more_statements_at, next_statement_at, more_parameters_at, parameter_at, next_parameter_at, with_parameter, body_at}
+use Rattle.tl_parse.specs.Statements.{first_place, plain_statements, is_unsettled, settling, settle_at, goes_on, block_at, more_statements_at, next_statement_at, more_parameters_at, parameter_at, next_parameter_at, with_parameter, body_at}
 use Rattle.tl_parse.specs.Paths.{more_names_at, next_name_at, behind_sign_at, path_names_at}
 use Rattle.tl_parse.specs.declared.parser.Parser.{Parser}
 use Rattle.tl_parse.proofs.Uses.{bind_same, repeats, ends, shorter_turn}
 use Rattle.tl_parse.proofs.Agreeing.{name_agrees}
 use Rattle.tl_parse.proofs.Turns.{list_goes, list_ends, list_shorter}
 use Rattle.tl_parse.proofs.Paths.{path_turn}
-use Rattle.tl_parse.proofs.AgreeingStatements.{token_with, settle_goes, settle_ends, settle_refuses, variable_agrees, block_turn}
+use Rattle.tl_parse.proofs.AgreeingStatements.{token_with, settle_goes, settle_ends, settle_refuses, block_turn}
 use Rattle.tl_parse.proofs.AgreeingStatements.{parameter_turn, body_agrees}
 use Rattle.tl_parse.proofs.Failing.{fails_after, fails_bind, fails_from, fails_same, fails_unexpected}
 use Rattle.tl_parse.proofs.Taking.{next_of}
@@ -126,20 +126,6 @@ pub unsettled : (levels : ℕ) (m : Mode) (tree : Tree) (left : ℕ) (shape : Sh
 unfolding settle_at
 unsettled levels m tree left shape ts h k = unsettled_by levels m (chained tree left shape) (is_unsettled shape) ts h k
 
-pub targets_go : (levels : ℕ) (m : Mode) (before : Tree) (ts : List Token) → begins (is symbols.Comma) ts ≡ true → more_targets_at levels m before ts ≡ (next_target_at levels m ts >>= λ e rest. more_targets_at levels m (More before e) rest)
-unfolding more_targets_at next_target_at
-targets_go levels m before ts h =
-    list_goes levels (lua.variable m) before ts h
-    ∙ ap (λ (o : Outcome Tree). o >>= λ e rest. reading levels (listed_behind (lua.variable m) (More before e)) rest) (bind_same (sign_at symbols.Comma ts) (λ y rest. reading levels (lua.variable m) rest) (λ y rest. variable_at levels m rest) (λ y rest. variable_agrees levels m rest))
-
-pub targets_end : (levels : ℕ) (m : Mode) (before : Tree) (ts : List Token) → begins (is symbols.Comma) ts ≡ false → more_targets_at levels m before ts ≡ Took before ts
-unfolding more_targets_at
-targets_end levels m before ts h = list_ends levels (lua.variable m) before ts h
-
-pub target_shorter : (levels : ℕ) (m : Mode) (x : Tree) (ts rest : List Token) → next_target_at levels m ts ≡ Took x rest → length rest < length ts
-unfolding next_target_at
-target_shorter levels m x ts rest e = list_shorter levels (lua.variable m) x ts rest (bind_same (sign_at symbols.Comma ts) (λ y rest. reading levels (lua.variable m) rest) (λ y rest. variable_at levels m rest) (λ y rest. variable_agrees levels m rest) ∙ e)
-
 -- ---- blocks
 
 pub block_part : (levels : ℕ) (c : Context) (ts : List Token) → part_at levels (Statements c) ts ≡ block_at levels c ts
@@ -211,8 +197,6 @@ pub ruleset names = (fails_bind, fails_after, fails_from, names_go, names_end, n
 pub ruleset paths = (fails_bind, fails_after, fails_from, path_goes, path_ends, path_shorter)
 
 pub ruleset variables = (fails_bind, fails_after, fails_from, fails_unexpected, settles_on, settles, unsettled)
-
-pub ruleset targets = (fails_bind, fails_after, fails_from, targets_go, targets_end, target_shorter)
 
 pub ruleset blocks = (fails_bind, fails_after, next_of, block_part, block_goes, block_ends, statement_shorter, fails_same, fails_from)
 

@@ -28,22 +28,23 @@ use Rattle.tl_parse.specs.Statements.{last_symbols}
 use Rattle.tl_parse.specs.TerraExpressions.{escape_at, terra_name_at, terra_paren_at, terra_base_at, terra_suffixes_at, terra_applied_at}
 use Rattle.tl_parse.specs.TerraExpressions.{terra_prefixed_at, terra_unary_at, terra_binary_at}
 use Rattle.tl_parse.specs.TerraStatements.{written_type_at}
-use Rattle.tl_parse.specs.TerraStatements.{terra_variable_at, spliced_variable_at, named_variable_at, more_terra_variables_at}
-use Rattle.tl_parse.specs.TerraStatements.{terra_variables_at, terra_target_at}
+use Rattle.tl_parse.specs.TerraStatements.{terra_variable_at, spliced_variable_at, named_variable_at}
+use Rattle.tl_parse.specs.TerraStatements.{terra_target_at}
 use Rattle.tl_parse.specs.TerraStatements.{terra_assignment_at, assignment_symbols, terra_statement_behind_at, terra_simple_statement_at}
 use Rattle.tl_parse.specs.TerraStatements.{terra_do_at, terra_while_at, terra_repeat_at, terra_if_at, terra_for_at, terra_var_at}
 use Rattle.tl_parse.specs.TerraStatements.{escape_block_at, terra_return_at, terra_break_at, terra_statement_at, terra_parameter_at, spliced_parameter_at, named_parameter_at}
-use Rattle.tl_parse.specs.TerraStatements.{more_terra_parameters_at, terra_parameters_at}
+use Rattle.tl_parse.specs.TerraStatements.{terra_parameters_at}
 use Rattle.tl_parse.specs.declared.terra_expressions.TerraPrecedence.TheVariants as precedences
 use Rattle.tl_parse.proofs.Uses.{never, bind_same, opens_any, opened_at}
 use Rattle.tl_parse.proofs.Following.{sign_then, open_then, then, either_is, behind_then, behind_give, optional_agrees}
 use Rattle.tl_parse.proofs.Turns.{used_here, used_use}
 use Rattle.tl_parse.proofs.TerraAgreeing.{terra_name_agrees, terra_unary_agrees, terra_expression_agrees}
-use Rattle.tl_parse.specs.Expressions.{expressions_at, more_expressions_at}
+use Rattle.tl_parse.specs.Lists.{element_at, more_elements_at, elements_at, expressions_at}
 use Rattle.tl_parse.specs.Statements.{arm_at, arms_at, initial_values_at, loop_at, more_arms_at, otherwise_at, returned_values_at, values_at}
 use Rattle.tl_parse.specs.Statements.{Numeric, numeric, numeric_at}
 use Rattle.tl_parse.specs.Codes.{expression_of, expression_behind_at, optional_expression_at, code_of}
 use Rattle.tl_parse.specs.declared.parser.Code.TheVariants as codes
+use Rattle.tl_parse.specs.declared.parser.Element.TheVariants as elements
 use Rattle.tl_parse.specs.declared.parser.BlockCode.{BlockCode}
 use Rattle.tl_parse.specs.declared.parser.BlockCode.TheVariants as block_codes
 
@@ -126,15 +127,13 @@ terra_variable_agrees levels ts =
     (sign_then levels symbols.Name (λ n. terra.variable_behind n.0.place (Name n.0.place n.0.offset n.0.text)) (λ n a. written_type_at levels a >>= λ e rest. Took (Variable n.place (Name n.place n.offset n.text) e) rest)
     (λ n us. variable_behind_agrees levels n.place (Name n.place n.offset n.text) us) ts)
 
-pub terra_variables_agree : (levels : ℕ) (ts : List Token) → reading levels (listed terra.terra_variable) ts ≡ terra_variables_at levels ts
-unfolding terra_variables_at more_terra_variables_at
-terra_variables_agree levels ts =
-    then levels terra.terra_variable (λ e. listed_behind terra.terra_variable (More Nothing e)) (λ us. terra_variable_at levels us) (λ e us. more_terra_variables_at levels (More Nothing e) us) (λ us. terra_variable_agrees levels us) (λ e us. refl) ts
+pub terra_variables_agree : (levels : ℕ) (ts : List Token) → reading levels (listed terra.terra_variable) ts ≡ elements_at levels elements.TerraVariable ts
+unfolding elements_at element_at more_elements_at
+terra_variables_agree levels ts = refl
 
 pub terra_expressions_agree : (levels : ℕ) (ts : List Token) → reading levels expressions.terra_expressions ts ≡ expressions_at levels codes.Terra ts
-unfolding expressions_at more_expressions_at
-terra_expressions_agree levels ts =
-    then levels expressions.terra_expression (λ e. listed_behind expressions.terra_expression (More Nothing e)) (λ us. part_at levels TerraExpression us) (λ e us. more_expressions_at levels codes.Terra (More Nothing e) us) (λ us. terra_expression_agrees levels us) (λ e us. refl) ts
+unfolding elements_at element_at more_elements_at
+terra_expressions_agree levels ts = refl
 
 pub terra_initial_values_agree : (levels : ℕ) (ts : List Token) → reading levels terra.terra_initial_values ts ≡ initial_values_at levels codes.Terra ts
 unfolding initial_values_at values_at
@@ -161,17 +160,15 @@ terra_parameter_agrees levels ts =
     (λ n us. behind_give levels symbols.Colon (codes.Lua modes.Types) (λ e. Parameter n.place (Name n.place n.offset n.text) e) us) ts)
 
 pub terra_parameters_agree : (levels : ℕ) (ts : List Token) → reading levels terra.terra_parameters ts ≡ terra_parameters_at levels ts
-unfolding terra_parameters_at more_terra_parameters_at
-terra_parameters_agree levels ts =
-    either_is (begins (is symbols.CloseParen) ts) (Took Nothing ts) (reading levels (listed terra.terra_parameter) ts) (Took Nothing ts) (terra_parameter_at levels ts >>= λ p rest. more_terra_parameters_at levels (More Nothing p) rest) refl
-    (then levels terra.terra_parameter (λ e. listed_behind terra.terra_parameter (More Nothing e)) (λ us. terra_parameter_at levels us) (λ e us. more_terra_parameters_at levels (More Nothing e) us) (λ us. terra_parameter_agrees levels us) (λ e us. refl) ts)
+unfolding terra_parameters_at elements_at element_at more_elements_at
+terra_parameters_agree levels ts = refl
 
 -- ---- assignments, calls and splices
 
 pub terra_assignment_agrees : (levels : ℕ) (t : Token) (e : Tree) (ts : List Token) → reading levels (terra.terra_assignment t e) ts ≡ terra_assignment_at levels t.place (More Nothing e) ts
-unfolding terra_assignment_at more_expressions_at
+unfolding terra_assignment_at more_elements_at
 terra_assignment_agrees levels t e ts =
-    then levels (listed_behind expressions.terra_expression (More Nothing e)) (λ targets. bind (sign symbols.Equal) λ y. bind expressions.terra_expressions λ es. give (TerraAssign t.place targets es)) (λ us. more_expressions_at levels codes.Terra (More Nothing e) us)
+    then levels (listed_behind expressions.terra_expression (More Nothing e)) (λ targets. bind (sign symbols.Equal) λ y. bind expressions.terra_expressions λ es. give (TerraAssign t.place targets es)) (λ us. more_elements_at levels (elements.Expression codes.Terra) (More Nothing e) us)
     (λ targets a. sign_at symbols.Equal a >>= λ y b. expressions_at levels codes.Terra b >>= λ es rest. Took (TerraAssign t.place targets es) rest) (λ us. refl)
     (λ targets us. sign_then levels symbols.Equal (λ y. bind expressions.terra_expressions λ es. give (TerraAssign t.place targets es)) (λ y b. expressions_at levels codes.Terra b >>= λ es rest. Took (TerraAssign t.place targets es) rest)
     (λ y vs. then_give levels expressions.terra_expressions (λ es. TerraAssign t.place targets es) (λ ws. expressions_at levels codes.Terra ws) (λ ws. terra_expressions_agree levels ws) vs) us) ts
@@ -274,8 +271,8 @@ for_is levels t ts h =
 var_is : (levels : ℕ) (t : Token) (ts : List Token) → is_of (is symbols.Var) t ≡ true → reading levels (terra.terra_statement terra.FromVar t Nothing) ts ≡ terra_var_at levels (t ∷ ts)
 unfolding terra_var_at
 var_is levels t ts h =
-    signed_form levels symbols.Var t ts (terra.terra_statement terra.FromVar t Nothing) (λ u a. terra_variables_at levels a >>= λ vs b. initial_values_at levels codes.Terra b >>= λ es rest. Took (Var u.place vs es) rest) h
-    (then levels (listed terra.terra_variable) (λ vs. bind terra.terra_initial_values λ es. give (Var t.place vs es)) (λ us. terra_variables_at levels us) (λ vs b. initial_values_at levels codes.Terra b >>= λ es rest. Took (Var t.place vs es) rest) (λ us. terra_variables_agree levels us)
+    signed_form levels symbols.Var t ts (terra.terra_statement terra.FromVar t Nothing) (λ u a. elements_at levels elements.TerraVariable a >>= λ vs b. initial_values_at levels codes.Terra b >>= λ es rest. Took (Var u.place vs es) rest) h
+    (then levels (listed terra.terra_variable) (λ vs. bind terra.terra_initial_values λ es. give (Var t.place vs es)) (λ us. elements_at levels elements.TerraVariable us) (λ vs b. initial_values_at levels codes.Terra b >>= λ es rest. Took (Var t.place vs es) rest) (λ us. terra_variables_agree levels us)
     (λ vs us. then_give levels terra.terra_initial_values (λ es. Var t.place vs es) (λ ws. initial_values_at levels codes.Terra ws) (λ ws. terra_initial_values_agree levels ws) us) ts)
 
 return_is : (levels : ℕ) (t : Token) (ts : List Token) → is_of (is symbols.Return) t ≡ true → reading levels (terra.terra_statement terra.FromReturn t Nothing) ts ≡ terra_return_at levels (t ∷ ts)

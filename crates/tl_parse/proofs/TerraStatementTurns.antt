@@ -10,29 +10,27 @@ use Rattle.tl_tree.specs.Tokens.{Token, is, among, sample}
 use Rattle.tl_tree.specs.Tree as trees
 use Rattle.tl_tree.specs.Tree.{Tree, Nothing, More}
 use Rattle.tl_tree.specs.Grammar.{Grammar, give, token, bind, Outcome, Took, Stop, ◌>>=◌, begins, is_of}
-use Rattle.tl_tree.specs.Forms.{sign, semicolon, listed_behind}
+use Rattle.tl_tree.specs.Forms.{sign, semicolon}
 use Rattle.tl_tree.specs.LuaStatements.{Sequence, sequence}
 use Rattle.tl_tree.specs.LuaStatements as lua
 use Rattle.tl_tree.specs.TerraStatements as terra
 use Rattle.tl_tree.proofs.Unrolling.{bind_again}
 use Rattle.tl_parse.specs.Using.{reading, barred, sign_at}
-use Rattle.tl_parse.specs.TerraStatements.{terra_variable_at, next_terra_variable_at}
-use Rattle.tl_parse.specs.TerraStatements.{more_terra_variables_at, terra_assignment_at, terra_statement_at, next_terra_statement_at}
-use Rattle.tl_parse.specs.TerraStatements.{terra_goes_on, more_terra_statements_at, terra_parameter_at, next_terra_parameter_at}
-use Rattle.tl_parse.specs.TerraStatements.{more_terra_parameters_at}
-use Rattle.tl_parse.proofs.Uses.{both, bind_same, opened_at, opens_any, token_is, repeats, ends, shorter_turn}
+use Rattle.tl_parse.specs.TerraStatements.{terra_assignment_at, terra_statement_at, next_terra_statement_at, terra_goes_on}
+use Rattle.tl_parse.specs.TerraStatements.{more_terra_statements_at}
+use Rattle.tl_parse.proofs.Uses.{both, opened_at, opens_any, token_is, repeats, ends, shorter_turn}
 use Rattle.tl_parse.proofs.Following.{sign_then}
-use Rattle.tl_parse.proofs.Turns.{list_goes, list_ends, list_shorter, used_here, used_use, expressions_go, expressions_end, expression_shorter}
-use Rattle.tl_parse.proofs.TerraStatementAgreeing.{sign_give, terra_arm_agrees, terra_variable_agrees, terra_parameter_agrees}
+use Rattle.tl_parse.proofs.Turns.{used_here, used_use, elements_go, elements_end, element_shorter}
+use Rattle.tl_parse.proofs.TerraStatementAgreeing.{sign_give, terra_arm_agrees}
 use Rattle.tl_parse.proofs.TerraStatementAgreeing.{statement_opens, statement_by, ends_is}
 use Rattle.tl_parse.proofs.AgreeingStatements.{arm_turn}
 use Rattle.tl_parse.proofs.Failing.{fails_after, fails_bind, fails_from, fails_same}
 use Rattle.tl_parse.proofs.Taking.{next_of}
 use Rattle.tl_parse.proofs.TerraStatementParts.{terra_block_part}
-use Rattle.tl_parse.specs.Codes.{expression_behind_at}
-use Rattle.tl_parse.specs.Expressions.{expressions_at, more_expressions_at}
+use Rattle.tl_parse.specs.Lists.{next_element_at, more_elements_at, expressions_at}
 use Rattle.tl_parse.specs.Statements.{arm_at, more_arms_at, next_arm_at}
 use Rattle.tl_parse.specs.declared.parser.Code.TheVariants as codes
+use Rattle.tl_parse.specs.declared.parser.Element.TheVariants as elements
 use Rattle.tl_parse.specs.declared.parser.BlockCode.{BlockCode}
 use Rattle.tl_parse.specs.declared.parser.BlockCode.TheVariants as block_codes
 
@@ -64,57 +62,21 @@ arm_shorter levels (block_codes.Lua c) x ts rest e =
 arm_shorter levels block_codes.Terra x ts rest e =
     shorter_turn levels (λ t. is symbols.Elseif t) (λ t. Plain) (λ t. None) (sample symbols.Elseif) (λ x. terra.terra_arm Nothing) (sign_at symbols.Elseif ts >>= λ y a. arm_at levels block_codes.Terra a) (λ e. More Nothing e) x ts rest (terra_arm_turn levels Nothing ts) e
 
--- ---- lists
-
-list_goes_with : (levels : ℕ) (x : Grammar Tree) (x_at : List Token → Outcome Tree) → ((us : List Token) → reading levels x us ≡ x_at us) → (before : Tree) (ts : List Token) → begins (is symbols.Comma) ts ≡ true →
-    reading levels (listed_behind x before) ts ≡ ((sign_at symbols.Comma ts >>= λ y rest. x_at rest) >>= λ e rest. reading levels (listed_behind x (More before e)) rest)
-list_goes_with levels x x_at same before ts h =
-    list_goes levels x before ts h
-    ∙ ap (λ (o : Outcome Tree). o >>= λ e rest. reading levels (listed_behind x (More before e)) rest) (bind_same (sign_at symbols.Comma ts) (λ y rest. reading levels x rest) (λ y rest. x_at rest) (λ y us. same us))
-
-list_shorter_with : (levels : ℕ) (x : Grammar Tree) (x_at : List Token → Outcome Tree) → ((us : List Token) → reading levels x us ≡ x_at us) → (e : Tree) (ts rest : List Token) → (sign_at symbols.Comma ts >>= λ y rest. x_at rest) ≡ Took e rest → length rest < length ts
-list_shorter_with levels x x_at same e ts rest h =
-    list_shorter levels x e ts rest (bind_same (sign_at symbols.Comma ts) (λ y rest. reading levels x rest) (λ y rest. x_at rest) (λ y us. same us) ∙ h)
-
-pub terra_variables_go : (levels : ℕ) (before : Tree) (ts : List Token) → begins (is symbols.Comma) ts ≡ true → more_terra_variables_at levels before ts ≡ (next_terra_variable_at levels ts >>= λ e rest. more_terra_variables_at levels (More before e) rest)
-unfolding more_terra_variables_at next_terra_variable_at
-terra_variables_go levels before ts h = list_goes_with levels terra.terra_variable (λ us. terra_variable_at levels us) (λ us. terra_variable_agrees levels us) before ts h
-
-pub terra_variables_end : (levels : ℕ) (before : Tree) (ts : List Token) → begins (is symbols.Comma) ts ≡ false → more_terra_variables_at levels before ts ≡ Took before ts
-unfolding more_terra_variables_at
-terra_variables_end levels before ts h = list_ends levels terra.terra_variable before ts h
-
-pub terra_variable_shorter : (levels : ℕ) (x : Tree) (ts rest : List Token) → next_terra_variable_at levels ts ≡ Took x rest → length rest < length ts
-unfolding next_terra_variable_at
-terra_variable_shorter levels x ts rest e = list_shorter_with levels terra.terra_variable (λ us. terra_variable_at levels us) (λ us. terra_variable_agrees levels us) x ts rest e
-
-pub terra_parameters_go : (levels : ℕ) (before : Tree) (ts : List Token) → begins (is symbols.Comma) ts ≡ true → more_terra_parameters_at levels before ts ≡ (next_terra_parameter_at levels ts >>= λ e rest. more_terra_parameters_at levels (More before e) rest)
-unfolding more_terra_parameters_at next_terra_parameter_at
-terra_parameters_go levels before ts h = list_goes_with levels terra.terra_parameter (λ us. terra_parameter_at levels us) (λ us. terra_parameter_agrees levels us) before ts h
-
-pub terra_parameters_end : (levels : ℕ) (before : Tree) (ts : List Token) → begins (is symbols.Comma) ts ≡ false → more_terra_parameters_at levels before ts ≡ Took before ts
-unfolding more_terra_parameters_at
-terra_parameters_end levels before ts h = list_ends levels terra.terra_parameter before ts h
-
-pub terra_parameter_shorter : (levels : ℕ) (x : Tree) (ts rest : List Token) → next_terra_parameter_at levels ts ≡ Took x rest → length rest < length ts
-unfolding next_terra_parameter_at
-terra_parameter_shorter levels x ts rest e = list_shorter_with levels terra.terra_parameter (λ us. terra_parameter_at levels us) (λ us. terra_parameter_agrees levels us) x ts rest e
-
 -- ---- targets
 
-pub terra_targets_go : (levels : ℕ) (place : Place) (before : Tree) (ts : List Token) → begins (is symbols.Comma) ts ≡ true → terra_assignment_at levels place before ts ≡ (expression_behind_at levels symbols.Comma codes.Terra ts >>= λ e rest. terra_assignment_at levels place (More before e) rest)
+pub terra_targets_go : (levels : ℕ) (place : Place) (before : Tree) (ts : List Token) → begins (is symbols.Comma) ts ≡ true → terra_assignment_at levels place before ts ≡ (next_element_at levels (elements.Expression codes.Terra) ts >>= λ e rest. terra_assignment_at levels place (More before e) rest)
 unfolding terra_assignment_at
 terra_targets_go levels place before ts h =
-    ap (λ (o : Outcome Tree). o >>= λ targets a. sign_at symbols.Equal a >>= λ y b. expressions_at levels codes.Terra b >>= λ es rest. Took (trees.TerraAssign place targets es) rest) (expressions_go levels codes.Terra before ts h)
-    ∙ bind_again (expression_behind_at levels symbols.Comma codes.Terra ts) (λ e rest. more_expressions_at levels codes.Terra (More before e) rest) (λ targets a. sign_at symbols.Equal a >>= λ y b. expressions_at levels codes.Terra b >>= λ es rest. Took (trees.TerraAssign place targets es) rest)
+    ap (λ (o : Outcome Tree). o >>= λ targets a. sign_at symbols.Equal a >>= λ y b. expressions_at levels codes.Terra b >>= λ es rest. Took (trees.TerraAssign place targets es) rest) (elements_go levels (elements.Expression codes.Terra) before ts h)
+    ∙ bind_again (next_element_at levels (elements.Expression codes.Terra) ts) (λ e rest. more_elements_at levels (elements.Expression codes.Terra) (More before e) rest) (λ targets a. sign_at symbols.Equal a >>= λ y b. expressions_at levels codes.Terra b >>= λ es rest. Took (trees.TerraAssign place targets es) rest)
 
 pub terra_targets_end : (levels : ℕ) (place : Place) (before : Tree) (ts : List Token) → begins (is symbols.Comma) ts ≡ false → terra_assignment_at levels place before ts ≡ (sign_at symbols.Equal ts >>= λ y b. expressions_at levels codes.Terra b >>= λ es rest. Took (trees.TerraAssign place before es) rest)
 unfolding terra_assignment_at
 terra_targets_end levels place before ts h =
-    ap (λ (o : Outcome Tree). o >>= λ targets a. sign_at symbols.Equal a >>= λ y b. expressions_at levels codes.Terra b >>= λ es rest. Took (trees.TerraAssign place targets es) rest) (expressions_end levels codes.Terra before ts h)
+    ap (λ (o : Outcome Tree). o >>= λ targets a. sign_at symbols.Equal a >>= λ y b. expressions_at levels codes.Terra b >>= λ es rest. Took (trees.TerraAssign place targets es) rest) (elements_end levels (elements.Expression codes.Terra) before ts h)
 
-pub terra_target_shorter : (levels : ℕ) (x : Tree) (ts rest : List Token) → expression_behind_at levels symbols.Comma codes.Terra ts ≡ Took x rest → length rest < length ts
-terra_target_shorter levels x ts rest e = expression_shorter levels codes.Terra x ts rest e
+pub terra_target_shorter : (levels : ℕ) (x : Tree) (ts rest : List Token) → next_element_at levels (elements.Expression codes.Terra) ts ≡ Took x rest → length rest < length ts
+terra_target_shorter levels x ts rest e = element_shorter levels (elements.Expression codes.Terra) x ts rest e
 
 -- ---- blocks
 
@@ -217,12 +179,8 @@ terra_statement_shorter levels ended x ts rest h e =
 
 pub ruleset arms = (fails_bind, fails_after, fails_from, arms_go, arms_end, arm_shorter)
 
-pub ruleset variables = (fails_bind, fails_after, fails_from, terra_variables_go, terra_variables_end, terra_variable_shorter)
-
 pub ruleset targets = (fails_bind, fails_after, fails_from, terra_targets_go, terra_targets_end, terra_target_shorter)
 
 pub ruleset going_on = (ended_stays, open_goes_on)
 
 pub ruleset blocks = (fails_bind, fails_after, next_of, terra_block_part, terra_block_goes, terra_block_ends, terra_statement_shorter, fails_same, fails_from)
-
-pub ruleset parameters = (fails_bind, fails_after, fails_from, terra_parameters_go, terra_parameters_end, terra_parameter_shorter)

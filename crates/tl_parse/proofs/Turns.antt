@@ -13,19 +13,17 @@ use Rattle.tl_tree.specs.Tree.{Tree, Nothing, More, Part, Arguments, Expression,
 use Rattle.tl_tree.specs.Grammar.{Grammar, give, token, bind, when, Outcome, Took, Stop, ◌>>=◌, begins, is_of, unless, blame, down}
 use Rattle.tl_tree.specs.Forms.{sign, Chained, chained, operand, listed_behind, operators}
 use Rattle.tl_tree.specs.LuaExpressions as lua
-use Rattle.tl_tree.specs.TerraExpressions as terra
 use Rattle.tl_tree.proofs.Unrolling.{bind_again}
 use Rattle.tl_parse.specs.Using.{reading, part_at, used, barred, sign_at, sign_among_at, operator_at, raise_at, call_at}
-use Rattle.tl_parse.specs.Expressions.{name_at, more_expressions_at, Suffixed, attached, shape_of, call_suffix_at, index_suffix_at, select_suffix_at, method_arguments_at, method_suffix_at, table_suffix_at, literal_suffix_at, suffix_at, suffixes_at, separators, field_at, more_fields_at, next_field_at, more_if}
+use Rattle.tl_parse.specs.Expressions.{name_at, Suffixed, attached, shape_of, call_suffix_at, index_suffix_at, select_suffix_at, method_arguments_at, method_suffix_at, table_suffix_at, literal_suffix_at, suffix_at, suffixes_at, separators, field_at, more_fields_at, next_field_at, more_if}
 use Rattle.tl_parse.specs.Expressions as suffixed
 use Rattle.tl_tree.specs.Tree as trees
 use Rattle.tl_parse.proofs.Uses.{never, both, operator_with, bind_same, opened_at, opens_any, token_is, plain_is, sign_is, repeats, ends, shorter_turn}
 use Rattle.tl_parse.proofs.Agreeing.{name_agrees, method_arguments_agree, field_agrees}
 use Rattle.tl_parse.proofs.Failing.{fails_after, fails_bind, fails_from, fails_same, fails_unexpected}
 use Rattle.tl_parse.proofs.Parts.{fields_part}
-use Rattle.tl_parse.specs.Codes.{expression_behind_at}
-use Rattle.tl_parse.specs.declared.parser.Code.{Code}
-use Rattle.tl_parse.specs.declared.parser.Code.TheVariants as codes
+use Rattle.tl_parse.specs.Lists.{element_of, element_at, next_element_at, more_elements_at}
+use Rattle.tl_parse.specs.declared.parser.Element.{Element}
 
 -- ---- lists
 
@@ -52,20 +50,17 @@ pub list_shorter : (levels : ℕ) (x : Grammar Tree) (e : Tree) (ts rest : List 
 list_shorter levels x e ts rest h =
     shorter_turn levels (λ t. is symbols.Comma t) (λ t. Plain) (λ t. None) (sample symbols.Comma) (λ y. bind x λ e. give (More Nothing e)) (sign_at symbols.Comma ts >>= λ y rest. reading levels x rest) (λ e. More Nothing e) e ts rest (list_turn levels x Nothing ts) h
 
-pub expressions_go : (levels : ℕ) (code : Code) (before : Tree) (ts : List Token) → begins (is symbols.Comma) ts ≡ true → more_expressions_at levels code before ts ≡ (expression_behind_at levels symbols.Comma code ts >>= λ e rest. more_expressions_at levels code (More before e) rest)
-unfolding more_expressions_at expression_behind_at part_at
-expressions_go levels (codes.Lua m) before ts h = list_goes levels (lua.expression m) before ts h
-expressions_go levels codes.Terra before ts h = list_goes levels terra.terra_expression before ts h
+pub elements_go : (levels : ℕ) (kind : Element) (before : Tree) (ts : List Token) → begins (is symbols.Comma) ts ≡ true → more_elements_at levels kind before ts ≡ (next_element_at levels kind ts >>= λ e rest. more_elements_at levels kind (More before e) rest)
+unfolding more_elements_at next_element_at element_at
+elements_go levels kind before ts h = list_goes levels (element_of kind) before ts h
 
-pub expressions_end : (levels : ℕ) (code : Code) (before : Tree) (ts : List Token) → begins (is symbols.Comma) ts ≡ false → more_expressions_at levels code before ts ≡ Took before ts
-unfolding more_expressions_at
-expressions_end levels (codes.Lua m) before ts h = list_ends levels (lua.expression m) before ts h
-expressions_end levels codes.Terra before ts h = list_ends levels terra.terra_expression before ts h
+pub elements_end : (levels : ℕ) (kind : Element) (before : Tree) (ts : List Token) → begins (is symbols.Comma) ts ≡ false → more_elements_at levels kind before ts ≡ Took before ts
+unfolding more_elements_at
+elements_end levels kind before ts h = list_ends levels (element_of kind) before ts h
 
-pub expression_shorter : (levels : ℕ) (code : Code) (x : Tree) (ts rest : List Token) → expression_behind_at levels symbols.Comma code ts ≡ Took x rest → length rest < length ts
-unfolding expression_behind_at part_at
-expression_shorter levels (codes.Lua m) x ts rest e = list_shorter levels (lua.expression m) x ts rest e
-expression_shorter levels codes.Terra x ts rest e = list_shorter levels terra.terra_expression x ts rest e
+pub element_shorter : (levels : ℕ) (kind : Element) (x : Tree) (ts rest : List Token) → next_element_at levels kind ts ≡ Took x rest → length rest < length ts
+unfolding next_element_at element_at
+element_shorter levels kind x ts rest e = list_shorter levels (element_of kind) x ts rest e
 
 -- ---- operators that group to the left
 
@@ -238,7 +233,7 @@ suffix_shorter levels m left x ts rest h e =
     shorter_turn levels (λ t. lua.is_suffix m t) (λ t. lua.suffix_extra a t) (λ t. lua.suffix_opens m (lua.suffix_of t.symbol)) (sample symbols.Dot) (λ x. lua.suffix m (lua.suffix_of x.0.symbol) x.0 x.1 a)
     (suffix_at levels m left ts) (λ s. chained (attached s Nothing) (down left) (shape_of s)) x ts rest (suffix_turn levels m a ts h) e
 
-pub ruleset expressions = (fails_bind, fails_after, fails_from, expressions_go, expressions_end, expression_shorter)
+pub ruleset elements = (fails_bind, fails_after, fails_from, elements_go, elements_end, element_shorter)
 
 pub ruleset suffixes = (fails_bind, fails_after, fails_from, fails_unexpected, suffixes_go, suffixes_end, suffix_shorter)
 

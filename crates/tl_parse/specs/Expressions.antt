@@ -15,13 +15,14 @@ use Rattle.tl_tree.specs.Tree.{Tree, Nothing, More, Name, Numeral, Literal, Nil,
 use Rattle.tl_tree.specs.Tree.{Table, Unary, Paren, Index, Select, Call, Method, NamedField, KeyedField, Part}
 use Rattle.tl_tree.specs.Tree.{Expression, Operand, Concatenation, Arguments, Fields, FunctionBody}
 use Rattle.tl_tree.specs.Grammar.{Grammar, Outcome, Took, ◌>>=◌, begins, down, unexpected}
-use Rattle.tl_tree.specs.Forms.{listed_behind, separated_behind, Chained, chained, chain, operand, in_chain, unary_of}
+use Rattle.tl_tree.specs.Forms.{separated_behind, Chained, chained, chain, operand, in_chain, unary_of}
 use Rattle.tl_tree.specs.Forms.{comparisons, additive, multiplicative, operators}
 use Rattle.tl_tree.specs.LuaExpressions as lua
 use Rattle.tl_tree.specs.LuaExpressions.{is_varargs}
 use Rattle.tl_parse.specs.Using.{reading, part_at, sign_at, open_at, prefix_at, operator_at, raise_at, call_at}
 use Rattle.tl_parse.specs.Using.{number_at, sign_among_at}
-use Rattle.tl_parse.specs.Codes.{expression_of, expression_in, expression_behind_at}
+use Rattle.tl_parse.specs.Codes.{expression_behind_at}
+use Rattle.tl_parse.specs.Lists.{expressions_at}
 use Rattle.tl_parse.specs.TerraCode.{terra_code_at}
 use Rattle.tl_parse.specs.declared.parser.Code.{Code}
 use Rattle.tl_parse.specs.declared.parser.Code.TheVariants as codes
@@ -30,14 +31,7 @@ use Rattle.tl_parse.specs.Ranks.{ranked_at}
 unfoldable pub name_at : List Token → Outcome Tree
 name_at ts = sign_at symbols.Name ts >>= λ t rest. Took (Name t.place t.offset t.text) rest
 
--- ---- lists of expressions
-
-unfoldable pub more_expressions_at : ℕ → Code → Tree → List Token → Outcome Tree
-more_expressions_at levels code before ts = reading levels (listed_behind (expression_of code) before) ts
-
-unfoldable pub expressions_at : ℕ → Code → List Token → Outcome Tree
-expressions_at levels code ts = part_at levels (expression_in code) ts >>= λ e mid.
-    more_expressions_at levels code (More Nothing e) mid
+-- ---- arguments
 
 unfoldable pub arguments_at : ℕ → Code → List Token → Outcome Tree
 arguments_at levels code ts = if begins (is symbols.CloseParen) ts then Took Nothing ts else expressions_at levels code ts

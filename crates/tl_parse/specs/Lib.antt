@@ -2,6 +2,8 @@
 pub mod Whole
 -- Views of the code, which private contracts cite: what both languages have.
 pub mod Codes
+-- Lists with commas.
+pub mod Lists
 -- What reading each name of the grammar gives, from left to right: Lua expressions.
 pub mod Expressions
 -- Lua statements and functions.

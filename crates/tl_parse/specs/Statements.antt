@@ -14,17 +14,19 @@ use Rattle.tl_tree.specs.Tree.{Tree, Nothing, More, Just, Assign, Perform, Do, W
 use Rattle.tl_tree.specs.Tree.{GenericFor, DefineFunction, LocalFunction, Local, Emit, Return, Break, Block, Arm}
 use Rattle.tl_tree.specs.Tree.{Body, Expression, Statements, FunctionBody}
 use Rattle.tl_tree.specs.Grammar.{Grammar, give, bind, many, Outcome, Took, ◌>>=◌, begins}
-use Rattle.tl_tree.specs.Forms.{semicolon, listed_behind, Chained}
+use Rattle.tl_tree.specs.Forms.{semicolon, Chained}
 use Rattle.tl_tree.specs.LuaStatements as lua
 use Rattle.tl_tree.specs.LuaStatements.{looped, fresh, Sequence, sequence, Parameters, parameters_of, body_mode}
 use Rattle.tl_parse.specs.Using.{reading, part_at, sign_at, open_at}
-use Rattle.tl_parse.specs.Expressions.{name_at, expressions_at, base_at, applied_at}
+use Rattle.tl_parse.specs.Lists.{more_elements_at, expressions_at}
+use Rattle.tl_parse.specs.Expressions.{name_at, base_at, applied_at}
 use Rattle.tl_parse.specs.Paths.{more_names_at, names_at, path_at}
 use Rattle.tl_parse.specs.TerraDefinitions.{define_terra_at, define_struct_at, local_terra_at}
 use Rattle.tl_parse.specs.Codes.{expression_in, expression_behind_at, optional_expression_at, code_of, statements_in, arms_of}
 use Rattle.tl_parse.specs.Codes.{looped_code, first_symbols}
 use Rattle.tl_parse.specs.declared.parser.Code.{Code}
 use Rattle.tl_parse.specs.declared.parser.Code.TheVariants as codes
+use Rattle.tl_parse.specs.declared.parser.Element.TheVariants as elements
 use Rattle.tl_parse.specs.declared.parser.BlockCode.{BlockCode}
 use Rattle.tl_parse.specs.declared.parser.BlockCode.TheVariants as block_codes
 
@@ -52,12 +54,6 @@ settle_at levels m a ts = reading levels (settling (is_unsettled a.shape) m a) t
 unfoldable pub variable_at : ℕ → Mode → List Token → Outcome Tree
 variable_at levels m ts = base_at levels m ts >>= λ b mid. settle_at levels m b mid >>= λ a rest. Took a.tree rest
 
-unfoldable pub more_targets_at : ℕ → Mode → Tree → List Token → Outcome Tree
-more_targets_at levels m before ts = reading levels (listed_behind (lua.variable m) before) ts
-
-unfoldable pub next_target_at : ℕ → Mode → List Token → Outcome Tree
-next_target_at levels m ts = sign_at symbols.Comma ts >>= λ y a. variable_at levels m a
-
 abbrev pub is_call : Shape → Bool
 is_call shapes.Call = true
 is_call _ = false
@@ -70,7 +66,7 @@ unfoldable pub call_or_assignment_at : ℕ → Mode → List Token → Outcome T
 call_or_assignment_at levels m ts =
     applied_at levels m true ts >>= λ a b.
     if is_call a.shape then Took (Perform (first_place ts) a.tree) b
-    else (more_targets_at levels m (More Nothing a.tree) b >>= λ targets c. values_at levels (codes.Lua m) c
+    else (more_elements_at levels (elements.Target m) (More Nothing a.tree) b >>= λ targets c. values_at levels (codes.Lua m) c
     >>= λ es rest. Took (Assign (first_place ts) targets es) rest)
 
 -- ---- loops and choices

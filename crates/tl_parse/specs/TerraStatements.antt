@@ -13,17 +13,18 @@ use Rattle.tl_tree.specs.Tree.{TerraWhile, TerraRepeat, TerraIf, TerraFor, Var, 
 use Rattle.tl_tree.specs.Tree.{Block, Quoted, TerraBody, Parameter, SpliceParameter, Variable, Expression}
 use Rattle.tl_tree.specs.Tree.{Statements, TerraExpression, TerraStatements}
 use Rattle.tl_tree.specs.Grammar.{Grammar, give, bind, many, Outcome, Took, ◌>>=◌, begins}
-use Rattle.tl_tree.specs.Forms.{semicolon, listed_behind, Chained, chained, chain}
+use Rattle.tl_tree.specs.Forms.{semicolon, Chained, chained, chain}
 use Rattle.tl_tree.specs.LuaStatements.{Sequence, sequence}
 use Rattle.tl_tree.specs.TerraStatements as terra
 use Rattle.tl_parse.specs.Using.{reading, part_at, sign_at, open_at}
 use Rattle.tl_parse.specs.Statements.{first_place, is_call, last_symbols, returned_values_at}
 use Rattle.tl_parse.specs.TerraExpressions.{terra_name_at}
 use Rattle.tl_parse.specs.TerraExpressions.{terra_applied_at}
-use Rattle.tl_parse.specs.Expressions.{expressions_at, more_expressions_at}
+use Rattle.tl_parse.specs.Lists.{more_elements_at, elements_at, expressions_at}
 use Rattle.tl_parse.specs.Statements.{arms_at, initial_values_at, loop_at, numeric_at, otherwise_at}
 use Rattle.tl_parse.specs.Codes.{expression_behind_at, optional_expression_at}
 use Rattle.tl_parse.specs.declared.parser.Code.TheVariants as codes
+use Rattle.tl_parse.specs.declared.parser.Element.TheVariants as elements
 use Rattle.tl_parse.specs.declared.parser.BlockCode.TheVariants as block_codes
 
 -- ---- parts of statements
@@ -49,16 +50,6 @@ unfoldable pub terra_variable_at : ℕ → List Token → Outcome Tree
 terra_variable_at levels ts =
     if begins (is symbols.OpenBracket) ts then spliced_variable_at levels ts else named_variable_at levels ts
 
-unfoldable pub next_terra_variable_at : ℕ → List Token → Outcome Tree
-next_terra_variable_at levels ts = sign_at symbols.Comma ts >>= λ y a. terra_variable_at levels a
-
-unfoldable pub more_terra_variables_at : ℕ → Tree → List Token → Outcome Tree
-more_terra_variables_at levels before ts = reading levels (listed_behind terra.terra_variable before) ts
-
-unfoldable pub terra_variables_at : ℕ → List Token → Outcome Tree
-terra_variables_at levels ts = terra_variable_at levels ts >>= λ v rest.
-    more_terra_variables_at levels (More Nothing v) rest
-
 -- ---- assignments, calls and splices
 
 abbrev pub is_escape : Shape → Bool
@@ -74,7 +65,7 @@ terra_target_at levels ts =
 -- more targets and the values behind a list of targets
 unfoldable pub terra_assignment_at : ℕ → Place → Tree → List Token → Outcome Tree
 terra_assignment_at levels place before ts =
-    more_expressions_at levels codes.Terra before ts >>= λ targets a. sign_at symbols.Equal a >>= λ y b.
+    more_elements_at levels (elements.Expression codes.Terra) before ts >>= λ targets a. sign_at symbols.Equal a >>= λ y b.
     expressions_at levels codes.Terra b >>= λ es rest.
     Took (TerraAssign place targets es) rest
 
@@ -120,7 +111,7 @@ terra_for_at levels ts =
 
 unfoldable pub terra_var_at : ℕ → List Token → Outcome Tree
 terra_var_at levels ts =
-    sign_at symbols.Var ts >>= λ t a. terra_variables_at levels a >>= λ vs b. initial_values_at levels codes.Terra b
+    sign_at symbols.Var ts >>= λ t a. elements_at levels elements.TerraVariable a >>= λ vs b. initial_values_at levels codes.Terra b
     >>= λ es rest. Took (Var t.place vs es) rest
 
 unfoldable pub escape_block_at : ℕ → List Token → Outcome Tree
@@ -196,16 +187,9 @@ unfoldable pub terra_parameter_at : ℕ → List Token → Outcome Tree
 terra_parameter_at levels ts =
     if begins (is symbols.OpenBracket) ts then spliced_parameter_at levels ts else named_parameter_at levels ts
 
-unfoldable pub next_terra_parameter_at : ℕ → List Token → Outcome Tree
-next_terra_parameter_at levels ts = sign_at symbols.Comma ts >>= λ y a. terra_parameter_at levels a
-
-unfoldable pub more_terra_parameters_at : ℕ → Tree → List Token → Outcome Tree
-more_terra_parameters_at levels before ts = reading levels (listed_behind terra.terra_parameter before) ts
-
 unfoldable pub terra_parameters_at : ℕ → List Token → Outcome Tree
-terra_parameters_at levels ts =
-    if begins (is symbols.CloseParen) ts then Took Nothing ts else (terra_parameter_at levels ts >>= λ p rest.
-    more_terra_parameters_at levels (More Nothing p) rest)
+terra_parameters_at levels ts = if begins (is symbols.CloseParen) ts then Took Nothing ts
+    else elements_at levels elements.TerraParameter ts
 
 -- behind a "(" at this place
 unfoldable pub terra_function_body_at : ℕ → Place → List Token → Outcome Tree

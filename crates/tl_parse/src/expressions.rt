@@ -1,4 +1,4 @@
-// Reading of Lua expressions (Lua 5.1 manual, section 2.5), and of lists of expressions of either language.
+// Reading of Lua expressions (Lua 5.1 manual, section 2.5), and of what expressions of either language hold.
 ghost use Rattle.std.specs.Prelude.{◌≡◌, ◌<◌, ◌≤◌, ◌-◌, ℕ, length, true, false, IfOk, IfErr, [], ◌∷◌};
 ghost use Rattle.tl_tree.specs.Symbols.{has, is_bad};
 ghost use Rattle.tl_tree.specs.Forms as forms;
@@ -10,7 +10,7 @@ ghost use Rattle.tl_parse.specs.Parsing.{tokens_left, Fails, TookToken, TookTree
 ghost use Rattle.tl_parse.specs.Parsing.{TookMaybe, TookOption};
 ghost use Rattle.tl_parse.specs.Using.{part_at, number_at};
 ghost use Rattle.tl_parse.specs.Codes.{expression_in, expression_behind_at, optional_expression_at, arguments_in};
-ghost use Rattle.tl_parse.specs.Expressions.{name_at, expressions_at, arguments_at, paren_at};
+ghost use Rattle.tl_parse.specs.Expressions.{name_at, arguments_at, paren_at};
 ghost use Rattle.tl_parse.specs.Expressions.{base_at, call_suffix_at, index_suffix_at, select_suffix_at};
 ghost use Rattle.tl_parse.specs.Expressions.{listed_arguments_at, table_argument_at, method_arguments_at, method_suffix_at};
 ghost use Rattle.tl_parse.specs.Expressions.{table_suffix_at, literal_suffix_at, suffix_at, applied_at, prefixed_at, number_tree_at};
@@ -22,10 +22,10 @@ ghost use Rattle.tl_parse.specs.Expressions.{simple_symbols, separators};
 ghost use Rattle.tl_parse.specs.Going.{TookOperation, TookSuffix};
 
 use crate::error::SyntaxError;
-use crate::parser::{CHAIN, Code, Next, Operand, Parser, add};
+use crate::parser::{CHAIN, Code, Element, Next, Operand, Parser};
 use crate::symbols::{CONCATENATION, rank_behind};
 use tl_base::NodeId;
-use tl_tree::{Expression, Mode, Node, NodeList, Piece, Shape, Symbol, UnaryOperator};
+use tl_tree::{Expression, Mode, Node, NodeList, Shape, Symbol, UnaryOperator};
 
 /// How many ranks the operators have that group to the left, and `..`.
 const RANKS: u8 = 6;
@@ -223,23 +223,7 @@ impl<'a> Parser<'a> {
         if self.next_is(Symbol::CloseParen) {
             return Ok(self.no_nodes());
         }
-        self.expressions(code, levels)
-    }
-
-    /// exps = exp {"," exp}, or texps = texp {"," texp}
-    #[cycle(parser)]
-    #[tactic(auto, using(crate::proofs::Turns::expressions), unfolding(crate::specs::Expressions::expressions_at))]
-    pub(crate) fn expressions(&mut self, code: Code, levels: u32) -> Result<NodeList, SyntaxError>
-        ensures ok { IfOk result (λ r. TookList self.old self.new (expressions_at levels code (tokens_left self.old)) r) }
-        ensures err { IfErr result (λ e. Fails self.old (expressions_at levels code (tokens_left self.old)) e) }
-    {
-        let first = read!(self.expression_of(code, levels));
-        let mut list = read!(self.one_node(first));
-        'more: while self.next_is(Symbol::Comma) {
-            let next = read!(self.expression_behind(Symbol::Comma, code, levels));
-            read!(add(&mut list, next));
-        }
-        Ok(list)
+        self.elements(Element::Expression(code), levels)
     }
 
     /// "(" exp ")"

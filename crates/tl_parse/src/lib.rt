@@ -23,6 +23,7 @@ macro_rules! pass {
 pub mod chunk;
 pub mod error;
 mod expressions;
+mod lists;
 mod numerals;
 mod parser;
 mod statements;

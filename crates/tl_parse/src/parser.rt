@@ -80,6 +80,15 @@ pub(crate) enum Code {
     Terra,
 }
 
+/// What a list with commas holds.
+#[derive(Clone, Copy)]
+pub(crate) enum Element {
+    Expression(Code),
+    Target(Mode),
+    TerraVariable,
+    TerraParameter,
+}
+
 /// The language of a block.
 #[derive(Clone, Copy)]
 pub(crate) enum BlockCode {

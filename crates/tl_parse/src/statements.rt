@@ -9,7 +9,7 @@ ghost use Rattle.tl_tree.specs.Tokens.{among};
 ghost use Rattle.tl_parse.specs.Parsing.{tokens_left, Fails, HasNext, TookTree, TookList, TookOption, TookMaybe};
 ghost use Rattle.tl_parse.specs.Using.{part_at};
 ghost use Rattle.tl_parse.specs.Codes.{code_of, statements_in, looped_code, first_symbols};
-ghost use Rattle.tl_parse.specs.Statements.{first_place, is_unsettled, variable_at, next_target_at, is_call};
+ghost use Rattle.tl_parse.specs.Statements.{first_place, is_unsettled, variable_at, is_call};
 ghost use Rattle.tl_parse.specs.Statements.{values_at, call_or_assignment_at, do_at, loop_at, while_at, repeat_at};
 ghost use Rattle.tl_parse.specs.Statements.{arm_at, next_arm_at, arms_at, otherwise_at, if_at, numeric_at};
 ghost use Rattle.tl_parse.specs.Statements.{generic_at, for_at, function_statement_at, local_function_at};
@@ -21,7 +21,7 @@ ghost use Rattle.tl_parse.specs.Paths.{names_at, next_name_at, behind_sign_at, p
 ghost use Rattle.tl_parse.specs.Going.{TookNumeric, TookGeneric, TookParameters, TookStatement};
 
 use crate::error::SyntaxError;
-use crate::parser::{BlockCode, Code, Parser, add};
+use crate::parser::{BlockCode, Code, Element, Parser, add};
 use tl_base::{NodeId, Place};
 use tl_tree::{Context, Mode, Node, NodeList, Piece, Shape, Statement, Symbol};
 
@@ -227,7 +227,7 @@ impl<'a> Parser<'a> {
     /// var = Name | prefix "[" exp "]" | prefix "." Name
     #[cycle(parser)]
     #[tactic(auto, using(crate::proofs::StatementTurns::variables), unfolding(crate::specs::Statements::variable_at))]
-    fn variable(&mut self, mode: Mode, levels: u32) -> Result<NodeId, SyntaxError>
+    pub(crate) fn variable(&mut self, mode: Mode, levels: u32) -> Result<NodeId, SyntaxError>
         ensures ok { IfOk result (λ r. TookTree self.old self.new (variable_at levels mode (tokens_left self.old)) r) }
         ensures err { IfErr result (λ e. Fails self.old (variable_at levels mode (tokens_left self.old)) e) }
     {
@@ -241,17 +241,6 @@ impl<'a> Parser<'a> {
         Ok(a.node)
     }
 
-    /// "," var
-    #[cycle(parser)]
-    #[tactic(auto, using(crate::proofs::Failing::failing), unfolding(crate::specs::Statements::next_target_at))]
-    fn next_target(&mut self, mode: Mode, levels: u32) -> Result<NodeId, SyntaxError>
-        ensures ok { IfOk result (λ r. TookTree self.old self.new (next_target_at levels mode (tokens_left self.old)) r) }
-        ensures err { IfErr result (λ e. Fails self.old (next_target_at levels mode (tokens_left self.old)) e) }
-    {
-        pass!(self.take(Symbol::Comma));
-        self.variable(mode, levels)
-    }
-
     /// "=" exps, or "=" texps
     #[cycle(parser)]
     #[tactic(auto, using(crate::proofs::Failing::failing), unfolding(crate::specs::Statements::values_at))]
@@ -260,12 +249,12 @@ impl<'a> Parser<'a> {
         ensures err { IfErr result (λ e. Fails self.old (values_at levels code (tokens_left self.old)) e) }
     {
         pass!(self.take(Symbol::Equal));
-        self.expressions(code, levels)
+        self.elements(Element::Expression(code), levels)
     }
 
     /// stat = var {"," var} "=" exps | call
     #[cycle(parser)]
-    #[tactic(auto, using(crate::proofs::StatementTurns::targets), unfolding(crate::specs::Statements::call_or_assignment_at))]
+    #[tactic(auto, using(crate::proofs::Turns::elements), unfolding(crate::specs::Statements::call_or_assignment_at))]
     fn call_or_assignment(&mut self, mode: Mode, levels: u32) -> Result<NodeId, SyntaxError>
         requires { HasNext (tokens_left self.old) }
         ensures ok { IfOk result (λ r. TookTree self.old self.new (call_or_assignment_at levels mode (tokens_left self.old)) r) }
@@ -278,7 +267,7 @@ impl<'a> Parser<'a> {
         }
         let mut targets = read!(self.one_node(a.node));
         'more: while self.next_is(Symbol::Comma) {
-            let next = read!(self.next_target(mode, levels));
+            let next = read!(self.next_element(Element::Target(mode), levels));
             read!(add(&mut targets, next));
         }
         let values = read!(self.values(Code::Lua(mode), levels));
@@ -446,7 +435,7 @@ impl<'a> Parser<'a> {
         ensures err { IfErr result (λ e. Fails self.old (generic_at levels context (tokens_left self.old)) e) }
     {
         pass!(self.take(Symbol::In));
-        let values = read!(self.expressions(Code::Lua(context.mode), levels));
+        let values = read!(self.elements(Element::Expression(Code::Lua(context.mode)), levels));
         let block = read!(self.loop_block(BlockCode::Lua(context), levels));
         Ok((values, block))
     }
@@ -562,7 +551,7 @@ impl<'a> Parser<'a> {
         ensures err { IfErr result (λ e. Fails self.old (returned_values_at levels code (tokens_left self.old)) e) }
     {
         if self.next_is_among(first_symbols(code)) {
-            return self.expressions(code, levels);
+            return self.elements(Element::Expression(code), levels);
         }
         Ok(self.no_nodes())
     }

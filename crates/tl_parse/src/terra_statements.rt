@@ -8,7 +8,6 @@ ghost use Rattle.tl_parse.specs.Using.{part_at};
 ghost use Rattle.tl_parse.specs.Going.{TookStatement};
 ghost use Rattle.tl_parse.specs.Statements.{is_call};
 ghost use Rattle.tl_parse.specs.TerraStatements.{terra_variable_at, spliced_variable_at, named_variable_at};
-ghost use Rattle.tl_parse.specs.TerraStatements.{next_terra_variable_at, terra_variables_at};
 ghost use Rattle.tl_parse.specs.TerraStatements.{terra_target_at};
 ghost use Rattle.tl_parse.specs.TerraStatements.{terra_simple_statement_at, is_escape, terra_goes_on};
 ghost use Rattle.tl_parse.specs.TerraStatements.{terra_function_body_at, quoted_code_at};
@@ -16,10 +15,10 @@ ghost use Rattle.tl_parse.specs.TerraStatements.{terra_do_at, terra_while_at, te
 ghost use Rattle.tl_parse.specs.TerraStatements.{terra_for_at, terra_var_at, escape_block_at, terra_return_at};
 ghost use Rattle.tl_parse.specs.TerraStatements.{terra_break_at, terra_statement_at, next_terra_statement_at};
 ghost use Rattle.tl_parse.specs.TerraStatements.{terra_parameter_at, spliced_parameter_at, named_parameter_at};
-ghost use Rattle.tl_parse.specs.TerraStatements.{next_terra_parameter_at, terra_parameters_at};
+ghost use Rattle.tl_parse.specs.TerraStatements.{terra_parameters_at};
 
 use crate::error::SyntaxError;
-use crate::parser::{BlockCode, CHAIN, Code, Operand, Parser, add};
+use crate::parser::{BlockCode, CHAIN, Code, Element, Operand, Parser, add};
 use crate::statements::is_call;
 use tl_base::{NodeId, Place};
 use tl_tree::{
@@ -98,7 +97,7 @@ impl<'a> Parser<'a> {
     /// tvar = tname [":" exp]
     #[cycle(parser)]
     #[tactic(auto, using(crate::proofs::Failing::failing), unfolding(crate::specs::TerraStatements::terra_variable_at))]
-    fn terra_variable(&mut self, levels: u32) -> Result<NodeId, SyntaxError>
+    pub(crate) fn terra_variable(&mut self, levels: u32) -> Result<NodeId, SyntaxError>
         ensures ok { IfOk result (λ r. TookTree self.old self.new (terra_variable_at levels (tokens_left self.old)) r) }
         ensures err { IfErr result (λ e. Fails self.old (terra_variable_at levels (tokens_left self.old)) e) }
     {
@@ -106,33 +105,6 @@ impl<'a> Parser<'a> {
             return self.spliced_variable(levels);
         }
         self.named_variable(levels)
-    }
-
-    /// "," tvar
-    #[cycle(parser)]
-    #[tactic(auto, using(crate::proofs::Failing::failing), unfolding(crate::specs::TerraStatements::next_terra_variable_at))]
-    fn next_terra_variable(&mut self, levels: u32) -> Result<NodeId, SyntaxError>
-        ensures ok { IfOk result (λ r. TookTree self.old self.new (next_terra_variable_at levels (tokens_left self.old)) r) }
-        ensures err { IfErr result (λ e. Fails self.old (next_terra_variable_at levels (tokens_left self.old)) e) }
-    {
-        pass!(self.take(Symbol::Comma));
-        self.terra_variable(levels)
-    }
-
-    /// tvar {"," tvar}
-    #[cycle(parser)]
-    #[tactic(auto, using(crate::proofs::TerraStatementTurns::variables), unfolding(crate::specs::TerraStatements::terra_variables_at))]
-    fn terra_variables(&mut self, levels: u32) -> Result<NodeList, SyntaxError>
-        ensures ok { IfOk result (λ r. TookList self.old self.new (terra_variables_at levels (tokens_left self.old)) r) }
-        ensures err { IfErr result (λ e. Fails self.old (terra_variables_at levels (tokens_left self.old)) e) }
-    {
-        let first = read!(self.terra_variable(levels));
-        let mut list = read!(self.one_node(first));
-        'more: while self.next_is(Symbol::Comma) {
-            let next = read!(self.next_terra_variable(levels));
-            read!(add(&mut list, next));
-        }
-        Ok(list)
     }
 
     /// the first texp of a statement that no word begins
@@ -171,11 +143,11 @@ impl<'a> Parser<'a> {
         }
         let mut targets = read!(self.one_node(first.node));
         'more: while self.next_is(Symbol::Comma) {
-            let next = read!(self.expression_behind(Symbol::Comma, Code::Terra, levels));
+            let next = read!(self.next_element(Element::Expression(Code::Terra), levels));
             read!(add(&mut targets, next));
         }
         read!(self.take(Symbol::Equal));
-        let values = read!(self.expressions(Code::Terra, levels));
+        let values = read!(self.elements(Element::Expression(Code::Terra), levels));
         self.push(Node::TerraStatement(place, TerraStatement::Assign(targets, values)))
     }
 
@@ -256,7 +228,7 @@ impl<'a> Parser<'a> {
         ensures err { IfErr result (λ e. Fails self.old (terra_var_at levels (tokens_left self.old)) e) }
     {
         let place = read!(self.take(Symbol::Var));
-        let variables = read!(self.terra_variables(levels));
+        let variables = read!(self.elements(Element::TerraVariable, levels));
         let values = read!(self.initial_values(Code::Terra, levels));
         self.push(Node::TerraStatement(place, TerraStatement::Var(variables, values)))
     }
@@ -410,7 +382,7 @@ impl<'a> Parser<'a> {
     /// param = Name ":" exp | "[" exp "]"
     #[cycle(parser)]
     #[tactic(auto, using(crate::proofs::Failing::failing), unfolding(crate::specs::TerraStatements::terra_parameter_at))]
-    fn terra_parameter(&mut self, levels: u32) -> Result<NodeId, SyntaxError>
+    pub(crate) fn terra_parameter(&mut self, levels: u32) -> Result<NodeId, SyntaxError>
         ensures ok { IfOk result (λ r. TookTree self.old self.new (terra_parameter_at levels (tokens_left self.old)) r) }
         ensures err { IfErr result (λ e. Fails self.old (terra_parameter_at levels (tokens_left self.old)) e) }
     {
@@ -420,20 +392,9 @@ impl<'a> Parser<'a> {
         self.named_parameter(levels)
     }
 
-    /// "," param
-    #[cycle(parser)]
-    #[tactic(auto, using(crate::proofs::Failing::failing), unfolding(crate::specs::TerraStatements::next_terra_parameter_at))]
-    fn next_terra_parameter(&mut self, levels: u32) -> Result<NodeId, SyntaxError>
-        ensures ok { IfOk result (λ r. TookTree self.old self.new (next_terra_parameter_at levels (tokens_left self.old)) r) }
-        ensures err { IfErr result (λ e. Fails self.old (next_terra_parameter_at levels (tokens_left self.old)) e) }
-    {
-        pass!(self.take(Symbol::Comma));
-        self.terra_parameter(levels)
-    }
-
     /// [param {"," param}], up to a ")"
     #[cycle(parser)]
-    #[tactic(auto, using(crate::proofs::TerraStatementTurns::parameters), unfolding(crate::specs::TerraStatements::terra_parameters_at))]
+    #[tactic(auto, using(crate::proofs::Failing::failing), unfolding(crate::specs::TerraStatements::terra_parameters_at))]
     fn terra_parameters(&mut self, levels: u32) -> Result<NodeList, SyntaxError>
         ensures ok { IfOk result (λ r. TookList self.old self.new (terra_parameters_at levels (tokens_left self.old)) r) }
         ensures err { IfErr result (λ e. Fails self.old (terra_parameters_at levels (tokens_left self.old)) e) }
@@ -441,13 +402,7 @@ impl<'a> Parser<'a> {
         if self.next_is(Symbol::CloseParen) {
             return Ok(self.no_nodes());
         }
-        let first = read!(self.terra_parameter(levels));
-        let mut list = read!(self.one_node(first));
-        'more: while self.next_is(Symbol::Comma) {
-            let next = read!(self.next_terra_parameter(levels));
-            read!(add(&mut list, next));
-        }
-        Ok(list)
+        self.elements(Element::TerraParameter, levels)
     }
 
     /// tbody = "(" [param {"," param}] ")" [":" exp] tblock "end", behind its "(" at this place

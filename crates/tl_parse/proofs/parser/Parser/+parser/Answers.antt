@@ -1,6 +1,5 @@
 use Rattle.std.proofs.Common.{◌≡◌, ℕ, ◌<◌, ◌≤◌, arith, sym, ap, subst, ◌∙◌, cond, Bool, List, length}
 use Rattle.tl_tree.specs.declared.mode.Shape.{Shape}
-use Rattle.tl_tree.specs.declared.symbol.Symbol.TheVariants as symbols
 use Rattle.tl_tree.specs.Tokens.{Token}
 use Rattle.tl_tree.specs.Item.{Item}
 use Rattle.tl_tree.specs.Nodes.{laid}
@@ -9,19 +8,20 @@ use Rattle.tl_tree.specs.Grammar.{Outcome, Took, ◌>>=◌, down}
 use Rattle.tl_tree.specs.Forms.{Chained, chained}
 use Rattle.tl_tree.specs.LuaStatements.{Sequence, sequence}
 use Rattle.tl_parse.specs.Parsing.{token_of, placed, tokens_left, items_of}
-use Rattle.tl_parse.specs.Expressions.{Suffixed, attached, shape_of, suffixes_at, expressions_at, more_expressions_at, field_at, fields_at, more_fields_at, suffix_at, next_field_at, more_if}
-use Rattle.tl_parse.specs.Codes.{expression_behind_at}
+use Rattle.tl_parse.specs.Expressions.{Suffixed, attached, shape_of, suffixes_at, field_at, fields_at, more_fields_at, suffix_at, next_field_at, more_if}
+use Rattle.tl_parse.specs.Lists.{next_element_at, more_elements_at, elements_at}
 use Rattle.tl_parse.specs.Ranks.{rank_at}
 use Rattle.tl_parse.specs.Statements.{arms_at, more_arms_at, variable_at, settle_at, more_statements_at, next_arm_at, next_statement_at}
 use Rattle.tl_parse.specs.TerraExpressions.{TerraSuffixed, terra_attached, terra_shape_of, terra_suffixes_at, terra_applied_at, terra_suffix_at, next_initialiser_at, more_initialisers_at}
 use Rattle.tl_parse.specs.TerraExpressions.{terra_more_at, terra_binary_at}
-use Rattle.tl_parse.specs.TerraStatements.{terra_variables_at, more_terra_variables_at, next_terra_variable_at, next_terra_parameter_at, next_terra_statement_at}
-use Rattle.tl_parse.specs.TerraStatements.{terra_parameter_at, terra_parameters_at, more_terra_parameters_at, terra_assignment_at}
+use Rattle.tl_parse.specs.TerraStatements.{next_terra_statement_at, terra_assignment_at}
 use Rattle.tl_parse.specs.TerraStatements.{more_terra_statements_at}
 use Rattle.tl_parse.specs.Entries.{more_entries_at, entry_at}
 use Rattle.tl_parse.specs.declared.parser.Code.TheVariants as codes
+use Rattle.tl_parse.specs.declared.parser.Element.TheVariants as elements
+use Rattle.tl_parse.proofs.Elements.{expression_element, target_element, variable_element, parameter_element}
 use Rattle.tl_parse.proofs.Uses.{operator_with}
-use Rattle.tl_parse.proofs.Turns.{suffix_shorter, suffixes_go, expressions_go, expressions_end, expression_shorter, fields_go, fields_end, field_shorter}
+use Rattle.tl_parse.proofs.Turns.{suffix_shorter, suffixes_go, elements_go, elements_end, element_shorter, fields_go, fields_end, field_shorter}
 use Rattle.tl_parse.proofs.Failing.{fails_same, fails_bind, fails_from}
 use Rattle.tl_parse.proofs.Parts.{fields_part}
 use Rattle.tl_parse.proofs.Climbing.{ranked_below, one_more_shorter}
@@ -32,7 +32,7 @@ use Rattle.tl_parse.proofs.Looping.{listing_first, listing_next, listing_stops, 
 use Rattle.tl_parse.proofs.Looping.{body_fails}
 use Rattle.tl_parse.proofs.TerraTurns.{terra_suffix_shorter, terra_suffixes_go, terra_operation_shorter, terra_operations_go, initialisers_end, entries_end, entry_shorter, initialiser_shorter}
 use Rattle.tl_parse.proofs.TerraTurns.{initialisers_go, entries_go}
-use Rattle.tl_parse.proofs.TerraStatementTurns.{arms_go, arms_end, arm_shorter, terra_block_goes, terra_variables_go, terra_parameters_go, terra_targets_go, terra_variables_end, terra_variable_shorter, terra_parameters_end, terra_parameter_shorter, terra_target_shorter, terra_statement_shorter}
+use Rattle.tl_parse.proofs.TerraStatementTurns.{arms_go, arms_end, arm_shorter, terra_block_goes, terra_targets_go, terra_target_shorter, terra_statement_shorter}
 use Rattle.tl_parse.proofs.parser.Parser.+parser.Goals as goal
 
 pub applied-more-smaller : goal.applied-more-smaller
@@ -65,9 +65,9 @@ call_or_assignment-more-init t c =
 
 pub call_or_assignment-more-preserved : goal.call_or_assignment-more-preserved
 call_or_assignment-more-preserved t c =
-    let e = c.in-Ok-next_target.ensures.ok in
-    listing_next c.args.self.now c.more.self c.next_target.new.self _ _ e.tree c.in-Ok-next_target.x c.more.targets c.add.new.list c.more.invariant
-    (targets_next c.args.levels c.args.mode _ c.more.invariant.tree e.tree (tokens_left c.more.self) (tokens_left c.next_target.new.self) (sym c.next_is.ensures ∙ c.more-test.true) e.took) e.finish e.items e.is_last c.in-Ok-add.ensures.ok
+    let e = c.in-Ok-next_element.ensures.ok in
+    listing_next c.args.self.now c.more.self c.next_element.new.self _ _ e.tree c.in-Ok-next_element.x c.more.targets c.add.new.list c.more.invariant
+    (targets_next c.args.levels c.args.mode _ c.more.invariant.tree e.tree (tokens_left c.more.self) (tokens_left c.next_element.new.self) (sym c.next_is.ensures ∙ c.more-test.true) e.took) e.finish e.items e.is_last c.in-Ok-add.ensures.ok
 
 pub for_statement-more-init : goal.for_statement-more-init
 for_statement-more-init t c =
@@ -99,18 +99,18 @@ terra_binary-more-smaller t c =
     subst (λ (ts : List Token). length ts < length (tokens_left c.more.self)) (sym c.in-Ok-terra_operation.ensures.ok.pushed.rest)
     (terra_operation_shorter c.args.levels c.args.precedence c.more.a.left (operator_with (token_of x.0) (chained o.tree x.1.left x.1.shape)) (tokens_left c.more.self) (tokens_left c.terra_one_more.new.self) o.took)
 
-pub expressions-more-init : goal.expressions-more-init
-unfolding expressions_at
-expressions-more-init t c =
+pub elements-more-init : goal.elements-more-init
+unfolding elements_at
+elements-more-init t c =
     let e = c.in-Ok.ensures.ok in
-    listing_first c.args.self.now c.expression_of.new.self _ _ e.tree c.in-Ok.x c.in-Ok-one_node.x (ap (λ (o : Outcome Tree). o >>= λ e rest. more_expressions_at c.args.levels c.args.code (More Nothing e) rest) e.took)
+    listing_first c.args.self.now c.element.new.self _ _ e.tree c.in-Ok.x c.in-Ok-one_node.x (ap (λ (o : Outcome Tree). o >>= λ e rest. more_elements_at c.args.levels c.args.kind (More Nothing e) rest) e.took)
     e.finish e.items e.is_last c.in-Ok-one_node.ensures.ok
 
-pub expressions-more-preserved : goal.expressions-more-preserved
-expressions-more-preserved t c =
-    let e = c.in-Ok-expression_behind.ensures.ok in
-    listing_next c.args.self.now c.more.self c.expression_behind.new.self _ _ e.tree c.in-Ok-expression_behind.x c.more.list c.add.new.list c.more.invariant
-    (expressions_go c.args.levels c.args.code c.more.invariant.tree (tokens_left c.more.self) (sym c.next_is.ensures ∙ c.more-test.true) ∙ ap (λ (o : Outcome Tree). o >>= λ e rest. more_expressions_at c.args.levels c.args.code (More c.more.invariant.tree e) rest) e.took) e.finish e.items e.is_last c.in-Ok-add.ensures.ok
+pub elements-more-preserved : goal.elements-more-preserved
+elements-more-preserved t c =
+    let e = c.in-Ok-next_element.ensures.ok in
+    listing_next c.args.self.now c.more.self c.next_element.new.self _ _ e.tree c.in-Ok-next_element.x c.more.list c.add.new.list c.more.invariant
+    (elements_go c.args.levels c.args.kind c.more.invariant.tree (tokens_left c.more.self) (sym c.next_is.ensures ∙ c.more-test.true) ∙ ap (λ (o : Outcome Tree). o >>= λ e rest. more_elements_at c.args.levels c.args.kind (More c.more.invariant.tree e) rest) e.took) e.finish e.items e.is_last c.in-Ok-add.ensures.ok
 
 pub arms-more-init : goal.arms-more-init
 unfolding arms_at
@@ -124,35 +124,6 @@ arms-more-preserved t c =
     let e = c.in-Ok-next_arm.ensures.ok in
     listing_next c.args.self.now c.more.self c.next_arm.new.self _ _ e.tree c.in-Ok-next_arm.x c.more.list c.add.new.list c.more.invariant
     (arms_go c.args.levels c.args.block c.more.invariant.tree (tokens_left c.more.self) (sym c.next_is.ensures ∙ c.more-test.true) ∙ ap (λ (o : Outcome Tree). o >>= λ e rest. more_arms_at c.args.levels c.args.block (More c.more.invariant.tree e) rest) e.took) e.finish e.items e.is_last c.in-Ok-add.ensures.ok
-
-pub terra_variables-more-init : goal.terra_variables-more-init
-unfolding terra_variables_at
-terra_variables-more-init t c =
-    let e = c.in-Ok.ensures.ok in
-    listing_first c.args.self.now c.terra_variable.new.self _ _ e.tree c.in-Ok.x c.in-Ok-one_node.x (ap (λ (o : Outcome Tree). o >>= λ e rest. more_terra_variables_at c.args.levels (More Nothing e) rest) e.took)
-    e.finish e.items e.is_last c.in-Ok-one_node.ensures.ok
-
-pub terra_variables-more-preserved : goal.terra_variables-more-preserved
-terra_variables-more-preserved t c =
-    let e = c.in-Ok-next_terra_variable.ensures.ok in
-    listing_next c.args.self.now c.more.self c.next_terra_variable.new.self _ _ e.tree c.in-Ok-next_terra_variable.x c.more.list c.add.new.list c.more.invariant
-    (terra_variables_go c.args.levels c.more.invariant.tree (tokens_left c.more.self) (sym c.next_is.ensures ∙ c.more-test.true) ∙ ap (λ (o : Outcome Tree). o >>= λ e rest. more_terra_variables_at c.args.levels (More c.more.invariant.tree e) rest) e.took) e.finish e.items e.is_last c.in-Ok-add.ensures.ok
-
-pub terra_parameters-more-init : goal.terra_parameters-more-init
-unfolding terra_parameters_at
-terra_parameters-more-init t c =
-    let e = c.in-Ok.ensures.ok in
-    let ts = tokens_left c.args.self.now in
-    listing_first c.args.self.now c.terra_parameter.new.self _ _ e.tree c.in-Ok.x c.in-Ok-one_node.x
-    (ap (λ (b : Bool). cond b (Took Nothing ts) (terra_parameter_at c.args.levels ts >>= λ p rest. more_terra_parameters_at c.args.levels (More Nothing p) rest)) (sym c.next_is.ensures ∙ c.if-next_is.false)
-    ∙ ap (λ (o : Outcome Tree). o >>= λ p rest. more_terra_parameters_at c.args.levels (More Nothing p) rest) e.took)
-    e.finish e.items e.is_last c.in-Ok-one_node.ensures.ok
-
-pub terra_parameters-more-preserved : goal.terra_parameters-more-preserved
-terra_parameters-more-preserved t c =
-    let e = c.in-Ok-next_terra_parameter.ensures.ok in
-    listing_next c.args.self.now c.more.self c.next_terra_parameter.new.self _ _ e.tree c.in-Ok-next_terra_parameter.x c.more.list c.add.new.list c.more.invariant
-    (terra_parameters_go c.args.levels c.more.invariant.tree (tokens_left c.more.self) (sym c.next_is-in-more.ensures ∙ c.more-test.true) ∙ ap (λ (o : Outcome Tree). o >>= λ e rest. more_terra_parameters_at c.args.levels (More c.more.invariant.tree e) rest) e.took) e.finish e.items e.is_last c.in-Ok-add.ensures.ok
 
 pub applied-more-preserved : goal.applied-more-preserved
 applied-more-preserved t c =
@@ -227,8 +198,8 @@ entries-more-preserved t c =
 
 pub terra_simple_statement-more-preserved : goal.terra_simple_statement-more-preserved
 terra_simple_statement-more-preserved t c =
-    let e = c.in-Ok-expression_behind.ensures.ok in
-    listing_next c.args.self.now c.more.self c.expression_behind.new.self _ _ e.tree c.in-Ok-expression_behind.x c.more.targets c.add.new.list c.more.invariant
+    let e = c.in-Ok-next_element.ensures.ok in
+    listing_next c.args.self.now c.more.self c.next_element.new.self _ _ e.tree c.in-Ok-next_element.x c.more.targets c.add.new.list c.more.invariant
     (terra_targets_go c.args.levels c.next_place-place.result c.more.invariant.tree (tokens_left c.more.self) (sym c.next_is.ensures ∙ c.more-test.true) ∙ ap (λ (o : Outcome Tree). o >>= λ e rest. terra_assignment_at c.args.levels c.next_place-place.result (More c.more.invariant.tree e) rest) e.took) e.finish e.items e.is_last c.in-Ok-add.ensures.ok
 
 pub block-more-preserved : goal.block-more-preserved
@@ -381,18 +352,42 @@ terra_inner-returns-in-Disjunction-clause-ok t c = grind (arith, terra_parts.inn
 pub terra_inner-returns-in-Disjunction-clause-err : goal.terra_inner-returns-in-Disjunction-clause-err
 terra_inner-returns-in-Disjunction-clause-err t c = grind (arith, terra_parts.inner_disjunction, fails_same)
 
-pub expressions-more-smaller : goal.expressions-more-smaller
-expressions-more-smaller t c = let e = c.in-Ok-expression_behind.ensures.ok in expression_shorter c.args.levels c.args.code e.tree (tokens_left c.more.self) (tokens_left c.expression_behind.new.self) e.took
+pub element-returns-in-Expression-clause-ok : goal.element-returns-in-Expression-clause-ok
+element-returns-in-Expression-clause-ok t c = grind (arith, expression_element)
 
-pub expressions-returns-in-Err-expression_behind-clause-err : goal.expressions-returns-in-Err-expression_behind-clause-err
-expressions-returns-in-Err-expression_behind-clause-err t c =
-    let i = c.more.invariant in
-    listing_stops c.args.self.now c.more.self _ _ c.more.list i (expression_behind_at c.args.levels symbols.Comma c.args.code (tokens_left c.more.self)) (λ e rest. more_expressions_at c.args.levels c.args.code (More i.tree e) rest) c.in-Err-expression_behind.e (expressions_go c.args.levels c.args.code i.tree (tokens_left c.more.self) (sym c.next_is.ensures ∙ c.more-test.true)) c.in-Err-expression_behind.ensures.err
+pub element-returns-in-Expression-clause-err : goal.element-returns-in-Expression-clause-err
+element-returns-in-Expression-clause-err t c = grind (arith, expression_element, fails_same)
 
-pub expressions-returns-clause-ok : goal.expressions-returns-clause-ok
-expressions-returns-clause-ok t c =
+pub element-returns-in-Target-clause-ok : goal.element-returns-in-Target-clause-ok
+element-returns-in-Target-clause-ok t c = grind (arith, target_element)
+
+pub element-returns-in-Target-clause-err : goal.element-returns-in-Target-clause-err
+element-returns-in-Target-clause-err t c = grind (arith, target_element, fails_same)
+
+pub element-returns-in-TerraVariable-clause-ok : goal.element-returns-in-TerraVariable-clause-ok
+element-returns-in-TerraVariable-clause-ok t c = grind (arith, variable_element)
+
+pub element-returns-in-TerraVariable-clause-err : goal.element-returns-in-TerraVariable-clause-err
+element-returns-in-TerraVariable-clause-err t c = grind (arith, variable_element, fails_same)
+
+pub element-returns-in-TerraParameter-clause-ok : goal.element-returns-in-TerraParameter-clause-ok
+element-returns-in-TerraParameter-clause-ok t c = grind (arith, parameter_element)
+
+pub element-returns-in-TerraParameter-clause-err : goal.element-returns-in-TerraParameter-clause-err
+element-returns-in-TerraParameter-clause-err t c = grind (arith, parameter_element, fails_same)
+
+pub elements-more-smaller : goal.elements-more-smaller
+elements-more-smaller t c = let e = c.in-Ok-next_element.ensures.ok in element_shorter c.args.levels c.args.kind e.tree (tokens_left c.more.self) (tokens_left c.next_element.new.self) e.took
+
+pub elements-returns-in-Err-next_element-clause-err : goal.elements-returns-in-Err-next_element-clause-err
+elements-returns-in-Err-next_element-clause-err t c =
     let i = c.more.invariant in
-    listing_ends c.args.self.now c.more.self _ _ c.more.list i (expressions_end c.args.levels c.args.code i.tree (tokens_left c.more.self) (sym c.next_is.ensures ∙ c.more-test.false))
+    listing_stops c.args.self.now c.more.self _ _ c.more.list i (next_element_at c.args.levels c.args.kind (tokens_left c.more.self)) (λ e rest. more_elements_at c.args.levels c.args.kind (More i.tree e) rest) c.in-Err-next_element.e (elements_go c.args.levels c.args.kind i.tree (tokens_left c.more.self) (sym c.next_is.ensures ∙ c.more-test.true)) c.in-Err-next_element.ensures.err
+
+pub elements-returns-clause-ok : goal.elements-returns-clause-ok
+elements-returns-clause-ok t c =
+    let i = c.more.invariant in
+    listing_ends c.args.self.now c.more.self _ _ c.more.list i (elements_end c.args.levels c.args.kind i.tree (tokens_left c.more.self) (sym c.next_is.ensures ∙ c.more-test.false))
 
 pub arms-more-smaller : goal.arms-more-smaller
 arms-more-smaller t c = let e = c.in-Ok-next_arm.ensures.ok in arm_shorter c.args.levels c.args.block e.tree (tokens_left c.more.self) (tokens_left c.next_arm.new.self) e.took
@@ -406,32 +401,6 @@ pub arms-returns-clause-ok : goal.arms-returns-clause-ok
 arms-returns-clause-ok t c =
     let i = c.more.invariant in
     listing_ends c.args.self.now c.more.self _ _ c.more.list i (arms_end c.args.levels c.args.block i.tree (tokens_left c.more.self) (sym c.next_is.ensures ∙ c.more-test.false))
-
-pub terra_variables-more-smaller : goal.terra_variables-more-smaller
-terra_variables-more-smaller t c = let e = c.in-Ok-next_terra_variable.ensures.ok in terra_variable_shorter c.args.levels e.tree (tokens_left c.more.self) (tokens_left c.next_terra_variable.new.self) e.took
-
-pub terra_variables-returns-in-Err-next_terra_variable-clause-err : goal.terra_variables-returns-in-Err-next_terra_variable-clause-err
-terra_variables-returns-in-Err-next_terra_variable-clause-err t c =
-    let i = c.more.invariant in
-    listing_stops c.args.self.now c.more.self _ _ c.more.list i (next_terra_variable_at c.args.levels (tokens_left c.more.self)) (λ e rest. more_terra_variables_at c.args.levels (More i.tree e) rest) c.in-Err-next_terra_variable.e (terra_variables_go c.args.levels i.tree (tokens_left c.more.self) (sym c.next_is.ensures ∙ c.more-test.true)) c.in-Err-next_terra_variable.ensures.err
-
-pub terra_variables-returns-clause-ok : goal.terra_variables-returns-clause-ok
-terra_variables-returns-clause-ok t c =
-    let i = c.more.invariant in
-    listing_ends c.args.self.now c.more.self _ _ c.more.list i (terra_variables_end c.args.levels i.tree (tokens_left c.more.self) (sym c.next_is.ensures ∙ c.more-test.false))
-
-pub terra_parameters-more-smaller : goal.terra_parameters-more-smaller
-terra_parameters-more-smaller t c = let e = c.in-Ok-next_terra_parameter.ensures.ok in terra_parameter_shorter c.args.levels e.tree (tokens_left c.more.self) (tokens_left c.next_terra_parameter.new.self) e.took
-
-pub terra_parameters-returns-in-Err-next_terra_parameter-clause-err : goal.terra_parameters-returns-in-Err-next_terra_parameter-clause-err
-terra_parameters-returns-in-Err-next_terra_parameter-clause-err t c =
-    let i = c.more.invariant in
-    listing_stops c.args.self.now c.more.self _ _ c.more.list i (next_terra_parameter_at c.args.levels (tokens_left c.more.self)) (λ e rest. more_terra_parameters_at c.args.levels (More i.tree e) rest) c.in-Err-next_terra_parameter.e (terra_parameters_go c.args.levels i.tree (tokens_left c.more.self) (sym c.next_is-in-more.ensures ∙ c.more-test.true)) c.in-Err-next_terra_parameter.ensures.err
-
-pub terra_parameters-returns-clause-ok : goal.terra_parameters-returns-clause-ok
-terra_parameters-returns-clause-ok t c =
-    let i = c.more.invariant in
-    listing_ends c.args.self.now c.more.self _ _ c.more.list i (terra_parameters_end c.args.levels i.tree (tokens_left c.more.self) (sym c.next_is-in-more.ensures ∙ c.more-test.false))
 
 pub entries-more-smaller : goal.entries-more-smaller
 entries-more-smaller t c = let e = c.in-Ok.ensures.ok in entry_shorter c.args.levels c.args.mode e.tree (tokens_left c.more.self) (tokens_left c.entry.new.self) e.took
@@ -468,13 +437,13 @@ initialisers-returns-clause-ok t c =
     listing_ends c.args.self.now c.more.self _ _ c.more.list i (initialisers_end c.args.levels c.in-Ok.x.1 i.tree (tokens_left c.more.self) (sym c.next_is_among.ensures ∙ c.more-test.false))
 
 pub terra_simple_statement-more-smaller : goal.terra_simple_statement-more-smaller
-terra_simple_statement-more-smaller t c = let e = c.in-Ok-expression_behind.ensures.ok in terra_target_shorter c.args.levels e.tree (tokens_left c.more.self) (tokens_left c.expression_behind.new.self) e.took
+terra_simple_statement-more-smaller t c = let e = c.in-Ok-next_element.ensures.ok in terra_target_shorter c.args.levels e.tree (tokens_left c.more.self) (tokens_left c.next_element.new.self) e.took
 
-pub terra_simple_statement-returns-in-Err-expression_behind-clause-err : goal.terra_simple_statement-returns-in-Err-expression_behind-clause-err
-terra_simple_statement-returns-in-Err-expression_behind-clause-err t c =
+pub terra_simple_statement-returns-in-Err-next_element-clause-err : goal.terra_simple_statement-returns-in-Err-next_element-clause-err
+terra_simple_statement-returns-in-Err-next_element-clause-err t c =
     let i = c.more.invariant in
     let place = c.next_place-place.result in
-    listing_stops c.args.self.now c.more.self _ _ c.more.targets i (expression_behind_at c.args.levels symbols.Comma codes.Terra (tokens_left c.more.self)) (λ e rest. terra_assignment_at c.args.levels place (More i.tree e) rest) c.in-Err-expression_behind.e (terra_targets_go c.args.levels place i.tree (tokens_left c.more.self) (sym c.next_is.ensures ∙ c.more-test.true)) c.in-Err-expression_behind.ensures.err
+    listing_stops c.args.self.now c.more.self _ _ c.more.targets i (next_element_at c.args.levels (elements.Expression codes.Terra) (tokens_left c.more.self)) (λ e rest. terra_assignment_at c.args.levels place (More i.tree e) rest) c.in-Err-next_element.e (terra_targets_go c.args.levels place i.tree (tokens_left c.more.self) (sym c.next_is.ensures ∙ c.more-test.true)) c.in-Err-next_element.ensures.err
 
 pub applied-returns-in-Err-suffix-clause-err : goal.applied-returns-in-Err-suffix-clause-err
 applied-returns-in-Err-suffix-clause-err t c =

@@ -4,18 +4,19 @@ use Rattle.tl_tree.specs.Tree.{Tree, Fields, Statements, Assign, GenericFor, Ini
 use Rattle.tl_tree.specs.Grammar.{Took, ◌>>=◌}
 use Rattle.tl_parse.specs.Parsing.{tokens_left}
 use Rattle.tl_parse.specs.Using.{part_at}
-use Rattle.tl_parse.specs.Expressions.{applied_at, binary_at, expressions_at, more_expressions_at, more_fields_at}
+use Rattle.tl_parse.specs.Expressions.{applied_at, binary_at, more_fields_at}
 use Rattle.tl_parse.specs.declared.parser.Code.TheVariants as codes
+use Rattle.tl_parse.specs.declared.parser.Element.TheVariants as elements
 use Rattle.tl_parse.specs.Going.{Binding, Applying, Listing, Settling, Sequencing}
-use Rattle.tl_parse.specs.Statements.{first_place, call_or_assignment_at, more_targets_at, values_at, variable_at, arms_at, more_arms_at, for_at, generic_at}
+use Rattle.tl_parse.specs.Statements.{first_place, call_or_assignment_at, values_at, variable_at, arms_at, more_arms_at, for_at, generic_at}
 use Rattle.tl_parse.specs.Paths.{more_names_at}
 use Rattle.tl_parse.specs.TerraExpressions.{terra_binary_at, terra_applied_at}
 use Rattle.tl_parse.specs.TerraExpressions.{more_initialisers_at}
 use Rattle.tl_parse.specs.Entries.{more_entries_at}
 use Rattle.tl_parse.specs.TerraGoing.{TerraBinding, TerraApplying, terra_rank_of}
 use Rattle.tl_tree.specs.Tree.{TerraStatements}
-use Rattle.tl_parse.specs.TerraStatements.{terra_variables_at, more_terra_variables_at}
-use Rattle.tl_parse.specs.TerraStatements.{terra_simple_statement_at, terra_assignment_at, terra_parameters_at, more_terra_parameters_at}
+use Rattle.tl_parse.specs.Lists.{elements_at, more_elements_at}
+use Rattle.tl_parse.specs.TerraStatements.{terra_simple_statement_at, terra_assignment_at}
 use Rattle.tl_parse.specs.TerraLines.{TerraSequencing}
 use Rattle.tl_parse.proofs.parser.Parser.+parser.Given as goal
 
@@ -23,7 +24,7 @@ abbrev pub decreases-applied : goal.decreases-applied
 decreases-applied l = 64 * l.levels + 13
 
 abbrev pub decreases-arguments : goal.decreases-arguments
-decreases-arguments l = 64 * l.levels + 39
+decreases-arguments l = 64 * l.levels + 45
 
 abbrev pub decreases-arm : goal.decreases-arm
 decreases-arm l = 64 * l.levels + 37
@@ -35,10 +36,10 @@ abbrev pub decreases-base : goal.decreases-base
 decreases-base l = 64 * l.levels + 9
 
 abbrev pub decreases-block : goal.decreases-block
-decreases-block l = 64 * l.levels + 45
+decreases-block l = 64 * l.levels + 51
 
 abbrev pub decreases-call_or_assignment : goal.decreases-call_or_assignment
-decreases-call_or_assignment l = 64 * l.levels + 40
+decreases-call_or_assignment l = 64 * l.levels + 46
 
 abbrev pub decreases-call_suffix : goal.decreases-call_suffix
 decreases-call_suffix l = 64 * l.levels + 10
@@ -58,9 +59,6 @@ decreases-emit_statement l = 64 * l.levels + 36
 abbrev pub decreases-expression : goal.decreases-expression
 decreases-expression l = 64 * l.levels + 35
 
-abbrev pub decreases-expressions : goal.decreases-expressions
-decreases-expressions l = 64 * l.levels + 38
-
 abbrev pub decreases-field : goal.decreases-field
 decreases-field l = 64 * l.levels + 39
 
@@ -68,19 +66,19 @@ abbrev pub decreases-fields : goal.decreases-fields
 decreases-fields l = 64 * l.levels + 41
 
 abbrev pub decreases-for_statement : goal.decreases-for_statement
-decreases-for_statement l = 64 * l.levels + 40
+decreases-for_statement l = 64 * l.levels + 46
 
 abbrev pub decreases-function : goal.decreases-function
 decreases-function l = 64 * l.levels + 10
 
 abbrev pub decreases-function_body : goal.decreases-function_body
-decreases-function_body l = 64 * l.levels + 46
+decreases-function_body l = 64 * l.levels + 52
 
 abbrev pub decreases-function_statement : goal.decreases-function_statement
 decreases-function_statement l = 64 * l.levels + 10
 
 abbrev pub decreases-generic : goal.decreases-generic
-decreases-generic l = 64 * l.levels + 39
+decreases-generic l = 64 * l.levels + 45
 
 abbrev pub decreases-if_statement : goal.decreases-if_statement
 decreases-if_statement l = 64 * l.levels + 40
@@ -89,7 +87,7 @@ abbrev pub decreases-index_suffix : goal.decreases-index_suffix
 decreases-index_suffix l = 64 * l.levels + 10
 
 abbrev pub decreases-initial_values : goal.decreases-initial_values
-decreases-initial_values l = 64 * l.levels + 40
+decreases-initial_values l = 64 * l.levels + 46
 
 abbrev pub decreases-keyed_field : goal.decreases-keyed_field
 decreases-keyed_field l = 64 * l.levels + 38
@@ -98,10 +96,10 @@ abbrev pub decreases-local_function : goal.decreases-local_function
 decreases-local_function l = 64 * l.levels + 10
 
 abbrev pub decreases-local_names : goal.decreases-local_names
-decreases-local_names l = 64 * l.levels + 41
+decreases-local_names l = 64 * l.levels + 47
 
 abbrev pub decreases-local_statement : goal.decreases-local_statement
-decreases-local_statement l = 64 * l.levels + 42
+decreases-local_statement l = 64 * l.levels + 48
 
 abbrev pub decreases-loop_block : goal.decreases-loop_block
 decreases-loop_block l = 64 * l.levels + 10
@@ -125,10 +123,7 @@ abbrev pub decreases-next_field : goal.decreases-next_field
 decreases-next_field l = 64 * l.levels + 40
 
 abbrev pub decreases-next_statement : goal.decreases-next_statement
-decreases-next_statement l = 64 * l.levels + 44
-
-abbrev pub decreases-next_target : goal.decreases-next_target
-decreases-next_target l = 64 * l.levels + 14
+decreases-next_statement l = 64 * l.levels + 50
 
 abbrev pub decreases-numeric : goal.decreases-numeric
 decreases-numeric l = 64 * l.levels + 39
@@ -155,16 +150,16 @@ abbrev pub decreases-repeat_statement : goal.decreases-repeat_statement
 decreases-repeat_statement l = 64 * l.levels + 38
 
 abbrev pub decreases-return_statement : goal.decreases-return_statement
-decreases-return_statement l = 64 * l.levels + 40
+decreases-return_statement l = 64 * l.levels + 46
 
 abbrev pub decreases-returned_values : goal.decreases-returned_values
-decreases-returned_values l = 64 * l.levels + 39
+decreases-returned_values l = 64 * l.levels + 45
 
 abbrev pub decreases-simple : goal.decreases-simple
 decreases-simple l = 64 * l.levels + 12
 
 abbrev pub decreases-statement : goal.decreases-statement
-decreases-statement l = 64 * l.levels + 43
+decreases-statement l = 64 * l.levels + 49
 
 abbrev pub decreases-suffix : goal.decreases-suffix
 decreases-suffix l = 64 * l.levels + 12
@@ -179,7 +174,7 @@ abbrev pub decreases-unary : goal.decreases-unary
 decreases-unary l = 64 * l.levels + 17
 
 abbrev pub decreases-values : goal.decreases-values
-decreases-values l = 64 * l.levels + 39
+decreases-values l = 64 * l.levels + 45
 
 abbrev pub decreases-variable : goal.decreases-variable
 decreases-variable l = 64 * l.levels + 13
@@ -205,11 +200,11 @@ invariant-applied-more l = Applying l.fn.levels l.fn.mode l.fn.self l.self (appl
 abbrev pub decreases-applied-more : goal.decreases-applied-more
 decreases-applied-more l = length (tokens_left l.self)
 
-abbrev pub invariant-expressions-more : goal.invariant-expressions-more
-invariant-expressions-more l = Listing l.fn.self l.self (expressions_at l.fn.levels l.fn.code (tokens_left l.fn.self)) (λ (before : Tree) (ts : List Token). more_expressions_at l.fn.levels l.fn.code before ts) l.list
+abbrev pub invariant-elements-more : goal.invariant-elements-more
+invariant-elements-more l = Listing l.fn.self l.self (elements_at l.fn.levels l.fn.kind (tokens_left l.fn.self)) (λ (before : Tree) (ts : List Token). more_elements_at l.fn.levels l.fn.kind before ts) l.list
 
-abbrev pub decreases-expressions-more : goal.decreases-expressions-more
-decreases-expressions-more l = length (tokens_left l.self)
+abbrev pub decreases-elements-more : goal.decreases-elements-more
+decreases-elements-more l = length (tokens_left l.self)
 
 abbrev pub invariant-fields-more : goal.invariant-fields-more
 invariant-fields-more l = Listing l.fn.self l.self (part_at l.fn.levels (Fields l.fn.mode) (tokens_left l.fn.self)) (λ (before : Tree) (ts : List Token). more_fields_at l.fn.levels l.fn.mode before ts) l.list
@@ -218,7 +213,7 @@ abbrev pub decreases-fields-more : goal.decreases-fields-more
 decreases-fields-more l = length (tokens_left l.self)
 
 abbrev pub invariant-call_or_assignment-more : goal.invariant-call_or_assignment-more
-invariant-call_or_assignment-more l = Listing l.fn.self l.self (call_or_assignment_at l.fn.levels l.fn.mode (tokens_left l.fn.self)) (λ (before : Tree) (ts : List Token). more_targets_at l.fn.levels l.fn.mode before ts >>= λ targets c. values_at l.fn.levels (codes.Lua l.fn.mode) c >>= λ es rest. Took (Assign (first_place (tokens_left l.fn.self)) targets es) rest) l.targets
+invariant-call_or_assignment-more l = Listing l.fn.self l.self (call_or_assignment_at l.fn.levels l.fn.mode (tokens_left l.fn.self)) (λ (before : Tree) (ts : List Token). more_elements_at l.fn.levels (elements.Target l.fn.mode) before ts >>= λ targets c. values_at l.fn.levels (codes.Lua l.fn.mode) c >>= λ es rest. Took (Assign (first_place (tokens_left l.fn.self)) targets es) rest) l.targets
 
 abbrev pub decreases-call_or_assignment-more : goal.decreases-call_or_assignment-more
 decreases-call_or_assignment-more l = length (tokens_left l.self)
@@ -382,17 +377,11 @@ decreases-named_variable l = 64 * l.levels + 40
 abbrev pub decreases-terra_variable : goal.decreases-terra_variable
 decreases-terra_variable l = 64 * l.levels + 41
 
-abbrev pub decreases-next_terra_variable : goal.decreases-next_terra_variable
-decreases-next_terra_variable l = 64 * l.levels + 42
-
-abbrev pub decreases-terra_variables : goal.decreases-terra_variables
-decreases-terra_variables l = 64 * l.levels + 43
-
 abbrev pub decreases-terra_target : goal.decreases-terra_target
 decreases-terra_target l = 64 * l.levels + 40
 
 abbrev pub decreases-terra_simple_statement : goal.decreases-terra_simple_statement
-decreases-terra_simple_statement l = 64 * l.levels + 41
+decreases-terra_simple_statement l = 64 * l.levels + 45
 
 abbrev pub decreases-terra_do : goal.decreases-terra_do
 decreases-terra_do l = 64 * l.levels + 40
@@ -410,22 +399,22 @@ abbrev pub decreases-terra_for : goal.decreases-terra_for
 decreases-terra_for l = 64 * l.levels + 41
 
 abbrev pub decreases-terra_var : goal.decreases-terra_var
-decreases-terra_var l = 64 * l.levels + 44
+decreases-terra_var l = 64 * l.levels + 47
 
 abbrev pub decreases-escape_block : goal.decreases-escape_block
 decreases-escape_block l = 64 * l.levels + 40
 
 abbrev pub decreases-terra_return : goal.decreases-terra_return
-decreases-terra_return l = 64 * l.levels + 41
+decreases-terra_return l = 64 * l.levels + 46
 
 abbrev pub decreases-terra_statement : goal.decreases-terra_statement
-decreases-terra_statement l = 64 * l.levels + 45
+decreases-terra_statement l = 64 * l.levels + 48
 
 abbrev pub decreases-next_terra_statement : goal.decreases-next_terra_statement
-decreases-next_terra_statement l = 64 * l.levels + 46
+decreases-next_terra_statement l = 64 * l.levels + 49
 
 abbrev pub decreases-terra_block : goal.decreases-terra_block
-decreases-terra_block l = 64 * l.levels + 47
+decreases-terra_block l = 64 * l.levels + 50
 
 abbrev pub decreases-spliced_parameter : goal.decreases-spliced_parameter
 decreases-spliced_parameter l = 64 * l.levels + 39
@@ -436,17 +425,14 @@ decreases-named_parameter l = 64 * l.levels + 39
 abbrev pub decreases-terra_parameter : goal.decreases-terra_parameter
 decreases-terra_parameter l = 64 * l.levels + 40
 
-abbrev pub decreases-next_terra_parameter : goal.decreases-next_terra_parameter
-decreases-next_terra_parameter l = 64 * l.levels + 41
-
 abbrev pub decreases-terra_parameters : goal.decreases-terra_parameters
-decreases-terra_parameters l = 64 * l.levels + 42
+decreases-terra_parameters l = 64 * l.levels + 45
 
 abbrev pub decreases-terra_function_body : goal.decreases-terra_function_body
-decreases-terra_function_body l = 64 * l.levels + 49
+decreases-terra_function_body l = 64 * l.levels + 52
 
 abbrev pub decreases-quoted_code : goal.decreases-quoted_code
-decreases-quoted_code l = 64 * l.levels + 48
+decreases-quoted_code l = 64 * l.levels + 51
 
 abbrev pub decreases-define_terra : goal.decreases-define_terra
 decreases-define_terra l = 64 * l.levels + 38
@@ -463,23 +449,11 @@ decreases-local_terra l = 64 * l.levels + 39
 abbrev pub decreases-define_struct : goal.decreases-define_struct
 decreases-define_struct l = 64 * l.levels + 36
 
-abbrev pub invariant-terra_variables-more : goal.invariant-terra_variables-more
-invariant-terra_variables-more l = Listing l.fn.self l.self (terra_variables_at l.fn.levels (tokens_left l.fn.self)) (λ (before : Tree) (ts : List Token). more_terra_variables_at l.fn.levels before ts) l.list
-
-abbrev pub decreases-terra_variables-more : goal.decreases-terra_variables-more
-decreases-terra_variables-more l = length (tokens_left l.self)
-
 abbrev pub invariant-terra_simple_statement-more : goal.invariant-terra_simple_statement-more
 invariant-terra_simple_statement-more l = Listing l.fn.self l.self (terra_simple_statement_at l.fn.levels (tokens_left l.fn.self)) (λ (before : Tree) (ts : List Token). terra_assignment_at l.fn.levels l.place before ts) l.targets
 
 abbrev pub decreases-terra_simple_statement-more : goal.decreases-terra_simple_statement-more
 decreases-terra_simple_statement-more l = length (tokens_left l.self)
-
-abbrev pub invariant-terra_parameters-more : goal.invariant-terra_parameters-more
-invariant-terra_parameters-more l = Listing l.fn.self l.self (terra_parameters_at l.fn.levels (tokens_left l.fn.self)) (λ (before : Tree) (ts : List Token). more_terra_parameters_at l.fn.levels before ts) l.list
-
-abbrev pub decreases-terra_parameters-more : goal.decreases-terra_parameters-more
-decreases-terra_parameters-more l = length (tokens_left l.self)
 
 abbrev pub invariant-terra_block-more : goal.invariant-terra_block-more
 invariant-terra_block-more l = TerraSequencing l.fn.levels l.fn.self l.self (part_at l.fn.levels TerraStatements (tokens_left l.fn.self)) l.list l.ended
@@ -488,16 +462,25 @@ abbrev pub decreases-terra_block-more : goal.decreases-terra_block-more
 decreases-terra_block-more l = length (tokens_left l.self)
 
 abbrev pub decreases-terra_body : goal.decreases-terra_body
-decreases-terra_body l = 64 * l.levels + 48
+decreases-terra_body l = 64 * l.levels + 51
 
 abbrev pub decreases-expression_of : goal.decreases-expression_of
 decreases-expression_of l = 64 * l.levels + 36
 
 abbrev pub decreases-block_of : goal.decreases-block_of
-decreases-block_of l = 64 * l.levels + 48
+decreases-block_of l = 64 * l.levels + 52
 
 abbrev pub decreases-expression_behind : goal.decreases-expression_behind
 decreases-expression_behind l = 64 * l.levels + 37
 
 abbrev pub decreases-optional_expression : goal.decreases-optional_expression
 decreases-optional_expression l = 64 * l.levels + 38
+
+abbrev pub decreases-element : goal.decreases-element
+decreases-element l = 64 * l.levels + 42
+
+abbrev pub decreases-next_element : goal.decreases-next_element
+decreases-next_element l = 64 * l.levels + 43
+
+abbrev pub decreases-elements : goal.decreases-elements
+decreases-elements l = 64 * l.levels + 44
