@@ -25,7 +25,7 @@ use Rattle.tl_parse.specs.Expressions.{name_at, paren_at, base_at, is_other, app
 use Rattle.tl_parse.specs.Expressions.{Suffixed, shape_of, suffix_at, call_suffix_at, index_suffix_at, select_suffix_at}
 use Rattle.tl_parse.specs.Expressions.{method_arguments_at, method_suffix_at, table_suffix_at, literal_suffix_at}
 use Rattle.tl_parse.specs.Expressions as suffixed
-use Rattle.tl_parse.specs.Statements.{is_unsettled, settling, settle_at, variable_at, is_call, values_at}
+use Rattle.tl_parse.specs.Statements.{is_unsettled, settling, settle_at, variable_at, is_call}
 use Rattle.tl_parse.specs.Statements.{call_or_assignment_at, do_at, loop_at, while_at, repeat_at, arm_at, more_arms_at, arms_at}
 use Rattle.tl_parse.specs.Statements.{otherwise_at, if_at, numeric_at, generic, generic_at, for_at, function_statement_at}
 use Rattle.tl_parse.specs.Statements.{local_function_at, initial_values_at, local_names_at, definition_symbols, local_at}
@@ -43,7 +43,7 @@ use Rattle.tl_parse.proofs.Following.{behind_give, optional_agrees}
 use Rattle.tl_parse.proofs.TerraStatementAgreeing.{numeric_then}
 use Rattle.tl_parse.specs.Codes.{expression_behind_at, lua_symbols}
 use Rattle.tl_parse.specs.declared.parser.Code.TheVariants as codes
-use Rattle.tl_parse.specs.Lists.{element_at, more_elements_at, elements_at, expressions_at}
+use Rattle.tl_parse.specs.Lists.{element_at, more_elements_at, elements_at, expressions_at, expressions_behind_at}
 use Rattle.tl_parse.specs.declared.parser.Element.TheVariants as elements
 use Rattle.tl_parse.specs.declared.parser.BlockCode.TheVariants as block_codes
 
@@ -55,6 +55,15 @@ bind_where (Stop kind rest) f g h = refl
 expressions_agree : (levels : ℕ) (m : Mode) (ts : List Token) → reading levels (expressions.expressions m) ts ≡ expressions_at levels (codes.Lua m) ts
 unfolding elements_at element_at more_elements_at
 expressions_agree levels m ts = refl
+
+-- a sign and expressions, and what goes on with them
+expressions_then : {A : Type 0} (levels : ℕ) (s : Symbol) (m : Mode) (h : Tree → Grammar A) (k : Tree → List Token → Outcome A) → ((es : Tree) (us : List Token) → reading levels (h es) us ≡ k es us) → (ts : List Token) →
+    reading levels (bind (sign s) λ y. bind (expressions.expressions m) λ es. h es) ts ≡ (expressions_behind_at levels s (codes.Lua m) ts >>= λ es rest. k es rest)
+unfolding expressions_behind_at
+expressions_then levels s m h k same ts =
+    sign_then levels s (λ y. bind (expressions.expressions m) λ es. h es) (λ y a. expressions_at levels (codes.Lua m) a >>= λ es rest. k es rest)
+    (λ y us. then levels (expressions.expressions m) (λ es. h es) (λ vs. expressions_at levels (codes.Lua m) vs) (λ es rest. k es rest) (λ vs. expressions_agree levels m vs) same us) ts
+    ∙ sym (bind_again (sign_at s ts) (λ y a. expressions_at levels (codes.Lua m) a) (λ es rest. k es rest))
 
 -- ---- targets
 
@@ -268,24 +277,21 @@ generic_agrees : (levels : ℕ) (c : Context) (t : Token) (ns : Tree) (ts : List
     reading levels (bind (sign symbols.In) λ y. bind (expressions.expressions c.mode) λ es. bind (lua.loop c) λ x. give (trees.GenericFor t.place ns es x)) ts ≡ (generic_at levels c ts >>= λ r rest. Took (trees.GenericFor t.place ns r.values r.block) rest)
 unfolding generic_at
 generic_agrees levels c t ns ts =
-    sign_then levels symbols.In (λ y. bind (expressions.expressions c.mode) λ es. bind (lua.loop c) λ x. give (trees.GenericFor t.place ns es x)) (λ y a. expressions_at levels (codes.Lua c.mode) a >>= λ es b. loop_at levels (block_codes.Lua c) b >>= λ x rest. Took (trees.GenericFor t.place ns es x) rest)
-    (λ y a. then levels (expressions.expressions c.mode) (λ es. bind (lua.loop c) λ x. give (trees.GenericFor t.place ns es x)) (λ us. expressions_at levels (codes.Lua c.mode) us) (λ es b. loop_at levels (block_codes.Lua c) b >>= λ x rest. Took (trees.GenericFor t.place ns es x) rest) (λ us. expressions_agree levels c.mode us)
-    (λ es b. then levels (lua.loop c) (λ x. give (trees.GenericFor t.place ns es x)) (λ us. loop_at levels (block_codes.Lua c) us) (λ x rest. Took (trees.GenericFor t.place ns es x) rest) (λ us. loop_agrees levels c us) (λ x us. refl) b) a) ts
-    ∙ sym (bind_again (sign_at symbols.In ts) (λ y a. expressions_at levels (codes.Lua c.mode) a >>= λ es b. loop_at levels (block_codes.Lua c) b >>= λ x rest. Took (generic es x) rest) (λ r rest. Took (trees.GenericFor t.place ns r.values r.block) rest)
-    ∙ bind_same (sign_at symbols.In ts) (λ y a. (expressions_at levels (codes.Lua c.mode) a >>= λ es b. loop_at levels (block_codes.Lua c) b >>= λ x rest. Took (generic es x) rest) >>= λ r rest. Took (trees.GenericFor t.place ns r.values r.block) rest) (λ y a. expressions_at levels (codes.Lua c.mode) a >>= λ es b. loop_at levels (block_codes.Lua c) b >>= λ x rest. Took (trees.GenericFor t.place ns es x) rest)
-    (λ y a. bind_again (expressions_at levels (codes.Lua c.mode) a) (λ es b. loop_at levels (block_codes.Lua c) b >>= λ x rest. Took (generic es x) rest) (λ r rest. Took (trees.GenericFor t.place ns r.values r.block) rest)
-    ∙ bind_same (expressions_at levels (codes.Lua c.mode) a) (λ es b. (loop_at levels (block_codes.Lua c) b >>= λ x rest. Took (generic es x) rest) >>= λ r rest. Took (trees.GenericFor t.place ns r.values r.block) rest) (λ es b. loop_at levels (block_codes.Lua c) b >>= λ x rest. Took (trees.GenericFor t.place ns es x) rest)
-    (λ es b. bind_again (loop_at levels (block_codes.Lua c) b) (λ x rest. Took (generic es x) rest) (λ r rest. Took (trees.GenericFor t.place ns r.values r.block) rest))))
+    expressions_then levels symbols.In c.mode (λ es. bind (lua.loop c) λ x. give (trees.GenericFor t.place ns es x)) (λ es b. loop_at levels (block_codes.Lua c) b >>= λ x rest. Took (trees.GenericFor t.place ns es x) rest)
+    (λ es b. then levels (lua.loop c) (λ x. give (trees.GenericFor t.place ns es x)) (λ us. loop_at levels (block_codes.Lua c) us) (λ x rest. Took (trees.GenericFor t.place ns es x) rest) (λ us. loop_agrees levels c us) (λ x us. refl) b) ts
+    ∙ sym (bind_again (expressions_behind_at levels symbols.In (codes.Lua c.mode) ts) (λ es b. loop_at levels (block_codes.Lua c) b >>= λ x rest. Took (generic es x) rest) (λ r rest. Took (trees.GenericFor t.place ns r.values r.block) rest)
+    ∙ bind_same (expressions_behind_at levels symbols.In (codes.Lua c.mode) ts) (λ es b. (loop_at levels (block_codes.Lua c) b >>= λ x rest. Took (generic es x) rest) >>= λ r rest. Took (trees.GenericFor t.place ns r.values r.block) rest) (λ es b. loop_at levels (block_codes.Lua c) b >>= λ x rest. Took (trees.GenericFor t.place ns es x) rest)
+    (λ es b. bind_again (loop_at levels (block_codes.Lua c) b) (λ x rest. Took (generic es x) rest) (λ r rest. Took (trees.GenericFor t.place ns r.values r.block) rest)))
 
 -- ---- declarations
 
-values_agree : (levels : ℕ) (m : Mode) (ts : List Token) → reading levels (bind (sign symbols.Equal) λ y. expressions.expressions m) ts ≡ values_at levels (codes.Lua m) ts
-unfolding values_at
+values_agree : (levels : ℕ) (m : Mode) (ts : List Token) → reading levels (bind (sign symbols.Equal) λ y. expressions.expressions m) ts ≡ expressions_behind_at levels symbols.Equal (codes.Lua m) ts
+unfolding expressions_behind_at
 values_agree levels m ts = sign_then levels symbols.Equal (λ y. expressions.expressions m) (λ y a. expressions_at levels (codes.Lua m) a) (λ y us. expressions_agree levels m us) ts
 
 initial_values_agree : (levels : ℕ) (m : Mode) (ts : List Token) → reading levels (lua.initial_values m) ts ≡ initial_values_at levels (codes.Lua m) ts
 unfolding initial_values_at
-initial_values_agree levels m ts = either_is (begins (is symbols.Equal) ts) (reading levels (bind (sign symbols.Equal) λ y. expressions.expressions m) ts) (Took Nothing ts) (values_at levels (codes.Lua m) ts) (Took Nothing ts) (values_agree levels m ts) refl
+initial_values_agree levels m ts = either_is (begins (is symbols.Equal) ts) (reading levels (bind (sign symbols.Equal) λ y. expressions.expressions m) ts) (Took Nothing ts) (expressions_behind_at levels symbols.Equal (codes.Lua m) ts) (Took Nothing ts) (values_agree levels m ts) refl
 
 local_function_agrees : (levels : ℕ) (place : Place) (ts : List Token) →
     reading levels (bind (sign symbols.Function) λ y. bind name λ n. bind (opening symbols.OpenParen FunctionBody) λ b. give (trees.LocalFunction place n b.1)) ts ≡ local_function_at levels place ts
@@ -327,18 +333,18 @@ returned_values_agree levels m ts =
 -- ---- calls and assignments
 
 target_agrees : (levels : ℕ) (m : Mode) (place : Place) (shape : Shape) (e : Tree) (t : Token) (ts : List Token) → t.place ≡ place →
-    reading levels (lua.call_or_assignment m t shape e) ts ≡ cond (is_call shape) (Took (trees.Perform place e) ts) (more_elements_at levels (elements.Target m) (More Nothing e) ts >>= λ targets c. values_at levels (codes.Lua m) c >>= λ es rest. Took (trees.Assign place targets es) rest)
+    reading levels (lua.call_or_assignment m t shape e) ts ≡ cond (is_call shape) (Took (trees.Perform place e) ts) (more_elements_at levels (elements.Target m) (More Nothing e) ts >>= λ targets c. expressions_behind_at levels symbols.Equal (codes.Lua m) c >>= λ es rest. Took (trees.Assign place targets es) rest)
 unfolding more_elements_at
 target_agrees levels m place shape e t ts p = by shape
   where
-    assigns : reading levels (lua.assignment m t e) ts ≡ (more_elements_at levels (elements.Target m) (More Nothing e) ts >>= λ targets c. values_at levels (codes.Lua m) c >>= λ es rest. Took (trees.Assign place targets es) rest)
+    assigns : reading levels (lua.assignment m t e) ts ≡ (more_elements_at levels (elements.Target m) (More Nothing e) ts >>= λ targets c. expressions_behind_at levels symbols.Equal (codes.Lua m) c >>= λ es rest. Took (trees.Assign place targets es) rest)
     assigns =
-        then levels (listed_behind (lua.variable m) (More Nothing e)) (λ targets. bind (sign symbols.Equal) λ y. bind (expressions.expressions m) λ es. give (trees.Assign t.place targets es)) (λ us. more_elements_at levels (elements.Target m) (More Nothing e) us) (λ targets c. values_at levels (codes.Lua m) c >>= λ es rest. Took (trees.Assign place targets es) rest) (λ us. refl)
+        then levels (listed_behind (lua.variable m) (More Nothing e)) (λ targets. bind (sign symbols.Equal) λ y. bind (expressions.expressions m) λ es. give (trees.Assign t.place targets es)) (λ us. more_elements_at levels (elements.Target m) (More Nothing e) us) (λ targets c. expressions_behind_at levels symbols.Equal (codes.Lua m) c >>= λ es rest. Took (trees.Assign place targets es) rest) (λ us. refl)
         (λ targets c. sym (bind_again (reading levels (sign symbols.Equal) c) (λ y us. reading levels (expressions.expressions m) us) (λ es rest. Took (trees.Assign t.place targets es) rest))
         ∙ ap (λ (o : Outcome Tree). o >>= λ es rest. Took (trees.Assign t.place targets es) rest) (values_agree levels m c)
-        ∙ ap (λ (q : Place). values_at levels (codes.Lua m) c >>= λ es rest. Took (trees.Assign q targets es) rest) p) ts
+        ∙ ap (λ (q : Place). expressions_behind_at levels symbols.Equal (codes.Lua m) c >>= λ es rest. Took (trees.Assign q targets es) rest) p) ts
 
-    by : (shape : Shape) → reading levels (lua.call_or_assignment m t shape e) ts ≡ cond (is_call shape) (Took (trees.Perform place e) ts) (more_elements_at levels (elements.Target m) (More Nothing e) ts >>= λ targets c. values_at levels (codes.Lua m) c >>= λ es rest. Took (trees.Assign place targets es) rest)
+    by : (shape : Shape) → reading levels (lua.call_or_assignment m t shape e) ts ≡ cond (is_call shape) (Took (trees.Perform place e) ts) (more_elements_at levels (elements.Target m) (More Nothing e) ts >>= λ targets c. expressions_behind_at levels symbols.Equal (codes.Lua m) c >>= λ es rest. Took (trees.Assign place targets es) rest)
     by shapes.Call = ap (λ (q : Place). Took (trees.Perform q e) ts) p
     by shapes.Name = assigns
     by shapes.Variable = assigns
@@ -370,7 +376,7 @@ behind levels c t mid = opened_at levels (lua.statement_opens c (lua.statement_o
 -- what such a call or assignment has behind its prefix expression
 abbrev target_behind : ℕ → Mode → Place → Chained → List Token → Outcome Tree
 target_behind levels m place a b =
-    cond (is_call a.shape) (Took (trees.Perform place a.tree) b) (more_elements_at levels (elements.Target m) (More Nothing a.tree) b >>= λ targets c. values_at levels (codes.Lua m) c >>= λ es rest. Took (trees.Assign place targets es) rest)
+    cond (is_call a.shape) (Took (trees.Perform place a.tree) b) (more_elements_at levels (elements.Target m) (More Nothing a.tree) b >>= λ targets c. expressions_behind_at levels symbols.Equal (codes.Lua m) c >>= λ es rest. Took (trees.Assign place targets es) rest)
 
 name_statement : (levels : ℕ) (c : Context) (text : List ℕ) (place : Place) (offset : ℕ) (first : Bool) (ts : List Token) (b : Option SyntaxKind) →
     let t : Token = token_with symbols.Name text place offset first in

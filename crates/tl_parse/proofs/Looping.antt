@@ -16,14 +16,14 @@ use Rattle.tl_tree.specs.LuaStatements.{fresh, body_mode, Parameters, parameters
 use Rattle.tl_parse.specs.Parsing.{tokens_left, items_of, end_of, Fails, TookList}
 use Rattle.tl_parse.specs.Using.{part_at, sign_at}
 use Rattle.tl_parse.specs.Expressions.{name_at, applied_at}
-use Rattle.tl_parse.specs.Statements.{first_place, is_call, values_at, call_or_assignment_at, numeric_at}
+use Rattle.tl_parse.specs.Statements.{first_place, is_call, call_or_assignment_at, numeric_at}
 use Rattle.tl_parse.specs.Statements.{generic_at, for_at, parameters_at, body_at}
 use Rattle.tl_parse.specs.Paths.{next_name_at, more_names_at}
 use Rattle.tl_parse.specs.Going.{Listing}
 use Rattle.tl_parse.specs.declared.error.SyntaxError.{SyntaxError}
 use Rattle.tl_parse.specs.declared.parser.Parser.{Parser}
 use Rattle.tl_parse.proofs.Failing.{fails_bind, fails_from}
-use Rattle.tl_parse.specs.Lists.{next_element_at, more_elements_at}
+use Rattle.tl_parse.specs.Lists.{next_element_at, more_elements_at, expressions_behind_at}
 use Rattle.tl_parse.proofs.Turns.{elements_go}
 use Rattle.tl_parse.proofs.StatementTurns.{names_go, body_part}
 use Rattle.tl_parse.specs.declared.parser.Code.TheVariants as codes
@@ -73,18 +73,18 @@ numbers_next start now new tree e n numbers longer before list items is_last one
 -- ---- targets
 
 pub targets_begin : (levels : ℕ) (m : Mode) (ts us : List Token) (tree : Tree) (left : ℕ) (shape : Shape) → applied_at levels m true ts ≡ Took (chained tree left shape) us → is_call shape ≡ false →
-    call_or_assignment_at levels m ts ≡ (more_elements_at levels (elements.Target m) (More Nothing tree) us >>= λ targets c. values_at levels (codes.Lua m) c >>= λ es rest. Took (Assign (first_place ts) targets es) rest)
+    call_or_assignment_at levels m ts ≡ (more_elements_at levels (elements.Target m) (More Nothing tree) us >>= λ targets c. expressions_behind_at levels symbols.Equal (codes.Lua m) c >>= λ es rest. Took (Assign (first_place ts) targets es) rest)
 unfolding call_or_assignment_at
 targets_begin levels m ts us tree left shape took isnt =
     ap (λ (o : Outcome Chained). o >>= λ a b. chosen a.tree (is_call a.shape) b) took ∙ ap (λ (b : Bool). chosen tree b us) isnt
   where
     chosen : Tree → Bool → List Token → Outcome Tree
-    chosen e b us = cond b (Took (Perform (first_place ts) e) us) (more_elements_at levels (elements.Target m) (More Nothing e) us >>= λ targets c. values_at levels (codes.Lua m) c >>= λ es rest. Took (Assign (first_place ts) targets es) rest)
+    chosen e b us = cond b (Took (Perform (first_place ts) e) us) (more_elements_at levels (elements.Target m) (More Nothing e) us >>= λ targets c. expressions_behind_at levels symbols.Equal (codes.Lua m) c >>= λ es rest. Took (Assign (first_place ts) targets es) rest)
 
 pub targets_next : (levels : ℕ) (m : Mode) (place : Place) (before e : Tree) (ts us : List Token) → begins (is symbols.Comma) ts ≡ true → next_element_at levels (elements.Target m) ts ≡ Took e us →
-    (more_elements_at levels (elements.Target m) before ts >>= λ targets c. values_at levels (codes.Lua m) c >>= λ es rest. Took (Assign place targets es) rest) ≡ (more_elements_at levels (elements.Target m) (More before e) us >>= λ targets c. values_at levels (codes.Lua m) c >>= λ es rest. Took (Assign place targets es) rest)
+    (more_elements_at levels (elements.Target m) before ts >>= λ targets c. expressions_behind_at levels symbols.Equal (codes.Lua m) c >>= λ es rest. Took (Assign place targets es) rest) ≡ (more_elements_at levels (elements.Target m) (More before e) us >>= λ targets c. expressions_behind_at levels symbols.Equal (codes.Lua m) c >>= λ es rest. Took (Assign place targets es) rest)
 targets_next levels m place before e ts us h took =
-    ap (λ (o : Outcome Tree). o >>= λ targets c. values_at levels (codes.Lua m) c >>= λ es rest. Took (Assign place targets es) rest)
+    ap (λ (o : Outcome Tree). o >>= λ targets c. expressions_behind_at levels symbols.Equal (codes.Lua m) c >>= λ es rest. Took (Assign place targets es) rest)
     (elements_go levels (elements.Target m) before ts h ∙ ap (λ (o : Outcome Tree). o >>= λ e rest. more_elements_at levels (elements.Target m) (More before e) rest) took)
 
 -- ---- names of a `for`

@@ -39,8 +39,8 @@ use Rattle.tl_parse.proofs.Uses.{never, bind_same, opens_any, opened_at}
 use Rattle.tl_parse.proofs.Following.{sign_then, open_then, then, either_is, behind_then, behind_give, optional_agrees}
 use Rattle.tl_parse.proofs.Turns.{used_here, used_use}
 use Rattle.tl_parse.proofs.TerraAgreeing.{terra_name_agrees, terra_unary_agrees, terra_expression_agrees}
-use Rattle.tl_parse.specs.Lists.{element_at, more_elements_at, elements_at, expressions_at}
-use Rattle.tl_parse.specs.Statements.{arm_at, arms_at, initial_values_at, loop_at, more_arms_at, otherwise_at, returned_values_at, values_at}
+use Rattle.tl_parse.specs.Lists.{element_at, more_elements_at, elements_at, expressions_at, expressions_behind_at}
+use Rattle.tl_parse.specs.Statements.{arm_at, arms_at, initial_values_at, loop_at, more_arms_at, otherwise_at, returned_values_at}
 use Rattle.tl_parse.specs.Statements.{Numeric, numeric, numeric_at}
 use Rattle.tl_parse.specs.Codes.{expression_of, expression_behind_at, optional_expression_at, code_of}
 use Rattle.tl_parse.specs.declared.parser.Code.TheVariants as codes
@@ -136,7 +136,7 @@ unfolding elements_at element_at more_elements_at
 terra_expressions_agree levels ts = refl
 
 pub terra_initial_values_agree : (levels : ℕ) (ts : List Token) → reading levels terra.terra_initial_values ts ≡ initial_values_at levels codes.Terra ts
-unfolding initial_values_at values_at
+unfolding initial_values_at expressions_behind_at
 terra_initial_values_agree levels ts =
     either_is (begins (is symbols.Equal) ts) (reading levels (bind (sign symbols.Equal) λ y. expressions.terra_expressions) ts) (Took Nothing ts) (sign_at symbols.Equal ts >>= λ y a. expressions_at levels codes.Terra a) (Took Nothing ts)
     (sign_then levels symbols.Equal (λ y. expressions.terra_expressions) (λ y a. expressions_at levels codes.Terra a) (λ y us. terra_expressions_agree levels us) ts) refl
@@ -166,12 +166,17 @@ terra_parameters_agree levels ts = refl
 -- ---- assignments, calls and splices
 
 pub terra_assignment_agrees : (levels : ℕ) (t : Token) (e : Tree) (ts : List Token) → reading levels (terra.terra_assignment t e) ts ≡ terra_assignment_at levels t.place (More Nothing e) ts
-unfolding terra_assignment_at more_elements_at
+unfolding terra_assignment_at more_elements_at expressions_behind_at
 terra_assignment_agrees levels t e ts =
     then levels (listed_behind expressions.terra_expression (More Nothing e)) (λ targets. bind (sign symbols.Equal) λ y. bind expressions.terra_expressions λ es. give (TerraAssign t.place targets es)) (λ us. more_elements_at levels (elements.Expression codes.Terra) (More Nothing e) us)
-    (λ targets a. sign_at symbols.Equal a >>= λ y b. expressions_at levels codes.Terra b >>= λ es rest. Took (TerraAssign t.place targets es) rest) (λ us. refl)
-    (λ targets us. sign_then levels symbols.Equal (λ y. bind expressions.terra_expressions λ es. give (TerraAssign t.place targets es)) (λ y b. expressions_at levels codes.Terra b >>= λ es rest. Took (TerraAssign t.place targets es) rest)
-    (λ y vs. then_give levels expressions.terra_expressions (λ es. TerraAssign t.place targets es) (λ ws. expressions_at levels codes.Terra ws) (λ ws. terra_expressions_agree levels ws) vs) us) ts
+    (λ targets a. expressions_behind_at levels symbols.Equal codes.Terra a >>= λ es rest. Took (TerraAssign t.place targets es) rest) (λ us. refl) (λ targets us. values_agree t.place targets us) ts
+  where
+    values_agree : (place : Place) (targets : Tree) (us : List Token) →
+        reading levels (bind (sign symbols.Equal) λ y. bind expressions.terra_expressions λ es. give (TerraAssign place targets es)) us ≡ (expressions_behind_at levels symbols.Equal codes.Terra us >>= λ es rest. Took (TerraAssign place targets es) rest)
+    values_agree place targets us =
+        sign_then levels symbols.Equal (λ y. bind expressions.terra_expressions λ es. give (TerraAssign place targets es)) (λ y b. expressions_at levels codes.Terra b >>= λ es rest. Took (TerraAssign place targets es) rest)
+        (λ y vs. then_give levels expressions.terra_expressions (λ es. TerraAssign place targets es) (λ ws. expressions_at levels codes.Terra ws) (λ ws. terra_expressions_agree levels ws) vs) us
+        ∙ sym (bind_again (sign_at symbols.Equal us) (λ y b. expressions_at levels codes.Terra b) (λ es rest. Took (TerraAssign place targets es) rest))
 
 splice_or : (b : Bool) (x y z : Outcome Tree) → x ≡ y → cond b x z ≡ cond (true && not b) z y
 splice_or true x y z e = e

@@ -27,7 +27,7 @@ use Rattle.tl_parse.proofs.AgreeingStatements.{arm_turn}
 use Rattle.tl_parse.proofs.Failing.{fails_after, fails_bind, fails_from, fails_same}
 use Rattle.tl_parse.proofs.Taking.{next_of}
 use Rattle.tl_parse.proofs.TerraStatementParts.{terra_block_part}
-use Rattle.tl_parse.specs.Lists.{next_element_at, more_elements_at, expressions_at}
+use Rattle.tl_parse.specs.Lists.{next_element_at, more_elements_at, expressions_behind_at}
 use Rattle.tl_parse.specs.Statements.{arm_at, more_arms_at, next_arm_at}
 use Rattle.tl_parse.specs.declared.parser.Code.TheVariants as codes
 use Rattle.tl_parse.specs.declared.parser.Element.TheVariants as elements
@@ -67,13 +67,13 @@ arm_shorter levels block_codes.Terra x ts rest e =
 pub terra_targets_go : (levels : ℕ) (place : Place) (before : Tree) (ts : List Token) → begins (is symbols.Comma) ts ≡ true → terra_assignment_at levels place before ts ≡ (next_element_at levels (elements.Expression codes.Terra) ts >>= λ e rest. terra_assignment_at levels place (More before e) rest)
 unfolding terra_assignment_at
 terra_targets_go levels place before ts h =
-    ap (λ (o : Outcome Tree). o >>= λ targets a. sign_at symbols.Equal a >>= λ y b. expressions_at levels codes.Terra b >>= λ es rest. Took (trees.TerraAssign place targets es) rest) (elements_go levels (elements.Expression codes.Terra) before ts h)
-    ∙ bind_again (next_element_at levels (elements.Expression codes.Terra) ts) (λ e rest. more_elements_at levels (elements.Expression codes.Terra) (More before e) rest) (λ targets a. sign_at symbols.Equal a >>= λ y b. expressions_at levels codes.Terra b >>= λ es rest. Took (trees.TerraAssign place targets es) rest)
+    ap (λ (o : Outcome Tree). o >>= λ targets a. expressions_behind_at levels symbols.Equal codes.Terra a >>= λ es rest. Took (trees.TerraAssign place targets es) rest) (elements_go levels (elements.Expression codes.Terra) before ts h)
+    ∙ bind_again (next_element_at levels (elements.Expression codes.Terra) ts) (λ e rest. more_elements_at levels (elements.Expression codes.Terra) (More before e) rest) (λ targets a. expressions_behind_at levels symbols.Equal codes.Terra a >>= λ es rest. Took (trees.TerraAssign place targets es) rest)
 
-pub terra_targets_end : (levels : ℕ) (place : Place) (before : Tree) (ts : List Token) → begins (is symbols.Comma) ts ≡ false → terra_assignment_at levels place before ts ≡ (sign_at symbols.Equal ts >>= λ y b. expressions_at levels codes.Terra b >>= λ es rest. Took (trees.TerraAssign place before es) rest)
+pub terra_targets_end : (levels : ℕ) (place : Place) (before : Tree) (ts : List Token) → begins (is symbols.Comma) ts ≡ false → terra_assignment_at levels place before ts ≡ (expressions_behind_at levels symbols.Equal codes.Terra ts >>= λ es rest. Took (trees.TerraAssign place before es) rest)
 unfolding terra_assignment_at
 terra_targets_end levels place before ts h =
-    ap (λ (o : Outcome Tree). o >>= λ targets a. sign_at symbols.Equal a >>= λ y b. expressions_at levels codes.Terra b >>= λ es rest. Took (trees.TerraAssign place targets es) rest) (elements_end levels (elements.Expression codes.Terra) before ts h)
+    ap (λ (o : Outcome Tree). o >>= λ targets a. expressions_behind_at levels symbols.Equal codes.Terra a >>= λ es rest. Took (trees.TerraAssign place targets es) rest) (elements_end levels (elements.Expression codes.Terra) before ts h)
 
 pub terra_target_shorter : (levels : ℕ) (x : Tree) (ts rest : List Token) → next_element_at levels (elements.Expression codes.Terra) ts ≡ Took x rest → length rest < length ts
 terra_target_shorter levels x ts rest e = element_shorter levels (elements.Expression codes.Terra) x ts rest e

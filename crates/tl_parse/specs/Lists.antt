@@ -1,5 +1,6 @@
 -- The lists with commas: what they hold, and what reading them gives.
 use Rattle.std.specs.Prelude.{ℕ, List}
+use Rattle.tl_tree.specs.declared.symbol.Symbol.{Symbol}
 use Rattle.tl_tree.specs.declared.symbol.Symbol.TheVariants as symbols
 use Rattle.tl_tree.specs.Tokens.{Token}
 use Rattle.tl_tree.specs.Tree.{Tree, Nothing, More}
@@ -34,3 +35,7 @@ elements_at levels kind ts = element_at levels kind ts >>= λ e a. more_elements
 
 abbrev pub expressions_at : ℕ → Code → List Token → Outcome Tree
 expressions_at levels code ts = elements_at levels (elements.Expression code) ts
+
+-- a sign or word, and expressions behind it
+unfoldable pub expressions_behind_at : ℕ → Symbol → Code → List Token → Outcome Tree
+expressions_behind_at levels s code ts = sign_at s ts >>= λ y a. expressions_at levels code a

@@ -18,7 +18,7 @@ use Rattle.tl_tree.specs.Forms.{semicolon, Chained}
 use Rattle.tl_tree.specs.LuaStatements as lua
 use Rattle.tl_tree.specs.LuaStatements.{looped, fresh, Sequence, sequence, Parameters, parameters_of, body_mode}
 use Rattle.tl_parse.specs.Using.{reading, part_at, sign_at, open_at}
-use Rattle.tl_parse.specs.Lists.{more_elements_at, expressions_at}
+use Rattle.tl_parse.specs.Lists.{more_elements_at, expressions_at, expressions_behind_at}
 use Rattle.tl_parse.specs.Expressions.{name_at, base_at, applied_at}
 use Rattle.tl_parse.specs.Paths.{more_names_at, names_at, path_at}
 use Rattle.tl_parse.specs.TerraDefinitions.{define_terra_at, define_struct_at, local_terra_at}
@@ -58,16 +58,12 @@ abbrev pub is_call : Shape → Bool
 is_call shapes.Call = true
 is_call _ = false
 
--- `=` and the values, behind the targets
-unfoldable pub values_at : ℕ → Code → List Token → Outcome Tree
-values_at levels code ts = sign_at symbols.Equal ts >>= λ y a. expressions_at levels code a
-
 unfoldable pub call_or_assignment_at : ℕ → Mode → List Token → Outcome Tree
 call_or_assignment_at levels m ts =
     applied_at levels m true ts >>= λ a b.
     if is_call a.shape then Took (Perform (first_place ts) a.tree) b
-    else (more_elements_at levels (elements.Target m) (More Nothing a.tree) b >>= λ targets c. values_at levels (codes.Lua m) c
-    >>= λ es rest. Took (Assign (first_place ts) targets es) rest)
+    else (more_elements_at levels (elements.Target m) (More Nothing a.tree) b >>= λ targets c.
+    expressions_behind_at levels symbols.Equal (codes.Lua m) c >>= λ es rest. Took (Assign (first_place ts) targets es) rest)
 
 -- ---- loops and choices
 
@@ -141,8 +137,8 @@ generic es x = record { values = es; block = x }
 
 unfoldable pub generic_at : ℕ → Context → List Token → Outcome Generic
 generic_at levels c ts =
-    sign_at symbols.In ts >>= λ y a. expressions_at levels (codes.Lua c.mode) a >>= λ es b.
-    loop_at levels (block_codes.Lua c) b >>= λ x rest. Took (generic es x) rest
+    expressions_behind_at levels symbols.In (codes.Lua c.mode) ts >>= λ es a.
+    loop_at levels (block_codes.Lua c) a >>= λ x rest. Took (generic es x) rest
 
 unfoldable pub for_at : ℕ → Context → List Token → Outcome Tree
 for_at levels c ts =
@@ -165,7 +161,8 @@ local_function_at levels place ts =
     part_at (levels - 1) FunctionBody d >>= λ x rest. Took (LocalFunction place n x) rest
 
 unfoldable pub initial_values_at : ℕ → Code → List Token → Outcome Tree
-initial_values_at levels code ts = if begins (is symbols.Equal) ts then values_at levels code ts else Took Nothing ts
+initial_values_at levels code ts = if begins (is symbols.Equal) ts then expressions_behind_at levels symbols.Equal code ts
+    else Took Nothing ts
 
 unfoldable pub local_names_at : ℕ → Mode → Place → List Token → Outcome Tree
 local_names_at levels m place ts = names_at levels ts >>= λ ns a. initial_values_at levels (codes.Lua m) a

@@ -20,7 +20,7 @@ use Rattle.tl_parse.specs.Using.{reading, part_at, sign_at, open_at}
 use Rattle.tl_parse.specs.Statements.{first_place, is_call, last_symbols, returned_values_at}
 use Rattle.tl_parse.specs.TerraExpressions.{terra_name_at}
 use Rattle.tl_parse.specs.TerraExpressions.{terra_applied_at}
-use Rattle.tl_parse.specs.Lists.{more_elements_at, elements_at, expressions_at}
+use Rattle.tl_parse.specs.Lists.{more_elements_at, elements_at, expressions_behind_at}
 use Rattle.tl_parse.specs.Statements.{arms_at, initial_values_at, loop_at, numeric_at, otherwise_at}
 use Rattle.tl_parse.specs.Codes.{expression_behind_at, optional_expression_at}
 use Rattle.tl_parse.specs.declared.parser.Code.TheVariants as codes
@@ -65,9 +65,8 @@ terra_target_at levels ts =
 -- more targets and the values behind a list of targets
 unfoldable pub terra_assignment_at : ℕ → Place → Tree → List Token → Outcome Tree
 terra_assignment_at levels place before ts =
-    more_elements_at levels (elements.Expression codes.Terra) before ts >>= λ targets a. sign_at symbols.Equal a >>= λ y b.
-    expressions_at levels codes.Terra b >>= λ es rest.
-    Took (TerraAssign place targets es) rest
+    more_elements_at levels (elements.Expression codes.Terra) before ts >>= λ targets a.
+    expressions_behind_at levels symbols.Equal codes.Terra a >>= λ es rest. Took (TerraAssign place targets es) rest
 
 abbrev pub assignment_symbols : List Symbol
 assignment_symbols = symbols.Equal ∷ symbols.Comma ∷ []

@@ -1,10 +1,11 @@
 // Reading of lists with commas.
 ghost use Rattle.std.specs.Prelude.{◌≡◌, false, IfOk, IfErr};
+ghost use Rattle.tl_tree.specs.Symbols.{is_bad};
 ghost use Rattle.tl_parse.specs.Parsing.{tokens_left, Fails, TookTree, TookList};
-ghost use Rattle.tl_parse.specs.Lists.{element_at, next_element_at, elements_at};
+ghost use Rattle.tl_parse.specs.Lists.{element_at, next_element_at, elements_at, expressions_behind_at};
 
 use crate::error::SyntaxError;
-use crate::parser::{Element, Parser, add};
+use crate::parser::{Code, Element, Parser, add};
 use tl_base::NodeId;
 use tl_tree::{NodeList, Symbol};
 
@@ -49,5 +50,22 @@ impl<'a> Parser<'a> {
             read!(add(&mut list, next));
         }
         Ok(list)
+    }
+
+    /// sign exps, or sign texps
+    #[cycle(parser)]
+    #[tactic(auto, using(crate::proofs::Failing::failing), unfolding(crate::specs::Lists::expressions_behind_at))]
+    pub(crate) fn expressions_behind(
+        &mut self,
+        symbol: Symbol,
+        code: Code,
+        levels: u32,
+    ) -> Result<NodeList, SyntaxError>
+        requires { is_bad symbol ≡ false }
+        ensures ok { IfOk result (λ r. TookList self.old self.new (expressions_behind_at levels symbol code (tokens_left self.old)) r) }
+        ensures err { IfErr result (λ e. Fails self.old (expressions_behind_at levels symbol code (tokens_left self.old)) e) }
+    {
+        pass!(self.take(symbol));
+        self.elements(Element::Expression(code), levels)
     }
 }

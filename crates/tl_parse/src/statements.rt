@@ -10,7 +10,7 @@ ghost use Rattle.tl_parse.specs.Parsing.{tokens_left, Fails, HasNext, TookTree, 
 ghost use Rattle.tl_parse.specs.Using.{part_at};
 ghost use Rattle.tl_parse.specs.Codes.{code_of, statements_in, looped_code, first_symbols};
 ghost use Rattle.tl_parse.specs.Statements.{first_place, is_unsettled, variable_at, is_call};
-ghost use Rattle.tl_parse.specs.Statements.{values_at, call_or_assignment_at, do_at, loop_at, while_at, repeat_at};
+ghost use Rattle.tl_parse.specs.Statements.{call_or_assignment_at, do_at, loop_at, while_at, repeat_at};
 ghost use Rattle.tl_parse.specs.Statements.{arm_at, next_arm_at, arms_at, otherwise_at, if_at, numeric_at};
 ghost use Rattle.tl_parse.specs.Statements.{generic_at, for_at, function_statement_at, local_function_at};
 ghost use Rattle.tl_parse.specs.Statements.{initial_values_at, local_names_at, local_at, returned_values_at};
@@ -241,17 +241,6 @@ impl<'a> Parser<'a> {
         Ok(a.node)
     }
 
-    /// "=" exps, or "=" texps
-    #[cycle(parser)]
-    #[tactic(auto, using(crate::proofs::Failing::failing), unfolding(crate::specs::Statements::values_at))]
-    fn values(&mut self, code: Code, levels: u32) -> Result<NodeList, SyntaxError>
-        ensures ok { IfOk result (λ r. TookList self.old self.new (values_at levels code (tokens_left self.old)) r) }
-        ensures err { IfErr result (λ e. Fails self.old (values_at levels code (tokens_left self.old)) e) }
-    {
-        pass!(self.take(Symbol::Equal));
-        self.elements(Element::Expression(code), levels)
-    }
-
     /// stat = var {"," var} "=" exps | call
     #[cycle(parser)]
     #[tactic(auto, using(crate::proofs::Turns::elements), unfolding(crate::specs::Statements::call_or_assignment_at))]
@@ -270,7 +259,7 @@ impl<'a> Parser<'a> {
             let next = read!(self.next_element(Element::Target(mode), levels));
             read!(add(&mut targets, next));
         }
-        let values = read!(self.values(Code::Lua(mode), levels));
+        let values = read!(self.expressions_behind(Symbol::Equal, Code::Lua(mode), levels));
         self.push(Node::Statement(place, Statement::Assign(targets, values)))
     }
 
@@ -434,8 +423,7 @@ impl<'a> Parser<'a> {
         ensures ok { IfOk result (λ r. TookGeneric self.old self.new (generic_at levels context (tokens_left self.old)) r.0 r.1) }
         ensures err { IfErr result (λ e. Fails self.old (generic_at levels context (tokens_left self.old)) e) }
     {
-        pass!(self.take(Symbol::In));
-        let values = read!(self.elements(Element::Expression(Code::Lua(context.mode)), levels));
+        let values = read!(self.expressions_behind(Symbol::In, Code::Lua(context.mode), levels));
         let block = read!(self.loop_block(BlockCode::Lua(context), levels));
         Ok((values, block))
     }
@@ -505,7 +493,7 @@ impl<'a> Parser<'a> {
         ensures err { IfErr result (λ e. Fails self.old (initial_values_at levels code (tokens_left self.old)) e) }
     {
         if self.next_is(Symbol::Equal) {
-            return self.values(code, levels);
+            return self.expressions_behind(Symbol::Equal, code, levels);
         }
         Ok(self.no_nodes())
     }

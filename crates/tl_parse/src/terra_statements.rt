@@ -146,8 +146,7 @@ impl<'a> Parser<'a> {
             let next = read!(self.next_element(Element::Expression(Code::Terra), levels));
             read!(add(&mut targets, next));
         }
-        read!(self.take(Symbol::Equal));
-        let values = read!(self.elements(Element::Expression(Code::Terra), levels));
+        let values = read!(self.expressions_behind(Symbol::Equal, Code::Terra, levels));
         self.push(Node::TerraStatement(place, TerraStatement::Assign(targets, values)))
     }
 

@@ -1,4 +1,5 @@
 use Rattle.std.proofs.Common.{◌+◌, ◌*◌, List, length}
+use Rattle.tl_tree.specs.declared.symbol.Symbol.TheVariants as symbols
 use Rattle.tl_tree.specs.Tokens.{Token}
 use Rattle.tl_tree.specs.Tree.{Tree, Fields, Statements, Assign, GenericFor, Initialisers, Entries}
 use Rattle.tl_tree.specs.Grammar.{Took, ◌>>=◌}
@@ -8,14 +9,14 @@ use Rattle.tl_parse.specs.Expressions.{applied_at, binary_at, more_fields_at}
 use Rattle.tl_parse.specs.declared.parser.Code.TheVariants as codes
 use Rattle.tl_parse.specs.declared.parser.Element.TheVariants as elements
 use Rattle.tl_parse.specs.Going.{Binding, Applying, Listing, Settling, Sequencing}
-use Rattle.tl_parse.specs.Statements.{first_place, call_or_assignment_at, values_at, variable_at, arms_at, more_arms_at, for_at, generic_at}
+use Rattle.tl_parse.specs.Statements.{first_place, call_or_assignment_at, variable_at, arms_at, more_arms_at, for_at, generic_at}
 use Rattle.tl_parse.specs.Paths.{more_names_at}
 use Rattle.tl_parse.specs.TerraExpressions.{terra_binary_at, terra_applied_at}
 use Rattle.tl_parse.specs.TerraExpressions.{more_initialisers_at}
 use Rattle.tl_parse.specs.Entries.{more_entries_at}
 use Rattle.tl_parse.specs.TerraGoing.{TerraBinding, TerraApplying, terra_rank_of}
 use Rattle.tl_tree.specs.Tree.{TerraStatements}
-use Rattle.tl_parse.specs.Lists.{elements_at, more_elements_at}
+use Rattle.tl_parse.specs.Lists.{elements_at, more_elements_at, expressions_behind_at}
 use Rattle.tl_parse.specs.TerraStatements.{terra_simple_statement_at, terra_assignment_at}
 use Rattle.tl_parse.specs.TerraLines.{TerraSequencing}
 use Rattle.tl_parse.proofs.parser.Parser.+parser.Given as goal
@@ -66,7 +67,7 @@ abbrev pub decreases-fields : goal.decreases-fields
 decreases-fields l = 64 * l.levels + 41
 
 abbrev pub decreases-for_statement : goal.decreases-for_statement
-decreases-for_statement l = 64 * l.levels + 46
+decreases-for_statement l = 64 * l.levels + 47
 
 abbrev pub decreases-function : goal.decreases-function
 decreases-function l = 64 * l.levels + 10
@@ -78,7 +79,7 @@ abbrev pub decreases-function_statement : goal.decreases-function_statement
 decreases-function_statement l = 64 * l.levels + 10
 
 abbrev pub decreases-generic : goal.decreases-generic
-decreases-generic l = 64 * l.levels + 45
+decreases-generic l = 64 * l.levels + 46
 
 abbrev pub decreases-if_statement : goal.decreases-if_statement
 decreases-if_statement l = 64 * l.levels + 40
@@ -173,8 +174,8 @@ decreases-table_suffix l = 64 * l.levels + 10
 abbrev pub decreases-unary : goal.decreases-unary
 decreases-unary l = 64 * l.levels + 17
 
-abbrev pub decreases-values : goal.decreases-values
-decreases-values l = 64 * l.levels + 45
+abbrev pub decreases-expressions_behind : goal.decreases-expressions_behind
+decreases-expressions_behind l = 64 * l.levels + 45
 
 abbrev pub decreases-variable : goal.decreases-variable
 decreases-variable l = 64 * l.levels + 13
@@ -213,7 +214,7 @@ abbrev pub decreases-fields-more : goal.decreases-fields-more
 decreases-fields-more l = length (tokens_left l.self)
 
 abbrev pub invariant-call_or_assignment-more : goal.invariant-call_or_assignment-more
-invariant-call_or_assignment-more l = Listing l.fn.self l.self (call_or_assignment_at l.fn.levels l.fn.mode (tokens_left l.fn.self)) (λ (before : Tree) (ts : List Token). more_elements_at l.fn.levels (elements.Target l.fn.mode) before ts >>= λ targets c. values_at l.fn.levels (codes.Lua l.fn.mode) c >>= λ es rest. Took (Assign (first_place (tokens_left l.fn.self)) targets es) rest) l.targets
+invariant-call_or_assignment-more l = Listing l.fn.self l.self (call_or_assignment_at l.fn.levels l.fn.mode (tokens_left l.fn.self)) (λ (before : Tree) (ts : List Token). more_elements_at l.fn.levels (elements.Target l.fn.mode) before ts >>= λ targets c. expressions_behind_at l.fn.levels symbols.Equal (codes.Lua l.fn.mode) c >>= λ es rest. Took (Assign (first_place (tokens_left l.fn.self)) targets es) rest) l.targets
 
 abbrev pub decreases-call_or_assignment-more : goal.decreases-call_or_assignment-more
 decreases-call_or_assignment-more l = length (tokens_left l.self)
@@ -381,7 +382,7 @@ abbrev pub decreases-terra_target : goal.decreases-terra_target
 decreases-terra_target l = 64 * l.levels + 40
 
 abbrev pub decreases-terra_simple_statement : goal.decreases-terra_simple_statement
-decreases-terra_simple_statement l = 64 * l.levels + 45
+decreases-terra_simple_statement l = 64 * l.levels + 46
 
 abbrev pub decreases-terra_do : goal.decreases-terra_do
 decreases-terra_do l = 64 * l.levels + 40
