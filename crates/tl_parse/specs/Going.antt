@@ -1,5 +1,5 @@
 -- How far the loops have come, and what one turn of them adds.
-use Rattle.std.specs.Prelude.{◌≡◌, ℕ, ◌-◌, Bool, List}
+use Rattle.std.specs.Prelude.{◌≡◌, ℕ, ◌-◌, Bool, false, List}
 use Rattle.tl_base.specs.declared.ids.NodeId.{NodeId}
 use Rattle.tl_tree.specs.declared.mode.Mode.{Mode}
 use Rattle.tl_tree.specs.Tokens.{Token}
@@ -93,10 +93,10 @@ pub record TookParameters (old new : Parser) (o : Outcome Parameters) (numbers :
   pub items : items_of new ≡ (laid tree (items_of old)).items
   pub list : numbers ≡ (laid tree (items_of old)).numbers
 
--- parameters so far
-pub record Naming (levels : ℕ) (start now : Parser) (o : Outcome Parameters) (numbers : List NodeId) (variadic : Bool) : Type 0 where
+-- parameters so far, of which none is `...`
+pub record Naming (levels : ℕ) (start now : Parser) (o : Outcome Parameters) (numbers : List NodeId) : Type 0 where
   pub tree : Tree
-  pub goes_on : o ≡ more_parameters_at levels tree variadic (tokens_left now)
+  pub goes_on : o ≡ more_parameters_at levels tree false (tokens_left now)
   pub finish : end_of now ≡ end_of start
   pub items : items_of now ≡ (laid tree (items_of start)).items
   pub list : numbers ≡ (laid tree (items_of start)).numbers

@@ -710,26 +710,17 @@ impl<'a> Parser<'a> {
         if self.next_is(Symbol::CloseParen) {
             return Ok((list, false));
         }
-        let mut variadic = false;
         match read!(self.parameter()) {
-            Some(name) => {
-                read!(add(&mut list, name));
-            }
-            None => {
-                variadic = true;
-            }
+            Some(name) => read!(add(&mut list, name)),
+            None => return Ok((list, true)),
         }
-        'more: while !variadic && self.next_is(Symbol::Comma) {
+        'more: while self.next_is(Symbol::Comma) {
             match read!(self.next_parameter()) {
-                Some(name) => {
-                    read!(add(&mut list, name));
-                }
-                None => {
-                    variadic = true;
-                }
+                Some(name) => read!(add(&mut list, name)),
+                None => return Ok((list, true)),
             }
         }
-        Ok((list, variadic))
+        Ok((list, false))
     }
 
     /// body = "(" [names ["," "..."] | "..."] ")" block "end", behind its "("
