@@ -31,8 +31,9 @@ use Rattle.tl_parse.specs.TerraStatements.{written_type_at}
 use Rattle.tl_parse.specs.TerraStatements.{terra_variable_at, spliced_variable_at, named_variable_at}
 use Rattle.tl_parse.specs.TerraStatements.{terra_target_at}
 use Rattle.tl_parse.specs.TerraStatements.{terra_assignment_at, assignment_symbols, terra_statement_behind_at, terra_simple_statement_at}
-use Rattle.tl_parse.specs.TerraStatements.{terra_do_at, terra_while_at, terra_repeat_at, terra_if_at, terra_for_at, terra_var_at}
-use Rattle.tl_parse.specs.TerraStatements.{escape_block_at, terra_return_at, terra_break_at, terra_statement_at, terra_parameter_at, spliced_parameter_at, named_parameter_at}
+use Rattle.tl_parse.specs.Statements.{do_at, while_at, repeat_at, if_at, return_at}
+use Rattle.tl_parse.specs.TerraStatements.{terra_for_at, terra_var_at}
+use Rattle.tl_parse.specs.TerraStatements.{escape_block_at, terra_break_at, terra_statement_at, terra_parameter_at, spliced_parameter_at, named_parameter_at}
 use Rattle.tl_parse.specs.TerraStatements.{terra_parameters_at}
 use Rattle.tl_parse.specs.declared.terra_expressions.TerraPrecedence.TheVariants as precedences
 use Rattle.tl_parse.proofs.Uses.{never, bind_same, opens_any, opened_at}
@@ -223,13 +224,13 @@ signed_form levels s t ts g k first same = same ∙ ap (λ (o : Outcome Token). 
 
 -- ---- statements that a word begins
 
-do_is : (levels : ℕ) (t : Token) (ts : List Token) → is_of (is symbols.Do) t ≡ true → (used_here (barred true levels Plain t) t ts >>= λ u mid. part_at (levels - 1) TerraStatements mid >>= λ x rest. reading levels (terra.terra_statement terra.FromDo t x) rest) ≡ terra_do_at levels (t ∷ ts)
-unfolding terra_do_at
+do_is : (levels : ℕ) (t : Token) (ts : List Token) → is_of (is symbols.Do) t ≡ true → (used_here (barred true levels Plain t) t ts >>= λ u mid. part_at (levels - 1) TerraStatements mid >>= λ x rest. reading levels (terra.terra_statement terra.FromDo t x) rest) ≡ do_at levels block_codes.Terra (t ∷ ts)
+unfolding do_at
 do_is levels t ts h =
     opened_form levels symbols.Do TerraStatements t ts (λ x. terra.terra_statement terra.FromDo t x) (λ u x b. sign_at symbols.End b >>= λ y rest. Took (TerraDo u.place x) rest) h (λ x us. sign_give levels symbols.End (TerraDo t.place x) us)
 
-repeat_is : (levels : ℕ) (t : Token) (ts : List Token) → is_of (is symbols.Repeat) t ≡ true → (used_here (barred true levels Plain t) t ts >>= λ u mid. part_at (levels - 1) TerraStatements mid >>= λ x rest. reading levels (terra.terra_statement terra.FromRepeat t x) rest) ≡ terra_repeat_at levels (t ∷ ts)
-unfolding terra_repeat_at
+repeat_is : (levels : ℕ) (t : Token) (ts : List Token) → is_of (is symbols.Repeat) t ≡ true → (used_here (barred true levels Plain t) t ts >>= λ u mid. part_at (levels - 1) TerraStatements mid >>= λ x rest. reading levels (terra.terra_statement terra.FromRepeat t x) rest) ≡ repeat_at levels block_codes.Terra (t ∷ ts)
+unfolding repeat_at
 repeat_is levels t ts h =
     opened_form levels symbols.Repeat TerraStatements t ts (λ x. terra.terra_statement terra.FromRepeat t x) (λ u x b. expression_behind_at levels symbols.Until codes.Terra b >>= λ e rest. Took (TerraRepeat u.place x e) rest) h
     (λ x us. behind_give levels symbols.Until codes.Terra (λ e. TerraRepeat t.place x e) us)
@@ -239,8 +240,8 @@ unfolding escape_block_at
 escape_is levels t ts h =
     opened_form levels symbols.Escape (Statements terra.emitting) t ts (λ x. terra.terra_statement terra.FromEscape t x) (λ u x b. sign_at symbols.End b >>= λ y rest. Took (EscapeBlock u.place x) rest) h (λ x us. sign_give levels symbols.End (EscapeBlock t.place x) us)
 
-while_is : (levels : ℕ) (t : Token) (ts : List Token) → is_of (is symbols.While) t ≡ true → reading levels (terra.terra_statement terra.FromWhile t Nothing) ts ≡ terra_while_at levels (t ∷ ts)
-unfolding terra_while_at
+while_is : (levels : ℕ) (t : Token) (ts : List Token) → is_of (is symbols.While) t ≡ true → reading levels (terra.terra_statement terra.FromWhile t Nothing) ts ≡ while_at levels block_codes.Terra (t ∷ ts)
+unfolding while_at
 while_is levels t ts h =
     signed_form levels symbols.While t ts (terra.terra_statement terra.FromWhile t Nothing) (λ u a. part_at levels TerraExpression a >>= λ e b. loop_at levels block_codes.Terra b >>= λ x rest. Took (TerraWhile u.place e x) rest) h
     (then levels expressions.terra_expression (λ e. bind terra.terra_loop λ b. give (TerraWhile t.place e b)) (λ us. part_at levels TerraExpression us) (λ e b. loop_at levels block_codes.Terra b >>= λ x rest. Took (TerraWhile t.place e x) rest) (λ us. terra_expression_agrees levels us)
@@ -257,8 +258,8 @@ arms_then levels h k same ts =
     (λ e us. then levels (terra.terra_arms (More Nothing e)) (λ all. h all) (λ vs. more_arms_at levels block_codes.Terra (More Nothing e) vs) (λ all b. k all b) (λ vs. refl) same us)
     ∙ sym (bind_again (arm_at levels block_codes.Terra ts) (λ e rest. more_arms_at levels block_codes.Terra (More Nothing e) rest) (λ all b. k all b))
 
-if_is : (levels : ℕ) (t : Token) (ts : List Token) → is_of (is symbols.If) t ≡ true → reading levels (terra.terra_statement terra.FromIf t Nothing) ts ≡ terra_if_at levels (t ∷ ts)
-unfolding terra_if_at
+if_is : (levels : ℕ) (t : Token) (ts : List Token) → is_of (is symbols.If) t ≡ true → reading levels (terra.terra_statement terra.FromIf t Nothing) ts ≡ if_at levels block_codes.Terra (t ∷ ts)
+unfolding if_at
 if_is levels t ts h =
     signed_form levels symbols.If t ts (terra.terra_statement terra.FromIf t Nothing) (λ u a. arms_at levels block_codes.Terra a >>= λ all b. otherwise_at levels block_codes.Terra b >>= λ o d. sign_at symbols.End d >>= λ y rest. Took (TerraIf u.place all o) rest) h
     (arms_then levels (λ all. bind terra.terra_otherwise λ o. bind (sign symbols.End) λ y. give (TerraIf t.place all o)) (λ all b. otherwise_at levels block_codes.Terra b >>= λ o d. sign_at symbols.End d >>= λ y rest. Took (TerraIf t.place all o) rest)
@@ -280,8 +281,8 @@ var_is levels t ts h =
     (then levels (listed terra.terra_variable) (λ vs. bind terra.terra_initial_values λ es. give (Var t.place vs es)) (λ us. elements_at levels elements.TerraVariable us) (λ vs b. initial_values_at levels codes.Terra b >>= λ es rest. Took (Var t.place vs es) rest) (λ us. terra_variables_agree levels us)
     (λ vs us. then_give levels terra.terra_initial_values (λ es. Var t.place vs es) (λ ws. initial_values_at levels codes.Terra ws) (λ ws. terra_initial_values_agree levels ws) us) ts)
 
-return_is : (levels : ℕ) (t : Token) (ts : List Token) → is_of (is symbols.Return) t ≡ true → reading levels (terra.terra_statement terra.FromReturn t Nothing) ts ≡ terra_return_at levels (t ∷ ts)
-unfolding terra_return_at
+return_is : (levels : ℕ) (t : Token) (ts : List Token) → is_of (is symbols.Return) t ≡ true → reading levels (terra.terra_statement terra.FromReturn t Nothing) ts ≡ return_at levels block_codes.Terra (t ∷ ts)
+unfolding return_at
 return_is levels t ts h =
     signed_form levels symbols.Return t ts (terra.terra_statement terra.FromReturn t Nothing) (λ u a. returned_values_at levels codes.Terra a >>= λ es rest. Took (TerraReturn u.place es) rest) h
     (then_give levels terra.terra_returned_values (λ es. TerraReturn t.place es) (λ us. returned_values_at levels codes.Terra us) (λ us. terra_returned_values_agree levels us) ts)

@@ -1,10 +1,11 @@
 -- What both languages have, such as lists of expressions and arms, by the language.
 use Rattle.std.specs.Prelude.{ℕ, List, [], ◌∷◌, if◌then◌else◌}
+use Rattle.tl_base.specs.declared.place.Place.{Place}
 use Rattle.tl_tree.specs.declared.symbol.Symbol.{Symbol}
 use Rattle.tl_tree.specs.declared.symbol.Symbol.TheVariants as symbols
 use Rattle.tl_tree.specs.Tokens.{Token, is}
 use Rattle.tl_tree.specs.Tree.{Tree, Nothing, Just, Part, Expression, TerraExpression, Arguments, TerraArguments, Statements}
-use Rattle.tl_tree.specs.Tree.{TerraStatements}
+use Rattle.tl_tree.specs.Tree.{TerraStatements, Do, While, Repeat, If, Return, TerraDo, TerraWhile, TerraRepeat, TerraIf, TerraReturn}
 use Rattle.tl_tree.specs.Grammar.{Grammar, Outcome, Took, ◌>>=◌, begins}
 use Rattle.tl_tree.specs.LuaExpressions as lua
 use Rattle.tl_tree.specs.LuaStatements as statements
@@ -68,3 +69,24 @@ arms_of block_codes.Terra before = terra_statements.terra_arms before
 abbrev pub looped_code : BlockCode → BlockCode
 looped_code (block_codes.Lua c) = block_codes.Lua (statements.looped c)
 looped_code block_codes.Terra = block_codes.Terra
+
+-- the statements that both languages have
+abbrev pub do_of : BlockCode → Place → Tree → Tree
+do_of (block_codes.Lua c) place x = Do place x
+do_of block_codes.Terra place x = TerraDo place x
+
+abbrev pub while_of : BlockCode → Place → Tree → Tree → Tree
+while_of (block_codes.Lua c) place e x = While place e x
+while_of block_codes.Terra place e x = TerraWhile place e x
+
+abbrev pub repeat_of : BlockCode → Place → Tree → Tree → Tree
+repeat_of (block_codes.Lua c) place x e = Repeat place x e
+repeat_of block_codes.Terra place x e = TerraRepeat place x e
+
+abbrev pub if_of : BlockCode → Place → Tree → Tree → Tree
+if_of (block_codes.Lua c) place all o = If place all o
+if_of block_codes.Terra place all o = TerraIf place all o
+
+abbrev pub return_of : BlockCode → Place → Tree → Tree
+return_of (block_codes.Lua c) place es = Return place es
+return_of block_codes.Terra place es = TerraReturn place es

@@ -10,20 +10,20 @@ use Rattle.tl_tree.specs.declared.mode.Extra.TheVariants.{Plain}
 use Rattle.tl_tree.specs.declared.mode.Shape.{Shape}
 use Rattle.tl_tree.specs.declared.mode.Shape.TheVariants as shapes
 use Rattle.tl_tree.specs.Tokens.{Token, among, is}
-use Rattle.tl_tree.specs.Tree.{Tree, Nothing, More, Just, Assign, Perform, Do, While, Repeat, If, NumericFor}
-use Rattle.tl_tree.specs.Tree.{GenericFor, DefineFunction, LocalFunction, Local, Emit, Return, Break, Block, Arm}
+use Rattle.tl_tree.specs.Tree.{Tree, Nothing, More, Just, Assign, Perform, NumericFor}
+use Rattle.tl_tree.specs.Tree.{GenericFor, DefineFunction, LocalFunction, Local, Emit, Break, Block, Arm}
 use Rattle.tl_tree.specs.Tree.{Body, Expression, Statements, FunctionBody}
 use Rattle.tl_tree.specs.Grammar.{Grammar, give, bind, many, Outcome, Took, ◌>>=◌, begins}
 use Rattle.tl_tree.specs.Forms.{semicolon, Chained}
 use Rattle.tl_tree.specs.LuaStatements as lua
-use Rattle.tl_tree.specs.LuaStatements.{looped, fresh, Sequence, sequence, Parameters, parameters_of, body_mode}
+use Rattle.tl_tree.specs.LuaStatements.{fresh, Sequence, sequence, Parameters, parameters_of, body_mode}
 use Rattle.tl_parse.specs.Using.{reading, part_at, sign_at, open_at}
 use Rattle.tl_parse.specs.Lists.{more_elements_at, expressions_at, expressions_behind_at}
 use Rattle.tl_parse.specs.Expressions.{name_at, base_at, applied_at}
 use Rattle.tl_parse.specs.Paths.{more_names_at, names_at, path_at}
 use Rattle.tl_parse.specs.TerraDefinitions.{define_terra_at, define_struct_at, local_terra_at}
 use Rattle.tl_parse.specs.Codes.{expression_in, expression_behind_at, optional_expression_at, code_of, statements_in, arms_of}
-use Rattle.tl_parse.specs.Codes.{looped_code, first_symbols}
+use Rattle.tl_parse.specs.Codes.{looped_code, first_symbols, do_of, while_of, repeat_of, if_of, return_of}
 use Rattle.tl_parse.specs.declared.parser.Code.{Code}
 use Rattle.tl_parse.specs.declared.parser.Code.TheVariants as codes
 use Rattle.tl_parse.specs.declared.parser.Element.TheVariants as elements
@@ -67,23 +67,23 @@ call_or_assignment_at levels m ts =
 
 -- ---- loops and choices
 
-unfoldable pub do_at : ℕ → Context → List Token → Outcome Tree
-do_at levels c ts = open_at symbols.Do levels ts >>= λ t a. part_at (levels - 1) (Statements c) a >>= λ x b.
-    sign_at symbols.End b >>= λ y rest. Took (Do t.place x) rest
+unfoldable pub do_at : ℕ → BlockCode → List Token → Outcome Tree
+do_at levels block ts = open_at symbols.Do levels ts >>= λ t a. part_at (levels - 1) (statements_in block) a >>= λ x b.
+    sign_at symbols.End b >>= λ y rest. Took (do_of block t.place x) rest
 
 unfoldable pub loop_at : ℕ → BlockCode → List Token → Outcome Tree
 loop_at levels block ts =
     open_at symbols.Do levels ts >>= λ t a. part_at (levels - 1) (statements_in (looped_code block)) a >>= λ x b.
     sign_at symbols.End b >>= λ y rest. Took x rest
 
-unfoldable pub while_at : ℕ → Context → List Token → Outcome Tree
-while_at levels c ts = sign_at symbols.While ts >>= λ t a. part_at levels (Expression c.mode) a >>= λ e b.
-    loop_at levels (block_codes.Lua c) b >>= λ x rest. Took (While t.place e x) rest
+unfoldable pub while_at : ℕ → BlockCode → List Token → Outcome Tree
+while_at levels block ts = sign_at symbols.While ts >>= λ t a. part_at levels (expression_in (code_of block)) a >>= λ e b.
+    loop_at levels block b >>= λ x rest. Took (while_of block t.place e x) rest
 
-unfoldable pub repeat_at : ℕ → Context → List Token → Outcome Tree
-repeat_at levels c ts =
-    open_at symbols.Repeat levels ts >>= λ t a. part_at (levels - 1) (Statements (looped c)) a >>= λ x b.
-    expression_behind_at levels symbols.Until (codes.Lua c.mode) b >>= λ e rest. Took (Repeat t.place x e) rest
+unfoldable pub repeat_at : ℕ → BlockCode → List Token → Outcome Tree
+repeat_at levels block ts =
+    open_at symbols.Repeat levels ts >>= λ t a. part_at (levels - 1) (statements_in (looped_code block)) a >>= λ x b.
+    expression_behind_at levels symbols.Until (code_of block) b >>= λ e rest. Took (repeat_of block t.place x e) rest
 
 unfoldable pub arm_at : ℕ → BlockCode → List Token → Outcome Tree
 arm_at levels block ts =
@@ -104,11 +104,10 @@ otherwise_at levels block ts =
     if begins (is symbols.Else) ts then (open_at symbols.Else levels ts >>= λ t a.
     part_at (levels - 1) (statements_in block) a >>= λ x rest. Took (Just x) rest) else Took Nothing ts
 
-unfoldable pub if_at : ℕ → Context → List Token → Outcome Tree
-if_at levels c ts =
-    sign_at symbols.If ts >>= λ t a. arms_at levels (block_codes.Lua c) a >>= λ all b.
-    otherwise_at levels (block_codes.Lua c) b >>= λ o d.
-    sign_at symbols.End d >>= λ y rest. Took (If t.place all o) rest
+unfoldable pub if_at : ℕ → BlockCode → List Token → Outcome Tree
+if_at levels block ts =
+    sign_at symbols.If ts >>= λ t a. arms_at levels block a >>= λ all b. otherwise_at levels block b >>= λ o d.
+    sign_at symbols.End d >>= λ y rest. Took (if_of block t.place all o) rest
 
 -- what a numeric `for` has behind its name
 pub record Numeric : Type 0 where
@@ -181,9 +180,9 @@ local_at levels c ts =
 unfoldable pub returned_values_at : ℕ → Code → List Token → Outcome Tree
 returned_values_at levels code ts = if begins (among (first_symbols code)) ts then expressions_at levels code ts else Took Nothing ts
 
-unfoldable pub return_at : ℕ → Mode → List Token → Outcome Tree
-return_at levels m ts = sign_at symbols.Return ts >>= λ t a. returned_values_at levels (codes.Lua m) a
-    >>= λ es rest. Took (Return t.place es) rest
+unfoldable pub return_at : ℕ → BlockCode → List Token → Outcome Tree
+return_at levels block ts = sign_at symbols.Return ts >>= λ t a. returned_values_at levels (code_of block) a
+    >>= λ es rest. Took (return_of block t.place es) rest
 
 unfoldable pub break_at : List Token → Outcome Tree
 break_at ts = sign_at symbols.Break ts >>= λ t rest. Took (Break t.place) rest
@@ -196,14 +195,14 @@ emit_at levels m ts = sign_at symbols.Emit ts >>= λ t a. part_at levels (Expres
 
 unfoldable pub statement_at : ℕ → Context → List Token → Outcome Tree
 statement_at levels c ts =
-    if begins (is symbols.Do) ts then do_at levels c ts
-    else (if begins (is symbols.While) ts then while_at levels c ts
-    else (if begins (is symbols.Repeat) ts then repeat_at levels c ts
-    else (if begins (is symbols.If) ts then if_at levels c ts
+    if begins (is symbols.Do) ts then do_at levels (block_codes.Lua c) ts
+    else (if begins (is symbols.While) ts then while_at levels (block_codes.Lua c) ts
+    else (if begins (is symbols.Repeat) ts then repeat_at levels (block_codes.Lua c) ts
+    else (if begins (is symbols.If) ts then if_at levels (block_codes.Lua c) ts
     else (if begins (is symbols.For) ts then for_at levels c ts
     else (if begins (is symbols.Function) ts then function_statement_at levels ts
     else (if begins (is symbols.Local) ts then local_at levels c ts
-    else (if begins (is symbols.Return) ts then return_at levels c.mode ts
+    else (if begins (is symbols.Return) ts then return_at levels (block_codes.Lua c) ts
     else (if begins (is symbols.Break) ts then break_at ts
     else (if begins (is symbols.Emit) ts then emit_at levels c.mode ts
     else (if begins (is symbols.Terra) ts then define_terra_at levels c.mode ts

@@ -8,8 +8,8 @@ use Rattle.tl_tree.specs.declared.mode.Extra.TheVariants.{Plain}
 use Rattle.tl_tree.specs.declared.mode.Shape.{Shape}
 use Rattle.tl_tree.specs.declared.mode.Shape.TheVariants as shapes
 use Rattle.tl_tree.specs.Tokens.{Token, among, is}
-use Rattle.tl_tree.specs.Tree.{Tree, Nothing, More, Name, Escape, TerraAssign, TerraPerform, Splice, TerraDo}
-use Rattle.tl_tree.specs.Tree.{TerraWhile, TerraRepeat, TerraIf, TerraFor, Var, EscapeBlock, TerraReturn, TerraBreak}
+use Rattle.tl_tree.specs.Tree.{Tree, Nothing, More, Name, Escape, TerraAssign, TerraPerform, Splice}
+use Rattle.tl_tree.specs.Tree.{TerraFor, Var, EscapeBlock, TerraBreak}
 use Rattle.tl_tree.specs.Tree.{Block, Quoted, TerraBody, Parameter, SpliceParameter, Variable, Expression}
 use Rattle.tl_tree.specs.Tree.{Statements, TerraExpression, TerraStatements}
 use Rattle.tl_tree.specs.Grammar.{Grammar, give, bind, many, Outcome, Took, ◌>>=◌, begins}
@@ -17,11 +17,11 @@ use Rattle.tl_tree.specs.Forms.{semicolon, Chained, chained, chain}
 use Rattle.tl_tree.specs.LuaStatements.{Sequence, sequence}
 use Rattle.tl_tree.specs.TerraStatements as terra
 use Rattle.tl_parse.specs.Using.{reading, part_at, sign_at, open_at}
-use Rattle.tl_parse.specs.Statements.{first_place, is_call, last_symbols, returned_values_at}
+use Rattle.tl_parse.specs.Statements.{first_place, is_call, last_symbols, do_at, while_at, repeat_at, if_at, return_at}
 use Rattle.tl_parse.specs.TerraExpressions.{terra_name_at}
 use Rattle.tl_parse.specs.TerraExpressions.{terra_applied_at}
 use Rattle.tl_parse.specs.Lists.{more_elements_at, elements_at, expressions_behind_at}
-use Rattle.tl_parse.specs.Statements.{arms_at, initial_values_at, loop_at, numeric_at, otherwise_at}
+use Rattle.tl_parse.specs.Statements.{initial_values_at, numeric_at}
 use Rattle.tl_parse.specs.Codes.{expression_behind_at, optional_expression_at}
 use Rattle.tl_parse.specs.declared.parser.Code.TheVariants as codes
 use Rattle.tl_parse.specs.declared.parser.Element.TheVariants as elements
@@ -83,26 +83,6 @@ terra_simple_statement_at levels ts = terra_target_at levels ts >>= λ a rest.
 
 -- ---- statements that a word begins
 
-unfoldable pub terra_do_at : ℕ → List Token → Outcome Tree
-terra_do_at levels ts =
-    open_at symbols.Do levels ts >>= λ t a. part_at (levels - 1) TerraStatements a >>= λ x b. sign_at symbols.End b
-    >>= λ y rest. Took (TerraDo t.place x) rest
-
-unfoldable pub terra_while_at : ℕ → List Token → Outcome Tree
-terra_while_at levels ts = sign_at symbols.While ts >>= λ t a. part_at levels TerraExpression a >>= λ e b.
-    loop_at levels block_codes.Terra b >>= λ x rest. Took (TerraWhile t.place e x) rest
-
-unfoldable pub terra_repeat_at : ℕ → List Token → Outcome Tree
-terra_repeat_at levels ts =
-    open_at symbols.Repeat levels ts >>= λ t a. part_at (levels - 1) TerraStatements a >>= λ x b.
-    expression_behind_at levels symbols.Until codes.Terra b >>= λ e rest. Took (TerraRepeat t.place x e) rest
-
-unfoldable pub terra_if_at : ℕ → List Token → Outcome Tree
-terra_if_at levels ts =
-    sign_at symbols.If ts >>= λ t a. arms_at levels block_codes.Terra a >>= λ all b. otherwise_at levels block_codes.Terra b >>= λ o d.
-    sign_at symbols.End d >>= λ y rest.
-    Took (TerraIf t.place all o) rest
-
 unfoldable pub terra_for_at : ℕ → List Token → Outcome Tree
 terra_for_at levels ts =
     sign_at symbols.For ts >>= λ t a. terra_name_at levels a >>= λ n b. numeric_at levels block_codes.Terra b
@@ -119,10 +99,6 @@ escape_block_at levels ts =
     sign_at symbols.End b >>= λ y rest.
     Took (EscapeBlock t.place x) rest
 
-unfoldable pub terra_return_at : ℕ → List Token → Outcome Tree
-terra_return_at levels ts = sign_at symbols.Return ts >>= λ t a. returned_values_at levels codes.Terra a
-    >>= λ es rest. Took (TerraReturn t.place es) rest
-
 unfoldable pub terra_break_at : List Token → Outcome Tree
 terra_break_at ts = sign_at symbols.Break ts >>= λ t rest. Took (TerraBreak t.place) rest
 
@@ -130,14 +106,14 @@ terra_break_at ts = sign_at symbols.Break ts >>= λ t rest. Took (TerraBreak t.p
 
 unfoldable pub terra_statement_at : ℕ → List Token → Outcome Tree
 terra_statement_at levels ts =
-    if begins (is symbols.Do) ts then terra_do_at levels ts
-    else (if begins (is symbols.While) ts then terra_while_at levels ts
-    else (if begins (is symbols.Repeat) ts then terra_repeat_at levels ts
-    else (if begins (is symbols.If) ts then terra_if_at levels ts
+    if begins (is symbols.Do) ts then do_at levels block_codes.Terra ts
+    else (if begins (is symbols.While) ts then while_at levels block_codes.Terra ts
+    else (if begins (is symbols.Repeat) ts then repeat_at levels block_codes.Terra ts
+    else (if begins (is symbols.If) ts then if_at levels block_codes.Terra ts
     else (if begins (is symbols.For) ts then terra_for_at levels ts
     else (if begins (is symbols.Var) ts then terra_var_at levels ts
     else (if begins (is symbols.Escape) ts then escape_block_at levels ts
-    else (if begins (is symbols.Return) ts then terra_return_at levels ts
+    else (if begins (is symbols.Return) ts then return_at levels block_codes.Terra ts
     else (if begins (is symbols.Break) ts then terra_break_at ts
     else terra_simple_statement_at levels ts))))))))
 

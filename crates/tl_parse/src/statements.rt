@@ -1,4 +1,4 @@
-// Reading of Lua statements and functions (Lua 5.1 manual, sections 2.4 and 2.5.9), and of what statements of either language hold.
+// Reading of Lua statements and functions (Lua 5.1 manual, sections 2.4 and 2.5.9), and of the statements that both languages have.
 ghost use Rattle.std.specs.Prelude.{◌≡◌, ◌<◌, ◌≤◌, ◌-◌, ℕ, length, true, false, IfOk, IfErr, [], ◌∷◌};
 ghost use Rattle.tl_base.specs.declared.place.Place.{Place};
 ghost use Rattle.tl_tree.specs.Symbols.{has, is_bad};
@@ -23,7 +23,7 @@ ghost use Rattle.tl_parse.specs.Going.{TookNumeric, TookGeneric, TookParameters,
 use crate::error::SyntaxError;
 use crate::parser::{BlockCode, Code, Element, Parser, add};
 use tl_base::{NodeId, Place};
-use tl_tree::{Context, Mode, Node, NodeList, Piece, Shape, Statement, Symbol};
+use tl_tree::{Context, Mode, Node, NodeList, Piece, Shape, Statement, Symbol, TerraStatement};
 
 /// What a numeric `for` has behind its name.
 #[derive(Clone, Copy)]
@@ -263,27 +263,30 @@ impl<'a> Parser<'a> {
         self.push(Node::Statement(place, Statement::Assign(targets, values)))
     }
 
-    /// stat = "do" block "end"
+    /// stat = "do" block "end", or tstat = "do" tblock "end"
     #[cycle(parser)]
     #[tactic(auto, using(crate::proofs::Failing::failing), unfolding(crate::specs::Statements::do_at))]
-    fn do_statement(&mut self, context: Context, levels: u32) -> Result<NodeId, SyntaxError>
-        ensures ok { IfOk result (λ r. TookTree self.old self.new (do_at levels context (tokens_left self.old)) r) }
-        ensures err { IfErr result (λ e. Fails self.old (do_at levels context (tokens_left self.old)) e) }
+    pub(crate) fn do_statement(
+        &mut self,
+        block: BlockCode,
+        levels: u32,
+    ) -> Result<NodeId, SyntaxError>
+        ensures ok { IfOk result (λ r. TookTree self.old self.new (do_at levels block (tokens_left self.old)) r) }
+        ensures err { IfErr result (λ e. Fails self.old (do_at levels block (tokens_left self.old)) e) }
     {
         let place = read!(self.open(Symbol::Do, levels));
-        let block = read!(self.block(context, levels - 1));
+        let body = read!(self.block_of(block, levels - 1));
         pass!(self.take(Symbol::End));
-        self.push(Node::Statement(place, Statement::Do(block)))
+        match block {
+            BlockCode::Lua(_) => self.push(Node::Statement(place, Statement::Do(body))),
+            BlockCode::Terra => self.push(Node::TerraStatement(place, TerraStatement::Do(body))),
+        }
     }
 
     /// "do" block "end" or "do" tblock "end", of a loop
     #[cycle(parser)]
     #[tactic(auto, using(crate::proofs::Failing::failing), unfolding(crate::specs::Statements::loop_at))]
-    pub(crate) fn loop_block(
-        &mut self,
-        block: BlockCode,
-        levels: u32,
-    ) -> Result<NodeId, SyntaxError>
+    fn loop_block(&mut self, block: BlockCode, levels: u32) -> Result<NodeId, SyntaxError>
         ensures ok { IfOk result (λ r. TookTree self.old self.new (loop_at levels block (tokens_left self.old)) r) }
         ensures err { IfErr result (λ e. Fails self.old (loop_at levels block (tokens_left self.old)) e) }
     {
@@ -293,34 +296,57 @@ impl<'a> Parser<'a> {
         Ok(body)
     }
 
-    /// stat = "while" exp "do" block "end"
+    /// stat = "while" exp "do" block "end", or tstat = "while" texp "do" tblock "end"
     #[cycle(parser)]
     #[tactic(auto, using(crate::proofs::Failing::failing), unfolding(crate::specs::Statements::while_at))]
-    fn while_statement(&mut self, context: Context, levels: u32) -> Result<NodeId, SyntaxError>
-        ensures ok { IfOk result (λ r. TookTree self.old self.new (while_at levels context (tokens_left self.old)) r) }
-        ensures err { IfErr result (λ e. Fails self.old (while_at levels context (tokens_left self.old)) e) }
+    pub(crate) fn while_statement(
+        &mut self,
+        block: BlockCode,
+        levels: u32,
+    ) -> Result<NodeId, SyntaxError>
+        ensures ok { IfOk result (λ r. TookTree self.old self.new (while_at levels block (tokens_left self.old)) r) }
+        ensures err { IfErr result (λ e. Fails self.old (while_at levels block (tokens_left self.old)) e) }
     {
         let place = read!(self.take(Symbol::While));
-        let condition = read!(self.expression(context.mode, levels));
-        let block = read!(self.loop_block(BlockCode::Lua(context), levels));
-        self.push(Node::Statement(place, Statement::While(condition, block)))
+        let condition = read!(self.expression_of(code_of(block), levels));
+        let body = read!(self.loop_block(block, levels));
+        match block {
+            BlockCode::Lua(_) => self.push(Node::Statement(
+                place,
+                Statement::While(condition, body),
+            )),
+            BlockCode::Terra => self.push(Node::TerraStatement(
+                place,
+                TerraStatement::While(condition, body),
+            )),
+        }
     }
 
-    /// stat = "repeat" block "until" exp
+    /// stat = "repeat" block "until" exp, or tstat = "repeat" tblock "until" texp
     #[cycle(parser)]
     #[tactic(auto, using(crate::proofs::Failing::failing), unfolding(crate::specs::Statements::repeat_at))]
-    fn repeat_statement(&mut self, context: Context, levels: u32) -> Result<NodeId, SyntaxError>
-        ensures ok { IfOk result (λ r. TookTree self.old self.new (repeat_at levels context (tokens_left self.old)) r) }
-        ensures err { IfErr result (λ e. Fails self.old (repeat_at levels context (tokens_left self.old)) e) }
+    pub(crate) fn repeat_statement(
+        &mut self,
+        block: BlockCode,
+        levels: u32,
+    ) -> Result<NodeId, SyntaxError>
+        ensures ok { IfOk result (λ r. TookTree self.old self.new (repeat_at levels block (tokens_left self.old)) r) }
+        ensures err { IfErr result (λ e. Fails self.old (repeat_at levels block (tokens_left self.old)) e) }
     {
         let place = read!(self.open(Symbol::Repeat, levels));
-        let block = read!(self.block(looped(context), levels - 1));
-        let condition = read!(self.expression_behind(
-            Symbol::Until,
-            Code::Lua(context.mode),
-            levels
-        ));
-        self.push(Node::Statement(place, Statement::Repeat(block, condition)))
+        let body = read!(self.block_of(looped_code(block), levels - 1));
+        // The condition is read at the level of the statement.
+        let condition = read!(self.expression_behind(Symbol::Until, code_of(block), levels));
+        match block {
+            BlockCode::Lua(_) => self.push(Node::Statement(
+                place,
+                Statement::Repeat(body, condition),
+            )),
+            BlockCode::Terra => self.push(Node::TerraStatement(
+                place,
+                TerraStatement::Repeat(body, condition),
+            )),
+        }
     }
 
     /// exp "then" block, or texp "then" tblock
@@ -350,7 +376,7 @@ impl<'a> Parser<'a> {
     /// exp "then" block {"elseif" exp "then" block}, or texp "then" tblock {"elseif" texp "then" tblock}
     #[cycle(parser)]
     #[tactic(auto, using(crate::proofs::TerraStatementTurns::arms), unfolding(crate::specs::Statements::arms_at))]
-    pub(crate) fn arms(&mut self, block: BlockCode, levels: u32) -> Result<NodeList, SyntaxError>
+    fn arms(&mut self, block: BlockCode, levels: u32) -> Result<NodeList, SyntaxError>
         ensures ok { IfOk result (λ r. TookList self.old self.new (arms_at levels block (tokens_left self.old)) r) }
         ensures err { IfErr result (λ e. Fails self.old (arms_at levels block (tokens_left self.old)) e) }
     {
@@ -366,11 +392,7 @@ impl<'a> Parser<'a> {
     /// ["else" block], or ["else" tblock]
     #[cycle(parser)]
     #[tactic(auto, using(crate::proofs::Failing::failing), unfolding(crate::specs::Statements::otherwise_at))]
-    pub(crate) fn otherwise(
-        &mut self,
-        block: BlockCode,
-        levels: u32,
-    ) -> Result<Option<NodeId>, SyntaxError>
+    fn otherwise(&mut self, block: BlockCode, levels: u32) -> Result<Option<NodeId>, SyntaxError>
         ensures ok { IfOk result (λ r. TookOption self.old self.new (otherwise_at levels block (tokens_left self.old)) r) }
         ensures err { IfErr result (λ e. Fails self.old (otherwise_at levels block (tokens_left self.old)) e) }
     {
@@ -382,18 +404,28 @@ impl<'a> Parser<'a> {
         Ok(None)
     }
 
-    /// stat = "if" exp "then" block {"elseif" exp "then" block} ["else" block] "end"
+    /// stat = "if" exp "then" block {"elseif" exp "then" block} ["else" block] "end", or the same of texp and tblock
     #[cycle(parser)]
     #[tactic(auto, using(crate::proofs::Failing::failing), unfolding(crate::specs::Statements::if_at))]
-    fn if_statement(&mut self, context: Context, levels: u32) -> Result<NodeId, SyntaxError>
-        ensures ok { IfOk result (λ r. TookTree self.old self.new (if_at levels context (tokens_left self.old)) r) }
-        ensures err { IfErr result (λ e. Fails self.old (if_at levels context (tokens_left self.old)) e) }
+    pub(crate) fn if_statement(
+        &mut self,
+        block: BlockCode,
+        levels: u32,
+    ) -> Result<NodeId, SyntaxError>
+        ensures ok { IfOk result (λ r. TookTree self.old self.new (if_at levels block (tokens_left self.old)) r) }
+        ensures err { IfErr result (λ e. Fails self.old (if_at levels block (tokens_left self.old)) e) }
     {
         let place = read!(self.take(Symbol::If));
-        let arms = read!(self.arms(BlockCode::Lua(context), levels));
-        let otherwise = read!(self.otherwise(BlockCode::Lua(context), levels));
+        let arms = read!(self.arms(block, levels));
+        let otherwise = read!(self.otherwise(block, levels));
         pass!(self.take(Symbol::End));
-        self.push(Node::Statement(place, Statement::If(arms, otherwise)))
+        match block {
+            BlockCode::Lua(_) => self.push(Node::Statement(place, Statement::If(arms, otherwise))),
+            BlockCode::Terra => self.push(Node::TerraStatement(
+                place,
+                TerraStatement::If(arms, otherwise),
+            )),
+        }
     }
 
     /// "=" exp "," exp ["," exp] "do" block "end", or "=" texp .. "end", behind "for" and a name
@@ -530,11 +562,7 @@ impl<'a> Parser<'a> {
     /// [exps] or [texps], behind "return"
     #[cycle(parser)]
     #[tactic(auto, using(crate::proofs::Failing::failing), unfolding(crate::specs::Statements::returned_values_at))]
-    pub(crate) fn returned_values(
-        &mut self,
-        code: Code,
-        levels: u32,
-    ) -> Result<NodeList, SyntaxError>
+    fn returned_values(&mut self, code: Code, levels: u32) -> Result<NodeList, SyntaxError>
         ensures ok { IfOk result (λ r. TookList self.old self.new (returned_values_at levels code (tokens_left self.old)) r) }
         ensures err { IfErr result (λ e. Fails self.old (returned_values_at levels code (tokens_left self.old)) e) }
     {
@@ -544,16 +572,26 @@ impl<'a> Parser<'a> {
         Ok(self.no_nodes())
     }
 
-    /// "return" [exps]
+    /// "return" [exps], or "return" [texps]
     #[cycle(parser)]
     #[tactic(auto, using(crate::proofs::Failing::failing), unfolding(crate::specs::Statements::return_at))]
-    fn return_statement(&mut self, mode: Mode, levels: u32) -> Result<NodeId, SyntaxError>
-        ensures ok { IfOk result (λ r. TookTree self.old self.new (return_at levels mode (tokens_left self.old)) r) }
-        ensures err { IfErr result (λ e. Fails self.old (return_at levels mode (tokens_left self.old)) e) }
+    pub(crate) fn return_statement(
+        &mut self,
+        block: BlockCode,
+        levels: u32,
+    ) -> Result<NodeId, SyntaxError>
+        ensures ok { IfOk result (λ r. TookTree self.old self.new (return_at levels block (tokens_left self.old)) r) }
+        ensures err { IfErr result (λ e. Fails self.old (return_at levels block (tokens_left self.old)) e) }
     {
         let place = read!(self.take(Symbol::Return));
-        let values = read!(self.returned_values(Code::Lua(mode), levels));
-        self.push(Node::Statement(place, Statement::Return(values)))
+        let values = read!(self.returned_values(code_of(block), levels));
+        match block {
+            BlockCode::Lua(_) => self.push(Node::Statement(place, Statement::Return(values))),
+            BlockCode::Terra => self.push(Node::TerraStatement(
+                place,
+                TerraStatement::Return(values),
+            )),
+        }
     }
 
     /// "break"
@@ -587,16 +625,16 @@ impl<'a> Parser<'a> {
         ensures err { IfErr result (λ e. Fails self.old (statement_at levels context (tokens_left self.old)) e) }
     {
         if self.next_is(Symbol::Do) {
-            return self.do_statement(context, levels);
+            return self.do_statement(BlockCode::Lua(context), levels);
         }
         if self.next_is(Symbol::While) {
-            return self.while_statement(context, levels);
+            return self.while_statement(BlockCode::Lua(context), levels);
         }
         if self.next_is(Symbol::Repeat) {
-            return self.repeat_statement(context, levels);
+            return self.repeat_statement(BlockCode::Lua(context), levels);
         }
         if self.next_is(Symbol::If) {
-            return self.if_statement(context, levels);
+            return self.if_statement(BlockCode::Lua(context), levels);
         }
         if self.next_is(Symbol::For) {
             return self.for_statement(context, levels);
@@ -608,7 +646,7 @@ impl<'a> Parser<'a> {
             return self.local_statement(context, levels);
         }
         if self.next_is(Symbol::Return) {
-            return self.return_statement(context.mode, levels);
+            return self.return_statement(BlockCode::Lua(context), levels);
         }
         if self.next_is(Symbol::Break) {
             return self.break_statement();

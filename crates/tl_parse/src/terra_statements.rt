@@ -11,8 +11,7 @@ ghost use Rattle.tl_parse.specs.TerraStatements.{terra_variable_at, spliced_vari
 ghost use Rattle.tl_parse.specs.TerraStatements.{terra_target_at};
 ghost use Rattle.tl_parse.specs.TerraStatements.{terra_simple_statement_at, is_escape, terra_goes_on};
 ghost use Rattle.tl_parse.specs.TerraStatements.{terra_function_body_at, quoted_code_at};
-ghost use Rattle.tl_parse.specs.TerraStatements.{terra_do_at, terra_while_at, terra_repeat_at, terra_if_at};
-ghost use Rattle.tl_parse.specs.TerraStatements.{terra_for_at, terra_var_at, escape_block_at, terra_return_at};
+ghost use Rattle.tl_parse.specs.TerraStatements.{terra_for_at, terra_var_at, escape_block_at};
 ghost use Rattle.tl_parse.specs.TerraStatements.{terra_break_at, terra_statement_at, next_terra_statement_at};
 ghost use Rattle.tl_parse.specs.TerraStatements.{terra_parameter_at, spliced_parameter_at, named_parameter_at};
 ghost use Rattle.tl_parse.specs.TerraStatements.{terra_parameters_at};
@@ -150,59 +149,6 @@ impl<'a> Parser<'a> {
         self.push(Node::TerraStatement(place, TerraStatement::Assign(targets, values)))
     }
 
-    /// tstat = "do" tblock "end"
-    #[cycle(parser)]
-    #[tactic(auto, using(crate::proofs::Failing::failing), unfolding(crate::specs::TerraStatements::terra_do_at))]
-    fn terra_do(&mut self, levels: u32) -> Result<NodeId, SyntaxError>
-        ensures ok { IfOk result (λ r. TookTree self.old self.new (terra_do_at levels (tokens_left self.old)) r) }
-        ensures err { IfErr result (λ e. Fails self.old (terra_do_at levels (tokens_left self.old)) e) }
-    {
-        let place = read!(self.open(Symbol::Do, levels));
-        let block = read!(self.terra_block(levels - 1));
-        pass!(self.take(Symbol::End));
-        self.push(Node::TerraStatement(place, TerraStatement::Do(block)))
-    }
-
-    /// tstat = "while" texp "do" tblock "end"
-    #[cycle(parser)]
-    #[tactic(auto, using(crate::proofs::Failing::failing), unfolding(crate::specs::TerraStatements::terra_while_at))]
-    fn terra_while(&mut self, levels: u32) -> Result<NodeId, SyntaxError>
-        ensures ok { IfOk result (λ r. TookTree self.old self.new (terra_while_at levels (tokens_left self.old)) r) }
-        ensures err { IfErr result (λ e. Fails self.old (terra_while_at levels (tokens_left self.old)) e) }
-    {
-        let place = read!(self.take(Symbol::While));
-        let condition = read!(self.terra_expression(levels));
-        let block = read!(self.loop_block(BlockCode::Terra, levels));
-        self.push(Node::TerraStatement(place, TerraStatement::While(condition, block)))
-    }
-
-    /// tstat = "repeat" tblock "until" texp; the condition is read at the level of the statement
-    #[cycle(parser)]
-    #[tactic(auto, using(crate::proofs::Failing::failing), unfolding(crate::specs::TerraStatements::terra_repeat_at))]
-    fn terra_repeat(&mut self, levels: u32) -> Result<NodeId, SyntaxError>
-        ensures ok { IfOk result (λ r. TookTree self.old self.new (terra_repeat_at levels (tokens_left self.old)) r) }
-        ensures err { IfErr result (λ e. Fails self.old (terra_repeat_at levels (tokens_left self.old)) e) }
-    {
-        let place = read!(self.open(Symbol::Repeat, levels));
-        let block = read!(self.terra_block(levels - 1));
-        let condition = read!(self.expression_behind(Symbol::Until, Code::Terra, levels));
-        self.push(Node::TerraStatement(place, TerraStatement::Repeat(block, condition)))
-    }
-
-    /// tstat = "if" texp "then" tblock {"elseif" texp "then" tblock} ["else" tblock] "end"
-    #[cycle(parser)]
-    #[tactic(auto, using(crate::proofs::Failing::failing), unfolding(crate::specs::TerraStatements::terra_if_at))]
-    fn terra_if(&mut self, levels: u32) -> Result<NodeId, SyntaxError>
-        ensures ok { IfOk result (λ r. TookTree self.old self.new (terra_if_at levels (tokens_left self.old)) r) }
-        ensures err { IfErr result (λ e. Fails self.old (terra_if_at levels (tokens_left self.old)) e) }
-    {
-        let place = read!(self.take(Symbol::If));
-        let arms = read!(self.arms(BlockCode::Terra, levels));
-        let otherwise = read!(self.otherwise(BlockCode::Terra, levels));
-        pass!(self.take(Symbol::End));
-        self.push(Node::TerraStatement(place, TerraStatement::If(arms, otherwise)))
-    }
-
     /// tstat = "for" tname "=" texp "," texp ["," texp] "do" tblock "end"
     #[cycle(parser)]
     #[tactic(auto, using(crate::proofs::Failing::failing), unfolding(crate::specs::TerraStatements::terra_for_at))]
@@ -245,18 +191,6 @@ impl<'a> Parser<'a> {
         self.push(Node::TerraStatement(place, TerraStatement::Escape(block)))
     }
 
-    /// "return" [texps]
-    #[cycle(parser)]
-    #[tactic(auto, using(crate::proofs::Failing::failing), unfolding(crate::specs::TerraStatements::terra_return_at))]
-    fn terra_return(&mut self, levels: u32) -> Result<NodeId, SyntaxError>
-        ensures ok { IfOk result (λ r. TookTree self.old self.new (terra_return_at levels (tokens_left self.old)) r) }
-        ensures err { IfErr result (λ e. Fails self.old (terra_return_at levels (tokens_left self.old)) e) }
-    {
-        let place = read!(self.take(Symbol::Return));
-        let values = read!(self.returned_values(Code::Terra, levels));
-        self.push(Node::TerraStatement(place, TerraStatement::Return(values)))
-    }
-
     /// "break"
     #[tactic(auto, using(crate::proofs::Failing::failing), unfolding(crate::specs::TerraStatements::terra_break_at))]
     fn terra_break(&mut self) -> Result<NodeId, SyntaxError>
@@ -276,16 +210,16 @@ impl<'a> Parser<'a> {
         ensures err { IfErr result (λ e. Fails self.old (terra_statement_at levels (tokens_left self.old)) e) }
     {
         if self.next_is(Symbol::Do) {
-            return self.terra_do(levels);
+            return self.do_statement(BlockCode::Terra, levels);
         }
         if self.next_is(Symbol::While) {
-            return self.terra_while(levels);
+            return self.while_statement(BlockCode::Terra, levels);
         }
         if self.next_is(Symbol::Repeat) {
-            return self.terra_repeat(levels);
+            return self.repeat_statement(BlockCode::Terra, levels);
         }
         if self.next_is(Symbol::If) {
-            return self.terra_if(levels);
+            return self.if_statement(BlockCode::Terra, levels);
         }
         if self.next_is(Symbol::For) {
             return self.terra_for(levels);
@@ -297,7 +231,7 @@ impl<'a> Parser<'a> {
             return self.escape_block(levels);
         }
         if self.next_is(Symbol::Return) {
-            return self.terra_return(levels);
+            return self.return_statement(BlockCode::Terra, levels);
         }
         if self.next_is(Symbol::Break) {
             return self.terra_break();

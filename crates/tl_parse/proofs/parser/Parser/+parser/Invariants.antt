@@ -181,7 +181,7 @@ abbrev pub decreases-variable : goal.decreases-variable
 decreases-variable l = 64 * l.levels + 13
 
 abbrev pub decreases-while_statement : goal.decreases-while_statement
-decreases-while_statement l = 64 * l.levels + 36
+decreases-while_statement l = 64 * l.levels + 37
 
 abbrev pub decreases-one_more : goal.decreases-one_more
 decreases-one_more l = 64 * l.levels + (2 * l.rank + 19)
@@ -384,18 +384,6 @@ decreases-terra_target l = 64 * l.levels + 40
 abbrev pub decreases-terra_simple_statement : goal.decreases-terra_simple_statement
 decreases-terra_simple_statement l = 64 * l.levels + 46
 
-abbrev pub decreases-terra_do : goal.decreases-terra_do
-decreases-terra_do l = 64 * l.levels + 40
-
-abbrev pub decreases-terra_while : goal.decreases-terra_while
-decreases-terra_while l = 64 * l.levels + 41
-
-abbrev pub decreases-terra_repeat : goal.decreases-terra_repeat
-decreases-terra_repeat l = 64 * l.levels + 41
-
-abbrev pub decreases-terra_if : goal.decreases-terra_if
-decreases-terra_if l = 64 * l.levels + 43
-
 abbrev pub decreases-terra_for : goal.decreases-terra_for
 decreases-terra_for l = 64 * l.levels + 41
 
@@ -404,9 +392,6 @@ decreases-terra_var l = 64 * l.levels + 47
 
 abbrev pub decreases-escape_block : goal.decreases-escape_block
 decreases-escape_block l = 64 * l.levels + 40
-
-abbrev pub decreases-terra_return : goal.decreases-terra_return
-decreases-terra_return l = 64 * l.levels + 46
 
 abbrev pub decreases-terra_statement : goal.decreases-terra_statement
 decreases-terra_statement l = 64 * l.levels + 48
