@@ -24,19 +24,19 @@ use Rattle.tl_tree.specs.TerraStatements as terra
 use Rattle.tl_tree.proofs.Unrolling.{bind_again}
 use Rattle.tl_parse.specs.Using.{reading, part_at, used, barred, sign_at, open_at, prefix_at}
 use Rattle.tl_parse.specs.Expressions.{name_at}
-use Rattle.tl_parse.specs.Statements.{last_symbols}
+use Rattle.tl_parse.specs.Statements.{first_place, last_symbols}
 use Rattle.tl_parse.specs.TerraExpressions.{escape_at, terra_name_at, terra_paren_at, terra_base_at, terra_suffixes_at, terra_applied_at}
 use Rattle.tl_parse.specs.TerraExpressions.{terra_prefixed_at, terra_unary_at, terra_binary_at}
 use Rattle.tl_parse.specs.TerraStatements.{written_type_at}
-use Rattle.tl_parse.specs.TerraStatements.{terra_variable_at, spliced_variable_at, named_variable_at}
+use Rattle.tl_parse.specs.TerraStatements.{placed_name, placed_name_at, terra_variable_at}
 use Rattle.tl_parse.specs.TerraStatements.{terra_target_at}
 use Rattle.tl_parse.specs.TerraStatements.{terra_assignment_at, assignment_symbols, terra_statement_behind_at, terra_simple_statement_at}
 use Rattle.tl_parse.specs.Statements.{do_at, while_at, repeat_at, if_at, return_at}
 use Rattle.tl_parse.specs.TerraStatements.{terra_for_at, terra_var_at}
-use Rattle.tl_parse.specs.TerraStatements.{escape_block_at, terra_break_at, terra_statement_at, terra_parameter_at, spliced_parameter_at, named_parameter_at}
+use Rattle.tl_parse.specs.TerraStatements.{escape_block_at, terra_break_at, terra_statement_at, terra_parameter_at}
 use Rattle.tl_parse.specs.TerraStatements.{terra_parameters_at}
 use Rattle.tl_parse.specs.declared.terra_expressions.TerraPrecedence.TheVariants as precedences
-use Rattle.tl_parse.proofs.Uses.{never, bind_same, opens_any, opened_at}
+use Rattle.tl_parse.proofs.Uses.{never, bind_same, opens_any, opened_at, used_first}
 use Rattle.tl_parse.proofs.Following.{sign_then, open_then, then, either_is, behind_then, behind_give, optional_agrees}
 use Rattle.tl_parse.proofs.Turns.{used_here, used_use}
 use Rattle.tl_parse.proofs.TerraAgreeing.{terra_name_agrees, terra_unary_agrees, terra_expression_agrees}
@@ -114,19 +114,47 @@ numeric_then levels block step loop make step_is loop_is ts =
     limited : Tree → List Token → Outcome Tree
     limited a us = expression_behind_at levels symbols.Comma (code_of block) us >>= λ b vs. stepped a b vs
 
+bracket_none : {A : Type 0} (levels : ℕ) (h : Place → Tree → Grammar A) (k : Place → Tree → List Token → Outcome A) →
+    reading levels (expressions.escaped h) [] ≡ (escape_at levels [] >>= λ n rest. k (first_place []) n rest)
+unfolding escape_at open_at used
+bracket_none levels h k = refl
+
+-- a name that Lua code gives, with its place
+bracket_agrees : {A : Type 0} (levels : ℕ) (h : Place → Tree → Grammar A) (k : Place → Tree → List Token → Outcome A) → ((place : Place) (n : Tree) (us : List Token) → reading levels (h place n) us ≡ k place n us) → (ts : List Token) →
+    reading levels (expressions.escaped h) ts ≡ (escape_at levels ts >>= λ n rest. k (first_place ts) n rest)
+unfolding escape_at open_at
+bracket_agrees levels h k same [] = bracket_none levels h k
+bracket_agrees {A} levels h k same (t ∷ ts) =
+    open_then levels symbols.OpenBracket (Expression modes.Plain) (λ x. bind (sign symbols.CloseBracket) λ y. h x.0.place (Escape x.0.place x.1)) (λ u x us. closed u.place u x us)
+    (λ u x us. sign_then levels symbols.CloseBracket (λ y. h u.place (Escape u.place x)) (λ y rest. k u.place (Escape u.place x) rest) (λ y vs. same u.place (Escape u.place x) vs) us) (t ∷ ts)
+    ∙ sym (used_first (is symbols.OpenBracket) true levels Plain t ts (λ v u mid. part_at (levels - 1) (Expression modes.Plain) mid >>= λ x us. closed v.place u x us))
+    ∙ sym (after (open_at symbols.OpenBracket levels (t ∷ ts)) (λ u a. part_at (levels - 1) (Expression modes.Plain) a >>= λ x b. sign_at symbols.CloseBracket b >>= λ y rest. Took (Escape u.place x) rest) (λ n rest. k t.place n rest)
+    (λ u mid. part_at (levels - 1) (Expression modes.Plain) mid >>= λ x us. closed t.place u x us)
+    (λ u mid. after (part_at (levels - 1) (Expression modes.Plain) mid) (λ x b. sign_at symbols.CloseBracket b >>= λ y rest. Took (Escape u.place x) rest) (λ n rest. k t.place n rest) (λ x us. closed t.place u x us)
+    (λ x us. bind_again (sign_at symbols.CloseBracket us) (λ y rest. Took (Escape u.place x) rest) (λ n rest. k t.place n rest))))
+  where
+    closed : Place → Token → Tree → List Token → Outcome A
+    closed place u x us = sign_at symbols.CloseBracket us >>= λ y rest. k place (Escape u.place x) rest
+
+-- a name of either kind, and what goes on with it and its place
+placed_then : {A : Type 0} (levels : ℕ) (h h' : Place → Tree → Grammar A) (k : Bool → Place → Tree → List Token → Outcome A) → ((place : Place) (n : Tree) (us : List Token) → reading levels (h place n) us ≡ k true place n us) → ((place : Place) (n : Tree) (us : List Token) → reading levels (h' place n) us ≡ k false place n us) → (b : Bool) (ts : List Token) →
+    cond b (reading levels (expressions.escaped h) ts) (reading levels (named h') ts)
+    ≡ (cond b (escape_at levels ts >>= λ n rest. Took (placed_name (first_place ts) n) rest) (sign_at symbols.Name ts >>= λ n rest. Took (placed_name n.place (Name n.place n.offset n.text)) rest) >>= λ p rest. k b p.place p.name rest)
+placed_then levels h h' k same same' true ts =
+    bracket_agrees levels h (λ place n us. k true place n us) same ts
+    ∙ sym (bind_again (escape_at levels ts) (λ n rest. Took (placed_name (first_place ts) n) rest) (λ p rest. k true p.place p.name rest))
+placed_then levels h h' k same same' false ts =
+    sign_then levels symbols.Name (λ n. h' n.0.place (Name n.0.place n.0.offset n.0.text)) (λ n rest. k false n.place (Name n.place n.offset n.text) rest) (λ n us. same' n.place (Name n.place n.offset n.text) us) ts
+    ∙ sym (bind_again (sign_at symbols.Name ts) (λ n rest. Took (placed_name n.place (Name n.place n.offset n.text)) rest) (λ p rest. k false p.place p.name rest))
+
 variable_behind_agrees : (levels : ℕ) (place : Place) (n : Tree) (ts : List Token) → reading levels (terra.variable_behind place n) ts ≡ (written_type_at levels ts >>= λ e rest. Took (Variable place n e) rest)
 variable_behind_agrees levels place n ts = then_give levels terra.written_type (λ e. Variable place n e) (λ vs. written_type_at levels vs) (λ vs. written_type_agrees levels vs) ts
 
 pub terra_variable_agrees : (levels : ℕ) (ts : List Token) → reading levels terra.terra_variable ts ≡ terra_variable_at levels ts
-unfolding terra_variable_at spliced_variable_at named_variable_at
+unfolding terra_variable_at placed_name_at
 terra_variable_agrees levels ts =
-    either_is (begins (is symbols.OpenBracket) ts) (reading levels (expressions.escaped terra.variable_behind) ts) (reading levels (named terra.variable_behind) ts)
-    (open_at symbols.OpenBracket levels ts >>= λ t a. part_at (levels - 1) (Expression modes.Plain) a >>= λ x b. sign_at symbols.CloseBracket b >>= λ y d. written_type_at levels d >>= λ e rest. Took (Variable t.place (Escape t.place x) e) rest)
-    (sign_at symbols.Name ts >>= λ n a. written_type_at levels a >>= λ e rest. Took (Variable n.place (Name n.place n.offset n.text) e) rest)
-    (open_then levels symbols.OpenBracket (Expression modes.Plain) (λ x. bind (sign symbols.CloseBracket) λ y. terra.variable_behind x.0.place (Escape x.0.place x.1)) (λ t x us. sign_at symbols.CloseBracket us >>= λ y d. written_type_at levels d >>= λ e rest. Took (Variable t.place (Escape t.place x) e) rest)
-    (λ t x us. sign_then levels symbols.CloseBracket (λ y. terra.variable_behind t.place (Escape t.place x)) (λ y d. written_type_at levels d >>= λ e rest. Took (Variable t.place (Escape t.place x) e) rest) (λ y vs. variable_behind_agrees levels t.place (Escape t.place x) vs) us) ts)
-    (sign_then levels symbols.Name (λ n. terra.variable_behind n.0.place (Name n.0.place n.0.offset n.0.text)) (λ n a. written_type_at levels a >>= λ e rest. Took (Variable n.place (Name n.place n.offset n.text) e) rest)
-    (λ n us. variable_behind_agrees levels n.place (Name n.place n.offset n.text) us) ts)
+    placed_then levels terra.variable_behind terra.variable_behind (λ b place n us. written_type_at levels us >>= λ e rest. Took (Variable place n e) rest)
+    (λ place n us. variable_behind_agrees levels place n us) (λ place n us. variable_behind_agrees levels place n us) (begins (is symbols.OpenBracket) ts) ts
 
 pub terra_variables_agree : (levels : ℕ) (ts : List Token) → reading levels (listed terra.terra_variable) ts ≡ elements_at levels elements.TerraVariable ts
 unfolding elements_at element_at more_elements_at
@@ -150,15 +178,11 @@ terra_returned_values_agree levels ts =
 -- ---- functions and quotes
 
 pub terra_parameter_agrees : (levels : ℕ) (ts : List Token) → reading levels terra.terra_parameter ts ≡ terra_parameter_at levels ts
-unfolding terra_parameter_at spliced_parameter_at named_parameter_at
+unfolding terra_parameter_at placed_name_at
 terra_parameter_agrees levels ts =
-    either_is (begins (is symbols.OpenBracket) ts) (reading levels (expressions.escaped λ place e. give (SpliceParameter place e)) ts) (reading levels (named λ place n. bind (sign symbols.Colon) λ y. bind terra.terra_type λ e. give (Parameter place n e)) ts)
-    (open_at symbols.OpenBracket levels ts >>= λ t a. part_at (levels - 1) (Expression modes.Plain) a >>= λ x b. sign_at symbols.CloseBracket b >>= λ y rest. Took (SpliceParameter t.place (Escape t.place x)) rest)
-    (sign_at symbols.Name ts >>= λ n a. expression_behind_at levels symbols.Colon (codes.Lua modes.Types) a >>= λ e rest. Took (Parameter n.place (Name n.place n.offset n.text) e) rest)
-    (open_then levels symbols.OpenBracket (Expression modes.Plain) (λ x. bind (sign symbols.CloseBracket) λ y. give (SpliceParameter x.0.place (Escape x.0.place x.1))) (λ t x us. sign_at symbols.CloseBracket us >>= λ y rest. Took (SpliceParameter t.place (Escape t.place x)) rest)
-    (λ t x us. sign_then levels symbols.CloseBracket (λ y. give (SpliceParameter t.place (Escape t.place x))) (λ y rest. Took (SpliceParameter t.place (Escape t.place x)) rest) (λ y vs. refl) us) ts)
-    (sign_then levels symbols.Name (λ n. bind (sign symbols.Colon) λ y. bind terra.terra_type λ e. give (Parameter n.0.place (Name n.0.place n.0.offset n.0.text) e)) (λ n a. expression_behind_at levels symbols.Colon (codes.Lua modes.Types) a >>= λ e rest. Took (Parameter n.place (Name n.place n.offset n.text) e) rest)
-    (λ n us. behind_give levels symbols.Colon (codes.Lua modes.Types) (λ e. Parameter n.place (Name n.place n.offset n.text) e) us) ts)
+    placed_then levels (λ place n. give (SpliceParameter place n)) (λ place n. bind (sign symbols.Colon) λ y. bind terra.terra_type λ e. give (Parameter place n e))
+    (λ b place n us. cond b (Took (SpliceParameter place n) us) (expression_behind_at levels symbols.Colon (codes.Lua modes.Types) us >>= λ e rest. Took (Parameter place n e) rest))
+    (λ place n us. refl) (λ place n us. behind_give levels symbols.Colon (codes.Lua modes.Types) (λ e. Parameter place n e) us) (begins (is symbols.OpenBracket) ts) ts
 
 pub terra_parameters_agree : (levels : ℕ) (ts : List Token) → reading levels terra.terra_parameters ts ≡ terra_parameters_at levels ts
 unfolding terra_parameters_at elements_at element_at more_elements_at

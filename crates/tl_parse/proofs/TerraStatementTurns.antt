@@ -184,3 +184,5 @@ pub ruleset targets = (fails_bind, fails_after, fails_from, terra_targets_go, te
 pub ruleset going_on = (ended_stays, open_goes_on)
 
 pub ruleset blocks = (fails_bind, fails_after, next_of, terra_block_part, terra_block_goes, terra_block_ends, terra_statement_shorter, fails_same, fails_from)
+
+pub ruleset placed_names = (fails_bind, fails_after, next_of)

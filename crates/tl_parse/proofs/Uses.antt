@@ -86,7 +86,7 @@ opening_is levels class extra part piece [] = refl
 opening_is levels class extra part piece (t ∷ ts) = token_is levels class (λ t. extra) (λ t. Some part) piece t ts
 
 -- the token that is taken is the first
-used_first : {B : Type 0} (class : Token → Bool) (opens : Bool) (levels : ℕ) (extra : Extra) (t : Token) (ts : List Token) (f : Token → Token → List Token → Outcome B) → (used class opens levels extra (t ∷ ts) >>= λ u mid. f t u mid) ≡ (used class opens levels extra (t ∷ ts) >>= λ u mid. f u u mid)
+pub used_first : {B : Type 0} (class : Token → Bool) (opens : Bool) (levels : ℕ) (extra : Extra) (t : Token) (ts : List Token) (f : Token → Token → List Token → Outcome B) → (used class opens levels extra (t ∷ ts) >>= λ u mid. f t u mid) ≡ (used class opens levels extra (t ∷ ts) >>= λ u mid. f u u mid)
 unfolding used
 used_first {B} class opens levels extra t ts f = go (is_of class t) (barred opens levels extra t)
   where

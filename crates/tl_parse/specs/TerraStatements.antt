@@ -8,7 +8,7 @@ use Rattle.tl_tree.specs.declared.mode.Extra.TheVariants.{Plain}
 use Rattle.tl_tree.specs.declared.mode.Shape.{Shape}
 use Rattle.tl_tree.specs.declared.mode.Shape.TheVariants as shapes
 use Rattle.tl_tree.specs.Tokens.{Token, among, is}
-use Rattle.tl_tree.specs.Tree.{Tree, Nothing, More, Name, Escape, TerraAssign, TerraPerform, Splice}
+use Rattle.tl_tree.specs.Tree.{Tree, Nothing, More, Name, TerraAssign, TerraPerform, Splice}
 use Rattle.tl_tree.specs.Tree.{TerraFor, Var, EscapeBlock, TerraBreak}
 use Rattle.tl_tree.specs.Tree.{Block, Quoted, TerraBody, Parameter, SpliceParameter, Variable, Expression}
 use Rattle.tl_tree.specs.Tree.{Statements, TerraExpression, TerraStatements}
@@ -18,7 +18,7 @@ use Rattle.tl_tree.specs.LuaStatements.{Sequence, sequence}
 use Rattle.tl_tree.specs.TerraStatements as terra
 use Rattle.tl_parse.specs.Using.{reading, part_at, sign_at, open_at}
 use Rattle.tl_parse.specs.Statements.{first_place, is_call, last_symbols, do_at, while_at, repeat_at, if_at, return_at}
-use Rattle.tl_parse.specs.TerraExpressions.{terra_name_at}
+use Rattle.tl_parse.specs.TerraExpressions.{escape_at, terra_name_at}
 use Rattle.tl_parse.specs.TerraExpressions.{terra_applied_at}
 use Rattle.tl_parse.specs.Lists.{more_elements_at, elements_at, expressions_behind_at}
 use Rattle.tl_parse.specs.Statements.{initial_values_at, numeric_at}
@@ -33,22 +33,22 @@ use Rattle.tl_parse.specs.declared.parser.BlockCode.TheVariants as block_codes
 abbrev pub written_type_at : ℕ → List Token → Outcome Tree
 written_type_at levels ts = optional_expression_at levels symbols.Colon (codes.Lua modes.Types) ts
 
--- a variable whose name Lua code gives
-unfoldable pub spliced_variable_at : ℕ → List Token → Outcome Tree
-spliced_variable_at levels ts =
-    open_at symbols.OpenBracket levels ts >>= λ t a. part_at (levels - 1) (Expression modes.Plain) a >>= λ x b.
-    sign_at symbols.CloseBracket b >>= λ y d.
-    written_type_at levels d >>= λ e rest. Took (Variable t.place (Escape t.place x) e) rest
+-- a name, or what Lua code gives for it, with its place
+pub record PlacedName : Type 0 where
+  pub place : Place
+  pub name : Tree
 
--- a variable by its name
-unfoldable pub named_variable_at : ℕ → List Token → Outcome Tree
-named_variable_at levels ts =
-    sign_at symbols.Name ts >>= λ n a. written_type_at levels a
-    >>= λ e rest. Took (Variable n.place (Name n.place n.offset n.text) e) rest
+abbrev pub placed_name : Place → Tree → PlacedName
+placed_name place n = record { place = place; name = n }
+
+unfoldable pub placed_name_at : ℕ → List Token → Outcome PlacedName
+placed_name_at levels ts =
+    if begins (is symbols.OpenBracket) ts then (escape_at levels ts >>= λ e rest. Took (placed_name (first_place ts) e) rest)
+    else (sign_at symbols.Name ts >>= λ n rest. Took (placed_name n.place (Name n.place n.offset n.text)) rest)
 
 unfoldable pub terra_variable_at : ℕ → List Token → Outcome Tree
-terra_variable_at levels ts =
-    if begins (is symbols.OpenBracket) ts then spliced_variable_at levels ts else named_variable_at levels ts
+terra_variable_at levels ts = placed_name_at levels ts >>= λ p a. written_type_at levels a
+    >>= λ e rest. Took (Variable p.place p.name e) rest
 
 -- ---- assignments, calls and splices
 
@@ -145,22 +145,12 @@ terra_block_at levels ts = more_terra_statements_at levels Nothing false ts >>= 
 
 -- ---- functions and quotes
 
--- a parameter that Lua code gives
-unfoldable pub spliced_parameter_at : ℕ → List Token → Outcome Tree
-spliced_parameter_at levels ts =
-    open_at symbols.OpenBracket levels ts >>= λ t a. part_at (levels - 1) (Expression modes.Plain) a >>= λ x b.
-    sign_at symbols.CloseBracket b >>= λ y rest.
-    Took (SpliceParameter t.place (Escape t.place x)) rest
-
--- a parameter by its name, with its type
-unfoldable pub named_parameter_at : ℕ → List Token → Outcome Tree
-named_parameter_at levels ts =
-    sign_at symbols.Name ts >>= λ n a. expression_behind_at levels symbols.Colon (codes.Lua modes.Types) a
-    >>= λ e rest. Took (Parameter n.place (Name n.place n.offset n.text) e) rest
-
+-- a parameter that Lua code gives, or a name with its type
 unfoldable pub terra_parameter_at : ℕ → List Token → Outcome Tree
 terra_parameter_at levels ts =
-    if begins (is symbols.OpenBracket) ts then spliced_parameter_at levels ts else named_parameter_at levels ts
+    placed_name_at levels ts >>= λ p a. if begins (is symbols.OpenBracket) ts then Took (SpliceParameter p.place p.name) a
+    else (expression_behind_at levels symbols.Colon (codes.Lua modes.Types) a
+    >>= λ e rest. Took (Parameter p.place p.name e) rest)
 
 unfoldable pub terra_parameters_at : ℕ → List Token → Outcome Tree
 terra_parameters_at levels ts = if begins (is symbols.CloseParen) ts then Took Nothing ts

@@ -7,22 +7,21 @@ ghost use Rattle.tl_parse.specs.Parsing.{tokens_left, HasNext, Fails, TookTree, 
 ghost use Rattle.tl_parse.specs.Using.{part_at};
 ghost use Rattle.tl_parse.specs.Going.{TookStatement};
 ghost use Rattle.tl_parse.specs.Statements.{is_call};
-ghost use Rattle.tl_parse.specs.TerraStatements.{terra_variable_at, spliced_variable_at, named_variable_at};
+ghost use Rattle.tl_parse.specs.TerraLines.{TookPlacedName};
+ghost use Rattle.tl_parse.specs.TerraStatements.{placed_name_at, terra_variable_at};
 ghost use Rattle.tl_parse.specs.TerraStatements.{terra_target_at};
 ghost use Rattle.tl_parse.specs.TerraStatements.{terra_simple_statement_at, is_escape, terra_goes_on};
 ghost use Rattle.tl_parse.specs.TerraStatements.{terra_function_body_at, quoted_code_at};
 ghost use Rattle.tl_parse.specs.TerraStatements.{terra_for_at, terra_var_at, escape_block_at};
 ghost use Rattle.tl_parse.specs.TerraStatements.{terra_break_at, terra_statement_at, next_terra_statement_at};
-ghost use Rattle.tl_parse.specs.TerraStatements.{terra_parameter_at, spliced_parameter_at, named_parameter_at};
+ghost use Rattle.tl_parse.specs.TerraStatements.{terra_parameter_at};
 ghost use Rattle.tl_parse.specs.TerraStatements.{terra_parameters_at};
 
 use crate::error::SyntaxError;
 use crate::parser::{BlockCode, CHAIN, Code, Element, Operand, Parser, add};
 use crate::statements::is_call;
 use tl_base::{NodeId, Place};
-use tl_tree::{
-    Context, Mode, Node, NodeList, Piece, Shape, Symbol, TerraExpression, TerraStatement,
-};
+use tl_tree::{Context, Mode, Node, NodeList, Piece, Shape, Symbol, TerraStatement};
 
 /// The types of Terra code.
 const TYPES: Code = Code::Lua(Mode::Types);
@@ -64,33 +63,21 @@ fn is_escape(shape: Shape) -> bool
 }
 
 impl<'a> Parser<'a> {
-    /// "[" exp "]" [":" exp]
+    /// tname, with its place
     #[cycle(parser)]
-    #[tactic(auto, using(crate::proofs::Failing::failing), unfolding(crate::specs::TerraStatements::spliced_variable_at))]
-    fn spliced_variable(&mut self, levels: u32) -> Result<NodeId, SyntaxError>
-        ensures ok { IfOk result (λ r. TookTree self.old self.new (spliced_variable_at levels (tokens_left self.old)) r) }
-        ensures err { IfErr result (λ e. Fails self.old (spliced_variable_at levels (tokens_left self.old)) e) }
+    #[tactic(auto, using(crate::proofs::TerraStatementTurns::placed_names), unfolding(crate::specs::TerraStatements::placed_name_at))]
+    fn placed_name(&mut self, levels: u32) -> Result<(Place, NodeId), SyntaxError>
+        ensures ok { IfOk result (λ r. TookPlacedName self.old self.new (placed_name_at levels (tokens_left self.old)) r.0 r.1) }
+        ensures err { IfErr result (λ e. Fails self.old (placed_name_at levels (tokens_left self.old)) e) }
     {
-        let place = read!(self.open(Symbol::OpenBracket, levels));
-        let code = read!(self.expression(Mode::Plain, levels - 1));
-        pass!(self.take(Symbol::CloseBracket));
-        let escape = Node::TerraExpression(place, TerraExpression::Escape(code));
-        let name = read!(self.push(escape));
-        let written = read!(self.optional_expression(Symbol::Colon, TYPES, levels));
-        self.push(Node::Piece(Piece::Variable(place, name, written)))
-    }
-
-    /// Name [":" exp]
-    #[cycle(parser)]
-    #[tactic(auto, using(crate::proofs::Failing::failing), unfolding(crate::specs::TerraStatements::named_variable_at))]
-    fn named_variable(&mut self, levels: u32) -> Result<NodeId, SyntaxError>
-        ensures ok { IfOk result (λ r. TookTree self.old self.new (named_variable_at levels (tokens_left self.old)) r) }
-        ensures err { IfErr result (λ e. Fails self.old (named_variable_at levels (tokens_left self.old)) e) }
-    {
+        if self.next_is(Symbol::OpenBracket) {
+            let place = self.next_place();
+            let name = read!(self.escape(levels));
+            return Ok((place, name));
+        }
         let token = read!(self.take_token(Symbol::Name));
         let name = read!(self.push(Node::Name(token.place, token.offset, token.text)));
-        let written = read!(self.optional_expression(Symbol::Colon, TYPES, levels));
-        self.push(Node::Piece(Piece::Variable(token.place, name, written)))
+        Ok((token.place, name))
     }
 
     /// tvar = tname [":" exp]
@@ -100,10 +87,9 @@ impl<'a> Parser<'a> {
         ensures ok { IfOk result (λ r. TookTree self.old self.new (terra_variable_at levels (tokens_left self.old)) r) }
         ensures err { IfErr result (λ e. Fails self.old (terra_variable_at levels (tokens_left self.old)) e) }
     {
-        if self.next_is(Symbol::OpenBracket) {
-            return self.spliced_variable(levels);
-        }
-        self.named_variable(levels)
+        let (place, name) = read!(self.placed_name(levels));
+        let written = read!(self.optional_expression(Symbol::Colon, TYPES, levels));
+        self.push(Node::Piece(Piece::Variable(place, name, written)))
     }
 
     /// the first texp of a statement that no word begins
@@ -284,34 +270,6 @@ impl<'a> Parser<'a> {
         self.push(Node::Piece(Piece::Block(list)))
     }
 
-    /// "[" exp "]"
-    #[cycle(parser)]
-    #[tactic(auto, using(crate::proofs::Failing::failing), unfolding(crate::specs::TerraStatements::spliced_parameter_at))]
-    fn spliced_parameter(&mut self, levels: u32) -> Result<NodeId, SyntaxError>
-        ensures ok { IfOk result (λ r. TookTree self.old self.new (spliced_parameter_at levels (tokens_left self.old)) r) }
-        ensures err { IfErr result (λ e. Fails self.old (spliced_parameter_at levels (tokens_left self.old)) e) }
-    {
-        let place = read!(self.open(Symbol::OpenBracket, levels));
-        let code = read!(self.expression(Mode::Plain, levels - 1));
-        pass!(self.take(Symbol::CloseBracket));
-        let escape = Node::TerraExpression(place, TerraExpression::Escape(code));
-        let name = read!(self.push(escape));
-        self.push(Node::Piece(Piece::SpliceParameter(place, name)))
-    }
-
-    /// Name ":" exp
-    #[cycle(parser)]
-    #[tactic(auto, using(crate::proofs::Failing::failing), unfolding(crate::specs::TerraStatements::named_parameter_at))]
-    fn named_parameter(&mut self, levels: u32) -> Result<NodeId, SyntaxError>
-        ensures ok { IfOk result (λ r. TookTree self.old self.new (named_parameter_at levels (tokens_left self.old)) r) }
-        ensures err { IfErr result (λ e. Fails self.old (named_parameter_at levels (tokens_left self.old)) e) }
-    {
-        let token = read!(self.take_token(Symbol::Name));
-        let name = read!(self.push(Node::Name(token.place, token.offset, token.text)));
-        let written = read!(self.expression_behind(Symbol::Colon, TYPES, levels));
-        self.push(Node::Piece(Piece::Parameter(token.place, name, written)))
-    }
-
     /// param = Name ":" exp | "[" exp "]"
     #[cycle(parser)]
     #[tactic(auto, using(crate::proofs::Failing::failing), unfolding(crate::specs::TerraStatements::terra_parameter_at))]
@@ -319,10 +277,13 @@ impl<'a> Parser<'a> {
         ensures ok { IfOk result (λ r. TookTree self.old self.new (terra_parameter_at levels (tokens_left self.old)) r) }
         ensures err { IfErr result (λ e. Fails self.old (terra_parameter_at levels (tokens_left self.old)) e) }
     {
-        if self.next_is(Symbol::OpenBracket) {
-            return self.spliced_parameter(levels);
+        let is_spliced = self.next_is(Symbol::OpenBracket);
+        let (place, name) = read!(self.placed_name(levels));
+        if is_spliced {
+            return self.push(Node::Piece(Piece::SpliceParameter(place, name)));
         }
-        self.named_parameter(levels)
+        let written = read!(self.expression_behind(Symbol::Colon, TYPES, levels));
+        self.push(Node::Piece(Piece::Parameter(place, name, written)))
     }
 
     /// [param {"," param}], up to a ")"

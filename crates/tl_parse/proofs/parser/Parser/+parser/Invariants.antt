@@ -369,12 +369,6 @@ invariant-entries-more l = Listing l.fn.self l.self (part_at l.fn.levels (Entrie
 abbrev pub decreases-entries-more : goal.decreases-entries-more
 decreases-entries-more l = length (tokens_left l.self)
 
-abbrev pub decreases-spliced_variable : goal.decreases-spliced_variable
-decreases-spliced_variable l = 64 * l.levels + 40
-
-abbrev pub decreases-named_variable : goal.decreases-named_variable
-decreases-named_variable l = 64 * l.levels + 40
-
 abbrev pub decreases-terra_variable : goal.decreases-terra_variable
 decreases-terra_variable l = 64 * l.levels + 41
 
@@ -401,12 +395,6 @@ decreases-next_terra_statement l = 64 * l.levels + 49
 
 abbrev pub decreases-terra_block : goal.decreases-terra_block
 decreases-terra_block l = 64 * l.levels + 50
-
-abbrev pub decreases-spliced_parameter : goal.decreases-spliced_parameter
-decreases-spliced_parameter l = 64 * l.levels + 39
-
-abbrev pub decreases-named_parameter : goal.decreases-named_parameter
-decreases-named_parameter l = 64 * l.levels + 39
 
 abbrev pub decreases-terra_parameter : goal.decreases-terra_parameter
 decreases-terra_parameter l = 64 * l.levels + 40
@@ -470,3 +458,6 @@ decreases-next_element l = 64 * l.levels + 43
 
 abbrev pub decreases-elements : goal.decreases-elements
 decreases-elements l = 64 * l.levels + 44
+
+abbrev pub decreases-placed_name : goal.decreases-placed_name
+decreases-placed_name l = 64 * l.levels + 2
