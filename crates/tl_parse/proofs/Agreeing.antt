@@ -17,9 +17,9 @@ use Rattle.tl_tree.proofs.Unrolling.{bind_again}
 use Rattle.tl_parse.specs.Using.{reading, part_at, used, sign_at, open_at, prefix_at, raise_at, number_at}
 use Rattle.tl_parse.specs.Expressions.{name_at, paren_at, base_at, method_arguments_at, listed_arguments_at, table_argument_at, applied_at, suffixes_at, prefixed_at, number_tree_at, literal_at, constant, constant_at, function_at, table_at, simple_at, is_simple, primary_at, right_at, power_at, unary_at, inner_of, more_at, ranks_at, binary_at, chained_at, is_name, field_behind_at, keyed_field_at, field_at}
 pub use Rattle.tl_parse.proofs.Following.{sign_then, opened_then, open_then, then, either_is}
-use Rattle.tl_parse.proofs.Following.{behind_give}
+use Rattle.tl_parse.proofs.Following.{behind_give, body_give}
 use Rattle.tl_parse.proofs.TerraCodeAgreeing.{terra_code_agrees}
-use Rattle.tl_parse.specs.Codes.{expression_behind_at}
+use Rattle.tl_parse.specs.Codes.{expression_behind_at, opened_body_at}
 use Rattle.tl_parse.specs.TerraCode.{terra_code_at}
 use Rattle.tl_parse.specs.declared.parser.Code.TheVariants as codes
 use Rattle.tl_parse.proofs.Uses.{both, bind_same, opening_is, plain_is}
@@ -90,8 +90,8 @@ constant_agrees levels s ts = sign_then levels s (λ x. give (constant s x.0.pla
 function_agrees : (levels : ℕ) (ts : List Token) → reading levels lua.function ts ≡ function_at levels ts
 unfolding function_at
 function_agrees levels ts =
-    sign_then levels symbols.Function (λ f. bind (opening symbols.OpenParen FunctionBody) λ x. give (Function f.0.place x.1)) (λ f us. open_at symbols.OpenParen levels us >>= λ t b. part_at (levels - 1) FunctionBody b >>= λ x rest. Took (Function f.place x) rest)
-    (λ f us. open_then levels symbols.OpenParen FunctionBody (λ x. give (Function f.place x.1)) (λ t x rest. Took (Function f.place x) rest) (λ t x vs. refl) us) ts
+    sign_then levels symbols.Function (λ f. bind (opening symbols.OpenParen FunctionBody) λ x. give (Function f.0.place x.1)) (λ f us. opened_body_at levels us >>= λ x rest. Took (Function f.place x) rest)
+    (λ f us. body_give levels (λ x. Function f.place x) us) ts
 
 table_agrees : (levels : ℕ) (m : Mode) (ts : List Token) → reading levels (lua.table m) ts ≡ table_at levels m ts
 unfolding table_at

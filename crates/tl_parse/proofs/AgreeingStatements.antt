@@ -39,9 +39,9 @@ use Rattle.tl_parse.proofs.Agreeing.{sign_then, open_then, then, either_is, name
 use Rattle.tl_parse.proofs.Turns.{with_suffix, used_here, used_use, use_same, suffix_turn_of}
 use Rattle.tl_parse.proofs.Paths.{names_agree, path_agrees}
 use Rattle.tl_parse.proofs.TerraDefinitionAgreeing.{define_terra_is, define_struct_is, local_terra_agrees}
-use Rattle.tl_parse.proofs.Following.{behind_give, optional_agrees}
+use Rattle.tl_parse.proofs.Following.{behind_give, body_give, optional_agrees}
 use Rattle.tl_parse.proofs.TerraStatementAgreeing.{numeric_then}
-use Rattle.tl_parse.specs.Codes.{expression_behind_at, lua_symbols}
+use Rattle.tl_parse.specs.Codes.{expression_behind_at, opened_body_at, lua_symbols}
 use Rattle.tl_parse.specs.declared.parser.Code.TheVariants as codes
 use Rattle.tl_parse.specs.Lists.{element_at, more_elements_at, elements_at, expressions_at, expressions_behind_at}
 use Rattle.tl_parse.specs.declared.parser.Element.TheVariants as elements
@@ -297,9 +297,9 @@ local_function_agrees : (levels : ℕ) (place : Place) (ts : List Token) →
     reading levels (bind (sign symbols.Function) λ y. bind name λ n. bind (opening symbols.OpenParen FunctionBody) λ b. give (trees.LocalFunction place n b.1)) ts ≡ local_function_at levels place ts
 unfolding local_function_at
 local_function_agrees levels place ts =
-    sign_then levels symbols.Function (λ y. bind name λ n. bind (opening symbols.OpenParen FunctionBody) λ b. give (trees.LocalFunction place n b.1)) (λ y a. name_at a >>= λ n b. open_at symbols.OpenParen levels b >>= λ z d. part_at (levels - 1) FunctionBody d >>= λ x rest. Took (trees.LocalFunction place n x) rest)
-    (λ y a. then levels name (λ n. bind (opening symbols.OpenParen FunctionBody) λ b. give (trees.LocalFunction place n b.1)) (λ us. name_at us) (λ n b. open_at symbols.OpenParen levels b >>= λ z d. part_at (levels - 1) FunctionBody d >>= λ x rest. Took (trees.LocalFunction place n x) rest) (λ us. name_agrees levels us)
-    (λ n b. open_then levels symbols.OpenParen FunctionBody (λ b. give (trees.LocalFunction place n b.1)) (λ t x rest. Took (trees.LocalFunction place n x) rest) (λ t x us. refl) b) a) ts
+    sign_then levels symbols.Function (λ y. bind name λ n. bind (opening symbols.OpenParen FunctionBody) λ b. give (trees.LocalFunction place n b.1)) (λ y a. name_at a >>= λ n b. opened_body_at levels b >>= λ x rest. Took (trees.LocalFunction place n x) rest)
+    (λ y a. then levels name (λ n. bind (opening symbols.OpenParen FunctionBody) λ b. give (trees.LocalFunction place n b.1)) (λ us. name_at us) (λ n b. opened_body_at levels b >>= λ x rest. Took (trees.LocalFunction place n x) rest) (λ us. name_agrees levels us)
+    (λ n b. body_give levels (λ x. trees.LocalFunction place n x) b) a) ts
 
 local_names_agree : (levels : ℕ) (m : Mode) (place : Place) (ts : List Token) →
     reading levels (bind names λ ns. bind (lua.initial_values m) λ es. give (trees.Local place ns es)) ts ≡ local_names_at levels m place ts
@@ -483,9 +483,9 @@ statement_by levels c symbols.For text place offset first ts h =
     (for_behind levels c t ts)
 statement_by levels c symbols.Function text place offset first ts h =
     let t : Token = token_with symbols.Function text place offset first in
-    use_same (barred false levels Plain t) t ts (λ u mid. behind levels c t mid) (λ t a. path_at levels a >>= λ p b. open_at symbols.OpenParen levels b >>= λ z d. part_at (levels - 1) FunctionBody d >>= λ x rest. Took (trees.DefineFunction t.place p x) rest)
-    (then levels lua.path (λ p. bind (opening symbols.OpenParen FunctionBody) λ b. give (trees.DefineFunction place p b.1)) (λ us. path_at levels us) (λ p b. open_at symbols.OpenParen levels b >>= λ z d. part_at (levels - 1) FunctionBody d >>= λ x rest. Took (trees.DefineFunction place p x) rest) (λ us. path_agrees levels us)
-    (λ p b. open_then levels symbols.OpenParen FunctionBody (λ b. give (trees.DefineFunction place p b.1)) (λ t x rest. Took (trees.DefineFunction place p x) rest) (λ t x us. refl) b) ts)
+    use_same (barred false levels Plain t) t ts (λ u mid. behind levels c t mid) (λ t a. path_at levels a >>= λ p b. opened_body_at levels b >>= λ x rest. Took (trees.DefineFunction t.place p x) rest)
+    (then levels lua.path (λ p. bind (opening symbols.OpenParen FunctionBody) λ b. give (trees.DefineFunction place p b.1)) (λ us. path_at levels us) (λ p b. opened_body_at levels b >>= λ x rest. Took (trees.DefineFunction place p x) rest) (λ us. path_agrees levels us)
+    (λ p b. body_give levels (λ x. trees.DefineFunction place p x) b) ts)
 statement_by levels c symbols.Local text place offset first ts h =
     let t : Token = token_with symbols.Local text place offset first in
     use_same (barred false levels Plain t) t ts (λ u mid. behind levels c t mid) (λ t a. cond (begins (is symbols.Function) a) (local_function_at levels t.place a) (cond (begins (among definition_symbols) a) (local_terra_at levels c.mode t.place a) (local_names_at levels c.mode t.place a))) (local_behind levels c t ts)

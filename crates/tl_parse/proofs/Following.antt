@@ -2,13 +2,15 @@
 use Rattle.std.proofs.Common.{◌≡◌, ℕ, ◌-◌, Bool, true, false, cond, List, refl, sym, ap, ◌∙◌}
 use Rattle.tl_base.specs.declared.place.Place.{Place}
 use Rattle.tl_tree.specs.declared.symbol.Symbol.{Symbol}
+use Rattle.tl_tree.specs.declared.symbol.Symbol.TheVariants as symbols
 use Rattle.tl_tree.specs.Tokens.{Token, is}
-use Rattle.tl_tree.specs.Tree.{Tree, Nothing, Just, Part}
+use Rattle.tl_tree.specs.Tree.{Tree, Nothing, Just, Part, FunctionBody, TerraFunctionBody}
 use Rattle.tl_tree.specs.Grammar.{Grammar, give, bind, when, Outcome, Took, Stop, ◌>>=◌, begins}
 use Rattle.tl_tree.specs.Forms.{sign, opening, opening_at}
 use Rattle.tl_tree.proofs.Unrolling.{bind_again}
 use Rattle.tl_parse.specs.Using.{reading, part_at, sign_at, open_at}
-use Rattle.tl_parse.specs.Codes.{expression_of, expression_in, expression_behind_at, optional_expression_at}
+use Rattle.tl_parse.specs.Codes.{expression_of, expression_in, expression_behind_at, optional_expression_at, opened_body_at}
+use Rattle.tl_parse.specs.Codes.{opened_terra_body_at}
 use Rattle.tl_parse.specs.declared.parser.Code.{Code}
 use Rattle.tl_parse.specs.declared.parser.Code.TheVariants as codes
 use Rattle.tl_parse.proofs.Uses.{both, bind_same, sign_is, open_is, opening_at_is}
@@ -43,6 +45,24 @@ then {A} levels g h g_at k same follows ts =
 pub either_is : {A : Type 0} (b : Bool) (x y u v : Outcome A) → x ≡ u → y ≡ v → cond b x y ≡ cond b u v
 either_is true x y u v p q = p
 either_is false x y u v p q = q
+
+-- ---- bodies of functions
+
+-- a value that is made of a body
+pub body_give : {A : Type 0} (levels : ℕ) (make : Tree → A) (ts : List Token) →
+    reading levels (bind (opening symbols.OpenParen FunctionBody) λ b. give (make b.1)) ts ≡ (opened_body_at levels ts >>= λ x rest. Took (make x) rest)
+unfolding opened_body_at
+body_give levels make ts =
+    open_then levels symbols.OpenParen FunctionBody (λ b. give (make b.1)) (λ t x rest. Took (make x) rest) (λ t x us. refl) ts
+    ∙ sym (bind_again (open_at symbols.OpenParen levels ts) (λ t a. part_at (levels - 1) FunctionBody a) (λ x rest. Took (make x) rest))
+
+-- the same of a body of Terra code
+pub terra_body_give : {A : Type 0} (levels : ℕ) (make : Tree → A) (ts : List Token) →
+    reading levels (bind (opening_at symbols.OpenParen TerraFunctionBody) λ b. give (make b.1)) ts ≡ (opened_terra_body_at levels ts >>= λ x rest. Took (make x) rest)
+unfolding opened_terra_body_at
+terra_body_give levels make ts =
+    open_at_then levels symbols.OpenParen TerraFunctionBody (λ b. give (make b.1)) (λ t x rest. Took (make x) rest) (λ t x us. refl) ts
+    ∙ sym (bind_again (open_at symbols.OpenParen levels ts) (λ t a. part_at (levels - 1) (TerraFunctionBody t.place) a) (λ x rest. Took (make x) rest))
 
 -- ---- expressions behind signs
 

@@ -1,5 +1,5 @@
 -- Lists of nodes within functions that read more than the list.
-use Rattle.std.proofs.Common.{◌≡◌, ℕ, Bool, true, false, cond, List, [], ◌∷◌, ◌++◌, sym, ap, ◌∙◌}
+use Rattle.std.proofs.Common.{◌≡◌, ℕ, ◌-◌, Bool, true, false, cond, List, [], ◌∷◌, ◌++◌, sym, ap, ◌∙◌}
 use Rattle.tl_base.specs.declared.place.Place.{Place}
 use Rattle.tl_base.specs.declared.ids.NodeId.{NodeId}
 use Rattle.tl_tree.specs.declared.mode.Mode.{Mode}
@@ -7,14 +7,15 @@ use Rattle.tl_tree.specs.declared.mode.Context.{Context}
 use Rattle.tl_tree.specs.declared.mode.Shape.{Shape}
 use Rattle.tl_tree.specs.declared.symbol.Symbol.TheVariants as symbols
 use Rattle.tl_tree.specs.Tokens.{Token, is}
-use Rattle.tl_tree.specs.Tree.{Tree, Nothing, More, Assign, NumericFor, GenericFor, Perform, Body, Statements, FunctionBody}
+use Rattle.tl_tree.specs.Tree.{Tree, Nothing, More, Assign, NumericFor, GenericFor, Perform, Body, Statements}
 use Rattle.tl_tree.specs.Item.{Item}
 use Rattle.tl_tree.specs.Nodes.{laid, last_of}
 use Rattle.tl_tree.specs.Grammar.{Outcome, Took, ◌>>=◌, begins}
 use Rattle.tl_tree.specs.Forms.{Chained, chained}
 use Rattle.tl_tree.specs.LuaStatements.{fresh, body_mode, Parameters, parameters_of}
 use Rattle.tl_parse.specs.Parsing.{tokens_left, items_of, end_of, Fails, TookList}
-use Rattle.tl_parse.specs.Using.{part_at, sign_at}
+use Rattle.tl_parse.specs.Using.{part_at, sign_at, open_at}
+use Rattle.tl_parse.specs.Codes.{opened_body_at}
 use Rattle.tl_parse.specs.Expressions.{name_at, applied_at}
 use Rattle.tl_parse.specs.Statements.{first_place, is_call, call_or_assignment_at, numeric_at}
 use Rattle.tl_parse.specs.Statements.{generic_at, for_at, parameters_at, body_at}
@@ -109,14 +110,16 @@ names_next levels c place before e ts us h took =
 
 -- ---- the block of a function
 
-pub body_fails : (start now : Parser) (levels : ℕ) (ts : List Token) (names : Tree) (variadic : Bool) (t : Token) (c : Context) (e : SyntaxError) → parameters_at levels (tokens_left start) ≡ Took (parameters_of names variadic) ts → sign_at symbols.CloseParen ts ≡ Took t (tokens_left now) → c ≡ fresh (body_mode variadic) → end_of now ≡ end_of start →
-    Fails now (part_at levels (Statements c) (tokens_left now)) e → Fails start (part_at levels FunctionBody (tokens_left start)) e
+pub body_fails : (start now : Parser) (levels : ℕ) (us ts : List Token) (o : Token) (names : Tree) (variadic : Bool) (t : Token) (c : Context) (e : SyntaxError) → open_at symbols.OpenParen levels (tokens_left start) ≡ Took o us →
+    parameters_at (levels - 1) us ≡ Took (parameters_of names variadic) ts → sign_at symbols.CloseParen ts ≡ Took t (tokens_left now) → c ≡ fresh (body_mode variadic) → end_of now ≡ end_of start →
+    Fails now (part_at (levels - 1) (Statements c) (tokens_left now)) e → Fails start (opened_body_at levels (tokens_left start)) e
 unfolding body_at
-body_fails start now levels ts names variadic t c e took sign same finish f =
-    fails_from start now (part_at levels FunctionBody (tokens_left start)) (part_at levels (Statements c) (tokens_left now) >>= λ x d. sign_at symbols.End d >>= λ z rest. Took (Body names variadic x) rest) e
+body_fails start now levels us ts o names variadic t c e opened took sign same finish f =
+    fails_from start now (opened_body_at levels (tokens_left start)) (part_at (levels - 1) (Statements c) (tokens_left now) >>= λ x d. sign_at symbols.End d >>= λ z rest. Took (Body names variadic x) rest) e
     (body_part levels (tokens_left start)
-    ∙ ap (λ (o : Outcome Parameters). o >>= λ p a. sign_at symbols.CloseParen a >>= λ y b. part_at levels (Statements (fresh (body_mode p.variadic))) b >>= λ x d. sign_at symbols.End d >>= λ z rest. Took (Body p.names p.variadic x) rest) took
-    ∙ ap (λ (o : Outcome Token). o >>= λ y b. part_at levels (Statements (fresh (body_mode variadic))) b >>= λ x d. sign_at symbols.End d >>= λ z rest. Took (Body names variadic x) rest) sign
-    ∙ ap (λ (k : Context). part_at levels (Statements k) (tokens_left now) >>= λ x d. sign_at symbols.End d >>= λ z rest. Took (Body names variadic x) rest) (sym same))
+    ∙ ap (λ (o : Outcome Token). o >>= λ t a. body_at (levels - 1) a) opened
+    ∙ ap (λ (o : Outcome Parameters). o >>= λ p a. sign_at symbols.CloseParen a >>= λ y b. part_at (levels - 1) (Statements (fresh (body_mode p.variadic))) b >>= λ x d. sign_at symbols.End d >>= λ z rest. Took (Body p.names p.variadic x) rest) took
+    ∙ ap (λ (o : Outcome Token). o >>= λ y b. part_at (levels - 1) (Statements (fresh (body_mode variadic))) b >>= λ x d. sign_at symbols.End d >>= λ z rest. Took (Body names variadic x) rest) sign
+    ∙ ap (λ (k : Context). part_at (levels - 1) (Statements k) (tokens_left now) >>= λ x d. sign_at symbols.End d >>= λ z rest. Took (Body names variadic x) rest) (sym same))
     finish
-    (fails_bind now (part_at levels (Statements c) (tokens_left now)) (λ x d. sign_at symbols.End d >>= λ z rest. Took (Body names variadic x) rest) e f)
+    (fails_bind now (part_at (levels - 1) (Statements c) (tokens_left now)) (λ x d. sign_at symbols.End d >>= λ z rest. Took (Body names variadic x) rest) e f)

@@ -1,5 +1,5 @@
 -- The repetitions in Lua statements, turn by turn, and what reading their parts gives.
-use Rattle.std.proofs.Common.{◌≡◌, ℕ, ◌<◌, Bool, true, false, cond, List, [], ◌∷◌, length, Option, None, refl, ap, ◌∙◌}
+use Rattle.std.proofs.Common.{◌≡◌, ℕ, ◌<◌, ◌-◌, Bool, true, false, cond, List, [], ◌∷◌, length, Option, None, refl, ap, ◌∙◌}
 use Rattle.std.specs.Prelude.{◌&&◌, not}
 use Rattle.tl_base.specs.declared.place.Place.{Place}
 use Rattle.tl_lex.specs.Lexing.{answers_left}
@@ -18,7 +18,8 @@ use Rattle.tl_tree.specs.LuaExpressions as expressions
 use Rattle.tl_tree.specs.LuaStatements as lua
 use Rattle.tl_tree.specs.LuaStatements.{Sequence, sequence, parameters_of}
 use Rattle.tl_parse.specs.Parsing.{tokens_left, token_of, with_token_by, HasNext}
-use Rattle.tl_parse.specs.Using.{reading, part_at, sign_at}
+use Rattle.tl_parse.specs.Using.{reading, part_at, sign_at, open_at}
+use Rattle.tl_parse.specs.Codes.{opened_body_at}
 use Rattle.tl_parse.specs.Expressions.{name_at, attached, shape_of, suffix_at}
 use Rattle.tl_parse.specs.Statements.{first_place, plain_statements, is_unsettled, settling, settle_at, goes_on, block_at, more_statements_at, next_statement_at, more_parameters_at, parameter_at, next_parameter_at, with_parameter, body_at}
 use Rattle.tl_parse.specs.Paths.{more_names_at, next_name_at, behind_sign_at, path_names_at}
@@ -189,8 +190,9 @@ unfolding next_parameter_at
 parameter_shorter x ts rest e =
     shorter_turn 0 (λ t. is symbols.Comma t && true) (λ t. Plain) (λ t. None) (sample symbols.Comma) (λ x. lua.parameter Nothing) (sign_at symbols.Comma ts >>= λ y a. parameter_at a) (λ o. with_parameter Nothing o) x ts rest (parameter_turn 0 Nothing false ts refl) e
 
-pub body_part : (levels : ℕ) (ts : List Token) → part_at levels FunctionBody ts ≡ body_at levels ts
-body_part levels ts = body_agrees levels ts
+pub body_part : (levels : ℕ) (ts : List Token) → opened_body_at levels ts ≡ (open_at symbols.OpenParen levels ts >>= λ t a. body_at (levels - 1) a)
+unfolding opened_body_at
+body_part levels ts = bind_same (open_at symbols.OpenParen levels ts) (λ t a. part_at (levels - 1) FunctionBody a) (λ t a. body_at (levels - 1) a) (λ t a. body_agrees (levels - 1) a)
 
 pub ruleset names = (fails_bind, fails_after, fails_from, names_go, names_end, name_shorter)
 

@@ -1,5 +1,5 @@
 -- What reading Terra code in Lua expressions gives is what its grammar gives.
-use Rattle.std.proofs.Common.{◌≡◌, ℕ, ◌-◌, List, refl}
+use Rattle.std.proofs.Common.{◌≡◌, ℕ, List, refl}
 use Rattle.tl_tree.specs.declared.mode.Mode.{Mode}
 use Rattle.tl_tree.specs.declared.symbol.Symbol.TheVariants as symbols
 use Rattle.tl_tree.specs.Tokens.{Token, is}
@@ -7,15 +7,16 @@ use Rattle.tl_tree.specs.Tree.{TerraFunction, Struct, Quote, Backtick, Entries, 
 use Rattle.tl_tree.specs.Grammar.{give, bind, Took, ◌>>=◌, begins}
 use Rattle.tl_tree.specs.Forms.{sign, opening_at}
 use Rattle.tl_tree.specs.LuaExpressions as lua
-use Rattle.tl_parse.specs.Using.{reading, part_at, sign_at, open_at}
+use Rattle.tl_parse.specs.Using.{reading, sign_at}
 use Rattle.tl_parse.specs.TerraCode.{terra_function_at, struct_body_at, struct_at, quote_at, backtick_at, terra_code_at}
-use Rattle.tl_parse.proofs.Following.{sign_then, open_then, open_at_then, then, either_is}
+use Rattle.tl_parse.specs.Codes.{opened_terra_body_at}
+use Rattle.tl_parse.proofs.Following.{sign_then, open_then, then, either_is, terra_body_give}
 
 terra_function_agrees : (levels : ℕ) (ts : List Token) → reading levels lua.terra_function ts ≡ terra_function_at levels ts
 unfolding terra_function_at
 terra_function_agrees levels ts =
-    sign_then levels symbols.Terra (λ t. bind (opening_at symbols.OpenParen TerraFunctionBody) λ x. give (TerraFunction t.0.place x.1)) (λ t us. open_at symbols.OpenParen levels us >>= λ u b. part_at (levels - 1) (TerraFunctionBody u.place) b >>= λ x rest. Took (TerraFunction t.place x) rest)
-    (λ t us. open_at_then levels symbols.OpenParen TerraFunctionBody (λ x. give (TerraFunction t.place x.1)) (λ u x rest. Took (TerraFunction t.place x) rest) (λ u x vs. refl) us) ts
+    sign_then levels symbols.Terra (λ t. bind (opening_at symbols.OpenParen TerraFunctionBody) λ x. give (TerraFunction t.0.place x.1)) (λ t us. opened_terra_body_at levels us >>= λ x rest. Took (TerraFunction t.place x) rest)
+    (λ t us. terra_body_give levels (λ x. TerraFunction t.place x) us) ts
 
 pub struct_body_agrees : (levels : ℕ) (m : Mode) (ts : List Token) → reading levels (lua.struct_body m) ts ≡ struct_body_at levels m ts
 unfolding struct_body_at

@@ -1,5 +1,5 @@
 -- What reading the Lua statements that define Terra functions and types gives is what their grammar gives.
-use Rattle.std.proofs.Common.{◌≡◌, ℕ, ◌-◌, true, cond, List, ◌∷◌, refl}
+use Rattle.std.proofs.Common.{◌≡◌, ℕ, true, cond, List, ◌∷◌, refl}
 use Rattle.tl_tree.specs.declared.mode.Context.{Context}
 use Rattle.tl_tree.specs.declared.symbol.Symbol.TheVariants as symbols
 use Rattle.tl_tree.specs.Tokens.{Token, is}
@@ -9,15 +9,15 @@ use Rattle.tl_tree.specs.Grammar.{give, bind, Outcome, Took, ◌>>=◌, begins, 
 use Rattle.tl_tree.specs.Forms.{sign, opening_at, name, path_names}
 use Rattle.tl_tree.specs.LuaExpressions as expressions
 use Rattle.tl_tree.specs.LuaStatements as lua
-use Rattle.tl_parse.specs.Using.{reading, part_at, sign_at, open_at}
+use Rattle.tl_parse.specs.Using.{reading, sign_at}
 use Rattle.tl_parse.specs.Expressions.{name_at}
 use Rattle.tl_parse.specs.Paths.{path_names_at, path_at}
 use Rattle.tl_parse.specs.TerraCode.{struct_body_at}
 use Rattle.tl_parse.specs.TerraDefinitions.{struct_path_at, define_terra_at, local_terra_function_at, local_struct_at, local_terra_at}
 use Rattle.tl_parse.specs.TerraDefinitions.{define_struct_at}
-use Rattle.tl_parse.specs.Codes.{expression_behind_at}
+use Rattle.tl_parse.specs.Codes.{expression_behind_at, opened_terra_body_at}
 use Rattle.tl_parse.specs.declared.parser.Code.TheVariants as codes
-use Rattle.tl_parse.proofs.Following.{sign_then, open_at_then, then, either_is, behind_give}
+use Rattle.tl_parse.proofs.Following.{sign_then, then, either_is, behind_give, terra_body_give}
 use Rattle.tl_parse.proofs.Agreeing.{name_agrees}
 use Rattle.tl_parse.proofs.TerraCodeAgreeing.{struct_body_agrees}
 use Rattle.tl_parse.proofs.TerraStatementAgreeing.{then_give, signed_form}
@@ -31,21 +31,21 @@ struct_path_agrees levels ts =
 
 -- a type behind `::`, or a function
 definition_is : (levels : ℕ) (c : Context) (declare define : Tree → Tree) (ts : List Token) → reading levels (lua.terra_definition c declare define) ts
-    ≡ cond (begins (is symbols.DoubleColon) ts) (expression_behind_at levels symbols.DoubleColon (codes.Lua c.mode) ts >>= λ e rest. Took (declare e) rest) (open_at symbols.OpenParen levels ts >>= λ y d. part_at (levels - 1) (TerraFunctionBody y.place) d >>= λ x rest. Took (define x) rest)
+    ≡ cond (begins (is symbols.DoubleColon) ts) (expression_behind_at levels symbols.DoubleColon (codes.Lua c.mode) ts >>= λ e rest. Took (declare e) rest) (opened_terra_body_at levels ts >>= λ x rest. Took (define x) rest)
 definition_is levels c declare define ts =
     either_is (begins (is symbols.DoubleColon) ts) (reading levels (bind (sign symbols.DoubleColon) λ y. bind (expressions.expression c.mode) λ e. give (declare e)) ts) (reading levels (bind (opening_at symbols.OpenParen TerraFunctionBody) λ b. give (define b.1)) ts)
-    (expression_behind_at levels symbols.DoubleColon (codes.Lua c.mode) ts >>= λ e rest. Took (declare e) rest) (open_at symbols.OpenParen levels ts >>= λ y d. part_at (levels - 1) (TerraFunctionBody y.place) d >>= λ x rest. Took (define x) rest)
+    (expression_behind_at levels symbols.DoubleColon (codes.Lua c.mode) ts >>= λ e rest. Took (declare e) rest) (opened_terra_body_at levels ts >>= λ x rest. Took (define x) rest)
     (behind_give levels symbols.DoubleColon (codes.Lua c.mode) declare ts)
-    (open_at_then levels symbols.OpenParen TerraFunctionBody (λ b. give (define b.1)) (λ y x rest. Took (define x) rest) (λ y x us. refl) ts)
+    (terra_body_give levels define ts)
 
 -- the statements behind their first token
 pub define_terra_is : (levels : ℕ) (c : Context) (t : Token) (ts : List Token) → is_of (is symbols.Terra) t ≡ true → reading levels (lua.statement c lua.FromTerra t Nothing) ts ≡ define_terra_at levels c.mode (t ∷ ts)
 unfolding define_terra_at
 define_terra_is levels c t ts h =
     signed_form levels symbols.Terra t ts (lua.statement c lua.FromTerra t Nothing)
-    (λ u a. path_at levels a >>= λ p b. cond (begins (is symbols.DoubleColon) b) (expression_behind_at levels symbols.DoubleColon (codes.Lua c.mode) b >>= λ e rest. Took (DeclareTerra u.place p e) rest) (open_at symbols.OpenParen levels b >>= λ y d. part_at (levels - 1) (TerraFunctionBody y.place) d >>= λ x rest. Took (DefineTerra u.place p x) rest)) h
+    (λ u a. path_at levels a >>= λ p b. cond (begins (is symbols.DoubleColon) b) (expression_behind_at levels symbols.DoubleColon (codes.Lua c.mode) b >>= λ e rest. Took (DeclareTerra u.place p e) rest) (opened_terra_body_at levels b >>= λ x rest. Took (DefineTerra u.place p x) rest)) h
     (then levels lua.path (λ p. lua.terra_definition c (DeclareTerra t.place p) (DefineTerra t.place p)) (λ us. path_at levels us)
-    (λ p b. cond (begins (is symbols.DoubleColon) b) (expression_behind_at levels symbols.DoubleColon (codes.Lua c.mode) b >>= λ e rest. Took (DeclareTerra t.place p e) rest) (open_at symbols.OpenParen levels b >>= λ y d. part_at (levels - 1) (TerraFunctionBody y.place) d >>= λ x rest. Took (DefineTerra t.place p x) rest))
+    (λ p b. cond (begins (is symbols.DoubleColon) b) (expression_behind_at levels symbols.DoubleColon (codes.Lua c.mode) b >>= λ e rest. Took (DeclareTerra t.place p e) rest) (opened_terra_body_at levels b >>= λ x rest. Took (DefineTerra t.place p x) rest))
     (λ us. path_agrees levels us) (λ p us. definition_is levels c (DeclareTerra t.place p) (DefineTerra t.place p) us) ts)
 
 pub define_struct_is : (levels : ℕ) (c : Context) (t : Token) (ts : List Token) → is_of (is symbols.Struct) t ≡ true → reading levels (lua.statement c lua.FromStruct t Nothing) ts ≡ define_struct_at levels c.mode (t ∷ ts)
@@ -71,4 +71,4 @@ local_terra_agrees levels c t ts =
     (λ n vs. definition_is levels c (LocalDeclareTerra t.place u.place n) (LocalTerra t.place u.place n) vs) us) ts)
   where
     defined : Token → Tree → List Token → Outcome Tree
-    defined u n b = cond (begins (is symbols.DoubleColon) b) (expression_behind_at levels symbols.DoubleColon (codes.Lua c.mode) b >>= λ e rest. Took (LocalDeclareTerra t.place u.place n e) rest) (open_at symbols.OpenParen levels b >>= λ y d. part_at (levels - 1) (TerraFunctionBody y.place) d >>= λ x rest. Took (LocalTerra t.place u.place n x) rest)
+    defined u n b = cond (begins (is symbols.DoubleColon) b) (expression_behind_at levels symbols.DoubleColon (codes.Lua c.mode) b >>= λ e rest. Took (LocalDeclareTerra t.place u.place n e) rest) (opened_terra_body_at levels b >>= λ x rest. Took (LocalTerra t.place u.place n x) rest)

@@ -1,17 +1,17 @@
 -- What both languages have, such as lists of expressions and arms, by the language.
-use Rattle.std.specs.Prelude.{ℕ, List, [], ◌∷◌, if◌then◌else◌}
+use Rattle.std.specs.Prelude.{ℕ, ◌-◌, List, [], ◌∷◌, if◌then◌else◌}
 use Rattle.tl_base.specs.declared.place.Place.{Place}
 use Rattle.tl_tree.specs.declared.symbol.Symbol.{Symbol}
 use Rattle.tl_tree.specs.declared.symbol.Symbol.TheVariants as symbols
 use Rattle.tl_tree.specs.Tokens.{Token, is}
 use Rattle.tl_tree.specs.Tree.{Tree, Nothing, Just, Part, Expression, TerraExpression, Arguments, TerraArguments, Statements}
-use Rattle.tl_tree.specs.Tree.{TerraStatements, Do, While, Repeat, If, Return, TerraDo, TerraWhile, TerraRepeat, TerraIf, TerraReturn}
+use Rattle.tl_tree.specs.Tree.{FunctionBody, TerraFunctionBody, TerraStatements, Do, While, Repeat, If, Return, TerraDo, TerraWhile, TerraRepeat, TerraIf, TerraReturn}
 use Rattle.tl_tree.specs.Grammar.{Grammar, Outcome, Took, ◌>>=◌, begins}
 use Rattle.tl_tree.specs.LuaExpressions as lua
 use Rattle.tl_tree.specs.LuaStatements as statements
 use Rattle.tl_tree.specs.TerraExpressions as terra
 use Rattle.tl_tree.specs.TerraStatements as terra_statements
-use Rattle.tl_parse.specs.Using.{part_at, sign_at}
+use Rattle.tl_parse.specs.Using.{part_at, sign_at, open_at}
 use Rattle.tl_parse.specs.declared.parser.Code.{Code}
 use Rattle.tl_parse.specs.declared.parser.Code.TheVariants as codes
 use Rattle.tl_parse.specs.declared.parser.BlockCode.{BlockCode}
@@ -51,6 +51,13 @@ first_symbols codes.Terra = terra_statements.terra_expression_symbols
 abbrev pub arguments_in : Code → Part
 arguments_in (codes.Lua m) = Arguments m
 arguments_in codes.Terra = TerraArguments
+
+-- what a function has behind its name, and the same of a function of Terra code, with the place of its "("
+unfoldable pub opened_body_at : ℕ → List Token → Outcome Tree
+opened_body_at levels ts = open_at symbols.OpenParen levels ts >>= λ t a. part_at (levels - 1) FunctionBody a
+
+unfoldable pub opened_terra_body_at : ℕ → List Token → Outcome Tree
+opened_terra_body_at levels ts = open_at symbols.OpenParen levels ts >>= λ t a. part_at (levels - 1) (TerraFunctionBody t.place) a
 
 -- the expressions in a block, its statements, and the arms behind those before
 abbrev pub code_of : BlockCode → Code

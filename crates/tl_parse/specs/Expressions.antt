@@ -13,7 +13,7 @@ use Rattle.tl_tree.specs.declared.node.Expression.TheVariants as expressions
 use Rattle.tl_tree.specs.Tokens.{Token, among, is}
 use Rattle.tl_tree.specs.Tree.{Tree, Nothing, More, Name, Numeral, Literal, Nil, False, True, Varargs, Function}
 use Rattle.tl_tree.specs.Tree.{Table, Unary, Paren, Index, Select, Call, Method, NamedField, KeyedField, Part}
-use Rattle.tl_tree.specs.Tree.{Expression, Operand, Concatenation, Arguments, Fields, FunctionBody}
+use Rattle.tl_tree.specs.Tree.{Expression, Operand, Concatenation, Arguments, Fields}
 use Rattle.tl_tree.specs.Grammar.{Grammar, Outcome, Took, ◌>>=◌, begins, down, unexpected}
 use Rattle.tl_tree.specs.Forms.{separated_behind, Chained, chained, chain, operand, in_chain, unary_of}
 use Rattle.tl_tree.specs.Forms.{comparisons, additive, multiplicative, operators}
@@ -21,7 +21,7 @@ use Rattle.tl_tree.specs.LuaExpressions as lua
 use Rattle.tl_tree.specs.LuaExpressions.{is_varargs}
 use Rattle.tl_parse.specs.Using.{reading, part_at, sign_at, open_at, prefix_at, operator_at, raise_at, call_at}
 use Rattle.tl_parse.specs.Using.{number_at, sign_among_at}
-use Rattle.tl_parse.specs.Codes.{expression_behind_at}
+use Rattle.tl_parse.specs.Codes.{expression_behind_at, opened_body_at}
 use Rattle.tl_parse.specs.Lists.{expressions_at}
 use Rattle.tl_parse.specs.TerraCode.{terra_code_at}
 use Rattle.tl_parse.specs.declared.parser.Code.{Code}
@@ -167,8 +167,7 @@ constant_at s ts = sign_at s ts >>= λ t rest. Took (constant s t.place) rest
 
 unfoldable pub function_at : ℕ → List Token → Outcome Tree
 function_at levels ts =
-    sign_at symbols.Function ts >>= λ f a. open_at symbols.OpenParen levels a >>= λ t b.
-    part_at (levels - 1) FunctionBody b >>= λ x rest. Took (Function f.place x) rest
+    sign_at symbols.Function ts >>= λ f a. opened_body_at levels a >>= λ x rest. Took (Function f.place x) rest
 
 unfoldable pub table_at : ℕ → Mode → List Token → Outcome Tree
 table_at levels m ts =

@@ -12,7 +12,7 @@ use Rattle.tl_tree.specs.declared.mode.Shape.TheVariants as shapes
 use Rattle.tl_tree.specs.Tokens.{Token, among, is}
 use Rattle.tl_tree.specs.Tree.{Tree, Nothing, More, Just, Assign, Perform, NumericFor}
 use Rattle.tl_tree.specs.Tree.{GenericFor, DefineFunction, LocalFunction, Local, Emit, Break, Block, Arm}
-use Rattle.tl_tree.specs.Tree.{Body, Expression, Statements, FunctionBody}
+use Rattle.tl_tree.specs.Tree.{Body, Expression, Statements}
 use Rattle.tl_tree.specs.Grammar.{Grammar, give, bind, many, Outcome, Took, ◌>>=◌, begins}
 use Rattle.tl_tree.specs.Forms.{semicolon, Chained}
 use Rattle.tl_tree.specs.LuaStatements as lua
@@ -22,7 +22,7 @@ use Rattle.tl_parse.specs.Lists.{more_elements_at, expressions_at, expressions_b
 use Rattle.tl_parse.specs.Expressions.{name_at, base_at, applied_at}
 use Rattle.tl_parse.specs.Paths.{more_names_at, names_at, path_at}
 use Rattle.tl_parse.specs.TerraDefinitions.{define_terra_at, define_struct_at, local_terra_at}
-use Rattle.tl_parse.specs.Codes.{expression_in, expression_behind_at, optional_expression_at, code_of, statements_in, arms_of}
+use Rattle.tl_parse.specs.Codes.{expression_in, expression_behind_at, optional_expression_at, opened_body_at, code_of, statements_in, arms_of}
 use Rattle.tl_parse.specs.Codes.{looped_code, first_symbols, do_of, while_of, repeat_of, if_of, return_of}
 use Rattle.tl_parse.specs.declared.parser.Code.{Code}
 use Rattle.tl_parse.specs.declared.parser.Code.TheVariants as codes
@@ -151,13 +151,13 @@ for_at levels c ts =
 
 unfoldable pub function_statement_at : ℕ → List Token → Outcome Tree
 function_statement_at levels ts =
-    sign_at symbols.Function ts >>= λ t a. path_at levels a >>= λ p b. open_at symbols.OpenParen levels b >>= λ z d.
-    part_at (levels - 1) FunctionBody d >>= λ x rest. Took (DefineFunction t.place p x) rest
+    sign_at symbols.Function ts >>= λ t a. path_at levels a >>= λ p b.
+    opened_body_at levels b >>= λ x rest. Took (DefineFunction t.place p x) rest
 
 unfoldable pub local_function_at : ℕ → Place → List Token → Outcome Tree
 local_function_at levels place ts =
-    sign_at symbols.Function ts >>= λ y a. name_at a >>= λ n b. open_at symbols.OpenParen levels b >>= λ z d.
-    part_at (levels - 1) FunctionBody d >>= λ x rest. Took (LocalFunction place n x) rest
+    sign_at symbols.Function ts >>= λ y a. name_at a >>= λ n b.
+    opened_body_at levels b >>= λ x rest. Took (LocalFunction place n x) rest
 
 unfoldable pub initial_values_at : ℕ → Code → List Token → Outcome Tree
 initial_values_at levels code ts = if begins (is symbols.Equal) ts then expressions_behind_at levels symbols.Equal code ts
@@ -272,6 +272,7 @@ parameters_at levels ts =
     else (parameter_at ts >>= λ o rest.
     more_parameters_at levels (with_parameter Nothing o).names (with_parameter Nothing o).variadic rest)
 
+-- behind a "("
 unfoldable pub body_at : ℕ → List Token → Outcome Tree
 body_at levels ts =
     parameters_at levels ts >>= λ p a. sign_at symbols.CloseParen a >>= λ y b.

@@ -4,15 +4,15 @@ use Rattle.std.specs.Prelude.{ℕ, ◌-◌, List, if◌then◌else◌}
 use Rattle.tl_tree.specs.declared.symbol.Symbol.TheVariants as symbols
 use Rattle.tl_tree.specs.declared.mode.Mode.{Mode}
 use Rattle.tl_tree.specs.Tokens.{Token, is}
-use Rattle.tl_tree.specs.Tree.{Tree, TerraFunction, Struct, Quote, Backtick, Entries, TerraFunctionBody, QuotedCode}
+use Rattle.tl_tree.specs.Tree.{Tree, TerraFunction, Struct, Quote, Backtick, Entries, QuotedCode}
 use Rattle.tl_tree.specs.Tree.{TerraExpression}
 use Rattle.tl_tree.specs.Grammar.{Outcome, Took, ◌>>=◌, begins}
 use Rattle.tl_parse.specs.Using.{part_at, sign_at, open_at}
+use Rattle.tl_parse.specs.Codes.{opened_terra_body_at}
 
 unfoldable pub terra_function_at : ℕ → List Token → Outcome Tree
 terra_function_at levels ts =
-    sign_at symbols.Terra ts >>= λ t a. open_at symbols.OpenParen levels a >>= λ u b.
-    part_at (levels - 1) (TerraFunctionBody u.place) b >>= λ x rest. Took (TerraFunction t.place x) rest
+    sign_at symbols.Terra ts >>= λ t a. opened_terra_body_at levels a >>= λ x rest. Took (TerraFunction t.place x) rest
 
 -- the entries of a struct in their brackets
 unfoldable pub struct_body_at : ℕ → Mode → List Token → Outcome Tree

@@ -1,14 +1,14 @@
 -- What reading the Lua statements that define Terra functions and types gives, from left to right.
-use Rattle.std.specs.Prelude.{ℕ, ◌-◌, List, if◌then◌else◌}
+use Rattle.std.specs.Prelude.{ℕ, List, if◌then◌else◌}
 use Rattle.tl_base.specs.declared.place.Place.{Place}
 use Rattle.tl_tree.specs.declared.symbol.Symbol.TheVariants as symbols
 use Rattle.tl_tree.specs.declared.mode.Mode.{Mode}
 use Rattle.tl_tree.specs.Tokens.{Token, is}
 use Rattle.tl_tree.specs.Tree.{Tree, Nothing, More, Path, DefineTerra, DeclareTerra, LocalTerra, LocalDeclareTerra}
-use Rattle.tl_tree.specs.Tree.{DefineStruct, LocalStruct, TerraFunctionBody}
+use Rattle.tl_tree.specs.Tree.{DefineStruct, LocalStruct}
 use Rattle.tl_tree.specs.Grammar.{Outcome, Took, ◌>>=◌, begins}
-use Rattle.tl_parse.specs.Using.{part_at, sign_at, open_at}
-use Rattle.tl_parse.specs.Codes.{expression_behind_at}
+use Rattle.tl_parse.specs.Using.{sign_at}
+use Rattle.tl_parse.specs.Codes.{expression_behind_at, opened_terra_body_at}
 use Rattle.tl_parse.specs.Expressions.{name_at}
 use Rattle.tl_parse.specs.Paths.{path_names_at, path_at}
 use Rattle.tl_parse.specs.TerraCode.{struct_body_at}
@@ -27,8 +27,7 @@ define_terra_at levels m ts =
     sign_at symbols.Terra ts >>= λ t a. path_at levels a >>= λ p b.
     if begins (is symbols.DoubleColon) b then (expression_behind_at levels symbols.DoubleColon (codes.Lua m) b
     >>= λ e rest. Took (DeclareTerra t.place p e) rest)
-    else (open_at symbols.OpenParen levels b >>= λ y d. part_at (levels - 1) (TerraFunctionBody y.place) d
-    >>= λ x rest. Took (DefineTerra t.place p x) rest)
+    else (opened_terra_body_at levels b >>= λ x rest. Took (DefineTerra t.place p x) rest)
 
 -- the same of a local variable, behind `local` at a place
 unfoldable pub local_terra_function_at : ℕ → Mode → Place → List Token → Outcome Tree
@@ -36,8 +35,7 @@ local_terra_function_at levels m place ts =
     sign_at symbols.Terra ts >>= λ t a. name_at a >>= λ n b.
     if begins (is symbols.DoubleColon) b then (expression_behind_at levels symbols.DoubleColon (codes.Lua m) b
     >>= λ e rest. Took (LocalDeclareTerra place t.place n e) rest)
-    else (open_at symbols.OpenParen levels b >>= λ y d. part_at (levels - 1) (TerraFunctionBody y.place) d
-    >>= λ x rest. Took (LocalTerra place t.place n x) rest)
+    else (opened_terra_body_at levels b >>= λ x rest. Took (LocalTerra place t.place n x) rest)
 
 unfoldable pub local_struct_at : ℕ → Mode → Place → List Token → Outcome Tree
 local_struct_at levels m place ts =

@@ -488,8 +488,7 @@ impl<'a> Parser<'a> {
         ensures err { IfErr result (λ e. Fails self.old (function_at levels (tokens_left self.old)) e) }
     {
         let place = read!(self.take(Symbol::Function));
-        pass!(self.open(Symbol::OpenParen, levels));
-        let body = read!(self.function_body(levels - 1));
+        let body = read!(self.function_body(levels));
         self.push(Node::Expression(place, Expression::Function(body)))
     }
 

@@ -8,7 +8,7 @@ ghost use Rattle.tl_tree.specs.Grammar.{begins};
 ghost use Rattle.tl_tree.specs.Tokens.{among};
 ghost use Rattle.tl_parse.specs.Parsing.{tokens_left, Fails, HasNext, TookTree, TookList, TookOption, TookMaybe};
 ghost use Rattle.tl_parse.specs.Using.{part_at};
-ghost use Rattle.tl_parse.specs.Codes.{code_of, statements_in, looped_code, first_symbols};
+ghost use Rattle.tl_parse.specs.Codes.{opened_body_at, code_of, statements_in, looped_code, first_symbols};
 ghost use Rattle.tl_parse.specs.Statements.{first_place, is_unsettled, variable_at, is_call};
 ghost use Rattle.tl_parse.specs.Statements.{call_or_assignment_at, do_at, loop_at, while_at, repeat_at};
 ghost use Rattle.tl_parse.specs.Statements.{arm_at, next_arm_at, arms_at, otherwise_at, if_at, numeric_at};
@@ -494,8 +494,7 @@ impl<'a> Parser<'a> {
     {
         let place = read!(self.take(Symbol::Function));
         let path = read!(self.path(levels));
-        pass!(self.open(Symbol::OpenParen, levels));
-        let body = read!(self.function_body(levels - 1));
+        let body = read!(self.function_body(levels));
         self.push(Node::Statement(place, Statement::Function(path, body)))
     }
 
@@ -508,8 +507,7 @@ impl<'a> Parser<'a> {
     {
         pass!(self.take(Symbol::Function));
         let name = read!(self.name());
-        pass!(self.open(Symbol::OpenParen, levels));
-        let body = read!(self.function_body(levels - 1));
+        let body = read!(self.function_body(levels));
         self.push(Node::Statement(place, Statement::LocalFunction(name, body)))
     }
 
@@ -761,17 +759,19 @@ impl<'a> Parser<'a> {
         Ok((list, false))
     }
 
-    /// body = "(" [names ["," "..."] | "..."] ")" block "end", behind its "("
+    /// body = "(" [names ["," "..."] | "..."] ")" block "end"
     #[cycle(parser)]
     #[tactic(auto, using(crate::proofs::StatementTurns::body), unfolding(crate::specs::Statements::body_at))]
     pub(crate) fn function_body(&mut self, levels: u32) -> Result<NodeId, SyntaxError>
-        ensures ok { IfOk result (λ r. TookTree self.old self.new (part_at levels parts.FunctionBody (tokens_left self.old)) r) }
-        ensures err { IfErr result (λ e. Fails self.old (part_at levels parts.FunctionBody (tokens_left self.old)) e) }
+        ensures ok { IfOk result (λ r. TookTree self.old self.new (opened_body_at levels (tokens_left self.old)) r) }
+        ensures err { IfErr result (λ e. Fails self.old (opened_body_at levels (tokens_left self.old)) e) }
     {
-        let (names, variadic) = read!(self.parameters(levels));
+        read!(self.open(Symbol::OpenParen, levels));
+        let inner = levels - 1;
+        let (names, variadic) = read!(self.parameters(inner));
         read!(self.take(Symbol::CloseParen));
-        let block = read!(self.block(fresh(variadic), levels));
-        read!(self.take(Symbol::End));
+        let block = read!(self.block(fresh(variadic), inner));
+        pass!(self.take(Symbol::End));
         self.push(Node::Piece(Piece::Body(names, variadic, block)))
     }
 }

@@ -24,8 +24,7 @@ impl<'a> Parser<'a> {
         ensures err { IfErr result (λ e. Fails self.old (terra_function_at levels (tokens_left self.old)) e) }
     {
         let place = read!(self.take(Symbol::Terra));
-        let paren = read!(self.open(Symbol::OpenParen, levels));
-        let body = read!(self.terra_function_body(paren, levels - 1));
+        let body = read!(self.terra_function_body(levels));
         self.push(Node::Expression(place, Expression::Terra(body)))
     }
 

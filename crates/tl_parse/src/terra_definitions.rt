@@ -42,8 +42,7 @@ impl<'a> Parser<'a> {
             ));
             return self.push(Node::Statement(place, Statement::DeclareTerra(path, declared)));
         }
-        let paren = read!(self.open(Symbol::OpenParen, levels));
-        let body = read!(self.terra_function_body(paren, levels - 1));
+        let body = read!(self.terra_function_body(levels));
         self.push(Node::Statement(place, Statement::Terra(path, body)))
     }
 
@@ -72,8 +71,7 @@ impl<'a> Parser<'a> {
                 Statement::LocalDeclareTerra(start, name, declared),
             ));
         }
-        let paren = read!(self.open(Symbol::OpenParen, levels));
-        let body = read!(self.terra_function_body(paren, levels - 1));
+        let body = read!(self.terra_function_body(levels));
         self.push(Node::Statement(place, Statement::LocalTerra(start, name, body)))
     }
 

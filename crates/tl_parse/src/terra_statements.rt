@@ -6,12 +6,13 @@ ghost use Rattle.tl_tree.specs.Grammar.{begins};
 ghost use Rattle.tl_parse.specs.Parsing.{tokens_left, HasNext, Fails, TookTree, TookOperand, TookList};
 ghost use Rattle.tl_parse.specs.Using.{part_at};
 ghost use Rattle.tl_parse.specs.Going.{TookStatement};
+ghost use Rattle.tl_parse.specs.Codes.{opened_terra_body_at};
 ghost use Rattle.tl_parse.specs.Statements.{is_call};
 ghost use Rattle.tl_parse.specs.TerraLines.{TookPlacedName};
 ghost use Rattle.tl_parse.specs.TerraStatements.{placed_name_at, terra_variable_at};
 ghost use Rattle.tl_parse.specs.TerraStatements.{terra_target_at};
 ghost use Rattle.tl_parse.specs.TerraStatements.{terra_simple_statement_at, is_escape, terra_goes_on};
-ghost use Rattle.tl_parse.specs.TerraStatements.{terra_function_body_at, quoted_code_at};
+ghost use Rattle.tl_parse.specs.TerraStatements.{quoted_code_at};
 ghost use Rattle.tl_parse.specs.TerraStatements.{terra_for_at, terra_var_at, escape_block_at};
 ghost use Rattle.tl_parse.specs.TerraStatements.{terra_break_at, terra_statement_at, next_terra_statement_at};
 ghost use Rattle.tl_parse.specs.TerraStatements.{terra_parameter_at};
@@ -299,34 +300,21 @@ impl<'a> Parser<'a> {
         self.elements(Element::TerraParameter, levels)
     }
 
-    /// tbody = "(" [param {"," param}] ")" [":" exp] tblock "end", behind its "(" at this place
+    /// tbody = "(" [param {"," param}] ")" [":" exp] tblock "end"
     #[cycle(parser)]
-    #[tactic(auto, using(crate::proofs::Failing::failing), unfolding(crate::specs::TerraStatements::terra_function_body_at))]
-    fn terra_body(&mut self, place: Place, levels: u32) -> Result<NodeId, SyntaxError>
-        ensures ok { IfOk result (λ r. TookTree self.old self.new (terra_function_body_at levels place (tokens_left self.old)) r) }
-        ensures err { IfErr result (λ e. Fails self.old (terra_function_body_at levels place (tokens_left self.old)) e) }
+    #[tactic(auto, using(crate::proofs::TerraStatementParts::terra_body), unfolding(crate::specs::TerraStatements::terra_function_body_at))]
+    pub(crate) fn terra_function_body(&mut self, levels: u32) -> Result<NodeId, SyntaxError>
+        ensures ok { IfOk result (λ r. TookTree self.old self.new (opened_terra_body_at levels (tokens_left self.old)) r) }
+        ensures err { IfErr result (λ e. Fails self.old (opened_terra_body_at levels (tokens_left self.old)) e) }
     {
-        let parameters = read!(self.terra_parameters(levels));
+        let place = read!(self.open(Symbol::OpenParen, levels));
+        let inner = levels - 1;
+        let parameters = read!(self.terra_parameters(inner));
         pass!(self.take(Symbol::CloseParen));
-        let written = read!(self.optional_expression(Symbol::Colon, TYPES, levels));
-        let block = read!(self.terra_block(levels));
+        let written = read!(self.optional_expression(Symbol::Colon, TYPES, inner));
+        let block = read!(self.terra_block(inner));
         pass!(self.take(Symbol::End));
         self.push(Node::Piece(Piece::TerraBody(place, parameters, written, block)))
-    }
-
-    /// what the "(" of a tbody, at this place, opens
-    #[cycle(parser)]
-    #[tactic(auto, using(crate::proofs::TerraStatementParts::terra_function_body_part, crate::proofs::Failing::fails_same))]
-    pub(crate) fn terra_function_body(
-        &mut self,
-        place: Place,
-        levels: u32,
-    ) -> Result<NodeId, SyntaxError>
-        ensures ok { IfOk result (λ r.
-            TookTree self.old self.new (part_at levels (parts.TerraFunctionBody place) (tokens_left self.old)) r) }
-        ensures err { IfErr result (λ e. Fails self.old (part_at levels (parts.TerraFunctionBody place) (tokens_left self.old)) e) }
-    {
-        self.terra_body(place, levels)
     }
 
     /// tblock ["in" texp], behind "quote"

@@ -32,6 +32,7 @@ use Rattle.tl_parse.proofs.Looping.{listing_first, listing_next, listing_stops, 
 use Rattle.tl_parse.proofs.Looping.{body_fails}
 use Rattle.tl_parse.proofs.TerraTurns.{terra_suffix_shorter, terra_suffixes_go, terra_operation_shorter, terra_operations_go, initialisers_end, entries_end, entry_shorter, initialiser_shorter}
 use Rattle.tl_parse.proofs.TerraTurns.{initialisers_go, entries_go}
+use Rattle.tl_parse.proofs.TerraStatementParts.{terra_type_fails, terra_block_fails}
 use Rattle.tl_parse.proofs.TerraStatementTurns.{arms_go, arms_end, arm_shorter, terra_block_goes, terra_targets_go, terra_target_shorter, terra_statement_shorter}
 use Rattle.tl_parse.proofs.parser.Parser.+parser.Goals as goal
 
@@ -84,9 +85,28 @@ for_statement-more-preserved t c =
 
 pub function_body-returns-in-Err-block-clause-err : goal.function_body-returns-in-Err-block-clause-err
 function_body-returns-in-Err-block-clause-err t c =
-    let p = c.in-Ok.ensures.ok in
+    let o = c.in-Ok.ensures.ok in
+    let p = c.in-Ok-parameters.ensures.ok in
     let s = c.in-Ok-take.ensures.ok in
-    body_fails c.args.self.now c.take.new.self c.args.levels (tokens_left c.parameters.new.self) p.tree c.in-Ok.x.1 (placed s.token c.in-Ok-take.x) c.fresh.result c.in-Err-block.e p.took s.took c.fresh.ensures (s.finish ∙ p.finish) c.in-Err-block.ensures.err
+    body_fails c.args.self.now c.take.new.self c.args.levels (tokens_left c.open.new.self) (tokens_left c.parameters.new.self) (placed o.token c.in-Ok.x) p.tree c.in-Ok-parameters.x.1 (placed s.token c.in-Ok-take.x) c.fresh.result c.in-Err-block.e
+    o.took p.took s.took c.fresh.ensures (s.finish ∙ p.finish ∙ o.finish) c.in-Err-block.ensures.err
+
+pub terra_function_body-returns-in-Err-optional_expression-clause-err : goal.terra_function_body-returns-in-Err-optional_expression-clause-err
+terra_function_body-returns-in-Err-optional_expression-clause-err t c =
+    let o = c.in-Ok.ensures.ok in
+    let p = c.in-Ok-terra_parameters.ensures.ok in
+    let s = c.in_default.ensures.ok in
+    terra_type_fails c.args.self.now c.take.new.self c.args.levels (tokens_left c.open.new.self) (tokens_left c.terra_parameters.new.self) (placed o.token c.in-Ok.x) (placed s.token c.in_default.field-0) p.tree c.in-Err-optional_expression.e
+    o.took p.took s.took (s.finish ∙ p.finish ∙ o.finish) c.in-Err-optional_expression.ensures.err
+
+pub terra_function_body-returns-in-Err-terra_block-clause-err : goal.terra_function_body-returns-in-Err-terra_block-clause-err
+terra_function_body-returns-in-Err-terra_block-clause-err t c =
+    let o = c.in-Ok.ensures.ok in
+    let p = c.in-Ok-terra_parameters.ensures.ok in
+    let s = c.in_default.ensures.ok in
+    let w = c.in-Ok-optional_expression.ensures.ok in
+    terra_block_fails c.args.self.now c.optional_expression.new.self c.args.levels (tokens_left c.open.new.self) (tokens_left c.terra_parameters.new.self) (tokens_left c.take.new.self) (placed o.token c.in-Ok.x) (placed s.token c.in_default.field-0) p.tree w.tree c.in-Err-terra_block.e
+    o.took p.took s.took w.took (w.finish ∙ s.finish ∙ p.finish ∙ o.finish) c.in-Err-terra_block.ensures.err
 
 pub terra_applied-more-smaller : goal.terra_applied-more-smaller
 terra_applied-more-smaller t c =

@@ -73,7 +73,7 @@ abbrev pub decreases-function : goal.decreases-function
 decreases-function l = 64 * l.levels + 10
 
 abbrev pub decreases-function_body : goal.decreases-function_body
-decreases-function_body l = 64 * l.levels + 52
+decreases-function_body l = 64 * l.levels + 9
 
 abbrev pub decreases-function_statement : goal.decreases-function_statement
 decreases-function_statement l = 64 * l.levels + 10
@@ -403,7 +403,7 @@ abbrev pub decreases-terra_parameters : goal.decreases-terra_parameters
 decreases-terra_parameters l = 64 * l.levels + 45
 
 abbrev pub decreases-terra_function_body : goal.decreases-terra_function_body
-decreases-terra_function_body l = 64 * l.levels + 52
+decreases-terra_function_body l = 64 * l.levels + 9
 
 abbrev pub decreases-quoted_code : goal.decreases-quoted_code
 decreases-quoted_code l = 64 * l.levels + 51
@@ -434,9 +434,6 @@ invariant-terra_block-more l = TerraSequencing l.fn.levels l.fn.self l.self (par
 
 abbrev pub decreases-terra_block-more : goal.decreases-terra_block-more
 decreases-terra_block-more l = length (tokens_left l.self)
-
-abbrev pub decreases-terra_body : goal.decreases-terra_body
-decreases-terra_body l = 64 * l.levels + 51
 
 abbrev pub decreases-expression_of : goal.decreases-expression_of
 decreases-expression_of l = 64 * l.levels + 36
