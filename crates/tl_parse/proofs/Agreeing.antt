@@ -15,7 +15,7 @@ use Rattle.tl_tree.specs.Forms.{sign, opening, name, Chained, chained, chain, op
 use Rattle.tl_tree.specs.LuaExpressions as lua
 use Rattle.tl_tree.proofs.Unrolling.{bind_again}
 use Rattle.tl_parse.specs.Using.{reading, part_at, used, sign_at, open_at, prefix_at, raise_at, number_at}
-use Rattle.tl_parse.specs.Expressions.{name_at, paren_at, base_at, method_arguments_at, listed_arguments_at, table_argument_at, applied_at, suffixes_at, prefixed_at, number_tree_at, literal_at, constant, constant_at, function_at, table_at, simple_at, is_simple, primary_at, right_at, power_at, unary_at, inner_of, more_at, ranks_at, binary_at, chained_at, is_name, field_behind_at, keyed_field_at, field_at}
+use Rattle.tl_parse.specs.Expressions.{name_at, paren_at, base_at, method_arguments_at, listed_arguments_at, applied_at, suffixes_at, prefixed_at, number_tree_at, literal_at, constant, constant_at, function_at, table_at, simple_at, is_simple, primary_at, right_at, power_at, unary_at, inner_of, more_at, ranks_at, binary_at, chained_at, is_name, field_behind_at, keyed_field_at, field_at}
 pub use Rattle.tl_parse.proofs.Following.{sign_then, opened_then, open_then, then, either_is}
 use Rattle.tl_parse.proofs.Following.{behind_give, body_give}
 use Rattle.tl_parse.proofs.TerraCodeAgreeing.{terra_code_agrees}
@@ -42,15 +42,51 @@ base_agrees levels m ts =
     either_is (begins (is symbols.OpenParen) ts) (reading levels (lua.paren m) ts) (reading levels (bind name λ n. give (chained n chain shapes.Name)) ts) (paren_at levels m ts) (name_at ts >>= λ n rest. Took (chained n chain shapes.Name) rest)
     (paren_agrees levels m ts) (then levels name (λ n. give (chained n chain shapes.Name)) (λ us. name_at us) (λ n rest. Took (chained n chain shapes.Name) rest) (λ us. name_agrees levels us) (λ n us. refl) ts)
 
+-- ---- texts and tables
+
+pub literal_agrees : (levels : ℕ) (ts : List Token) → reading levels lua.literal ts ≡ literal_at ts
+unfolding literal_at
+literal_agrees levels ts = sign_then levels symbols.Literal (λ x. give (Literal x.0.place x.0.text)) (λ t rest. Took (Literal t.place t.text) rest) (λ t us. refl) ts
+
+table_agrees : (levels : ℕ) (m : Mode) (ts : List Token) → reading levels (lua.table m) ts ≡ table_at levels m ts
+unfolding table_at
+table_agrees levels m ts =
+    open_then levels symbols.OpenBrace (Fields m) (λ x. bind (sign symbols.CloseBrace) λ y. give (Table x.0.place x.1)) (λ t x us. sign_at symbols.CloseBrace us >>= λ y rest. Took (Table t.place x) rest)
+    (λ t x us. sign_then levels symbols.CloseBrace (λ y. give (Table t.place x)) (λ y rest. Took (Table t.place x) rest) (λ y vs. refl) us) ts
+
+-- ---- arguments
+
+-- a table that is the one argument
+table_argument_agrees : (levels : ℕ) (m : Mode) (ts : List Token) →
+    reading levels (bind (opening symbols.OpenBrace (Fields m)) λ x. bind (sign symbols.CloseBrace) λ y. give (More Nothing (Table x.0.place x.1))) ts ≡ (table_at levels m ts >>= λ x rest. Took (More Nothing x) rest)
+unfolding table_at
+table_argument_agrees levels m ts =
+    open_then levels symbols.OpenBrace (Fields m) (λ x. bind (sign symbols.CloseBrace) λ y. give (More Nothing (Table x.0.place x.1))) (λ t x us. closed t x us >>= λ e rest. alone e rest)
+    (λ t x us. sign_then levels symbols.CloseBrace (λ y. give (More Nothing (Table t.place x))) (λ y rest. Took (More Nothing (Table t.place x)) rest) (λ y vs. refl) us ∙ sym (bind_again (sign_at symbols.CloseBrace us) (λ y rest. Took (Table t.place x) rest) (λ e rest. alone e rest))) ts
+    ∙ sym (bind_again (open_at symbols.OpenBrace levels ts) (λ t a. part_at (levels - 1) (Fields m) a >>= λ x b. closed t x b) (λ e rest. alone e rest)
+    ∙ bind_same (open_at symbols.OpenBrace levels ts) (λ t a. (part_at (levels - 1) (Fields m) a >>= λ x b. closed t x b) >>= λ e rest. alone e rest) (λ t a. part_at (levels - 1) (Fields m) a >>= λ x b. closed t x b >>= λ e rest. alone e rest)
+    (λ t a. bind_again (part_at (levels - 1) (Fields m) a) (λ x b. closed t x b) (λ e rest. alone e rest)))
+  where
+    alone : Tree → List Token → Outcome Tree
+    alone x rest = Took (More Nothing x) rest
+
+    closed : Token → Tree → List Token → Outcome Tree
+    closed t x us = sign_at symbols.CloseBrace us >>= λ y rest. Took (Table t.place x) rest
+
+-- the same of a text
+literal_argument_agrees : (levels : ℕ) (ts : List Token) → reading levels (bind (sign symbols.Literal) λ x. give (More Nothing (Literal x.0.place x.0.text))) ts ≡ (literal_at ts >>= λ x rest. Took (More Nothing x) rest)
+unfolding literal_at
+literal_argument_agrees levels ts =
+    sign_then levels symbols.Literal (λ x. give (More Nothing (Literal x.0.place x.0.text))) (λ t rest. Took (More Nothing (Literal t.place t.text)) rest) (λ t us. refl) ts
+    ∙ sym (bind_again (sign_at symbols.Literal ts) (λ t rest. Took (Literal t.place t.text) rest) (λ x rest. Took (More Nothing x) rest))
+
 pub method_arguments_agree : (levels : ℕ) (m : Mode) (ts : List Token) → reading levels (lua.arguments m) ts ≡ method_arguments_at levels m ts
-unfolding method_arguments_at listed_arguments_at table_argument_at
+unfolding method_arguments_at listed_arguments_at
 method_arguments_agree levels m ts =
     either_is (begins (is symbols.OpenParen) ts) (reading levels (bind (opening symbols.OpenParen (Arguments m)) λ x. bind (sign symbols.CloseParen) λ y. give x.1) ts) (cond (begins (is symbols.OpenBrace) ts) (reading levels with_table ts) (reading levels with_text ts))
     (open_at symbols.OpenParen levels ts >>= λ t a. part_at (levels - 1) (Arguments m) a >>= λ x b. sign_at symbols.CloseParen b >>= λ y rest. Took x rest) _
     (open_then levels symbols.OpenParen (Arguments m) (λ x. bind (sign symbols.CloseParen) λ y. give x.1) (λ t x us. sign_at symbols.CloseParen us >>= λ y rest. Took x rest) (λ t x us. sign_then levels symbols.CloseParen (λ y. give x) (λ y rest. Took x rest) (λ y vs. refl) us) ts)
-    (either_is (begins (is symbols.OpenBrace) ts) (reading levels with_table ts) (reading levels with_text ts) _ _
-    (open_then levels symbols.OpenBrace (Fields m) (λ x. bind (sign symbols.CloseBrace) λ y. give (More Nothing (Table x.0.place x.1))) (λ t x us. sign_at symbols.CloseBrace us >>= λ y rest. Took (More Nothing (Table t.place x)) rest) (λ t x us. sign_then levels symbols.CloseBrace (λ y. give (More Nothing (Table t.place x))) (λ y rest. Took (More Nothing (Table t.place x)) rest) (λ y vs. refl) us) ts)
-    (sign_then levels symbols.Literal (λ x. give (More Nothing (Literal x.0.place x.0.text))) (λ t rest. Took (More Nothing (Literal t.place t.text)) rest) (λ t us. refl) ts))
+    (either_is (begins (is symbols.OpenBrace) ts) (reading levels with_table ts) (reading levels with_text ts) _ _ (table_argument_agrees levels m ts) (literal_argument_agrees levels ts))
   where
     with_table : Grammar Tree
     with_table = bind (opening symbols.OpenBrace (Fields m)) λ x. bind (sign symbols.CloseBrace) λ y. give (More Nothing (Table x.0.place x.1))
@@ -79,10 +115,6 @@ number_agrees levels ts =
     ap (λ (o : Outcome (Token × Tree)). o >>= λ x rest. Took (Numeral x.0.place x.0.text) rest) (plain_is levels (is symbols.Numeral) LuaNumber (sample symbols.Numeral) ts)
     ∙ bind_again (used (is symbols.Numeral) false 0 LuaNumber ts) (λ t rest. Took (both t Nothing) rest) (λ x rest. Took (Numeral x.0.place x.0.text) rest)
 
-pub literal_agrees : (levels : ℕ) (ts : List Token) → reading levels lua.literal ts ≡ literal_at ts
-unfolding literal_at
-literal_agrees levels ts = sign_then levels symbols.Literal (λ x. give (Literal x.0.place x.0.text)) (λ t rest. Took (Literal t.place t.text) rest) (λ t us. refl) ts
-
 constant_agrees : (levels : ℕ) (s : Symbol) (ts : List Token) → reading levels (bind (sign s) λ x. give (constant s x.0.place)) ts ≡ constant_at s ts
 unfolding constant_at
 constant_agrees levels s ts = sign_then levels s (λ x. give (constant s x.0.place)) (λ t rest. Took (constant s t.place) rest) (λ t us. refl) ts
@@ -92,12 +124,6 @@ unfolding function_at
 function_agrees levels ts =
     sign_then levels symbols.Function (λ f. bind (opening symbols.OpenParen FunctionBody) λ x. give (Function f.0.place x.1)) (λ f us. opened_body_at levels us >>= λ x rest. Took (Function f.place x) rest)
     (λ f us. body_give levels (λ x. Function f.place x) us) ts
-
-table_agrees : (levels : ℕ) (m : Mode) (ts : List Token) → reading levels (lua.table m) ts ≡ table_at levels m ts
-unfolding table_at
-table_agrees levels m ts =
-    open_then levels symbols.OpenBrace (Fields m) (λ x. bind (sign symbols.CloseBrace) λ y. give (Table x.0.place x.1)) (λ t x us. sign_at symbols.CloseBrace us >>= λ y rest. Took (Table t.place x) rest)
-    (λ t x us. sign_then levels symbols.CloseBrace (λ y. give (Table t.place x)) (λ y rest. Took (Table t.place x) rest) (λ y vs. refl) us) ts
 
 -- Terra code is an operand of Lua code.
 terra_operand : (levels : ℕ) (m : Mode) (left : ℕ) (ts : List Token) → reading levels (lua.as_operand left (lua.terra_code m)) ts ≡ (terra_code_at levels m ts >>= λ e rest. Took (operand left e) rest)

@@ -1,5 +1,5 @@
 -- Uses of single tokens.
-use Rattle.std.proofs.Common.{◌≡◌, ℕ, zero, suc, ◌-◌, ◌<◌, Bool, true, false, cond, List, [], ◌∷◌, Option, Some, None, refl, sym, ap, subst}
+use Rattle.std.proofs.Common.{◌≡◌, ℕ, zero, suc, ◌-◌, ◌<◌, Bool, true, false, cond, List, [], ◌∷◌, ◌++◌, Option, Some, None, refl, sym, ap, subst}
 use Rattle.std.proofs.Common.{◌∙◌, arith}
 use Rattle.std.specs.Prelude.{if◌then◌else◌, ◌||◌, ◌&&◌}
 use Rattle.std.proofs.Math.Dec.{eqb-suc-zero}
@@ -14,7 +14,13 @@ use Rattle.tl_tree.specs.Symbols.{is_bad}
 use Rattle.tl_tree.specs.Tokens.{tokens_in}
 use Rattle.tl_tree.specs.Tree.{FunctionBody}
 use Rattle.tl_tree.specs.Grammar.{Outcome, Took, Stop, begins, is_of, blame, unless, is_none_left, opens_too_deep, down}
+use Rattle.tl_base.specs.declared.place.Place.{Place}
+use Rattle.tl_base.specs.declared.ids.NodeId.{NodeId}
+use Rattle.tl_tree.specs.Item.{Item}
+use Rattle.tl_tree.specs.Nodes.{item_of}
+use Rattle.tl_tree.specs.declared.node.Node.{Node}
 use Rattle.tl_parse.specs.Parsing.{token_of, with_token_by, tokens_left, end_of, blame_of, Refuses, Stops, Fails, HasNext, TookToken, TookPlace}
+use Rattle.tl_parse.specs.Parsing.{placed, Pushed, Closed}
 use Rattle.tl_parse.specs.Looking.{Advanced}
 use Rattle.tl_parse.specs.Using.{barred, used, is_number}
 use Rattle.tl_parse.specs.Taking.{barred_next, Uses, Barred}
@@ -119,6 +125,17 @@ taken class opens levels extra old new t h u = record { took = u.took class h; f
 -- where a token is taken, its place is
 pub place_taken : (old new : Parser) (o : Outcome Token) (t : code.Next) → TookToken old new o t → TookPlace old new o t.place
 place_taken old new o t k = record { token = token_of t; took = k.took; finish = k.finish; items = k.items }
+
+-- where a token is taken and a node is pushed
+pub closed : (old mid new : Parser) (o : Outcome Token) (place : Place) (node : Node) (number : NodeId) → TookPlace old mid o place → Pushed mid new node number → Closed old new o node number
+closed old mid new o place node number t p =
+    record {
+      token = placed t.token place;
+      took = t.took ∙ ap (λ (ts : List Token). Took (placed t.token place) ts) (sym p.rest);
+      finish = p.finish ∙ t.finish;
+      items = p.items ∙ ap (λ (i : List Item). i ++ item_of node ∷ []) t.items;
+      is_last = p.is_last;
+    }
 
 -- the place of the token is taken where the grammar takes it
 pub taken_place : (class : Token → Bool) (opens : Bool) (levels : ℕ) (extra : Extra) (old new : Parser) (t : code.Next) → begins class (tokens_left old) ≡ true → Uses opens levels extra old new t → TookPlace old new (used class opens levels extra (tokens_left old)) t.place

@@ -31,6 +31,16 @@ use Rattle.tl_parse.specs.Ranks.{ranked_at}
 unfoldable pub name_at : List Token → Outcome Tree
 name_at ts = sign_at symbols.Name ts >>= λ t rest. Took (Name t.place t.offset t.text) rest
 
+-- ---- texts and tables, which are operands and arguments
+
+unfoldable pub literal_at : List Token → Outcome Tree
+literal_at ts = sign_at symbols.Literal ts >>= λ t rest. Took (Literal t.place t.text) rest
+
+unfoldable pub table_at : ℕ → Mode → List Token → Outcome Tree
+table_at levels m ts =
+    open_at symbols.OpenBrace levels ts >>= λ t a. part_at (levels - 1) (Fields m) a >>= λ x b.
+    sign_at symbols.CloseBrace b >>= λ y rest. Took (Table t.place x) rest
+
 -- ---- arguments
 
 unfoldable pub arguments_at : ℕ → Code → List Token → Outcome Tree
@@ -85,19 +95,12 @@ listed_arguments_at levels m ts =
     open_at symbols.OpenParen levels ts >>= λ t a.
     part_at (levels - 1) (Arguments m) a >>= λ x b. sign_at symbols.CloseParen b >>= λ y rest. Took x rest
 
--- one argument that is a table
-unfoldable pub table_argument_at : ℕ → Mode → List Token → Outcome Tree
-table_argument_at levels m ts =
-    open_at symbols.OpenBrace levels ts >>= λ t a.
-    part_at (levels - 1) (Fields m) a >>= λ x b. sign_at symbols.CloseBrace b
-    >>= λ y rest. Took (More Nothing (Table t.place x)) rest
-
 -- the arguments behind a method's name
 unfoldable pub method_arguments_at : ℕ → Mode → List Token → Outcome Tree
 method_arguments_at levels m ts =
     if begins (is symbols.OpenParen) ts then listed_arguments_at levels m ts
-    else (if begins (is symbols.OpenBrace) ts then table_argument_at levels m ts
-    else (sign_at symbols.Literal ts >>= λ t rest. Took (More Nothing (Literal t.place t.text)) rest))
+    else (if begins (is symbols.OpenBrace) ts then (table_at levels m ts >>= λ x rest. Took (More Nothing x) rest)
+    else (literal_at ts >>= λ x rest. Took (More Nothing x) rest))
 
 unfoldable pub method_suffix_at : ℕ → Mode → ℕ → List Token → Outcome Suffixed
 method_suffix_at levels m left ts =
@@ -145,9 +148,6 @@ prefixed_at levels m left ts = applied_at levels m false ts >>= λ a rest. Took 
 unfoldable pub number_tree_at : List Token → Outcome Tree
 number_tree_at ts = number_at ts >>= λ t rest. Took (Numeral t.place t.text) rest
 
-unfoldable pub literal_at : List Token → Outcome Tree
-literal_at ts = sign_at symbols.Literal ts >>= λ t rest. Took (Literal t.place t.text) rest
-
 -- a word or sign that is an expression
 unfoldable pub constant : Symbol → Place → Tree
 constant symbols.Nil place = Nil place
@@ -168,11 +168,6 @@ constant_at s ts = sign_at s ts >>= λ t rest. Took (constant s t.place) rest
 unfoldable pub function_at : ℕ → List Token → Outcome Tree
 function_at levels ts =
     sign_at symbols.Function ts >>= λ f a. opened_body_at levels a >>= λ x rest. Took (Function f.place x) rest
-
-unfoldable pub table_at : ℕ → Mode → List Token → Outcome Tree
-table_at levels m ts =
-    open_at symbols.OpenBrace levels ts >>= λ t a. part_at (levels - 1) (Fields m) a >>= λ x b.
-    sign_at symbols.CloseBrace b >>= λ y rest. Took (Table t.place x) rest
 
 -- an operand that is no prefix expression
 unfoldable pub simple_at : ℕ → Mode → List Token → Outcome Tree

@@ -98,6 +98,14 @@ pub record TookPlace (old new : Parser) (o : Outcome Token) (place : Place) : Ty
   pub finish : end_of new ≡ end_of old
   pub items : items_of new ≡ items_of old
 
+-- the code took a token where the outcome does, and added a node
+pub record Closed (old new : Parser) (o : Outcome Token) (node : Node) (number : NodeId) : Type 0 where
+  pub token : Token
+  pub took : o ≡ Took token (tokens_left new)
+  pub finish : end_of new ≡ end_of old
+  pub items : items_of new ≡ items_of old ++ item_of node ∷ []
+  pub is_last : number ≡ last_of (items_of new)
+
 -- the code made the nodes of the tree that the outcome has
 pub record TookTree (old new : Parser) (o : Outcome Tree) (number : NodeId) : Type 0 where
   pub tree : Tree

@@ -12,7 +12,7 @@ ghost use Rattle.tl_parse.specs.Using.{part_at, number_at};
 ghost use Rattle.tl_parse.specs.Codes.{expression_in, expression_behind_at, optional_expression_at, arguments_in};
 ghost use Rattle.tl_parse.specs.Expressions.{name_at, arguments_at, paren_at};
 ghost use Rattle.tl_parse.specs.Expressions.{base_at, call_suffix_at, index_suffix_at, select_suffix_at};
-ghost use Rattle.tl_parse.specs.Expressions.{listed_arguments_at, table_argument_at, method_arguments_at, method_suffix_at};
+ghost use Rattle.tl_parse.specs.Expressions.{listed_arguments_at, method_arguments_at, method_suffix_at};
 ghost use Rattle.tl_parse.specs.Expressions.{table_suffix_at, literal_suffix_at, suffix_at, applied_at, prefixed_at, number_tree_at};
 ghost use Rattle.tl_parse.specs.Expressions.{literal_at, constant_of, constant_at, function_at, table_at, simple_at};
 ghost use Rattle.tl_parse.specs.Expressions.{is_simple, primary_at, power_at, unary_at};
@@ -235,8 +235,8 @@ impl<'a> Parser<'a> {
     {
         let place = read!(self.open(Symbol::OpenParen, levels));
         let inner = read!(self.expression(mode, levels - 1));
-        pass!(self.take(Symbol::CloseParen));
-        self.push_operand(
+        self.close_operand(
+            Symbol::CloseParen,
             Node::Expression(place, Expression::Paren(inner)),
             CHAIN,
             Shape::Other,
@@ -271,8 +271,8 @@ impl<'a> Parser<'a> {
     {
         let place = read!(self.open_call(levels, a.left));
         let arguments = read!(self.arguments(Code::Lua(mode), levels - 1));
-        pass!(self.take(Symbol::CloseParen));
-        self.push_operand(
+        self.close_operand(
+            Symbol::CloseParen,
             Node::Expression(place, Expression::Call(a.node, arguments)),
             a.left - 1,
             Shape::Call,
@@ -288,8 +288,8 @@ impl<'a> Parser<'a> {
     {
         let place = read!(self.open_suffix(Symbol::OpenBracket, levels, a.left));
         let key = read!(self.expression(mode, levels - 1));
-        pass!(self.take(Symbol::CloseBracket));
-        self.push_operand(
+        self.close_operand(
+            Symbol::CloseBracket,
             Node::Expression(place, Expression::Index(a.node, key)),
             a.left - 1,
             Shape::Variable,
@@ -337,8 +337,10 @@ impl<'a> Parser<'a> {
     {
         let token = read!(self.raise(Symbol::OpenBrace, levels, a.left));
         let fields = read!(self.fields(mode, levels - 1));
-        pass!(self.take(Symbol::CloseBrace));
-        let table = read!(self.push(Node::Expression(token.place, Expression::Table(fields))));
+        let table = read!(self.close(
+            Symbol::CloseBrace,
+            Node::Expression(token.place, Expression::Table(fields))
+        ));
         let arguments = read!(self.one_node(table));
         let node = read!(self.push(Node::Expression(
             token.place,
@@ -380,20 +382,6 @@ impl<'a> Parser<'a> {
         Ok(arguments)
     }
 
-    /// table, as a list of one
-    #[cycle(parser)]
-    #[tactic(auto, using(crate::proofs::Failing::failing), unfolding(crate::specs::Expressions::table_argument_at))]
-    fn table_argument(&mut self, mode: Mode, levels: u32) -> Result<NodeList, SyntaxError>
-        ensures ok { IfOk result (λ r. TookList self.old self.new (table_argument_at levels mode (tokens_left self.old)) r) }
-        ensures err { IfErr result (λ e. Fails self.old (table_argument_at levels mode (tokens_left self.old)) e) }
-    {
-        let place = read!(self.open(Symbol::OpenBrace, levels));
-        let fields = read!(self.fields(mode, levels - 1));
-        pass!(self.take(Symbol::CloseBrace));
-        let table = read!(self.push(Node::Expression(place, Expression::Table(fields))));
-        self.one_node(table)
-    }
-
     /// args = "(" [exps] ")" | table | Text
     #[cycle(parser)]
     #[tactic(auto, using(crate::proofs::Failing::failing), unfolding(crate::specs::Expressions::method_arguments_at))]
@@ -405,10 +393,10 @@ impl<'a> Parser<'a> {
             return self.listed_arguments(mode, levels);
         }
         if self.next_is(Symbol::OpenBrace) {
-            return self.table_argument(mode, levels);
+            let table = read!(self.table(mode, levels));
+            return self.one_node(table);
         }
-        let token = read!(self.take_token(Symbol::Literal));
-        let text = read!(self.push(Node::Literal(token.place, token.text)));
+        let text = read!(self.literal());
         self.one_node(text)
     }
 

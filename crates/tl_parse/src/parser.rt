@@ -187,7 +187,7 @@ fn is_end(kind: TokenKind) -> bool
 }
 
 impl<'a> Parser<'a> {
-    ghost use Rattle.tl_parse.specs.Parsing.{tokens_left, end_of, items_of, Refuses, Pushed, HasNext, Fails, TookToken, TookPlace};
+    ghost use Rattle.tl_parse.specs.Parsing.{tokens_left, end_of, items_of, Refuses, Pushed, HasNext, Fails, TookToken, TookPlace, Closed};
     ghost use Rattle.tl_parse.specs.Looking.{BeginsAt, Advanced};
     ghost use Rattle.tl_parse.specs.Taking.{Uses, Barred};
     ghost use Rattle.tl_parse.specs.Joining.{Joined};
@@ -392,6 +392,37 @@ impl<'a> Parser<'a> {
     {
         let token = read!(self.take_token(symbol));
         Ok(token.place)
+    }
+
+    /// Takes this token, which has no other use, and adds the node that it ends.
+    #[tactic(auto, using(crate::proofs::Taking::closed))]
+    #[inline(always)]
+    pub(crate) fn close(&mut self, symbol: Symbol, node: Node<'a>) -> Result<NodeId, SyntaxError>
+        requires { is_bad symbol ≡ false }
+        ensures ok { IfOk result (λ id. Closed self.old self.new (sign_at symbol (tokens_left self.old)) node.entry id) }
+        ensures err { IfErr result (λ e. Fails self.old (sign_at symbol (tokens_left self.old)) e) }
+    {
+        pass!(self.take(symbol));
+        self.push(node)
+    }
+
+    /// The same of an operand in a chain that so many tokens may continue.
+    #[inline(always)]
+    pub(crate) fn close_operand(
+        &mut self,
+        symbol: Symbol,
+        node: Node<'a>,
+        left: u32,
+        shape: Shape,
+    ) -> Result<Operand, SyntaxError>
+        requires { is_bad symbol ≡ false }
+        ensures ok { IfOk result (λ r. Closed self.old self.new (sign_at symbol (tokens_left self.old)) node.entry r.node) }
+        ensures left { IfOk result (λ r. r.left ≡ left) }
+        ensures shape { IfOk result (λ r. r.shape ≡ shape) }
+        ensures err { IfErr result (λ e. Fails self.old (sign_at symbol (tokens_left self.old)) e) }
+    {
+        let node = read!(self.close(symbol, node));
+        Ok(Operand { node, left, shape })
     }
 
     /// Takes this token, which opens a level of nesting where so many are left, and gives its place.

@@ -276,10 +276,15 @@ impl<'a> Parser<'a> {
     {
         let place = read!(self.open(Symbol::Do, levels));
         let body = read!(self.block_of(block, levels - 1));
-        pass!(self.take(Symbol::End));
         match block {
-            BlockCode::Lua(_) => self.push(Node::Statement(place, Statement::Do(body))),
-            BlockCode::Terra => self.push(Node::TerraStatement(place, TerraStatement::Do(body))),
+            BlockCode::Lua(_) => self.close(
+                Symbol::End,
+                Node::Statement(place, Statement::Do(body)),
+            ),
+            BlockCode::Terra => self.close(
+                Symbol::End,
+                Node::TerraStatement(place, TerraStatement::Do(body)),
+            ),
         }
     }
 
@@ -418,13 +423,15 @@ impl<'a> Parser<'a> {
         let place = read!(self.take(Symbol::If));
         let arms = read!(self.arms(block, levels));
         let otherwise = read!(self.otherwise(block, levels));
-        pass!(self.take(Symbol::End));
         match block {
-            BlockCode::Lua(_) => self.push(Node::Statement(place, Statement::If(arms, otherwise))),
-            BlockCode::Terra => self.push(Node::TerraStatement(
-                place,
-                TerraStatement::If(arms, otherwise),
-            )),
+            BlockCode::Lua(_) => self.close(
+                Symbol::End,
+                Node::Statement(place, Statement::If(arms, otherwise)),
+            ),
+            BlockCode::Terra => self.close(
+                Symbol::End,
+                Node::TerraStatement(place, TerraStatement::If(arms, otherwise)),
+            ),
         }
     }
 
@@ -771,7 +778,9 @@ impl<'a> Parser<'a> {
         let (names, variadic) = read!(self.parameters(inner));
         read!(self.take(Symbol::CloseParen));
         let block = read!(self.block(fresh(variadic), inner));
-        pass!(self.take(Symbol::End));
-        self.push(Node::Piece(Piece::Body(names, variadic, block)))
+        self.close(
+            Symbol::End,
+            Node::Piece(Piece::Body(names, variadic, block)),
+        )
     }
 }

@@ -23,8 +23,10 @@ impl<'a> Parser<'a> {
     {
         let place = read!(self.open(Symbol::OpenBrace, levels));
         let fields = read!(self.fields(mode, levels - 1));
-        pass!(self.take(Symbol::CloseBrace));
-        self.push(Node::Expression(place, Expression::Table(fields)))
+        self.close(
+            Symbol::CloseBrace,
+            Node::Expression(place, Expression::Table(fields)),
+        )
     }
 
     /// "[" exp "]" "=" exp

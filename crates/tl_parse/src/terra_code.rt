@@ -62,8 +62,10 @@ impl<'a> Parser<'a> {
     {
         let place = read!(self.open(Symbol::Quote, levels));
         let code = read!(self.quoted_code(levels - 1));
-        pass!(self.take(Symbol::End));
-        self.push(Node::Expression(place, Expression::Quote(code)))
+        self.close(
+            Symbol::End,
+            Node::Expression(place, Expression::Quote(code)),
+        )
     }
 
     /// exp = "`" texp

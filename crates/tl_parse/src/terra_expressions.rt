@@ -186,8 +186,10 @@ impl<'a> Parser<'a> {
     {
         let place = read!(self.open(Symbol::OpenBracket, levels));
         let code = read!(self.expression(Mode::Plain, levels - 1));
-        pass!(self.take(Symbol::CloseBracket));
-        self.push(Node::TerraExpression(place, TerraExpression::Escape(code)))
+        self.close(
+            Symbol::CloseBracket,
+            Node::TerraExpression(place, TerraExpression::Escape(code)),
+        )
     }
 
     /// tname = Name | "[" exp "]"
@@ -212,8 +214,8 @@ impl<'a> Parser<'a> {
     {
         let place = read!(self.open(Symbol::OpenParen, levels));
         let inner = read!(self.terra_expression(levels - 1));
-        pass!(self.take(Symbol::CloseParen));
-        self.push_operand(
+        self.close_operand(
+            Symbol::CloseParen,
             Node::TerraExpression(place, TerraExpression::Paren(inner)),
             CHAIN,
             Shape::Other,
@@ -255,8 +257,8 @@ impl<'a> Parser<'a> {
     {
         let place = read!(self.open_call(levels, a.left));
         let arguments = read!(self.arguments(Code::Terra, levels - 1));
-        pass!(self.take(Symbol::CloseParen));
-        self.push_operand(
+        self.close_operand(
+            Symbol::CloseParen,
             Node::TerraExpression(place, TerraExpression::Call(a.node, arguments)),
             a.left - 1,
             Shape::Call,
@@ -272,8 +274,8 @@ impl<'a> Parser<'a> {
     {
         let place = read!(self.open_suffix(Symbol::OpenBracket, levels, a.left));
         let key = read!(self.terra_expression(levels - 1));
-        pass!(self.take(Symbol::CloseBracket));
-        self.push_operand(
+        self.close_operand(
+            Symbol::CloseBracket,
             Node::TerraExpression(place, TerraExpression::Index(a.node, key)),
             a.left - 1,
             Shape::Variable,
@@ -309,8 +311,8 @@ impl<'a> Parser<'a> {
         let name = read!(self.terra_name(levels));
         pass!(self.open(Symbol::OpenParen, levels));
         let arguments = read!(self.arguments(Code::Terra, levels - 1));
-        pass!(self.take(Symbol::CloseParen));
-        self.push_operand(
+        self.close_operand(
+            Symbol::CloseParen,
             Node::TerraExpression(place, TerraExpression::Method(a.node, name, arguments)),
             a.left - 1,
             Shape::Call,
@@ -326,8 +328,8 @@ impl<'a> Parser<'a> {
     {
         let place = read!(self.open_suffix(Symbol::OpenBrace, levels, a.left));
         let initialisers = read!(self.initialisers(levels - 1));
-        pass!(self.take(Symbol::CloseBrace));
-        self.push_operand(
+        self.close_operand(
+            Symbol::CloseBrace,
             Node::TerraExpression(place, TerraExpression::Construct(a.node, initialisers)),
             a.left - 1,
             Shape::Other,

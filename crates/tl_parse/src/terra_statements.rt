@@ -174,8 +174,10 @@ impl<'a> Parser<'a> {
     {
         let place = read!(self.open(Symbol::Escape, levels));
         let block = read!(self.block(EMITTING, levels - 1));
-        pass!(self.take(Symbol::End));
-        self.push(Node::TerraStatement(place, TerraStatement::Escape(block)))
+        self.close(
+            Symbol::End,
+            Node::TerraStatement(place, TerraStatement::Escape(block)),
+        )
     }
 
     /// "break"
@@ -313,8 +315,10 @@ impl<'a> Parser<'a> {
         pass!(self.take(Symbol::CloseParen));
         let written = read!(self.optional_expression(Symbol::Colon, TYPES, inner));
         let block = read!(self.terra_block(inner));
-        pass!(self.take(Symbol::End));
-        self.push(Node::Piece(Piece::TerraBody(place, parameters, written, block)))
+        self.close(
+            Symbol::End,
+            Node::Piece(Piece::TerraBody(place, parameters, written, block)),
+        )
     }
 
     /// tblock ["in" texp], behind "quote"

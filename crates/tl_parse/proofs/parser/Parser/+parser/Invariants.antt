@@ -108,9 +108,6 @@ decreases-loop_block l = 64 * l.levels + 10
 abbrev pub decreases-listed_arguments : goal.decreases-listed_arguments
 decreases-listed_arguments l = 64 * l.levels + 9
 
-abbrev pub decreases-table_argument : goal.decreases-table_argument
-decreases-table_argument l = 64 * l.levels + 9
-
 abbrev pub decreases-method_arguments : goal.decreases-method_arguments
 decreases-method_arguments l = 64 * l.levels + 10
 
@@ -166,7 +163,7 @@ abbrev pub decreases-suffix : goal.decreases-suffix
 decreases-suffix l = 64 * l.levels + 12
 
 abbrev pub decreases-table : goal.decreases-table
-decreases-table l = 64 * l.levels + 10
+decreases-table l = 64 * l.levels + 9
 
 abbrev pub decreases-table_suffix : goal.decreases-table_suffix
 decreases-table_suffix l = 64 * l.levels + 10
