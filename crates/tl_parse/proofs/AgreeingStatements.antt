@@ -15,10 +15,10 @@ use Rattle.tl_tree.specs.Tokens.{Token, is, among, sample}
 use Rattle.tl_tree.specs.Tree as trees
 use Rattle.tl_tree.specs.Tree.{Tree, Nothing, More, Just, Expression, Statements, FunctionBody}
 use Rattle.tl_tree.specs.Grammar.{Grammar, give, token, bind, when, many, Outcome, Took, Stop, ◌>>=◌, begins, is_of, unexpected}
-use Rattle.tl_tree.specs.Forms.{sign, opening, name, names, semicolon, listed_behind, Chained, chained, chain}
+use Rattle.tl_tree.specs.Forms.{sign, opening, name, names, listed_behind, Chained, chained, chain}
 use Rattle.tl_tree.specs.LuaExpressions as expressions
 use Rattle.tl_tree.specs.LuaStatements as lua
-use Rattle.tl_tree.specs.LuaStatements.{looped, fresh, body_mode, Sequence, sequence, Parameters, parameters_of}
+use Rattle.tl_tree.specs.LuaStatements.{looped, fresh, body_mode, Parameters, parameters_of}
 use Rattle.tl_tree.proofs.Unrolling.{bind_again}
 use Rattle.tl_parse.specs.Using.{reading, part_at, used, barred, sign_at, open_at, call_at, operator_at, raise_at}
 use Rattle.tl_parse.specs.Expressions.{name_at, paren_at, base_at, is_other, applied_at, suffixes_at}
@@ -29,14 +29,14 @@ use Rattle.tl_parse.specs.Statements.{is_unsettled, settling, settle_at, variabl
 use Rattle.tl_parse.specs.Statements.{call_or_assignment_at, do_at, loop_at, while_at, repeat_at, arm_at, more_arms_at, arms_at}
 use Rattle.tl_parse.specs.Statements.{otherwise_at, if_at, numeric_at, generic, generic_at, for_at, function_statement_at}
 use Rattle.tl_parse.specs.Statements.{local_function_at, initial_values_at, local_names_at, definition_symbols, local_at}
-use Rattle.tl_parse.specs.Statements.{returned_values_at, return_at, break_at, emit_at, statement_at, last_symbols, next_statement_at}
-use Rattle.tl_parse.specs.Statements.{goes_on, parameter_at, with_parameter, more_parameters, more_parameters_at, parameters_at, body_at}
+use Rattle.tl_parse.specs.Statements.{returned_values_at, return_at, break_at, emit_at, statement_at}
+use Rattle.tl_parse.specs.Statements.{parameter_at, with_parameter, more_parameters, more_parameters_at, parameters_at, body_at}
 use Rattle.tl_parse.specs.Paths.{more_names_at, names_at, path_at}
 use Rattle.tl_parse.specs.TerraDefinitions.{local_terra_at}
-use Rattle.tl_parse.proofs.Uses.{never, both, bind_same, opened_at, opens_any, token_is, plain_is, sign_is, unrolls, ends, refuses}
+use Rattle.tl_parse.proofs.Uses.{never, both, bind_same, opened_at, opens_any, plain_is, unrolls, ends, refuses}
 use Rattle.tl_parse.proofs.Uses.{used_classes}
 use Rattle.tl_parse.proofs.Agreeing.{sign_then, open_then, then, either_is, name_agrees, paren_agrees, expression_agrees}
-use Rattle.tl_parse.proofs.Turns.{with_suffix, used_here, used_use, use_same, suffix_turn_of}
+use Rattle.tl_parse.proofs.Turns.{with_suffix, used_here, use_same, suffix_turn_of}
 use Rattle.tl_parse.proofs.Paths.{names_agree, path_agrees}
 use Rattle.tl_parse.proofs.TerraDefinitionAgreeing.{define_terra_is, define_struct_is, local_terra_agrees}
 use Rattle.tl_parse.proofs.Following.{behind_give, body_give, optional_agrees}
@@ -370,7 +370,7 @@ next_suffix_then levels m a ts = by (begins (λ t. expressions.is_suffix m t) ts
 -- ---- statements by their first token
 
 -- what a statement has behind its first token
-abbrev behind : ℕ → Context → Token → List Token → Outcome Tree
+abbrev pub behind : ℕ → Context → Token → List Token → Outcome Tree
 behind levels c t mid = opened_at levels (lua.statement_opens c (lua.statement_of t.symbol)) mid >>= λ x rest. reading levels (lua.statement c (lua.statement_of t.symbol) t x) rest
 
 -- what such a call or assignment has behind its prefix expression
@@ -455,7 +455,7 @@ local_behind levels c t ts =
     ∙ either_is (begins (among definition_symbols) ts) (reading levels (lua.local_terra c t) ts) (reading levels (bind names λ ns. bind (lua.initial_values c.mode) λ es. give (trees.Local t.place ns es)) ts)
     (local_terra_at levels c.mode t.place ts) (local_names_at levels c.mode t.place ts) (local_terra_agrees levels c t ts) (local_names_agree levels c.mode t.place ts))
 
-statement_by : (levels : ℕ) (c : Context) (symbol : Symbol) (text : List ℕ) (place : Place) (offset : ℕ) (first : Bool) (ts : List Token) → is_of (λ t. lua.is_statement c t) (token_with symbol text place offset first) ≡ true →
+pub statement_by : (levels : ℕ) (c : Context) (symbol : Symbol) (text : List ℕ) (place : Place) (offset : ℕ) (first : Bool) (ts : List Token) → is_of (λ t. lua.is_statement c t) (token_with symbol text place offset first) ≡ true →
     (used_here (barred (opens_any (lua.statement_opens c (lua.statement_of symbol))) levels Plain (token_with symbol text place offset first)) (token_with symbol text place offset first) ts >>= λ u mid. behind levels c (token_with symbol text place offset first) mid)
     ≡ statement_at levels c (token_with symbol text place offset first ∷ ts)
 unfolding statement_at do_at while_at repeat_at if_at for_at function_statement_at local_at return_at break_at emit_at call_or_assignment_at applied_at base_at paren_at name_at sign_at open_at used
@@ -505,73 +505,6 @@ statement_by levels c symbols.Struct text place offset first ts h = define_struc
 statement_by levels c symbols.Name text place offset first ts h = name_statement levels c text place offset first ts (barred false levels Plain (token_with symbols.Name text place offset first))
 statement_by levels c symbols.OpenParen text place offset first ts h = paren_statement levels c text place offset first ts (barred true levels Plain (token_with symbols.OpenParen text place offset first))
 statement_by levels c _ text place offset first ts h = absurd (never h)
-
--- ---- blocks
-
-semicolon_agrees : (levels : ℕ) (v : Sequence) (ts : List Token) → reading levels (bind semicolon λ y. give v) ts ≡ cond (begins (is symbols.Semicolon) ts) (sign_at symbols.Semicolon ts >>= λ y rest. Took v rest) (Took v ts)
-semicolon_agrees levels v ts = by (begins (is symbols.Semicolon) ts)
-  where
-    go : (o : Outcome Token) → (((o >>= λ t rest. Took (both t Nothing) rest) >>= λ y rest. Took Nothing rest) >>= λ y rest. Took v rest) ≡ (o >>= λ y rest. Took v rest)
-    go (Took t rest) = refl
-    go (Stop kind rest) = refl
-
-    by : (b : Bool) → (cond b (reading levels (sign symbols.Semicolon) ts >>= λ y rest. Took Nothing rest) (Took Nothing ts) >>= λ y rest. Took v rest) ≡ cond b (sign_at symbols.Semicolon ts >>= λ y rest. Took v rest) (Took v ts)
-    by true = ap (λ (o : Outcome (Token × Tree)). (o >>= λ y rest. Took Nothing rest) >>= λ y rest. Took v rest) (sign_is levels symbols.Semicolon ts) ∙ go (sign_at symbols.Semicolon ts)
-    by false = refl
-
-ends_by : (symbol : Symbol) (text : List ℕ) (place : Place) (offset : ℕ) (first : Bool) (ts : List Token) → lua.ends_block (lua.statement_of symbol) ≡ begins (among last_symbols) (token_with symbol text place offset first ∷ ts)
-ends_by symbols.Return text place offset first ts = refl
-ends_by symbols.Break text place offset first ts = refl
-ends_by _ text place offset first ts = refl
-
-wider : (b x y : Bool) → cond b false (x && y) ≡ true → cond b false x ≡ true
-wider true x y h = absurd cc
-wider false true y h = refl
-wider false false y h = absurd cc
-
-pub block_turn : (levels : ℕ) (c : Context) (tree : Tree) (ended : Bool) (piece : Token) (ts : List Token) → begins (λ t. goes_on c ended t) ts ≡ true →
-    reading levels (bind (token (λ t. goes_on c ended t) (λ t. Plain) (λ t. lua.statement_opens c (lua.statement_of t.symbol)) piece) λ x. bind (lua.statement c (lua.statement_of x.0.symbol) x.0 x.1) λ s. bind semicolon λ y. give (sequence (More tree s) (lua.ends_block (lua.statement_of x.0.symbol)))) ts
-    ≡ (next_statement_at levels c ts >>= λ s rest. Took (sequence (More tree s.statements) s.ended) rest)
-unfolding next_statement_at
-block_turn levels c tree ended piece [] h = absurd cc
-block_turn levels c tree ended piece (t ∷ ts) h =
-    ap (λ (o : Outcome (Token × Tree)). o >>= λ x mid. step x mid) (token_is levels (λ t. goes_on c ended t) (λ t. Plain) (λ t. lua.statement_opens c (lua.statement_of t.symbol)) piece t ts)
-    ∙ ap (λ (o : Outcome Token). (o >>= λ u mid. opened_at levels (lua.statement_opens c (lua.statement_of t.symbol)) mid >>= λ x rest. Took (both u x) rest) >>= λ x mid. step x mid) (used_use (λ t. goes_on c ended t) (opens_any (lua.statement_opens c (lua.statement_of t.symbol))) levels Plain t ts h)
-    ∙ turn_of (barred (opens_any (lua.statement_opens c (lua.statement_of t.symbol))) levels Plain t)
-    ∙ ap (λ (o : Outcome Tree). o >>= λ s rest. semi s rest) (statement_by levels c t.symbol t.text t.place t.offset t.first_on_line ts (wider (is_bad t.symbol) (lua.is_statement c t) (not ended) h))
-    ∙ bind_same (statement_at levels c (t ∷ ts)) (λ s rest. semi s rest) (λ s a. said s a >>= λ s rest. Took (sequence (More tree s.statements) s.ended) rest) (λ s a. same s a)
-    ∙ sym (bind_again (statement_at levels c (t ∷ ts)) (λ s a. said s a) (λ s rest. Took (sequence (More tree s.statements) s.ended) rest))
-  where
-    step : Token × Tree → List Token → Outcome Sequence
-    step x mid = reading levels (bind (lua.statement c (lua.statement_of x.0.symbol) x.0 x.1) λ s. bind semicolon λ y. give (sequence (More tree s) (lua.ends_block (lua.statement_of x.0.symbol)))) mid
-
-    semi : Tree → List Token → Outcome Sequence
-    semi s rest = reading levels (bind semicolon λ y. give (sequence (More tree s) (lua.ends_block (lua.statement_of t.symbol)))) rest
-
-    said : Tree → List Token → Outcome Sequence
-    said s a = cond (begins (is symbols.Semicolon) a) (sign_at symbols.Semicolon a >>= λ y rest. Took (sequence s (begins (among last_symbols) (t ∷ ts))) rest) (Took (sequence s (begins (among last_symbols) (t ∷ ts))) a)
-
-    turn_of : (b : Option SyntaxKind) → ((used_here b t ts >>= λ u mid. opened_at levels (lua.statement_opens c (lua.statement_of t.symbol)) mid >>= λ x rest. Took (both u x) rest) >>= λ x mid. step x mid)
-        ≡ ((used_here b t ts >>= λ u mid. behind levels c t mid) >>= λ s rest. semi s rest)
-    turn_of None =
-        bind_again (opened_at levels (lua.statement_opens c (lua.statement_of t.symbol)) ts) (λ x rest. Took (both t x) rest) (λ x mid. step x mid)
-        ∙ sym (bind_again (opened_at levels (lua.statement_opens c (lua.statement_of t.symbol)) ts) (λ x rest. reading levels (lua.statement c (lua.statement_of t.symbol) t x) rest) (λ s rest. semi s rest))
-    turn_of (Some kind) = refl
-
-    go : (s : Tree) (e : Bool) (o : Outcome Token) → (o >>= λ y rest. Took (sequence (More tree s) e) rest) ≡ ((o >>= λ y rest. Took (sequence s e) rest) >>= λ s rest. Took (sequence (More tree s.statements) s.ended) rest)
-    go s e (Took y rest) = refl
-    go s e (Stop kind rest) = refl
-
-    by : (b e : Bool) (s : Tree) (a : List Token) → cond b (sign_at symbols.Semicolon a >>= λ y rest. Took (sequence (More tree s) e) rest) (Took (sequence (More tree s) e) a)
-        ≡ (cond b (sign_at symbols.Semicolon a >>= λ y rest. Took (sequence s e) rest) (Took (sequence s e) a) >>= λ s rest. Took (sequence (More tree s.statements) s.ended) rest)
-    by true e s a = go s e (sign_at symbols.Semicolon a)
-    by false e s a = refl
-
-    same : (s : Tree) (a : List Token) → semi s a ≡ (said s a >>= λ s rest. Took (sequence (More tree s.statements) s.ended) rest)
-    same s a =
-        semicolon_agrees levels (sequence (More tree s) (lua.ends_block (lua.statement_of t.symbol))) a
-        ∙ ap (λ (e : Bool). cond (begins (is symbols.Semicolon) a) (sign_at symbols.Semicolon a >>= λ y rest. Took (sequence (More tree s) e) rest) (Took (sequence (More tree s) e) a)) (ends_by t.symbol t.text t.place t.offset t.first_on_line ts)
-        ∙ by (begins (is symbols.Semicolon) a) (begins (among last_symbols) (t ∷ ts)) s a
 
 -- ---- functions
 

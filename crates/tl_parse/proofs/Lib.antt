@@ -22,6 +22,7 @@ pub mod TerraTurns
 pub mod TerraNumbers
 pub mod TerraStatementAgreeing
 pub mod TerraStatementTurns
+pub mod Blocks
 pub mod TerraStatementParts
 pub mod TerraDefinitionAgreeing
 pub mod Elements

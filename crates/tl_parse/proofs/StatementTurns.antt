@@ -1,37 +1,33 @@
 -- The repetitions in Lua statements, turn by turn, and what reading their parts gives.
 use Rattle.std.proofs.Common.{◌≡◌, ℕ, ◌<◌, ◌-◌, Bool, true, false, cond, List, [], ◌∷◌, length, Option, None, refl, ap, ◌∙◌}
 use Rattle.std.specs.Prelude.{◌&&◌, not}
-use Rattle.tl_base.specs.declared.place.Place.{Place}
 use Rattle.tl_lex.specs.Lexing.{answers_left}
 use Rattle.tl_tree.specs.declared.mode.Mode.{Mode}
 use Rattle.tl_tree.specs.declared.mode.Shape.{Shape}
-use Rattle.tl_tree.specs.declared.mode.Context.{Context}
-use Rattle.tl_tree.specs.declared.symbol.Symbol.{Symbol}
 use Rattle.tl_tree.specs.declared.symbol.Symbol.TheVariants as symbols
 use Rattle.tl_tree.specs.Symbols.{is_bad}
-use Rattle.tl_tree.specs.Tokens.{Token, is, among, sample, tokens_in}
+use Rattle.tl_tree.specs.Tokens.{Token, is, sample, tokens_in}
 use Rattle.tl_tree.specs.declared.mode.Extra.TheVariants.{Plain}
-use Rattle.tl_tree.specs.Tree.{Tree, Nothing, More, Name, Statements, FunctionBody}
-use Rattle.tl_tree.specs.Grammar.{give, bind, Outcome, Took, ◌>>=◌, begins, is_of, unexpected, down}
-use Rattle.tl_tree.specs.Forms.{sign, name, semicolon, listed_behind, Chained, chained}
+use Rattle.tl_tree.specs.Tree.{Tree, Nothing, More, Name, FunctionBody}
+use Rattle.tl_tree.specs.Grammar.{give, bind, Outcome, Took, ◌>>=◌, begins, unexpected, down}
+use Rattle.tl_tree.specs.Forms.{sign, name, listed_behind, Chained, chained}
 use Rattle.tl_tree.specs.LuaExpressions as expressions
 use Rattle.tl_tree.specs.LuaStatements as lua
-use Rattle.tl_tree.specs.LuaStatements.{Sequence, sequence, parameters_of}
+use Rattle.tl_tree.specs.LuaStatements.{parameters_of}
 use Rattle.tl_parse.specs.Parsing.{tokens_left, token_of, with_token_by, HasNext}
 use Rattle.tl_parse.specs.Using.{reading, part_at, sign_at, open_at}
 use Rattle.tl_parse.specs.Codes.{opened_body_at}
 use Rattle.tl_parse.specs.Expressions.{name_at, attached, shape_of, suffix_at}
-use Rattle.tl_parse.specs.Statements.{first_place, plain_statements, is_unsettled, settling, settle_at, goes_on, block_at, more_statements_at, next_statement_at, more_parameters_at, parameter_at, next_parameter_at, with_parameter, body_at}
+use Rattle.tl_parse.specs.Statements.{first_place, is_unsettled, settling, settle_at, more_parameters_at, parameter_at, next_parameter_at, with_parameter, body_at}
 use Rattle.tl_parse.specs.Paths.{more_names_at, next_name_at, behind_sign_at, path_names_at}
 use Rattle.tl_parse.specs.declared.parser.Parser.{Parser}
 use Rattle.tl_parse.proofs.Uses.{bind_same, repeats, ends, shorter_turn}
 use Rattle.tl_parse.proofs.Agreeing.{name_agrees}
 use Rattle.tl_parse.proofs.Turns.{list_goes, list_ends, list_shorter}
 use Rattle.tl_parse.proofs.Paths.{path_turn}
-use Rattle.tl_parse.proofs.AgreeingStatements.{token_with, settle_goes, settle_ends, settle_refuses, block_turn}
+use Rattle.tl_parse.proofs.AgreeingStatements.{settle_goes, settle_ends, settle_refuses}
 use Rattle.tl_parse.proofs.AgreeingStatements.{parameter_turn, body_agrees}
 use Rattle.tl_parse.proofs.Failing.{fails_after, fails_bind, fails_from, fails_same, fails_unexpected}
-use Rattle.tl_parse.proofs.Taking.{next_of}
 
 -- ---- the next token
 
@@ -43,38 +39,6 @@ next_place p h = go p.current.is_end (is_bad p.current.symbol) h
     go true b h = absurd h
     go false true h = refl
     go false false h = refl
-
-goes_on_break : (x e : Bool) → (x && not e) ≡ cond e false x
-goes_on_break true true = refl
-goes_on_break true false = refl
-goes_on_break false true = refl
-goes_on_break false false = refl
-
-goes_on_never : (e : Bool) → false ≡ cond e false false
-goes_on_never true = refl
-goes_on_never false = refl
-
-goes_on_by : (c : Context) (ended : Bool) (symbol : Symbol) (text : List ℕ) (place : Place) (offset : ℕ) (first : Bool) →
-    is_of (λ t. goes_on c ended t) (token_with symbol text place offset first) ≡ cond ended false (cond (is_of (is symbols.Break) (token_with symbol text place offset first)) c.in_loop (cond (is_of (is symbols.Emit) (token_with symbol text place offset first)) c.emits (is_of (among plain_statements) (token_with symbol text place offset first))))
-goes_on_by c ended symbols.Break text place offset first = goes_on_break c.in_loop ended
-goes_on_by c ended symbols.Emit text place offset first = goes_on_break c.emits ended
-goes_on_by c ended symbols.Name text place offset first = goes_on_break true ended
-goes_on_by c ended symbols.OpenParen text place offset first = goes_on_break true ended
-goes_on_by c ended symbols.Do text place offset first = goes_on_break true ended
-goes_on_by c ended symbols.While text place offset first = goes_on_break true ended
-goes_on_by c ended symbols.Repeat text place offset first = goes_on_break true ended
-goes_on_by c ended symbols.If text place offset first = goes_on_break true ended
-goes_on_by c ended symbols.For text place offset first = goes_on_break true ended
-goes_on_by c ended symbols.Function text place offset first = goes_on_break true ended
-goes_on_by c ended symbols.Local text place offset first = goes_on_break true ended
-goes_on_by c ended symbols.Return text place offset first = goes_on_break true ended
-goes_on_by c ended symbols.Terra text place offset first = goes_on_break true ended
-goes_on_by c ended symbols.Struct text place offset first = goes_on_break true ended
-goes_on_by c ended _ text place offset first = goes_on_never ended
-
-pub goes_on_is : (c : Context) (ended : Bool) (ts : List Token) → begins (λ t. goes_on c ended t) ts ≡ cond ended false (cond (begins (is symbols.Break) ts) c.in_loop (cond (begins (is symbols.Emit) ts) c.emits (begins (among plain_statements) ts)))
-goes_on_is c ended [] = goes_on_never ended
-goes_on_is c ended (t ∷ ts) = goes_on_by c ended t.symbol t.text t.place t.offset t.first_on_line
 
 -- ---- names and paths
 
@@ -127,31 +91,6 @@ pub unsettled : (levels : ℕ) (m : Mode) (tree : Tree) (left : ℕ) (shape : Sh
 unfolding settle_at
 unsettled levels m tree left shape ts h k = unsettled_by levels m (chained tree left shape) (is_unsettled shape) ts h k
 
--- ---- blocks
-
-pub block_part : (levels : ℕ) (c : Context) (ts : List Token) → part_at levels (Statements c) ts ≡ block_at levels c ts
-unfolding part_at block_at more_statements_at
-block_part levels c ts = refl
-
-pub block_goes : (levels : ℕ) (c : Context) (tree : Tree) (ended : Bool) (ts : List Token) → begins (λ t. goes_on c ended t) ts ≡ true → more_statements_at levels c tree ended ts ≡ (next_statement_at levels c ts >>= λ s rest. more_statements_at levels c (More tree s.statements) s.ended rest)
-unfolding more_statements_at
-block_goes levels c tree ended ts h =
-    repeats levels (λ a t. goes_on c a.ended t) (λ a t. Plain) (λ a t. lua.statement_opens c (lua.statement_of t.symbol))
-    (λ t x a. bind (lua.statement c (lua.statement_of t.symbol) t x) λ s. bind semicolon λ y. give (sequence (More a.statements s) (lua.ends_block (lua.statement_of t.symbol)))) (sample symbols.Break) (sequence tree ended)
-    (next_statement_at levels c ts) (λ s. sequence (More tree s.statements) s.ended) ts h (block_turn levels c tree ended (sample symbols.Break) ts h)
-
-pub block_ends : (levels : ℕ) (c : Context) (tree : Tree) (ended : Bool) (ts : List Token) → begins (λ t. goes_on c ended t) ts ≡ false → more_statements_at levels c tree ended ts ≡ Took (sequence tree ended) ts
-unfolding more_statements_at
-block_ends levels c tree ended ts h =
-    ends levels (λ a t. goes_on c a.ended t) (λ a t. Plain) (λ a t. lua.statement_opens c (lua.statement_of t.symbol))
-    (λ t x a. bind (lua.statement c (lua.statement_of t.symbol) t x) λ s. bind semicolon λ y. give (sequence (More a.statements s) (lua.ends_block (lua.statement_of t.symbol)))) (sequence tree ended) ts h
-
-pub statement_shorter : (levels : ℕ) (c : Context) (ended : Bool) (x : Sequence) (ts rest : List Token) → begins (λ t. goes_on c ended t) ts ≡ true → next_statement_at levels c ts ≡ Took x rest → length rest < length ts
-statement_shorter levels c ended x ts rest h e =
-    shorter_turn levels (λ t. goes_on c ended t) (λ t. Plain) (λ t. lua.statement_opens c (lua.statement_of t.symbol)) (sample symbols.Break)
-    (λ x. bind (lua.statement c (lua.statement_of x.0.symbol) x.0 x.1) λ s. bind semicolon λ y. give (sequence (More Nothing s) (lua.ends_block (lua.statement_of x.0.symbol))))
-    (next_statement_at levels c ts) (λ s. sequence (More Nothing s.statements) s.ended) x ts rest (block_turn levels c Nothing ended (sample symbols.Break) ts h) e
-
 -- ---- functions
 
 comma_class : (ts : List Token) → begins (λ t. is symbols.Comma t && true) ts ≡ begins (is symbols.Comma) ts
@@ -199,8 +138,6 @@ pub ruleset names = (fails_bind, fails_after, fails_from, names_go, names_end, n
 pub ruleset paths = (fails_bind, fails_after, fails_from, path_goes, path_ends, path_shorter)
 
 pub ruleset variables = (fails_bind, fails_after, fails_from, fails_unexpected, settles_on, settles, unsettled)
-
-pub ruleset blocks = (fails_bind, fails_after, next_of, block_part, block_goes, block_ends, statement_shorter, fails_same, fails_from)
 
 pub ruleset parameters = (fails_bind, fails_after, fails_from, parameters_go, parameters_end, parameters_stop, parameter_shorter)
 

@@ -24,7 +24,7 @@ use Rattle.tl_tree.specs.TerraStatements as terra
 use Rattle.tl_tree.proofs.Unrolling.{bind_again}
 use Rattle.tl_parse.specs.Using.{reading, part_at, used, barred, sign_at, open_at, prefix_at}
 use Rattle.tl_parse.specs.Expressions.{name_at}
-use Rattle.tl_parse.specs.Statements.{first_place, last_symbols}
+use Rattle.tl_parse.specs.Statements.{first_place}
 use Rattle.tl_parse.specs.TerraExpressions.{escape_at, terra_name_at, terra_paren_at, terra_base_at, terra_suffixes_at, terra_applied_at}
 use Rattle.tl_parse.specs.TerraExpressions.{terra_prefixed_at, terra_unary_at, terra_binary_at}
 use Rattle.tl_parse.specs.TerraStatements.{written_type_at}
@@ -477,11 +477,3 @@ statement_by levels symbols.Escape text place offset first ts h = escape_is leve
 statement_by levels symbols.Return text place offset first ts h = return_is levels (record { symbol = symbols.Return; text = text; place = place; offset = offset; first_on_line = first }) ts refl
 statement_by levels symbols.Break text place offset first ts h = break_is levels (record { symbol = symbols.Break; text = text; place = place; offset = offset; first_on_line = first }) ts refl
 statement_by levels _ text place offset first ts h = absurd (never h)
-
--- `return` and `break` end a block
-pub ends_is : (symbol : Symbol) (text : List ℕ) (place : Place) (offset : ℕ) (first : Bool) (ts : List Token) → is_of (among terra.terra_statement_symbols) (record { symbol = symbol; text = text; place = place; offset = offset; first_on_line = first }) ≡ true →
-    terra.ends_terra_block (terra.terra_statement_of symbol) ≡ begins (among last_symbols) (record { symbol = symbol; text = text; place = place; offset = offset; first_on_line = first } ∷ ts)
-ends_is (symbols.Bad kind) text place offset first ts h = absurd (never h)
-ends_is symbols.Return text place offset first ts h = refl
-ends_is symbols.Break text place offset first ts h = refl
-ends_is _ text place offset first ts h = refl

@@ -11,7 +11,7 @@ use Rattle.tl_tree.specs.TerraStatements as terra
 use Rattle.tl_tree.proofs.Unrolling.{bind_again}
 use Rattle.tl_parse.specs.Parsing.{tokens_left, end_of, Fails}
 use Rattle.tl_parse.specs.Using.{reading, part_at, sign_at, open_at}
-use Rattle.tl_parse.specs.TerraStatements.{more_terra_statements_at, terra_block_at, written_type_at, terra_parameters_at}
+use Rattle.tl_parse.specs.TerraStatements.{written_type_at, terra_parameters_at}
 use Rattle.tl_parse.specs.TerraStatements.{terra_function_body_at, quoted_code_at}
 use Rattle.tl_parse.specs.Codes.{expression_behind_at, optional_expression_at, opened_terra_body_at}
 use Rattle.tl_parse.specs.declared.error.SyntaxError.{SyntaxError}
@@ -21,10 +21,6 @@ use Rattle.tl_parse.proofs.Uses.{bind_same}
 use Rattle.tl_parse.proofs.Following.{sign_then, then, behind_give}
 use Rattle.tl_parse.proofs.TerraStatementAgreeing.{sign_give, written_type_agrees, terra_parameters_agree}
 use Rattle.tl_parse.proofs.Failing.{fails_after, fails_bind, fails_from, fails_same}
-
-pub terra_block_part : (levels : ℕ) (ts : List Token) → part_at levels TerraStatements ts ≡ terra_block_at levels ts
-unfolding part_at terra_block_at more_terra_statements_at
-terra_block_part levels ts = refl
 
 block_agrees : (levels : ℕ) (ts : List Token) → reading levels terra.terra_block ts ≡ part_at levels TerraStatements ts
 unfolding part_at

@@ -1,9 +1,9 @@
 -- What both languages have, such as lists of expressions and arms, by the language.
-use Rattle.std.specs.Prelude.{ℕ, ◌-◌, List, [], ◌∷◌, if◌then◌else◌}
+use Rattle.std.specs.Prelude.{ℕ, ◌-◌, Bool, List, [], ◌∷◌, if◌then◌else◌, Option}
 use Rattle.tl_base.specs.declared.place.Place.{Place}
 use Rattle.tl_tree.specs.declared.symbol.Symbol.{Symbol}
 use Rattle.tl_tree.specs.declared.symbol.Symbol.TheVariants as symbols
-use Rattle.tl_tree.specs.Tokens.{Token, is}
+use Rattle.tl_tree.specs.Tokens.{Token, is, among}
 use Rattle.tl_tree.specs.Tree.{Tree, Nothing, Just, Part, Expression, TerraExpression, Arguments, TerraArguments, Statements}
 use Rattle.tl_tree.specs.Tree.{FunctionBody, TerraFunctionBody, TerraStatements, Do, While, Repeat, If, Return, TerraDo, TerraWhile, TerraRepeat, TerraIf, TerraReturn}
 use Rattle.tl_tree.specs.Grammar.{Grammar, Outcome, Took, ◌>>=◌, begins}
@@ -97,3 +97,21 @@ if_of block_codes.Terra place all o = TerraIf place all o
 abbrev pub return_of : BlockCode → Place → Tree → Tree
 return_of (block_codes.Lua c) place es = Return place es
 return_of block_codes.Terra place es = TerraReturn place es
+
+-- a statement by its first token: whether that begins one, what it opens, what is behind that, and whether a block ends
+abbrev pub begins_statement : BlockCode → Token → Bool
+begins_statement (block_codes.Lua c) t = statements.is_statement c t
+begins_statement block_codes.Terra t = among terra_statements.terra_statement_symbols t
+
+abbrev pub statement_opens : BlockCode → Symbol → Option Part
+statement_opens (block_codes.Lua c) s = statements.statement_opens c (statements.statement_of s)
+statement_opens block_codes.Terra s = terra_statements.terra_statement_opens (terra_statements.terra_statement_of s)
+
+abbrev pub statement_behind : BlockCode → Token → Tree → Grammar Tree
+statement_behind (block_codes.Lua c) t x = statements.statement c (statements.statement_of t.symbol) t x
+statement_behind block_codes.Terra t x =
+    terra_statements.terra_statement (terra_statements.terra_statement_of t.symbol) t x
+
+abbrev pub ends_block : BlockCode → Symbol → Bool
+ends_block (block_codes.Lua c) s = statements.ends_block (statements.statement_of s)
+ends_block block_codes.Terra s = terra_statements.ends_terra_block (terra_statements.terra_statement_of s)

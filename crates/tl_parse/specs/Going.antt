@@ -3,19 +3,20 @@ use Rattle.std.specs.Prelude.{◌≡◌, ℕ, ◌-◌, Bool, false, List}
 use Rattle.tl_base.specs.declared.ids.NodeId.{NodeId}
 use Rattle.tl_tree.specs.declared.mode.Mode.{Mode}
 use Rattle.tl_tree.specs.Tokens.{Token}
-use Rattle.tl_tree.specs.declared.mode.Context.{Context}
 use Rattle.tl_tree.specs.Tree.{Tree, Block}
 use Rattle.tl_tree.specs.Item.{Item}
 use Rattle.tl_tree.specs.Nodes.{laid, last, last_of, if_any}
 use Rattle.tl_tree.specs.Grammar.{Outcome, Took, ◌>>=◌, down}
 use Rattle.tl_tree.specs.Forms.{Chained, chained}
 use Rattle.tl_tree.specs.LuaStatements.{Sequence, sequence, Parameters, parameters_of}
-use Rattle.tl_parse.specs.Statements.{Numeric, Generic, settle_at, more_statements_at, more_parameters_at}
+use Rattle.tl_parse.specs.Statements.{Numeric, Generic, settle_at, more_parameters_at}
+use Rattle.tl_parse.specs.Blocks.{more_statements_at}
 use Rattle.tl_parse.specs.declared.statements.Numeric as code_statements
 use Rattle.tl_parse.specs.Parsing.{token_of, tokens_left, items_of, end_of}
 use Rattle.tl_parse.specs.Expressions.{Suffixed, attached, shape_of, suffixes_at, ranks_at}
 use Rattle.tl_parse.specs.declared.parser.Parser.{Parser}
 use Rattle.tl_parse.specs.declared.parser.Next as code
+use Rattle.tl_parse.specs.declared.parser.BlockCode.{BlockCode}
 use Rattle.tl_parse.specs.declared.parser.Operand.{Operand}
 
 -- an operator and its right operand
@@ -110,10 +111,10 @@ pub record TookStatement (old new : Parser) (o : Outcome Sequence) (number : Nod
   pub is_last : number ≡ last_of (items_of new)
 
 -- the statements of a block so far
-pub record Sequencing (levels : ℕ) (c : Context) (start now : Parser) (o : Outcome Tree)
+pub record Sequencing (levels : ℕ) (block : BlockCode) (start now : Parser) (o : Outcome Tree)
     (numbers : List NodeId) (ended : Bool) : Type 0 where
   pub tree : Tree
-  pub goes_on : o ≡ (more_statements_at levels c tree ended (tokens_left now)
+  pub goes_on : o ≡ (more_statements_at levels block tree ended (tokens_left now)
       >>= λ a rest. Took (Block a.statements) rest)
   pub finish : end_of now ≡ end_of start
   pub items : items_of now ≡ (laid tree (items_of start)).items

@@ -20,6 +20,8 @@ pub mod TerraDefinitions
 pub mod TerraExpressions
 -- Terra statements, functions and quotes.
 pub mod TerraStatements
+-- Statements and blocks of either language.
+pub mod Blocks
 -- Uses of single tokens.
 pub mod Using
 -- Operators between operands, by their ranks.
@@ -34,7 +36,7 @@ pub mod Taking
 pub mod Going
 -- The same in Terra code.
 pub mod TerraGoing
--- The same in blocks of Terra code.
+-- Names in Terra code with their places.
 pub mod TerraLines
 -- An operator with its operands.
 pub mod Joining

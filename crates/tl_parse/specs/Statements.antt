@@ -11,12 +11,12 @@ use Rattle.tl_tree.specs.declared.mode.Shape.{Shape}
 use Rattle.tl_tree.specs.declared.mode.Shape.TheVariants as shapes
 use Rattle.tl_tree.specs.Tokens.{Token, among, is}
 use Rattle.tl_tree.specs.Tree.{Tree, Nothing, More, Just, Assign, Perform, NumericFor}
-use Rattle.tl_tree.specs.Tree.{GenericFor, DefineFunction, LocalFunction, Local, Emit, Break, Block, Arm}
+use Rattle.tl_tree.specs.Tree.{GenericFor, DefineFunction, LocalFunction, Local, Emit, Break, Arm}
 use Rattle.tl_tree.specs.Tree.{Body, Expression, Statements}
-use Rattle.tl_tree.specs.Grammar.{Grammar, give, bind, many, Outcome, Took, ◌>>=◌, begins}
-use Rattle.tl_tree.specs.Forms.{semicolon, Chained}
+use Rattle.tl_tree.specs.Grammar.{Grammar, bind, many, Outcome, Took, ◌>>=◌, begins}
+use Rattle.tl_tree.specs.Forms.{Chained}
 use Rattle.tl_tree.specs.LuaStatements as lua
-use Rattle.tl_tree.specs.LuaStatements.{fresh, Sequence, sequence, Parameters, parameters_of, body_mode}
+use Rattle.tl_tree.specs.LuaStatements.{fresh, Parameters, parameters_of, body_mode}
 use Rattle.tl_parse.specs.Using.{reading, part_at, sign_at, open_at}
 use Rattle.tl_parse.specs.Lists.{more_elements_at, expressions_at, expressions_behind_at}
 use Rattle.tl_parse.specs.Expressions.{name_at, base_at, applied_at}
@@ -191,7 +191,7 @@ unfoldable pub emit_at : ℕ → Mode → List Token → Outcome Tree
 emit_at levels m ts = sign_at symbols.Emit ts >>= λ t a. part_at levels (Expression m) a
     >>= λ e rest. Took (Emit t.place e) rest
 
--- ---- statements and blocks
+-- ---- statements
 
 unfoldable pub statement_at : ℕ → Context → List Token → Outcome Tree
 statement_at levels c ts =
@@ -208,41 +208,6 @@ statement_at levels c ts =
     else (if begins (is symbols.Terra) ts then define_terra_at levels c.mode ts
     else (if begins (is symbols.Struct) ts then define_struct_at levels c.mode ts
     else call_or_assignment_at levels c.mode ts)))))))))))
-
--- the words of statements that end a block
-abbrev pub last_symbols : List Symbol
-last_symbols = symbols.Return ∷ symbols.Break ∷ []
-
--- a statement, and whether it ends its block
-unfoldable pub next_statement_at : ℕ → Context → List Token → Outcome Sequence
-next_statement_at levels c ts =
-    statement_at levels c ts >>= λ s a.
-    if begins (is symbols.Semicolon) a then (sign_at symbols.Semicolon a
-    >>= λ y rest. Took (sequence s (begins (among last_symbols) ts)) rest)
-    else Took (sequence s (begins (among last_symbols) ts)) a
-
--- the tokens that begin a statement in all blocks
-abbrev pub plain_statements : List Symbol
-plain_statements =
-    symbols.Name ∷ symbols.OpenParen ∷ symbols.Do ∷ symbols.While ∷ symbols.Repeat ∷ symbols.If ∷ symbols.For ∷ symbols.Function
-    ∷ symbols.Local ∷ symbols.Return ∷ symbols.Terra ∷ symbols.Struct ∷ []
-
--- May a token be the first of one more statement of a block?
-abbrev pub goes_on : Context → Bool → Token → Bool
-goes_on c ended t = lua.is_statement c t && not ended
-
--- the statements behind those so far
-abbrev pub more_statements : Context → Sequence → Grammar Sequence
-more_statements c a =
-    many (λ a t. goes_on c a.ended t) (λ a t. Plain) (λ a t. lua.statement_opens c (lua.statement_of t.symbol))
-    (λ t x a. bind (lua.statement c (lua.statement_of t.symbol) t x) λ s. bind semicolon λ y.
-    give (sequence (More a.statements s) (lua.ends_block (lua.statement_of t.symbol)))) a
-
-unfoldable pub more_statements_at : ℕ → Context → Tree → Bool → List Token → Outcome Sequence
-more_statements_at levels c tree ended ts = reading levels (more_statements c (sequence tree ended)) ts
-
-unfoldable pub block_at : ℕ → Context → List Token → Outcome Tree
-block_at levels c ts = more_statements_at levels c Nothing false ts >>= λ a rest. Took (Block a.statements) rest
 
 -- ---- functions
 

@@ -4,20 +4,18 @@ use Rattle.tl_base.specs.declared.place.Place.{Place}
 use Rattle.tl_tree.specs.declared.symbol.Symbol.{Symbol}
 use Rattle.tl_tree.specs.declared.symbol.Symbol.TheVariants as symbols
 use Rattle.tl_tree.specs.declared.mode.Mode.TheVariants as modes
-use Rattle.tl_tree.specs.declared.mode.Extra.TheVariants.{Plain}
 use Rattle.tl_tree.specs.declared.mode.Shape.{Shape}
 use Rattle.tl_tree.specs.declared.mode.Shape.TheVariants as shapes
 use Rattle.tl_tree.specs.Tokens.{Token, among, is}
 use Rattle.tl_tree.specs.Tree.{Tree, Nothing, More, Name, TerraAssign, TerraPerform, Splice}
 use Rattle.tl_tree.specs.Tree.{TerraFor, Var, EscapeBlock, TerraBreak}
-use Rattle.tl_tree.specs.Tree.{Block, Quoted, TerraBody, Parameter, SpliceParameter, Variable, Expression}
+use Rattle.tl_tree.specs.Tree.{Quoted, TerraBody, Parameter, SpliceParameter, Variable}
 use Rattle.tl_tree.specs.Tree.{Statements, TerraExpression, TerraStatements}
-use Rattle.tl_tree.specs.Grammar.{Grammar, give, bind, many, Outcome, Took, ◌>>=◌, begins}
-use Rattle.tl_tree.specs.Forms.{semicolon, Chained, chained, chain}
-use Rattle.tl_tree.specs.LuaStatements.{Sequence, sequence}
+use Rattle.tl_tree.specs.Grammar.{Outcome, Took, ◌>>=◌, begins}
+use Rattle.tl_tree.specs.Forms.{Chained, chained, chain}
 use Rattle.tl_tree.specs.TerraStatements as terra
-use Rattle.tl_parse.specs.Using.{reading, part_at, sign_at, open_at}
-use Rattle.tl_parse.specs.Statements.{first_place, is_call, last_symbols, do_at, while_at, repeat_at, if_at, return_at}
+use Rattle.tl_parse.specs.Using.{part_at, sign_at, open_at}
+use Rattle.tl_parse.specs.Statements.{first_place, is_call, do_at, while_at, repeat_at, if_at, return_at}
 use Rattle.tl_parse.specs.TerraExpressions.{escape_at, terra_name_at}
 use Rattle.tl_parse.specs.TerraExpressions.{terra_applied_at}
 use Rattle.tl_parse.specs.Lists.{more_elements_at, elements_at, expressions_behind_at}
@@ -102,7 +100,7 @@ escape_block_at levels ts =
 unfoldable pub terra_break_at : List Token → Outcome Tree
 terra_break_at ts = sign_at symbols.Break ts >>= λ t rest. Took (TerraBreak t.place) rest
 
--- ---- blocks
+-- ---- statements
 
 unfoldable pub terra_statement_at : ℕ → List Token → Outcome Tree
 terra_statement_at levels ts =
@@ -116,32 +114,6 @@ terra_statement_at levels ts =
     else (if begins (is symbols.Return) ts then return_at levels block_codes.Terra ts
     else (if begins (is symbols.Break) ts then terra_break_at ts
     else terra_simple_statement_at levels ts))))))))
-
--- a statement, and whether it ends its block
-unfoldable pub next_terra_statement_at : ℕ → List Token → Outcome Sequence
-next_terra_statement_at levels ts =
-    terra_statement_at levels ts >>= λ s a.
-    if begins (is symbols.Semicolon) a then (sign_at symbols.Semicolon a
-    >>= λ y rest. Took (sequence s (begins (among last_symbols) ts)) rest)
-    else Took (sequence s (begins (among last_symbols) ts)) a
-
--- May a token be the first of one more statement of a block?
-abbrev pub terra_goes_on : Bool → Token → Bool
-terra_goes_on ended t = among terra.terra_statement_symbols t && not ended
-
--- the statements behind those so far
-abbrev pub more_terra_statements : Sequence → Grammar Sequence
-more_terra_statements a =
-    many (λ a t. terra_goes_on a.ended t) (λ a t. Plain) (λ a t.
-    terra.terra_statement_opens (terra.terra_statement_of t.symbol))
-    (λ t x a. bind (terra.terra_statement (terra.terra_statement_of t.symbol) t x) λ s. bind semicolon λ y.
-    give (sequence (More a.statements s) (terra.ends_terra_block (terra.terra_statement_of t.symbol)))) a
-
-unfoldable pub more_terra_statements_at : ℕ → Tree → Bool → List Token → Outcome Sequence
-more_terra_statements_at levels tree ended ts = reading levels (more_terra_statements (sequence tree ended)) ts
-
-unfoldable pub terra_block_at : ℕ → List Token → Outcome Tree
-terra_block_at levels ts = more_terra_statements_at levels Nothing false ts >>= λ a rest. Took (Block a.statements) rest
 
 -- ---- functions and quotes
 

@@ -8,7 +8,7 @@ ghost use Rattle.tl_tree.specs.Texts.{Reads, Refuses};
 ghost use Rattle.tl_parse.specs.Whole.{GivesTree, GivesRefusal, ComesOf};
 
 use crate::error::SyntaxError;
-use crate::parser::Parser;
+use crate::parser::{BlockCode, Parser};
 use std::alloc::Global;
 use tl_lex::LONGEST_TEXT;
 use tl_tree::{Context, Mode, Tree};
@@ -34,7 +34,7 @@ pub fn parse<'a>(alloc: Global, text: &'a str) -> Result<Tree<'a>, SyntaxError>
         in_loop: false,
         emits: false,
     };
-    read!(parser.block(context, LEVELS));
+    read!(parser.block(BlockCode::Lua(context), LEVELS));
     if !parser.at_end() {
         return Err(parser.refusal());
     }

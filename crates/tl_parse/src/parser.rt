@@ -9,7 +9,8 @@ ghost use Rattle.tl_tree.specs.TerraExpressions as terra;
 ghost use Rattle.tl_tree.specs.Numbers.{largest_terra};
 ghost use Rattle.tl_parse.specs.TerraExpressions.{terra_number_at};
 ghost use Rattle.tl_parse.specs.Expressions.{is_simple, simple_symbols, is_types, is_variadic};
-ghost use Rattle.tl_parse.specs.Statements.{first_place, goes_on, plain_statements};
+ghost use Rattle.tl_parse.specs.Statements.{first_place};
+ghost use Rattle.tl_parse.specs.Blocks.{goes_on, plain_statements};
 ghost use Rattle.tl_lex.specs.Lexing.{answers_left};
 ghost use Rattle.tl_tree.specs.Symbols.{number_of, is_bad, has};
 ghost use Rattle.tl_tree.specs.Tokens.{Token, among, is, tokens_in};
@@ -52,6 +53,22 @@ static TERRA_NUMERAL: [Symbol; 3] = [
     Symbol::Numeral,
     Symbol::LongNumeral,
     Symbol::UnsignedNumeral,
+];
+
+static TERRA_STATEMENT: [Symbol; 13] = [
+    Symbol::Name,
+    Symbol::OpenParen,
+    Symbol::OpenBracket,
+    Symbol::At,
+    Symbol::Do,
+    Symbol::While,
+    Symbol::Repeat,
+    Symbol::If,
+    Symbol::For,
+    Symbol::Var,
+    Symbol::Escape,
+    Symbol::Return,
+    Symbol::Break,
 ];
 
 /// A token as the grammar sees it, or the end.
@@ -688,7 +705,7 @@ impl<'a> Parser<'a> {
         self.current.place
     }
 
-    /// Does the next token begin a statement, in all blocks?
+    /// Does the next token begin a statement, in all blocks of Lua code?
     #[tactic(auto, using(crate::proofs::Looking::next_is_among), unfolding(crate::specs::Parsing::tokens_left))]
     fn next_is_statement(&self) -> bool
         ensures { result ≡ begins (among plain_statements) (tokens_left self.now) }
@@ -697,20 +714,25 @@ impl<'a> Parser<'a> {
     }
 
     /// May the next token begin one more statement of a block, which has ended or hasn't?
-    #[tactic(auto, using(crate::proofs::StatementTurns::goes_on_is))]
-    pub(crate) fn next_goes_on(&self, context: Context, ended: bool) -> bool
-        ensures { result ≡ begins (λ t. goes_on context ended t) (tokens_left self.now) }
+    #[tactic(auto, using(crate::proofs::Blocks::going_on))]
+    pub(crate) fn next_goes_on(&self, block: BlockCode, ended: bool) -> bool
+        ensures { result ≡ begins (λ t. goes_on block ended t) (tokens_left self.now) }
     {
         if ended {
             return false;
         }
-        if self.next_is(Symbol::Break) {
-            return context.in_loop;
+        match block {
+            BlockCode::Lua(context) => {
+                if self.next_is(Symbol::Break) {
+                    return context.in_loop;
+                }
+                if self.next_is(Symbol::Emit) {
+                    return context.emits;
+                }
+                self.next_is_statement()
+            }
+            BlockCode::Terra => self.next_is_among(&TERRA_STATEMENT),
         }
-        if self.next_is(Symbol::Emit) {
-            return context.emits;
-        }
-        self.next_is_statement()
     }
 
     /// No nodes.

@@ -14,8 +14,9 @@ ghost use Rattle.tl_parse.specs.Statements.{call_or_assignment_at, do_at, loop_a
 ghost use Rattle.tl_parse.specs.Statements.{arm_at, next_arm_at, arms_at, otherwise_at, if_at, numeric_at};
 ghost use Rattle.tl_parse.specs.Statements.{generic_at, for_at, function_statement_at, local_function_at};
 ghost use Rattle.tl_parse.specs.Statements.{initial_values_at, local_names_at, local_at, returned_values_at};
-ghost use Rattle.tl_parse.specs.Statements.{return_at, break_at, emit_at, statement_at, last_symbols};
-ghost use Rattle.tl_parse.specs.Statements.{next_statement_at, goes_on, parameter_at, next_parameter_at};
+ghost use Rattle.tl_parse.specs.Statements.{return_at, break_at, emit_at, statement_at};
+ghost use Rattle.tl_parse.specs.Statements.{parameter_at, next_parameter_at};
+ghost use Rattle.tl_parse.specs.Blocks.{next_statement_at};
 ghost use Rattle.tl_parse.specs.Statements.{parameters_at};
 ghost use Rattle.tl_parse.specs.Paths.{names_at, next_name_at, behind_sign_at, path_method_at, path_at};
 ghost use Rattle.tl_parse.specs.Going.{TookNumeric, TookGeneric, TookParameters, TookStatement};
@@ -275,7 +276,7 @@ impl<'a> Parser<'a> {
         ensures err { IfErr result (λ e. Fails self.old (do_at levels block (tokens_left self.old)) e) }
     {
         let place = read!(self.open(Symbol::Do, levels));
-        let body = read!(self.block_of(block, levels - 1));
+        let body = read!(self.block(block, levels - 1));
         match block {
             BlockCode::Lua(_) => self.close(
                 Symbol::End,
@@ -296,7 +297,7 @@ impl<'a> Parser<'a> {
         ensures err { IfErr result (λ e. Fails self.old (loop_at levels block (tokens_left self.old)) e) }
     {
         pass!(self.open(Symbol::Do, levels));
-        let body = read!(self.block_of(looped_code(block), levels - 1));
+        let body = read!(self.block(looped_code(block), levels - 1));
         pass!(self.take(Symbol::End));
         Ok(body)
     }
@@ -339,7 +340,7 @@ impl<'a> Parser<'a> {
         ensures err { IfErr result (λ e. Fails self.old (repeat_at levels block (tokens_left self.old)) e) }
     {
         let place = read!(self.open(Symbol::Repeat, levels));
-        let body = read!(self.block_of(looped_code(block), levels - 1));
+        let body = read!(self.block(looped_code(block), levels - 1));
         // The condition is read at the level of the statement.
         let condition = read!(self.expression_behind(Symbol::Until, code_of(block), levels));
         match block {
@@ -363,7 +364,7 @@ impl<'a> Parser<'a> {
     {
         let condition = read!(self.expression_of(code_of(block), levels));
         pass!(self.open(Symbol::Then, levels));
-        let body = read!(self.block_of(block, levels - 1));
+        let body = read!(self.block(block, levels - 1));
         self.push(Node::Piece(Piece::Arm(condition, body)))
     }
 
@@ -403,7 +404,7 @@ impl<'a> Parser<'a> {
     {
         if self.next_is(Symbol::Else) {
             pass!(self.open(Symbol::Else, levels));
-            let body = read!(self.block_of(block, levels - 1));
+            let body = read!(self.block(block, levels - 1));
             return Ok(Some(body));
         }
         Ok(None)
@@ -668,20 +669,23 @@ impl<'a> Parser<'a> {
         self.call_or_assignment(context.mode, levels)
     }
 
-    /// stat [";"], and whether it ends its block
+    /// stat [";"], or tstat [";"], and whether it ends its block
     #[cycle(parser)]
-    #[tactic(auto, using(crate::proofs::Failing::failing), unfolding(crate::specs::Statements::next_statement_at))]
+    #[tactic(auto, using(crate::proofs::Failing::failing), unfolding(crate::specs::Blocks::next_statement_at))]
     fn next_statement(
         &mut self,
-        context: Context,
+        block: BlockCode,
         levels: u32,
     ) -> Result<(NodeId, bool), SyntaxError>
         requires { HasNext (tokens_left self.old) }
-        ensures ok { IfOk result (λ r. TookStatement self.old self.new (next_statement_at levels context (tokens_left self.old)) r.0 r.1) }
-        ensures err { IfErr result (λ e. Fails self.old (next_statement_at levels context (tokens_left self.old)) e) }
+        ensures ok { IfOk result (λ r. TookStatement self.old self.new (next_statement_at levels block (tokens_left self.old)) r.0 r.1) }
+        ensures err { IfErr result (λ e. Fails self.old (next_statement_at levels block (tokens_left self.old)) e) }
     {
         let ends = self.next_is_among(&LAST);
-        let node = read!(self.statement(context, levels));
+        let node = match block {
+            BlockCode::Lua(context) => read!(self.statement(context, levels)),
+            BlockCode::Terra => read!(self.terra_statement(levels)),
+        };
         if self.next_is(Symbol::Semicolon) {
             pass!(self.take(Symbol::Semicolon));
             return Ok((node, ends));
@@ -689,34 +693,21 @@ impl<'a> Parser<'a> {
         Ok((node, ends))
     }
 
-    /// block = { stat [";"] } [ ("return" [exps] | "break") [";"] ]
+    /// block = { stat [";"] } [ ("return" [exps] | "break") [";"] ], or tblock, the same of tstat and texps
     #[cycle(parser)]
-    #[tactic(auto, using(crate::proofs::StatementTurns::blocks), unfolding(crate::specs::Statements::block_at))]
-    pub(crate) fn block(&mut self, context: Context, levels: u32) -> Result<NodeId, SyntaxError>
-        ensures ok { IfOk result (λ r. TookTree self.old self.new (part_at levels (parts.Statements context) (tokens_left self.old)) r) }
-        ensures err { IfErr result (λ e. Fails self.old (part_at levels (parts.Statements context) (tokens_left self.old)) e) }
+    #[tactic(auto, using(crate::proofs::Blocks::blocks), unfolding(crate::specs::Blocks::block_at))]
+    pub(crate) fn block(&mut self, block: BlockCode, levels: u32) -> Result<NodeId, SyntaxError>
+        ensures ok { IfOk result (λ r. TookTree self.old self.new (part_at levels (statements_in block) (tokens_left self.old)) r) }
+        ensures err { IfErr result (λ e. Fails self.old (part_at levels (statements_in block) (tokens_left self.old)) e) }
     {
         let mut list = self.no_nodes();
         let mut ended = false;
-        'more: while self.next_goes_on(context, ended) {
-            let (node, ends) = read!(self.next_statement(context, levels));
+        'more: while self.next_goes_on(block, ended) {
+            let (node, ends) = read!(self.next_statement(block, levels));
             read!(add(&mut list, node));
             ended = ends;
         }
         self.push(Node::Piece(Piece::Block(list)))
-    }
-
-    /// block, or tblock
-    #[cycle(parser)]
-    #[tactic(auto)]
-    fn block_of(&mut self, block: BlockCode, levels: u32) -> Result<NodeId, SyntaxError>
-        ensures ok { IfOk result (λ r. TookTree self.old self.new (part_at levels (statements_in block) (tokens_left self.old)) r) }
-        ensures err { IfErr result (λ e. Fails self.old (part_at levels (statements_in block) (tokens_left self.old)) e) }
-    {
-        match block {
-            BlockCode::Lua(context) => self.block(context, levels),
-            BlockCode::Terra => self.terra_block(levels),
-        }
     }
 
     /// Name | "..."
@@ -777,7 +768,7 @@ impl<'a> Parser<'a> {
         let inner = levels - 1;
         let (names, variadic) = read!(self.parameters(inner));
         read!(self.take(Symbol::CloseParen));
-        let block = read!(self.block(fresh(variadic), inner));
+        let block = read!(self.block(BlockCode::Lua(fresh(variadic)), inner));
         self.close(
             Symbol::End,
             Node::Piece(Piece::Body(names, variadic, block)),

@@ -1,20 +1,17 @@
 // Reading of Terra statements, of the bodies of Terra functions and of quotes.
 ghost use Rattle.std.specs.Prelude.{◌≡◌, length, true, false, IfOk, IfErr, [], ◌∷◌};
-ghost use Rattle.tl_tree.specs.TerraStatements as terra;
 ghost use Rattle.tl_tree.specs.Tree as parts;
-ghost use Rattle.tl_tree.specs.Grammar.{begins};
 ghost use Rattle.tl_parse.specs.Parsing.{tokens_left, HasNext, Fails, TookTree, TookOperand, TookList};
 ghost use Rattle.tl_parse.specs.Using.{part_at};
-ghost use Rattle.tl_parse.specs.Going.{TookStatement};
 ghost use Rattle.tl_parse.specs.Codes.{opened_terra_body_at};
 ghost use Rattle.tl_parse.specs.Statements.{is_call};
 ghost use Rattle.tl_parse.specs.TerraLines.{TookPlacedName};
 ghost use Rattle.tl_parse.specs.TerraStatements.{placed_name_at, terra_variable_at};
 ghost use Rattle.tl_parse.specs.TerraStatements.{terra_target_at};
-ghost use Rattle.tl_parse.specs.TerraStatements.{terra_simple_statement_at, is_escape, terra_goes_on};
+ghost use Rattle.tl_parse.specs.TerraStatements.{terra_simple_statement_at, is_escape};
 ghost use Rattle.tl_parse.specs.TerraStatements.{quoted_code_at};
 ghost use Rattle.tl_parse.specs.TerraStatements.{terra_for_at, terra_var_at, escape_block_at};
-ghost use Rattle.tl_parse.specs.TerraStatements.{terra_break_at, terra_statement_at, next_terra_statement_at};
+ghost use Rattle.tl_parse.specs.TerraStatements.{terra_break_at, terra_statement_at};
 ghost use Rattle.tl_parse.specs.TerraStatements.{terra_parameter_at};
 ghost use Rattle.tl_parse.specs.TerraStatements.{terra_parameters_at};
 
@@ -34,25 +31,7 @@ const EMITTING: Context = Context {
     emits: true,
 };
 
-static STATEMENT: [Symbol; 13] = [
-    Symbol::Name,
-    Symbol::OpenParen,
-    Symbol::OpenBracket,
-    Symbol::At,
-    Symbol::Do,
-    Symbol::While,
-    Symbol::Repeat,
-    Symbol::If,
-    Symbol::For,
-    Symbol::Var,
-    Symbol::Escape,
-    Symbol::Return,
-    Symbol::Break,
-];
-
 static ASSIGNMENT: [Symbol; 2] = [Symbol::Equal, Symbol::Comma];
-
-static LAST: [Symbol; 2] = [Symbol::Return, Symbol::Break];
 
 fn is_escape(shape: Shape) -> bool
     ensures { result ≡ is_escape shape }
@@ -173,7 +152,7 @@ impl<'a> Parser<'a> {
         ensures err { IfErr result (λ e. Fails self.old (escape_block_at levels (tokens_left self.old)) e) }
     {
         let place = read!(self.open(Symbol::Escape, levels));
-        let block = read!(self.block(EMITTING, levels - 1));
+        let block = read!(self.block(BlockCode::Lua(EMITTING), levels - 1));
         self.close(
             Symbol::End,
             Node::TerraStatement(place, TerraStatement::Escape(block)),
@@ -193,7 +172,7 @@ impl<'a> Parser<'a> {
     /// tstat, "return" [texps] or "break"
     #[cycle(parser)]
     #[tactic(auto, using(crate::proofs::Failing::failing), unfolding(crate::specs::TerraStatements::terra_statement_at))]
-    fn terra_statement(&mut self, levels: u32) -> Result<NodeId, SyntaxError>
+    pub(crate) fn terra_statement(&mut self, levels: u32) -> Result<NodeId, SyntaxError>
         requires { HasNext (tokens_left self.old) }
         ensures ok { IfOk result (λ r. TookTree self.old self.new (terra_statement_at levels (tokens_left self.old)) r) }
         ensures err { IfErr result (λ e. Fails self.old (terra_statement_at levels (tokens_left self.old)) e) }
@@ -226,51 +205,6 @@ impl<'a> Parser<'a> {
             return self.terra_break();
         }
         self.terra_simple_statement(levels)
-    }
-
-    /// tstat [";"], and whether it ends its block
-    #[cycle(parser)]
-    #[tactic(auto, using(crate::proofs::Failing::failing), unfolding(crate::specs::TerraStatements::next_terra_statement_at))]
-    fn next_terra_statement(&mut self, levels: u32) -> Result<(NodeId, bool), SyntaxError>
-        requires { HasNext (tokens_left self.old) }
-        ensures ok { IfOk result (λ r. TookStatement self.old self.new (next_terra_statement_at levels (tokens_left self.old)) r.0 r.1) }
-        ensures err { IfErr result (λ e. Fails self.old (next_terra_statement_at levels (tokens_left self.old)) e) }
-    {
-        let ends = self.next_is_among(&LAST);
-        let node = read!(self.terra_statement(levels));
-        if self.next_is(Symbol::Semicolon) {
-            pass!(self.take(Symbol::Semicolon));
-            return Ok((node, ends));
-        }
-        Ok((node, ends))
-    }
-
-    /// May the next token begin one more statement of a block, which has ended or hasn't?
-    #[tactic(auto, using(crate::proofs::TerraStatementTurns::going_on))]
-    fn next_goes_on_with_terra(&self, ended: bool) -> bool
-        ensures { result ≡ begins (λ t. terra_goes_on ended t) (tokens_left self.now) }
-    {
-        if ended {
-            return false;
-        }
-        self.next_is_among(&STATEMENT)
-    }
-
-    /// tblock = { tstat [";"] } [ ("return" [texps] | "break") [";"] ]
-    #[cycle(parser)]
-    #[tactic(auto, using(crate::proofs::TerraStatementTurns::blocks), unfolding(crate::specs::TerraStatements::terra_block_at))]
-    pub(crate) fn terra_block(&mut self, levels: u32) -> Result<NodeId, SyntaxError>
-        ensures ok { IfOk result (λ r. TookTree self.old self.new (part_at levels parts.TerraStatements (tokens_left self.old)) r) }
-        ensures err { IfErr result (λ e. Fails self.old (part_at levels parts.TerraStatements (tokens_left self.old)) e) }
-    {
-        let mut list = self.no_nodes();
-        let mut ended = false;
-        'more: while self.next_goes_on_with_terra(ended) {
-            let (node, ends) = read!(self.next_terra_statement(levels));
-            read!(add(&mut list, node));
-            ended = ends;
-        }
-        self.push(Node::Piece(Piece::Block(list)))
     }
 
     /// param = Name ":" exp | "[" exp "]"
@@ -314,7 +248,7 @@ impl<'a> Parser<'a> {
         let parameters = read!(self.terra_parameters(inner));
         pass!(self.take(Symbol::CloseParen));
         let written = read!(self.optional_expression(Symbol::Colon, TYPES, inner));
-        let block = read!(self.terra_block(inner));
+        let block = read!(self.block(BlockCode::Terra, inner));
         self.close(
             Symbol::End,
             Node::Piece(Piece::TerraBody(place, parameters, written, block)),
@@ -328,7 +262,7 @@ impl<'a> Parser<'a> {
         ensures ok { IfOk result (λ r. TookTree self.old self.new (part_at levels parts.QuotedCode (tokens_left self.old)) r) }
         ensures err { IfErr result (λ e. Fails self.old (part_at levels parts.QuotedCode (tokens_left self.old)) e) }
     {
-        let block = read!(self.terra_block(levels));
+        let block = read!(self.block(BlockCode::Terra, levels));
         let expression = read!(self.optional_expression(Symbol::In, Code::Terra, levels));
         self.push(Node::Piece(Piece::Quoted(block, expression)))
     }

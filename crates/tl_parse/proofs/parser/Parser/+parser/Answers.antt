@@ -11,11 +11,11 @@ use Rattle.tl_parse.specs.Parsing.{token_of, placed, tokens_left, items_of}
 use Rattle.tl_parse.specs.Expressions.{Suffixed, attached, shape_of, suffixes_at, field_at, fields_at, more_fields_at, suffix_at, next_field_at, more_if}
 use Rattle.tl_parse.specs.Lists.{next_element_at, more_elements_at, elements_at}
 use Rattle.tl_parse.specs.Ranks.{rank_at}
-use Rattle.tl_parse.specs.Statements.{arms_at, more_arms_at, variable_at, settle_at, more_statements_at, next_arm_at, next_statement_at}
+use Rattle.tl_parse.specs.Statements.{arms_at, more_arms_at, variable_at, settle_at, next_arm_at}
 use Rattle.tl_parse.specs.TerraExpressions.{TerraSuffixed, terra_attached, terra_shape_of, terra_suffixes_at, terra_applied_at, terra_suffix_at, next_initialiser_at, more_initialisers_at}
 use Rattle.tl_parse.specs.TerraExpressions.{terra_more_at, terra_binary_at}
-use Rattle.tl_parse.specs.TerraStatements.{next_terra_statement_at, terra_assignment_at}
-use Rattle.tl_parse.specs.TerraStatements.{more_terra_statements_at}
+use Rattle.tl_parse.specs.TerraStatements.{terra_assignment_at}
+use Rattle.tl_parse.specs.Blocks.{more_statements_at, next_statement_at}
 use Rattle.tl_parse.specs.Entries.{more_entries_at, entry_at}
 use Rattle.tl_parse.specs.declared.parser.Code.TheVariants as codes
 use Rattle.tl_parse.specs.declared.parser.Element.TheVariants as elements
@@ -27,13 +27,14 @@ use Rattle.tl_parse.proofs.Parts.{fields_part}
 use Rattle.tl_parse.proofs.Climbing.{ranked_below, one_more_shorter}
 use Rattle.tl_parse.proofs.Binding.{binding_first, binding_none, binding_next, binding_fails, binding_ends}
 use Rattle.tl_parse.proofs.TerraParts as terra_parts
-use Rattle.tl_parse.proofs.StatementTurns.{block_goes, settles_on, statement_shorter}
+use Rattle.tl_parse.proofs.StatementTurns.{settles_on}
+use Rattle.tl_parse.proofs.Blocks.{block_goes, statement_shorter}
 use Rattle.tl_parse.proofs.Looping.{listing_first, listing_next, listing_stops, listing_ends, numbers_next, targets_begin, targets_next, names_begin, names_next}
 use Rattle.tl_parse.proofs.Looping.{body_fails}
 use Rattle.tl_parse.proofs.TerraTurns.{terra_suffix_shorter, terra_suffixes_go, terra_operation_shorter, terra_operations_go, initialisers_end, entries_end, entry_shorter, initialiser_shorter}
 use Rattle.tl_parse.proofs.TerraTurns.{initialisers_go, entries_go}
 use Rattle.tl_parse.proofs.TerraStatementParts.{terra_type_fails, terra_block_fails}
-use Rattle.tl_parse.proofs.TerraStatementTurns.{arms_go, arms_end, arm_shorter, terra_block_goes, terra_targets_go, terra_target_shorter, terra_statement_shorter}
+use Rattle.tl_parse.proofs.TerraStatementTurns.{arms_go, arms_end, arm_shorter, terra_targets_go, terra_target_shorter}
 use Rattle.tl_parse.proofs.parser.Parser.+parser.Goals as goal
 
 pub applied-more-smaller : goal.applied-more-smaller
@@ -99,14 +100,14 @@ terra_function_body-returns-in-Err-optional_expression-clause-err t c =
     terra_type_fails c.args.self.now c.take.new.self c.args.levels (tokens_left c.open.new.self) (tokens_left c.terra_parameters.new.self) (placed o.token c.in-Ok.x) (placed s.token c.in_default.field-0) p.tree c.in-Err-optional_expression.e
     o.took p.took s.took (s.finish ∙ p.finish ∙ o.finish) c.in-Err-optional_expression.ensures.err
 
-pub terra_function_body-returns-in-Err-terra_block-clause-err : goal.terra_function_body-returns-in-Err-terra_block-clause-err
-terra_function_body-returns-in-Err-terra_block-clause-err t c =
+pub terra_function_body-returns-in-Err-block-clause-err : goal.terra_function_body-returns-in-Err-block-clause-err
+terra_function_body-returns-in-Err-block-clause-err t c =
     let o = c.in-Ok.ensures.ok in
     let p = c.in-Ok-terra_parameters.ensures.ok in
     let s = c.in_default.ensures.ok in
     let w = c.in-Ok-optional_expression.ensures.ok in
-    terra_block_fails c.args.self.now c.optional_expression.new.self c.args.levels (tokens_left c.open.new.self) (tokens_left c.terra_parameters.new.self) (tokens_left c.take.new.self) (placed o.token c.in-Ok.x) (placed s.token c.in_default.field-0) p.tree w.tree c.in-Err-terra_block.e
-    o.took p.took s.took w.took (w.finish ∙ s.finish ∙ p.finish ∙ o.finish) c.in-Err-terra_block.ensures.err
+    terra_block_fails c.args.self.now c.optional_expression.new.self c.args.levels (tokens_left c.open.new.self) (tokens_left c.terra_parameters.new.self) (tokens_left c.take.new.self) (placed o.token c.in-Ok.x) (placed s.token c.in_default.field-0) p.tree w.tree c.in-Err-block.e
+    o.took p.took s.took w.took (w.finish ∙ s.finish ∙ p.finish ∙ o.finish) c.in-Err-block.ensures.err
 
 pub terra_applied-more-smaller : goal.terra_applied-more-smaller
 terra_applied-more-smaller t c =
@@ -231,22 +232,7 @@ block-more-preserved t c =
       goes_on =
           i.goes_on
           ∙ ap (λ (o : Outcome Sequence). o >>= λ a rest. Took (Block a.statements) rest)
-          (block_goes c.args.levels c.args.context i.tree c.more.ended (tokens_left c.more.self) (sym c.next_goes_on.ensures ∙ c.more-test.true) ∙ ap (λ (o : Outcome Sequence). o >>= λ s rest. more_statements_at c.args.levels c.args.context (More i.tree s.statements) s.ended rest) s.took);
-      finish = s.finish ∙ i.finish;
-      items = s.items ∙ ap (λ (x : List Item). (laid s.tree x).items) i.items;
-      list = numbers_next c.args.self.now c.more.self _ i.tree s.tree c.in-Ok.x.0 c.more.list c.add.new.list i.items i.list s.items s.is_last c.in-Ok-add.ensures.ok;
-    }
-
-pub terra_block-more-preserved : goal.terra_block-more-preserved
-terra_block-more-preserved t c =
-    let i = c.more.invariant in
-    let s = c.in-Ok.ensures.ok in
-    record {
-      tree = More i.tree s.tree;
-      goes_on =
-          i.goes_on
-          ∙ ap (λ (o : Outcome Sequence). o >>= λ a rest. Took (Block a.statements) rest)
-          (terra_block_goes c.args.levels i.tree c.more.ended (tokens_left c.more.self) (sym c.next_goes_on_with_terra.ensures ∙ c.more-test.true) ∙ ap (λ (o : Outcome Sequence). o >>= λ s rest. more_terra_statements_at c.args.levels (More i.tree s.statements) s.ended rest) s.took);
+          (block_goes c.args.levels c.args.block i.tree c.more.ended (tokens_left c.more.self) (sym c.next_goes_on.ensures ∙ c.more-test.true) ∙ ap (λ (o : Outcome Sequence). o >>= λ s rest. more_statements_at c.args.levels c.args.block (More i.tree s.statements) s.ended rest) s.took);
       finish = s.finish ∙ i.finish;
       items = s.items ∙ ap (λ (x : List Item). (laid s.tree x).items) i.items;
       list = numbers_next c.args.self.now c.more.self _ i.tree s.tree c.in-Ok.x.0 c.more.list c.add.new.list i.items i.list s.items s.is_last c.in-Ok-add.ensures.ok;
@@ -484,29 +470,14 @@ terra_applied-returns-in-Err-terra_suffix-clause-err t c =
 pub block-more-smaller : goal.block-more-smaller
 block-more-smaller t c =
     let s = c.in-Ok.ensures.ok in
-    statement_shorter c.args.levels c.args.context c.more.ended (sequence s.tree c.in-Ok.x.1) (tokens_left c.more.self) (tokens_left c.next_statement.new.self) (sym c.next_goes_on.ensures ∙ c.more-test.true) s.took
+    statement_shorter c.args.levels c.args.block c.more.ended (sequence s.tree c.in-Ok.x.1) (tokens_left c.more.self) (tokens_left c.next_statement.new.self) (sym c.next_goes_on.ensures ∙ c.more-test.true) s.took
 
 pub block-returns-in-Err-clause-err : goal.block-returns-in-Err-clause-err
 block-returns-in-Err-clause-err t c =
     let i = c.more.invariant in
-    let x = next_statement_at c.args.levels c.args.context (tokens_left c.more.self) in
-    let f : Sequence → List Token → Outcome Sequence = λ s rest. more_statements_at c.args.levels c.args.context (More i.tree s.statements) s.ended rest in
+    let x = next_statement_at c.args.levels c.args.block (tokens_left c.more.self) in
+    let f : Sequence → List Token → Outcome Sequence = λ s rest. more_statements_at c.args.levels c.args.block (More i.tree s.statements) s.ended rest in
     let g : Sequence → List Token → Outcome Tree = λ a rest. Took (Block a.statements) rest in
     fails_from c.args.self.now c.more.self _ ((x >>= f) >>= g) c.in-Err.e
-    (i.goes_on ∙ ap (λ (o : Outcome Sequence). o >>= g) (block_goes c.args.levels c.args.context i.tree c.more.ended (tokens_left c.more.self) (sym c.next_goes_on.ensures ∙ c.more-test.true))) i.finish
-    (fails_bind c.more.self (x >>= f) g c.in-Err.e (fails_bind c.more.self x f c.in-Err.e c.in-Err.ensures.err))
-
-pub terra_block-more-smaller : goal.terra_block-more-smaller
-terra_block-more-smaller t c =
-    let s = c.in-Ok.ensures.ok in
-    terra_statement_shorter c.args.levels c.more.ended (sequence s.tree c.in-Ok.x.1) (tokens_left c.more.self) (tokens_left c.next_terra_statement.new.self) (sym c.next_goes_on_with_terra.ensures ∙ c.more-test.true) s.took
-
-pub terra_block-returns-in-Err-clause-err : goal.terra_block-returns-in-Err-clause-err
-terra_block-returns-in-Err-clause-err t c =
-    let i = c.more.invariant in
-    let x = next_terra_statement_at c.args.levels (tokens_left c.more.self) in
-    let f : Sequence → List Token → Outcome Sequence = λ s rest. more_terra_statements_at c.args.levels (More i.tree s.statements) s.ended rest in
-    let g : Sequence → List Token → Outcome Tree = λ a rest. Took (Block a.statements) rest in
-    fails_from c.args.self.now c.more.self _ ((x >>= f) >>= g) c.in-Err.e
-    (i.goes_on ∙ ap (λ (o : Outcome Sequence). o >>= g) (terra_block_goes c.args.levels i.tree c.more.ended (tokens_left c.more.self) (sym c.next_goes_on_with_terra.ensures ∙ c.more-test.true))) i.finish
+    (i.goes_on ∙ ap (λ (o : Outcome Sequence). o >>= g) (block_goes c.args.levels c.args.block i.tree c.more.ended (tokens_left c.more.self) (sym c.next_goes_on.ensures ∙ c.more-test.true))) i.finish
     (fails_bind c.more.self (x >>= f) g c.in-Err.e (fails_bind c.more.self x f c.in-Err.e c.in-Err.ensures.err))

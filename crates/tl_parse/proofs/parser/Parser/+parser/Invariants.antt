@@ -1,7 +1,7 @@
 use Rattle.std.proofs.Common.{◌+◌, ◌*◌, List, length}
 use Rattle.tl_tree.specs.declared.symbol.Symbol.TheVariants as symbols
 use Rattle.tl_tree.specs.Tokens.{Token}
-use Rattle.tl_tree.specs.Tree.{Tree, Fields, Statements, Assign, GenericFor, Initialisers, Entries}
+use Rattle.tl_tree.specs.Tree.{Tree, Fields, Assign, GenericFor, Initialisers, Entries}
 use Rattle.tl_tree.specs.Grammar.{Took, ◌>>=◌}
 use Rattle.tl_parse.specs.Parsing.{tokens_left}
 use Rattle.tl_parse.specs.Using.{part_at}
@@ -15,10 +15,9 @@ use Rattle.tl_parse.specs.TerraExpressions.{terra_binary_at, terra_applied_at}
 use Rattle.tl_parse.specs.TerraExpressions.{more_initialisers_at}
 use Rattle.tl_parse.specs.Entries.{more_entries_at}
 use Rattle.tl_parse.specs.TerraGoing.{TerraBinding, TerraApplying, terra_rank_of}
-use Rattle.tl_tree.specs.Tree.{TerraStatements}
 use Rattle.tl_parse.specs.Lists.{elements_at, more_elements_at, expressions_behind_at}
 use Rattle.tl_parse.specs.TerraStatements.{terra_simple_statement_at, terra_assignment_at}
-use Rattle.tl_parse.specs.TerraLines.{TerraSequencing}
+use Rattle.tl_parse.specs.Codes.{statements_in}
 use Rattle.tl_parse.proofs.parser.Parser.+parser.Given as goal
 
 abbrev pub decreases-applied : goal.decreases-applied
@@ -235,7 +234,7 @@ abbrev pub decreases-for_statement-more : goal.decreases-for_statement-more
 decreases-for_statement-more l = length (tokens_left l.self)
 
 abbrev pub invariant-block-more : goal.invariant-block-more
-invariant-block-more l = Sequencing l.fn.levels l.fn.context l.fn.self l.self (part_at l.fn.levels (Statements l.fn.context) (tokens_left l.fn.self)) l.list l.ended
+invariant-block-more l = Sequencing l.fn.levels l.fn.block l.fn.self l.self (part_at l.fn.levels (statements_in l.fn.block) (tokens_left l.fn.self)) l.list l.ended
 
 abbrev pub decreases-block-more : goal.decreases-block-more
 decreases-block-more l = length (tokens_left l.self)
@@ -387,12 +386,6 @@ decreases-escape_block l = 64 * l.levels + 40
 abbrev pub decreases-terra_statement : goal.decreases-terra_statement
 decreases-terra_statement l = 64 * l.levels + 48
 
-abbrev pub decreases-next_terra_statement : goal.decreases-next_terra_statement
-decreases-next_terra_statement l = 64 * l.levels + 49
-
-abbrev pub decreases-terra_block : goal.decreases-terra_block
-decreases-terra_block l = 64 * l.levels + 50
-
 abbrev pub decreases-terra_parameter : goal.decreases-terra_parameter
 decreases-terra_parameter l = 64 * l.levels + 40
 
@@ -403,7 +396,7 @@ abbrev pub decreases-terra_function_body : goal.decreases-terra_function_body
 decreases-terra_function_body l = 64 * l.levels + 9
 
 abbrev pub decreases-quoted_code : goal.decreases-quoted_code
-decreases-quoted_code l = 64 * l.levels + 51
+decreases-quoted_code l = 64 * l.levels + 52
 
 abbrev pub decreases-define_terra : goal.decreases-define_terra
 decreases-define_terra l = 64 * l.levels + 38
@@ -426,17 +419,9 @@ invariant-terra_simple_statement-more l = Listing l.fn.self l.self (terra_simple
 abbrev pub decreases-terra_simple_statement-more : goal.decreases-terra_simple_statement-more
 decreases-terra_simple_statement-more l = length (tokens_left l.self)
 
-abbrev pub invariant-terra_block-more : goal.invariant-terra_block-more
-invariant-terra_block-more l = TerraSequencing l.fn.levels l.fn.self l.self (part_at l.fn.levels TerraStatements (tokens_left l.fn.self)) l.list l.ended
-
-abbrev pub decreases-terra_block-more : goal.decreases-terra_block-more
-decreases-terra_block-more l = length (tokens_left l.self)
 
 abbrev pub decreases-expression_of : goal.decreases-expression_of
 decreases-expression_of l = 64 * l.levels + 36
-
-abbrev pub decreases-block_of : goal.decreases-block_of
-decreases-block_of l = 64 * l.levels + 52
 
 abbrev pub decreases-expression_behind : goal.decreases-expression_behind
 decreases-expression_behind l = 64 * l.levels + 37

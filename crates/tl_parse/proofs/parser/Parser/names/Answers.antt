@@ -1,5 +1,4 @@
-use Rattle.std.proofs.Common.{List, [], ◌∷◌, ◌++◌, ap, sym, ◌∙◌}
-use Rattle.tl_base.specs.declared.ids.NodeId.{NodeId}
+use Rattle.std.proofs.Common.{List, ap, sym, ◌∙◌}
 use Rattle.tl_tree.specs.Tokens.{Token}
 use Rattle.tl_tree.specs.Tree.{Tree, Nothing, More}
 use Rattle.tl_tree.specs.Grammar.{Outcome, ◌>>=◌}
