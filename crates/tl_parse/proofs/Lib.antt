@@ -26,5 +26,6 @@ pub mod Blocks
 pub mod TerraStatementParts
 pub mod TerraDefinitionAgreeing
 pub mod Elements
+pub mod Choosing
 pub mod Paths
 pub mod Whole

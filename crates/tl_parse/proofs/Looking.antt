@@ -27,7 +27,7 @@ use Rattle.tl_tree.specs.LuaExpressions.{is_suffix, suffix_symbols, stays, is_va
 use Rattle.tl_parse.specs.Expressions.{is_types, is_variadic}
 use Rattle.tl_parse.specs.Parsing.{with_token_by}
 use Rattle.tl_parse.specs.Looking.{IsNext, Advanced, BeginsAt}
-use Rattle.tl_parse.specs.Using.{is_end}
+use Rattle.tl_parse.specs.Using.{is_end, symbol_at}
 use Rattle.tl_parse.specs.declared.parser.Parser.{Parser}
 use Rattle.tl_parse.specs.declared.parser.Next as code
 use Rattle.tl_parse.specs.declared.error.SyntaxError.TheVariants as errors
@@ -280,6 +280,22 @@ begins_varargs _ ts = never ts
         go : (b : Bool) → cond b false false ≡ false
         go true = refl
         go false = refl
+
+-- ---- the symbol of the next token
+
+pub next_symbol_end : (p : Parser) → p.current.is_end ≡ true → symbols.Finish ≡ symbol_at (tokens_left p)
+unfolding tokens_left
+next_symbol_end p h = sym (ap (λ (e : Bool). symbol_at (with_token_by e (is_bad p.current.symbol) (token_of p.current) (tokens_in (answers_left p.lexer)).tokens)) h)
+
+pub next_symbol_more : (p : Parser) → p.current.is_end ≡ false → p.current.symbol ≡ symbol_at (tokens_left p)
+unfolding tokens_left
+next_symbol_more p h = sym (ap (λ (e : Bool). symbol_at (with_token_by e (is_bad p.current.symbol) (token_of p.current) (tokens_in (answers_left p.lexer)).tokens)) h ∙ go (is_bad p.current.symbol))
+  where
+    go : (b : Bool) → symbol_at (with_token_by false b (token_of p.current) (tokens_in (answers_left p.lexer)).tokens) ≡ p.current.symbol
+    go true = refl
+    go false = refl
+
+pub ruleset next_symbol = (next_symbol_end, next_symbol_more)
 
 -- the refusal of the end
 pub end_blame : (p : Parser) → p.current.is_end ≡ true → errors.Refused why.Unexpected p.current.place ≡ errors.Refused (blame_of (tokens_left p)) (place_of (tokens_left p) (end_of p))

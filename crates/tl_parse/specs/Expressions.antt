@@ -19,7 +19,7 @@ use Rattle.tl_tree.specs.Forms.{separated_behind, Chained, chained, chain, opera
 use Rattle.tl_tree.specs.Forms.{comparisons, additive, multiplicative, operators}
 use Rattle.tl_tree.specs.LuaExpressions as lua
 use Rattle.tl_tree.specs.LuaExpressions.{is_varargs}
-use Rattle.tl_parse.specs.Using.{reading, part_at, sign_at, open_at, prefix_at, operator_at, raise_at, call_at}
+use Rattle.tl_parse.specs.Using.{symbol_at, reading, part_at, sign_at, open_at, prefix_at, operator_at, raise_at, call_at}
 use Rattle.tl_parse.specs.Using.{number_at, sign_among_at}
 use Rattle.tl_parse.specs.Codes.{expression_behind_at, opened_body_at}
 use Rattle.tl_parse.specs.Lists.{expressions_at}
@@ -117,14 +117,17 @@ unfoldable pub literal_suffix_at : ℕ → List Token → Outcome Suffixed
 literal_suffix_at left ts = operator_at (symbols.Literal ∷ []) left ts
     >>= λ t rest. Took (Calls t.place (More Nothing (Literal t.place t.text))) rest
 
+-- a suffix whose first token has this symbol
+abbrev pub suffix_from : ℕ → Mode → ℕ → Symbol → List Token → Outcome Suffixed
+suffix_from levels m left symbols.OpenParen ts = call_suffix_at levels m left ts
+suffix_from levels m left symbols.OpenBracket ts = index_suffix_at levels m left ts
+suffix_from levels m left symbols.Dot ts = select_suffix_at left ts
+suffix_from levels m left symbols.Colon ts = method_suffix_at levels m left ts
+suffix_from levels m left symbols.OpenBrace ts = table_suffix_at levels m left ts
+suffix_from levels m left _ ts = literal_suffix_at left ts
+
 unfoldable pub suffix_at : ℕ → Mode → ℕ → List Token → Outcome Suffixed
-suffix_at levels m left ts =
-    if begins (is symbols.OpenParen) ts then call_suffix_at levels m left ts
-    else (if begins (is symbols.OpenBracket) ts then index_suffix_at levels m left ts
-    else (if begins (is symbols.Dot) ts then select_suffix_at left ts
-    else (if begins (is symbols.Colon) ts then method_suffix_at levels m left ts
-    else (if begins (is symbols.OpenBrace) ts then table_suffix_at levels m left ts
-    else literal_suffix_at left ts))))
+suffix_at levels m left ts = suffix_from levels m left (symbol_at ts) ts
 
 unfoldable pub suffixes_at : ℕ → Mode → Chained → List Token → Outcome Chained
 suffixes_at levels m a ts = reading levels (lua.suffixes m a) ts
@@ -170,17 +173,20 @@ function_at levels ts =
     sign_at symbols.Function ts >>= λ f a. opened_body_at levels a >>= λ x rest. Took (Function f.place x) rest
 
 -- an operand that is no prefix expression
+-- the same whose first token has this symbol
+abbrev pub simple_from : ℕ → Mode → Symbol → List Token → Outcome Tree
+simple_from levels m symbols.Numeral ts = number_tree_at ts
+simple_from levels m symbols.Literal ts = literal_at ts
+simple_from levels m symbols.Nil ts = constant_at symbols.Nil ts
+simple_from levels m symbols.False ts = constant_at symbols.False ts
+simple_from levels m symbols.True ts = constant_at symbols.True ts
+simple_from levels m symbols.Ellipsis ts = constant_at symbols.Ellipsis ts
+simple_from levels m symbols.Function ts = function_at levels ts
+simple_from levels m symbols.OpenBrace ts = table_at levels m ts
+simple_from levels m _ ts = terra_code_at levels m ts
+
 unfoldable pub simple_at : ℕ → Mode → List Token → Outcome Tree
-simple_at levels m ts =
-    if begins (is symbols.Numeral) ts then number_tree_at ts
-    else (if begins (is symbols.Literal) ts then literal_at ts
-    else (if begins (is symbols.Nil) ts then constant_at symbols.Nil ts
-    else (if begins (is symbols.False) ts then constant_at symbols.False ts
-    else (if begins (is symbols.True) ts then constant_at symbols.True ts
-    else (if begins (is symbols.Ellipsis) ts then constant_at symbols.Ellipsis ts
-    else (if begins (is symbols.Function) ts then function_at levels ts
-    else (if begins (among lua.terra_symbols) ts then terra_code_at levels m ts
-    else table_at levels m ts)))))))
+simple_at levels m ts = simple_from levels m (symbol_at ts) ts
 
 abbrev pub is_types : Mode → Bool
 is_types modes.Types = true

@@ -17,7 +17,7 @@ use Rattle.tl_tree.specs.Grammar.{Grammar, bind, many, Outcome, Took, ◌>>=◌,
 use Rattle.tl_tree.specs.Forms.{Chained}
 use Rattle.tl_tree.specs.LuaStatements as lua
 use Rattle.tl_tree.specs.LuaStatements.{fresh, Parameters, parameters_of, body_mode}
-use Rattle.tl_parse.specs.Using.{reading, part_at, sign_at, open_at}
+use Rattle.tl_parse.specs.Using.{symbol_at, reading, part_at, sign_at, open_at}
 use Rattle.tl_parse.specs.Lists.{more_elements_at, expressions_at, expressions_behind_at}
 use Rattle.tl_parse.specs.Expressions.{name_at, base_at, applied_at}
 use Rattle.tl_parse.specs.Paths.{more_names_at, names_at, path_at}
@@ -193,21 +193,24 @@ emit_at levels m ts = sign_at symbols.Emit ts >>= λ t a. part_at levels (Expres
 
 -- ---- statements
 
+-- a statement whose first token has this symbol
+abbrev pub statement_from : ℕ → Context → Symbol → List Token → Outcome Tree
+statement_from levels c symbols.Do ts = do_at levels (block_codes.Lua c) ts
+statement_from levels c symbols.While ts = while_at levels (block_codes.Lua c) ts
+statement_from levels c symbols.Repeat ts = repeat_at levels (block_codes.Lua c) ts
+statement_from levels c symbols.If ts = if_at levels (block_codes.Lua c) ts
+statement_from levels c symbols.For ts = for_at levels c ts
+statement_from levels c symbols.Function ts = function_statement_at levels ts
+statement_from levels c symbols.Local ts = local_at levels c ts
+statement_from levels c symbols.Return ts = return_at levels (block_codes.Lua c) ts
+statement_from levels c symbols.Break ts = break_at ts
+statement_from levels c symbols.Emit ts = emit_at levels c.mode ts
+statement_from levels c symbols.Terra ts = define_terra_at levels c.mode ts
+statement_from levels c symbols.Struct ts = define_struct_at levels c.mode ts
+statement_from levels c _ ts = call_or_assignment_at levels c.mode ts
+
 unfoldable pub statement_at : ℕ → Context → List Token → Outcome Tree
-statement_at levels c ts =
-    if begins (is symbols.Do) ts then do_at levels (block_codes.Lua c) ts
-    else (if begins (is symbols.While) ts then while_at levels (block_codes.Lua c) ts
-    else (if begins (is symbols.Repeat) ts then repeat_at levels (block_codes.Lua c) ts
-    else (if begins (is symbols.If) ts then if_at levels (block_codes.Lua c) ts
-    else (if begins (is symbols.For) ts then for_at levels c ts
-    else (if begins (is symbols.Function) ts then function_statement_at levels ts
-    else (if begins (is symbols.Local) ts then local_at levels c ts
-    else (if begins (is symbols.Return) ts then return_at levels (block_codes.Lua c) ts
-    else (if begins (is symbols.Break) ts then break_at ts
-    else (if begins (is symbols.Emit) ts then emit_at levels c.mode ts
-    else (if begins (is symbols.Terra) ts then define_terra_at levels c.mode ts
-    else (if begins (is symbols.Struct) ts then define_struct_at levels c.mode ts
-    else call_or_assignment_at levels c.mode ts)))))))))))
+statement_at levels c ts = statement_from levels c (symbol_at ts) ts
 
 -- ---- functions
 

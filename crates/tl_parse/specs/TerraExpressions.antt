@@ -19,7 +19,7 @@ use Rattle.tl_tree.specs.Forms.{separated_behind, Chained, chained, chain, opera
 use Rattle.tl_tree.specs.Forms.{comparisons, additive, multiplicative, operators}
 use Rattle.tl_tree.specs.TerraExpressions as terra
 use Rattle.tl_tree.specs.TerraExpressions.{terra_numerals, terra_prefix_symbols, shifts}
-use Rattle.tl_parse.specs.Using.{reading, part_at, used, sign_at, open_at, prefix_at, operator_at, raise_at, call_at}
+use Rattle.tl_parse.specs.Using.{symbol_at, reading, part_at, used, sign_at, open_at, prefix_at, operator_at, raise_at, call_at}
 use Rattle.tl_parse.specs.Using.{sign_among_at}
 use Rattle.tl_parse.specs.Codes.{expression_behind_at}
 use Rattle.tl_parse.specs.Expressions.{name_at, literal_at, is_name, separators}
@@ -95,13 +95,16 @@ construct_suffix_at levels left ts =
     raise_at symbols.OpenBrace levels left ts >>= λ t a. part_at (levels - 1) Initialisers a >>= λ x b.
     sign_at symbols.CloseBrace b >>= λ y rest. Took (Constructs t.place x) rest
 
+-- a suffix whose first token has this symbol
+abbrev pub terra_suffix_from : ℕ → ℕ → Symbol → List Token → Outcome TerraSuffixed
+terra_suffix_from levels left symbols.OpenParen ts = terra_call_suffix_at levels left ts
+terra_suffix_from levels left symbols.OpenBracket ts = terra_index_suffix_at levels left ts
+terra_suffix_from levels left symbols.Dot ts = terra_select_suffix_at levels left ts
+terra_suffix_from levels left symbols.Colon ts = terra_method_suffix_at levels left ts
+terra_suffix_from levels left _ ts = construct_suffix_at levels left ts
+
 unfoldable pub terra_suffix_at : ℕ → ℕ → List Token → Outcome TerraSuffixed
-terra_suffix_at levels left ts =
-    if begins (is symbols.OpenParen) ts then terra_call_suffix_at levels left ts
-    else (if begins (is symbols.OpenBracket) ts then terra_index_suffix_at levels left ts
-    else (if begins (is symbols.Dot) ts then terra_select_suffix_at levels left ts
-    else (if begins (is symbols.Colon) ts then terra_method_suffix_at levels left ts
-    else construct_suffix_at levels left ts)))
+terra_suffix_at levels left ts = terra_suffix_from levels left (symbol_at ts) ts
 
 unfoldable pub terra_suffixes_at : ℕ → Chained → List Token → Outcome Chained
 terra_suffixes_at levels a ts = reading levels (terra.terra_suffixes a) ts

@@ -14,7 +14,7 @@ use Rattle.tl_tree.specs.Tree.{Statements, TerraExpression, TerraStatements}
 use Rattle.tl_tree.specs.Grammar.{Outcome, Took, ◌>>=◌, begins}
 use Rattle.tl_tree.specs.Forms.{Chained, chained, chain}
 use Rattle.tl_tree.specs.TerraStatements as terra
-use Rattle.tl_parse.specs.Using.{part_at, sign_at, open_at}
+use Rattle.tl_parse.specs.Using.{symbol_at, part_at, sign_at, open_at}
 use Rattle.tl_parse.specs.Statements.{first_place, is_call, do_at, while_at, repeat_at, if_at, return_at}
 use Rattle.tl_parse.specs.TerraExpressions.{escape_at, terra_name_at}
 use Rattle.tl_parse.specs.TerraExpressions.{terra_applied_at}
@@ -102,18 +102,21 @@ terra_break_at ts = sign_at symbols.Break ts >>= λ t rest. Took (TerraBreak t.p
 
 -- ---- statements
 
+-- a statement whose first token has this symbol
+abbrev pub terra_statement_from : ℕ → Symbol → List Token → Outcome Tree
+terra_statement_from levels symbols.Do ts = do_at levels block_codes.Terra ts
+terra_statement_from levels symbols.While ts = while_at levels block_codes.Terra ts
+terra_statement_from levels symbols.Repeat ts = repeat_at levels block_codes.Terra ts
+terra_statement_from levels symbols.If ts = if_at levels block_codes.Terra ts
+terra_statement_from levels symbols.For ts = terra_for_at levels ts
+terra_statement_from levels symbols.Var ts = terra_var_at levels ts
+terra_statement_from levels symbols.Escape ts = escape_block_at levels ts
+terra_statement_from levels symbols.Return ts = return_at levels block_codes.Terra ts
+terra_statement_from levels symbols.Break ts = terra_break_at ts
+terra_statement_from levels _ ts = terra_simple_statement_at levels ts
+
 unfoldable pub terra_statement_at : ℕ → List Token → Outcome Tree
-terra_statement_at levels ts =
-    if begins (is symbols.Do) ts then do_at levels block_codes.Terra ts
-    else (if begins (is symbols.While) ts then while_at levels block_codes.Terra ts
-    else (if begins (is symbols.Repeat) ts then repeat_at levels block_codes.Terra ts
-    else (if begins (is symbols.If) ts then if_at levels block_codes.Terra ts
-    else (if begins (is symbols.For) ts then terra_for_at levels ts
-    else (if begins (is symbols.Var) ts then terra_var_at levels ts
-    else (if begins (is symbols.Escape) ts then escape_block_at levels ts
-    else (if begins (is symbols.Return) ts then return_at levels block_codes.Terra ts
-    else (if begins (is symbols.Break) ts then terra_break_at ts
-    else terra_simple_statement_at levels ts))))))))
+terra_statement_at levels ts = terra_statement_from levels (symbol_at ts) ts
 
 -- ---- functions and quotes
 

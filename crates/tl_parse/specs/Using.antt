@@ -13,6 +13,11 @@ use Rattle.tl_tree.specs.Tree.{Tree, Part, FunctionBody}
 use Rattle.tl_tree.specs.Grammar.{Grammar, Outcome, Took, Stop, blame, run, below, bar, is_of, unless, calls, chain_too_long}
 use Rattle.tl_tree.specs.Syntax.{syntax_of}
 
+-- the symbol of the next token, or of the end
+abbrev pub symbol_at : List Token → Symbol
+symbol_at [] = symbols.Finish
+symbol_at (t ∷ ts) = t.symbol
+
 -- reading a grammar, with so many levels left
 abbrev pub reading : {A : Type 0} → ℕ → Grammar A → List Token → Outcome A
 reading levels g ts = run levels (λ part us. below syntax_of levels part us) g ts

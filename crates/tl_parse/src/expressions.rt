@@ -32,13 +32,6 @@ const RANKS: u8 = 6;
 
 static PREFIX: [Symbol; 4] = [Symbol::Not, Symbol::Hash, Symbol::Minus, Symbol::Ampersand];
 
-static TERRA: [Symbol; 4] = [
-    Symbol::Terra,
-    Symbol::Struct,
-    Symbol::Quote,
-    Symbol::Backtick,
-];
-
 static DOT: [Symbol; 1] = [Symbol::Dot];
 
 static COLON: [Symbol; 1] = [Symbol::Colon];
@@ -402,7 +395,7 @@ impl<'a> Parser<'a> {
 
     /// args | "[" exp "]" | "." Name | ":" Name args
     #[cycle(parser)]
-    #[tactic(auto, using(crate::proofs::Failing::failing), unfolding(crate::specs::Expressions::suffix_at))]
+    #[tactic(auto)]
     pub(crate) fn suffix(
         &mut self,
         mode: Mode,
@@ -412,22 +405,14 @@ impl<'a> Parser<'a> {
         ensures ok { IfOk result (λ r. TookSuffix self.old self.new (suffix_at levels mode a.left (tokens_left self.old)) a r) }
         ensures err { IfErr result (λ e. Fails self.old (suffix_at levels mode a.left (tokens_left self.old)) e) }
     {
-        if self.next_is(Symbol::OpenParen) {
-            return self.call_suffix(mode, levels, a);
+        match self.next_symbol() {
+            Symbol::OpenParen => self.call_suffix(mode, levels, a),
+            Symbol::OpenBracket => self.index_suffix(mode, levels, a),
+            Symbol::Dot => self.select_suffix(a),
+            Symbol::Colon => self.method_suffix(mode, levels, a),
+            Symbol::OpenBrace => self.table_suffix(mode, levels, a),
+            _ => self.literal_suffix(a),
         }
-        if self.next_is(Symbol::OpenBracket) {
-            return self.index_suffix(mode, levels, a);
-        }
-        if self.next_is(Symbol::Dot) {
-            return self.select_suffix(a);
-        }
-        if self.next_is(Symbol::Colon) {
-            return self.method_suffix(mode, levels, a);
-        }
-        if self.next_is(Symbol::OpenBrace) {
-            return self.table_suffix(mode, levels, a);
-        }
-        self.literal_suffix(a)
     }
 
     /// prefix = var | call | "(" exp ")"; where it is to be `bare`, brackets alone are none
@@ -482,36 +467,22 @@ impl<'a> Parser<'a> {
 
     /// "nil" | "false" | "true" | Numeral | Text | "..." | "function" body | table | Terra code
     #[cycle(parser)]
-    #[tactic(auto, using(crate::proofs::Failing::failing), unfolding(crate::specs::Expressions::simple_at))]
+    #[tactic(auto)]
     fn simple(&mut self, mode: Mode, levels: u32) -> Result<NodeId, SyntaxError>
         ensures ok { IfOk result (λ r. TookTree self.old self.new (simple_at levels mode (tokens_left self.old)) r) }
         ensures err { IfErr result (λ e. Fails self.old (simple_at levels mode (tokens_left self.old)) e) }
     {
-        if self.next_is(Symbol::Numeral) {
-            return self.number();
+        match self.next_symbol() {
+            Symbol::Numeral => self.number(),
+            Symbol::Literal => self.literal(),
+            Symbol::Nil => self.constant(Symbol::Nil),
+            Symbol::False => self.constant(Symbol::False),
+            Symbol::True => self.constant(Symbol::True),
+            Symbol::Ellipsis => self.constant(Symbol::Ellipsis),
+            Symbol::Function => self.function(levels),
+            Symbol::OpenBrace => self.table(mode, levels),
+            _ => self.terra_code(mode, levels),
         }
-        if self.next_is(Symbol::Literal) {
-            return self.literal();
-        }
-        if self.next_is(Symbol::Nil) {
-            return self.constant(Symbol::Nil);
-        }
-        if self.next_is(Symbol::False) {
-            return self.constant(Symbol::False);
-        }
-        if self.next_is(Symbol::True) {
-            return self.constant(Symbol::True);
-        }
-        if self.next_is(Symbol::Ellipsis) {
-            return self.constant(Symbol::Ellipsis);
-        }
-        if self.next_is(Symbol::Function) {
-            return self.function(levels);
-        }
-        if self.next_is_among(&TERRA) {
-            return self.terra_code(mode, levels);
-        }
-        self.table(mode, levels)
     }
 
     /// exp, without operators

@@ -15,7 +15,7 @@ ghost use Rattle.tl_lex.specs.Lexing.{answers_left};
 ghost use Rattle.tl_tree.specs.Symbols.{number_of, is_bad, has};
 ghost use Rattle.tl_tree.specs.Tokens.{Token, among, is, tokens_in};
 ghost use Rattle.tl_tree.specs.Grammar.{begins, blame, calls, chain_too_long};
-ghost use Rattle.tl_parse.specs.Using.{is_number, sign_at, open_at, sign_among_at, prefix_at, operator_at, raise_at};
+ghost use Rattle.tl_parse.specs.Using.{symbol_at, is_number, sign_at, open_at, sign_among_at, prefix_at, operator_at, raise_at};
 ghost use Rattle.tl_parse.specs.Using.{call_at, number_at, is_end, bar_of};
 ghost use Rattle.tl_parse.specs.Ranks.{rank_at, is_ranked, is_of_rank, ranked_at};
 
@@ -255,6 +255,19 @@ impl<'a> Parser<'a> {
         ensures { result ≡ begins (among symbols.now) (tokens_left self.now) }
     {
         !self.current.is_end && has(symbols, number_of(self.current.symbol))
+    }
+
+    /// The symbol of the next token, or of the end.
+    #[tactic(auto, using(crate::proofs::Looking::next_symbol), unfolding(crate::specs::Parsing::tokens_left))]
+    #[inline(always)]
+    pub(crate) fn next_symbol(&self) -> Symbol
+        ensures { result ≡ symbol_at (tokens_left self.now) }
+    {
+        if self.current.is_end {
+            Symbol::Finish
+        } else {
+            self.current.symbol
+        }
     }
 
     /// The rank of the next token.

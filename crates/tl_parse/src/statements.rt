@@ -624,49 +624,27 @@ impl<'a> Parser<'a> {
 
     /// stat, "return" [exps] or "break"
     #[cycle(parser)]
-    #[tactic(auto, using(crate::proofs::Failing::failing), unfolding(crate::specs::Statements::statement_at))]
+    #[tactic(auto)]
     fn statement(&mut self, context: Context, levels: u32) -> Result<NodeId, SyntaxError>
         requires { HasNext (tokens_left self.old) }
         ensures ok { IfOk result (λ r. TookTree self.old self.new (statement_at levels context (tokens_left self.old)) r) }
         ensures err { IfErr result (λ e. Fails self.old (statement_at levels context (tokens_left self.old)) e) }
     {
-        if self.next_is(Symbol::Do) {
-            return self.do_statement(BlockCode::Lua(context), levels);
+        match self.next_symbol() {
+            Symbol::Do => self.do_statement(BlockCode::Lua(context), levels),
+            Symbol::While => self.while_statement(BlockCode::Lua(context), levels),
+            Symbol::Repeat => self.repeat_statement(BlockCode::Lua(context), levels),
+            Symbol::If => self.if_statement(BlockCode::Lua(context), levels),
+            Symbol::For => self.for_statement(context, levels),
+            Symbol::Function => self.function_statement(levels),
+            Symbol::Local => self.local_statement(context, levels),
+            Symbol::Return => self.return_statement(BlockCode::Lua(context), levels),
+            Symbol::Break => self.break_statement(),
+            Symbol::Emit => self.emit_statement(context.mode, levels),
+            Symbol::Terra => self.define_terra(context.mode, levels),
+            Symbol::Struct => self.define_struct(context.mode, levels),
+            _ => self.call_or_assignment(context.mode, levels),
         }
-        if self.next_is(Symbol::While) {
-            return self.while_statement(BlockCode::Lua(context), levels);
-        }
-        if self.next_is(Symbol::Repeat) {
-            return self.repeat_statement(BlockCode::Lua(context), levels);
-        }
-        if self.next_is(Symbol::If) {
-            return self.if_statement(BlockCode::Lua(context), levels);
-        }
-        if self.next_is(Symbol::For) {
-            return self.for_statement(context, levels);
-        }
-        if self.next_is(Symbol::Function) {
-            return self.function_statement(levels);
-        }
-        if self.next_is(Symbol::Local) {
-            return self.local_statement(context, levels);
-        }
-        if self.next_is(Symbol::Return) {
-            return self.return_statement(BlockCode::Lua(context), levels);
-        }
-        if self.next_is(Symbol::Break) {
-            return self.break_statement();
-        }
-        if self.next_is(Symbol::Emit) {
-            return self.emit_statement(context.mode, levels);
-        }
-        if self.next_is(Symbol::Terra) {
-            return self.define_terra(context.mode, levels);
-        }
-        if self.next_is(Symbol::Struct) {
-            return self.define_struct(context.mode, levels);
-        }
-        self.call_or_assignment(context.mode, levels)
     }
 
     /// stat [";"], or tstat [";"], and whether it ends its block

@@ -338,24 +338,18 @@ impl<'a> Parser<'a> {
 
     /// "(" [texps] ")" | "[" texp "]" | "." tname | ":" tname "(" [texps] ")" | "{" .. "}"
     #[cycle(parser)]
-    #[tactic(auto, using(crate::proofs::Failing::failing), unfolding(crate::specs::TerraExpressions::terra_suffix_at))]
+    #[tactic(auto)]
     fn terra_suffix(&mut self, levels: u32, a: Operand) -> Result<Operand, SyntaxError>
         ensures ok { IfOk result (λ r. TookTerraSuffix self.old self.new (terra_suffix_at levels a.left (tokens_left self.old)) a r) }
         ensures err { IfErr result (λ e. Fails self.old (terra_suffix_at levels a.left (tokens_left self.old)) e) }
     {
-        if self.next_is(Symbol::OpenParen) {
-            return self.terra_call_suffix(levels, a);
+        match self.next_symbol() {
+            Symbol::OpenParen => self.terra_call_suffix(levels, a),
+            Symbol::OpenBracket => self.terra_index_suffix(levels, a),
+            Symbol::Dot => self.terra_select_suffix(levels, a),
+            Symbol::Colon => self.terra_method_suffix(levels, a),
+            _ => self.construct_suffix(levels, a),
         }
-        if self.next_is(Symbol::OpenBracket) {
-            return self.terra_index_suffix(levels, a);
-        }
-        if self.next_is(Symbol::Dot) {
-            return self.terra_select_suffix(levels, a);
-        }
-        if self.next_is(Symbol::Colon) {
-            return self.terra_method_suffix(levels, a);
-        }
-        self.construct_suffix(levels, a)
     }
 
     /// tsuf

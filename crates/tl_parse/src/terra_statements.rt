@@ -171,40 +171,24 @@ impl<'a> Parser<'a> {
 
     /// tstat, "return" [texps] or "break"
     #[cycle(parser)]
-    #[tactic(auto, using(crate::proofs::Failing::failing), unfolding(crate::specs::TerraStatements::terra_statement_at))]
+    #[tactic(auto)]
     pub(crate) fn terra_statement(&mut self, levels: u32) -> Result<NodeId, SyntaxError>
         requires { HasNext (tokens_left self.old) }
         ensures ok { IfOk result (λ r. TookTree self.old self.new (terra_statement_at levels (tokens_left self.old)) r) }
         ensures err { IfErr result (λ e. Fails self.old (terra_statement_at levels (tokens_left self.old)) e) }
     {
-        if self.next_is(Symbol::Do) {
-            return self.do_statement(BlockCode::Terra, levels);
+        match self.next_symbol() {
+            Symbol::Do => self.do_statement(BlockCode::Terra, levels),
+            Symbol::While => self.while_statement(BlockCode::Terra, levels),
+            Symbol::Repeat => self.repeat_statement(BlockCode::Terra, levels),
+            Symbol::If => self.if_statement(BlockCode::Terra, levels),
+            Symbol::For => self.terra_for(levels),
+            Symbol::Var => self.terra_var(levels),
+            Symbol::Escape => self.escape_block(levels),
+            Symbol::Return => self.return_statement(BlockCode::Terra, levels),
+            Symbol::Break => self.terra_break(),
+            _ => self.terra_simple_statement(levels),
         }
-        if self.next_is(Symbol::While) {
-            return self.while_statement(BlockCode::Terra, levels);
-        }
-        if self.next_is(Symbol::Repeat) {
-            return self.repeat_statement(BlockCode::Terra, levels);
-        }
-        if self.next_is(Symbol::If) {
-            return self.if_statement(BlockCode::Terra, levels);
-        }
-        if self.next_is(Symbol::For) {
-            return self.terra_for(levels);
-        }
-        if self.next_is(Symbol::Var) {
-            return self.terra_var(levels);
-        }
-        if self.next_is(Symbol::Escape) {
-            return self.escape_block(levels);
-        }
-        if self.next_is(Symbol::Return) {
-            return self.return_statement(BlockCode::Terra, levels);
-        }
-        if self.next_is(Symbol::Break) {
-            return self.terra_break();
-        }
-        self.terra_simple_statement(levels)
     }
 
     /// param = Name ":" exp | "[" exp "]"

@@ -1,4 +1,5 @@
 use Rattle.std.proofs.Common.{◌≡◌, ℕ, ◌<◌, ◌≤◌, arith, sym, ap, subst, ◌∙◌, cond, Bool, List, length}
+use Rattle.tl_tree.specs.declared.symbol.Symbol.TheVariants as symbols
 use Rattle.tl_tree.specs.declared.mode.Shape.{Shape}
 use Rattle.tl_tree.specs.Tokens.{Token}
 use Rattle.tl_tree.specs.Item.{Item}
@@ -19,6 +20,7 @@ use Rattle.tl_parse.specs.Blocks.{more_statements_at, next_statement_at}
 use Rattle.tl_parse.specs.Entries.{more_entries_at, entry_at}
 use Rattle.tl_parse.specs.declared.parser.Code.TheVariants as codes
 use Rattle.tl_parse.specs.declared.parser.Element.TheVariants as elements
+use Rattle.tl_parse.proofs.Choosing.{chosen, chosen_suffix, chosen_terra_suffix, chosen_fails, suffix_is, suffix_others, terra_suffix_is, terra_suffix_others, simple_is, simple_others, statement_is, statement_others, terra_statement_is, terra_statement_others}
 use Rattle.tl_parse.proofs.Elements.{expression_element, target_element, variable_element, parameter_element}
 use Rattle.tl_parse.proofs.Uses.{operator_with}
 use Rattle.tl_parse.proofs.Turns.{suffix_shorter, suffixes_go, elements_go, elements_end, element_shorter, fields_go, fields_end, field_shorter}
@@ -481,3 +483,261 @@ block-returns-in-Err-clause-err t c =
     fails_from c.args.self.now c.more.self _ ((x >>= f) >>= g) c.in-Err.e
     (i.goes_on ∙ ap (λ (o : Outcome Sequence). o >>= g) (block_goes c.args.levels c.args.block i.tree c.more.ended (tokens_left c.more.self) (sym c.next_goes_on.ensures ∙ c.more-test.true))) i.finish
     (fails_bind c.more.self (x >>= f) g c.in-Err.e (fails_bind c.more.self x f c.in-Err.e c.in-Err.ensures.err))
+
+pub simple-returns-in-Numeral-clause-ok : goal.simple-returns-in-Numeral-clause-ok
+simple-returns-in-Numeral-clause-ok t c = chosen _ _ _ (simple_is c.args.levels c.args.mode symbols.Numeral _ c.in-Numeral.ensures) c.number.ensures.ok
+
+pub simple-returns-in-Numeral-clause-err : goal.simple-returns-in-Numeral-clause-err
+simple-returns-in-Numeral-clause-err t c = chosen_fails _ _ (simple_is c.args.levels c.args.mode symbols.Numeral _ c.in-Numeral.ensures) c.number.ensures.err
+
+pub simple-returns-in-Literal-clause-ok : goal.simple-returns-in-Literal-clause-ok
+simple-returns-in-Literal-clause-ok t c = chosen _ _ _ (simple_is c.args.levels c.args.mode symbols.Literal _ c.in-Literal.ensures) c.literal.ensures.ok
+
+pub simple-returns-in-Literal-clause-err : goal.simple-returns-in-Literal-clause-err
+simple-returns-in-Literal-clause-err t c = chosen_fails _ _ (simple_is c.args.levels c.args.mode symbols.Literal _ c.in-Literal.ensures) c.literal.ensures.err
+
+pub simple-returns-in-Nil-clause-ok : goal.simple-returns-in-Nil-clause-ok
+simple-returns-in-Nil-clause-ok t c = chosen _ _ _ (simple_is c.args.levels c.args.mode symbols.Nil _ c.in-Nil.ensures) c.constant.ensures.ok
+
+pub simple-returns-in-Nil-clause-err : goal.simple-returns-in-Nil-clause-err
+simple-returns-in-Nil-clause-err t c = chosen_fails _ _ (simple_is c.args.levels c.args.mode symbols.Nil _ c.in-Nil.ensures) c.constant.ensures.err
+
+pub simple-returns-in-False-clause-ok : goal.simple-returns-in-False-clause-ok
+simple-returns-in-False-clause-ok t c = chosen _ _ _ (simple_is c.args.levels c.args.mode symbols.False _ c.in-False.ensures) c.constant-in-False.ensures.ok
+
+pub simple-returns-in-False-clause-err : goal.simple-returns-in-False-clause-err
+simple-returns-in-False-clause-err t c = chosen_fails _ _ (simple_is c.args.levels c.args.mode symbols.False _ c.in-False.ensures) c.constant-in-False.ensures.err
+
+pub simple-returns-in-True-clause-ok : goal.simple-returns-in-True-clause-ok
+simple-returns-in-True-clause-ok t c = chosen _ _ _ (simple_is c.args.levels c.args.mode symbols.True _ c.in-True.ensures) c.constant-in-True.ensures.ok
+
+pub simple-returns-in-True-clause-err : goal.simple-returns-in-True-clause-err
+simple-returns-in-True-clause-err t c = chosen_fails _ _ (simple_is c.args.levels c.args.mode symbols.True _ c.in-True.ensures) c.constant-in-True.ensures.err
+
+pub simple-returns-in-Ellipsis-clause-ok : goal.simple-returns-in-Ellipsis-clause-ok
+simple-returns-in-Ellipsis-clause-ok t c = chosen _ _ _ (simple_is c.args.levels c.args.mode symbols.Ellipsis _ c.in-Ellipsis.ensures) c.constant-in-Ellipsis.ensures.ok
+
+pub simple-returns-in-Ellipsis-clause-err : goal.simple-returns-in-Ellipsis-clause-err
+simple-returns-in-Ellipsis-clause-err t c = chosen_fails _ _ (simple_is c.args.levels c.args.mode symbols.Ellipsis _ c.in-Ellipsis.ensures) c.constant-in-Ellipsis.ensures.err
+
+pub simple-returns-in-Function-clause-ok : goal.simple-returns-in-Function-clause-ok
+simple-returns-in-Function-clause-ok t c = chosen _ _ _ (simple_is c.args.levels c.args.mode symbols.Function _ c.in-Function.ensures) c.function.ensures.ok
+
+pub simple-returns-in-Function-clause-err : goal.simple-returns-in-Function-clause-err
+simple-returns-in-Function-clause-err t c = chosen_fails _ _ (simple_is c.args.levels c.args.mode symbols.Function _ c.in-Function.ensures) c.function.ensures.err
+
+pub simple-returns-in-OpenBrace-clause-ok : goal.simple-returns-in-OpenBrace-clause-ok
+simple-returns-in-OpenBrace-clause-ok t c = chosen _ _ _ (simple_is c.args.levels c.args.mode symbols.OpenBrace _ c.in-OpenBrace.ensures) c.table.ensures.ok
+
+pub simple-returns-in-OpenBrace-clause-err : goal.simple-returns-in-OpenBrace-clause-err
+simple-returns-in-OpenBrace-clause-err t c = chosen_fails _ _ (simple_is c.args.levels c.args.mode symbols.OpenBrace _ c.in-OpenBrace.ensures) c.table.ensures.err
+
+pub simple-returns-in_default : goal.simple-returns-in_default
+simple-returns-in_default t c =
+    let d = c.in_default in
+    let same = simple_is c.args.levels c.args.mode c.next_symbol.result _ c.next_symbol.ensures ∙ simple_others c.args.levels c.args.mode c.next_symbol.result _ d.not-Numeral d.not-Literal d.not-Nil d.not-False d.not-True d.not-Ellipsis d.not-Function d.not-OpenBrace in
+    record { ok = chosen _ _ _ same c.terra_code.ensures.ok; err = chosen_fails _ _ same c.terra_code.ensures.err }
+
+pub statement-returns-in-Do-clause-ok : goal.statement-returns-in-Do-clause-ok
+statement-returns-in-Do-clause-ok t c = chosen _ _ _ (statement_is c.args.levels c.args.context symbols.Do _ c.in-Do.ensures) c.do_statement.ensures.ok
+
+pub statement-returns-in-Do-clause-err : goal.statement-returns-in-Do-clause-err
+statement-returns-in-Do-clause-err t c = chosen_fails _ _ (statement_is c.args.levels c.args.context symbols.Do _ c.in-Do.ensures) c.do_statement.ensures.err
+
+pub statement-returns-in-While-clause-ok : goal.statement-returns-in-While-clause-ok
+statement-returns-in-While-clause-ok t c = chosen _ _ _ (statement_is c.args.levels c.args.context symbols.While _ c.in-While.ensures) c.while_statement.ensures.ok
+
+pub statement-returns-in-While-clause-err : goal.statement-returns-in-While-clause-err
+statement-returns-in-While-clause-err t c = chosen_fails _ _ (statement_is c.args.levels c.args.context symbols.While _ c.in-While.ensures) c.while_statement.ensures.err
+
+pub statement-returns-in-Repeat-clause-ok : goal.statement-returns-in-Repeat-clause-ok
+statement-returns-in-Repeat-clause-ok t c = chosen _ _ _ (statement_is c.args.levels c.args.context symbols.Repeat _ c.in-Repeat.ensures) c.repeat_statement.ensures.ok
+
+pub statement-returns-in-Repeat-clause-err : goal.statement-returns-in-Repeat-clause-err
+statement-returns-in-Repeat-clause-err t c = chosen_fails _ _ (statement_is c.args.levels c.args.context symbols.Repeat _ c.in-Repeat.ensures) c.repeat_statement.ensures.err
+
+pub statement-returns-in-If-clause-ok : goal.statement-returns-in-If-clause-ok
+statement-returns-in-If-clause-ok t c = chosen _ _ _ (statement_is c.args.levels c.args.context symbols.If _ c.in-If.ensures) c.if_statement.ensures.ok
+
+pub statement-returns-in-If-clause-err : goal.statement-returns-in-If-clause-err
+statement-returns-in-If-clause-err t c = chosen_fails _ _ (statement_is c.args.levels c.args.context symbols.If _ c.in-If.ensures) c.if_statement.ensures.err
+
+pub statement-returns-in-For-clause-ok : goal.statement-returns-in-For-clause-ok
+statement-returns-in-For-clause-ok t c = chosen _ _ _ (statement_is c.args.levels c.args.context symbols.For _ c.in-For.ensures) c.for_statement.ensures.ok
+
+pub statement-returns-in-For-clause-err : goal.statement-returns-in-For-clause-err
+statement-returns-in-For-clause-err t c = chosen_fails _ _ (statement_is c.args.levels c.args.context symbols.For _ c.in-For.ensures) c.for_statement.ensures.err
+
+pub statement-returns-in-Function-clause-ok : goal.statement-returns-in-Function-clause-ok
+statement-returns-in-Function-clause-ok t c = chosen _ _ _ (statement_is c.args.levels c.args.context symbols.Function _ c.in-Function.ensures) c.function_statement.ensures.ok
+
+pub statement-returns-in-Function-clause-err : goal.statement-returns-in-Function-clause-err
+statement-returns-in-Function-clause-err t c = chosen_fails _ _ (statement_is c.args.levels c.args.context symbols.Function _ c.in-Function.ensures) c.function_statement.ensures.err
+
+pub statement-returns-in-Local-clause-ok : goal.statement-returns-in-Local-clause-ok
+statement-returns-in-Local-clause-ok t c = chosen _ _ _ (statement_is c.args.levels c.args.context symbols.Local _ c.in-Local.ensures) c.local_statement.ensures.ok
+
+pub statement-returns-in-Local-clause-err : goal.statement-returns-in-Local-clause-err
+statement-returns-in-Local-clause-err t c = chosen_fails _ _ (statement_is c.args.levels c.args.context symbols.Local _ c.in-Local.ensures) c.local_statement.ensures.err
+
+pub statement-returns-in-Return-clause-ok : goal.statement-returns-in-Return-clause-ok
+statement-returns-in-Return-clause-ok t c = chosen _ _ _ (statement_is c.args.levels c.args.context symbols.Return _ c.in-Return.ensures) c.return_statement.ensures.ok
+
+pub statement-returns-in-Return-clause-err : goal.statement-returns-in-Return-clause-err
+statement-returns-in-Return-clause-err t c = chosen_fails _ _ (statement_is c.args.levels c.args.context symbols.Return _ c.in-Return.ensures) c.return_statement.ensures.err
+
+pub statement-returns-in-Break-clause-ok : goal.statement-returns-in-Break-clause-ok
+statement-returns-in-Break-clause-ok t c = chosen _ _ _ (statement_is c.args.levels c.args.context symbols.Break _ c.in-Break.ensures) c.break_statement.ensures.ok
+
+pub statement-returns-in-Break-clause-err : goal.statement-returns-in-Break-clause-err
+statement-returns-in-Break-clause-err t c = chosen_fails _ _ (statement_is c.args.levels c.args.context symbols.Break _ c.in-Break.ensures) c.break_statement.ensures.err
+
+pub statement-returns-in-Emit-clause-ok : goal.statement-returns-in-Emit-clause-ok
+statement-returns-in-Emit-clause-ok t c = chosen _ _ _ (statement_is c.args.levels c.args.context symbols.Emit _ c.in-Emit.ensures) c.emit_statement.ensures.ok
+
+pub statement-returns-in-Emit-clause-err : goal.statement-returns-in-Emit-clause-err
+statement-returns-in-Emit-clause-err t c = chosen_fails _ _ (statement_is c.args.levels c.args.context symbols.Emit _ c.in-Emit.ensures) c.emit_statement.ensures.err
+
+pub statement-returns-in-Terra-clause-ok : goal.statement-returns-in-Terra-clause-ok
+statement-returns-in-Terra-clause-ok t c = chosen _ _ _ (statement_is c.args.levels c.args.context symbols.Terra _ c.in-Terra.ensures) c.define_terra.ensures.ok
+
+pub statement-returns-in-Terra-clause-err : goal.statement-returns-in-Terra-clause-err
+statement-returns-in-Terra-clause-err t c = chosen_fails _ _ (statement_is c.args.levels c.args.context symbols.Terra _ c.in-Terra.ensures) c.define_terra.ensures.err
+
+pub statement-returns-in-Struct-clause-ok : goal.statement-returns-in-Struct-clause-ok
+statement-returns-in-Struct-clause-ok t c = chosen _ _ _ (statement_is c.args.levels c.args.context symbols.Struct _ c.in-Struct.ensures) c.define_struct.ensures.ok
+
+pub statement-returns-in-Struct-clause-err : goal.statement-returns-in-Struct-clause-err
+statement-returns-in-Struct-clause-err t c = chosen_fails _ _ (statement_is c.args.levels c.args.context symbols.Struct _ c.in-Struct.ensures) c.define_struct.ensures.err
+
+pub statement-returns-in_default : goal.statement-returns-in_default
+statement-returns-in_default t c =
+    let d = c.in_default in
+    let same = statement_is c.args.levels c.args.context c.next_symbol.result _ c.next_symbol.ensures ∙ statement_others c.args.levels c.args.context c.next_symbol.result _ d.not-Do d.not-While d.not-Repeat d.not-If d.not-For d.not-Function d.not-Local d.not-Return d.not-Break d.not-Emit d.not-Terra d.not-Struct in
+    record { ok = chosen _ _ _ same c.call_or_assignment.ensures.ok; err = chosen_fails _ _ same c.call_or_assignment.ensures.err }
+
+pub terra_statement-returns-in-Do-clause-ok : goal.terra_statement-returns-in-Do-clause-ok
+terra_statement-returns-in-Do-clause-ok t c = chosen _ _ _ (terra_statement_is c.args.levels symbols.Do _ c.in-Do.ensures) c.do_statement.ensures.ok
+
+pub terra_statement-returns-in-Do-clause-err : goal.terra_statement-returns-in-Do-clause-err
+terra_statement-returns-in-Do-clause-err t c = chosen_fails _ _ (terra_statement_is c.args.levels symbols.Do _ c.in-Do.ensures) c.do_statement.ensures.err
+
+pub terra_statement-returns-in-While-clause-ok : goal.terra_statement-returns-in-While-clause-ok
+terra_statement-returns-in-While-clause-ok t c = chosen _ _ _ (terra_statement_is c.args.levels symbols.While _ c.in-While.ensures) c.while_statement.ensures.ok
+
+pub terra_statement-returns-in-While-clause-err : goal.terra_statement-returns-in-While-clause-err
+terra_statement-returns-in-While-clause-err t c = chosen_fails _ _ (terra_statement_is c.args.levels symbols.While _ c.in-While.ensures) c.while_statement.ensures.err
+
+pub terra_statement-returns-in-Repeat-clause-ok : goal.terra_statement-returns-in-Repeat-clause-ok
+terra_statement-returns-in-Repeat-clause-ok t c = chosen _ _ _ (terra_statement_is c.args.levels symbols.Repeat _ c.in-Repeat.ensures) c.repeat_statement.ensures.ok
+
+pub terra_statement-returns-in-Repeat-clause-err : goal.terra_statement-returns-in-Repeat-clause-err
+terra_statement-returns-in-Repeat-clause-err t c = chosen_fails _ _ (terra_statement_is c.args.levels symbols.Repeat _ c.in-Repeat.ensures) c.repeat_statement.ensures.err
+
+pub terra_statement-returns-in-If-clause-ok : goal.terra_statement-returns-in-If-clause-ok
+terra_statement-returns-in-If-clause-ok t c = chosen _ _ _ (terra_statement_is c.args.levels symbols.If _ c.in-If.ensures) c.if_statement.ensures.ok
+
+pub terra_statement-returns-in-If-clause-err : goal.terra_statement-returns-in-If-clause-err
+terra_statement-returns-in-If-clause-err t c = chosen_fails _ _ (terra_statement_is c.args.levels symbols.If _ c.in-If.ensures) c.if_statement.ensures.err
+
+pub terra_statement-returns-in-For-clause-ok : goal.terra_statement-returns-in-For-clause-ok
+terra_statement-returns-in-For-clause-ok t c = chosen _ _ _ (terra_statement_is c.args.levels symbols.For _ c.in-For.ensures) c.terra_for.ensures.ok
+
+pub terra_statement-returns-in-For-clause-err : goal.terra_statement-returns-in-For-clause-err
+terra_statement-returns-in-For-clause-err t c = chosen_fails _ _ (terra_statement_is c.args.levels symbols.For _ c.in-For.ensures) c.terra_for.ensures.err
+
+pub terra_statement-returns-in-Var-clause-ok : goal.terra_statement-returns-in-Var-clause-ok
+terra_statement-returns-in-Var-clause-ok t c = chosen _ _ _ (terra_statement_is c.args.levels symbols.Var _ c.in-Var.ensures) c.terra_var.ensures.ok
+
+pub terra_statement-returns-in-Var-clause-err : goal.terra_statement-returns-in-Var-clause-err
+terra_statement-returns-in-Var-clause-err t c = chosen_fails _ _ (terra_statement_is c.args.levels symbols.Var _ c.in-Var.ensures) c.terra_var.ensures.err
+
+pub terra_statement-returns-in-Escape-clause-ok : goal.terra_statement-returns-in-Escape-clause-ok
+terra_statement-returns-in-Escape-clause-ok t c = chosen _ _ _ (terra_statement_is c.args.levels symbols.Escape _ c.in-Escape.ensures) c.escape_block.ensures.ok
+
+pub terra_statement-returns-in-Escape-clause-err : goal.terra_statement-returns-in-Escape-clause-err
+terra_statement-returns-in-Escape-clause-err t c = chosen_fails _ _ (terra_statement_is c.args.levels symbols.Escape _ c.in-Escape.ensures) c.escape_block.ensures.err
+
+pub terra_statement-returns-in-Return-clause-ok : goal.terra_statement-returns-in-Return-clause-ok
+terra_statement-returns-in-Return-clause-ok t c = chosen _ _ _ (terra_statement_is c.args.levels symbols.Return _ c.in-Return.ensures) c.return_statement.ensures.ok
+
+pub terra_statement-returns-in-Return-clause-err : goal.terra_statement-returns-in-Return-clause-err
+terra_statement-returns-in-Return-clause-err t c = chosen_fails _ _ (terra_statement_is c.args.levels symbols.Return _ c.in-Return.ensures) c.return_statement.ensures.err
+
+pub terra_statement-returns-in-Break-clause-ok : goal.terra_statement-returns-in-Break-clause-ok
+terra_statement-returns-in-Break-clause-ok t c = chosen _ _ _ (terra_statement_is c.args.levels symbols.Break _ c.in-Break.ensures) c.terra_break.ensures.ok
+
+pub terra_statement-returns-in-Break-clause-err : goal.terra_statement-returns-in-Break-clause-err
+terra_statement-returns-in-Break-clause-err t c = chosen_fails _ _ (terra_statement_is c.args.levels symbols.Break _ c.in-Break.ensures) c.terra_break.ensures.err
+
+pub terra_statement-returns-in_default : goal.terra_statement-returns-in_default
+terra_statement-returns-in_default t c =
+    let d = c.in_default in
+    let same = terra_statement_is c.args.levels c.next_symbol.result _ c.next_symbol.ensures ∙ terra_statement_others c.args.levels c.next_symbol.result _ d.not-Do d.not-While d.not-Repeat d.not-If d.not-For d.not-Var d.not-Escape d.not-Return d.not-Break in
+    record { ok = chosen _ _ _ same c.terra_simple_statement.ensures.ok; err = chosen_fails _ _ same c.terra_simple_statement.ensures.err }
+
+pub suffix-returns-in-OpenParen-clause-ok : goal.suffix-returns-in-OpenParen-clause-ok
+suffix-returns-in-OpenParen-clause-ok t c = chosen_suffix _ _ _ _ (suffix_is c.args.levels c.args.mode c.args.a.left symbols.OpenParen _ c.in-OpenParen.ensures) c.call_suffix.ensures.ok
+
+pub suffix-returns-in-OpenParen-clause-err : goal.suffix-returns-in-OpenParen-clause-err
+suffix-returns-in-OpenParen-clause-err t c = chosen_fails _ _ (suffix_is c.args.levels c.args.mode c.args.a.left symbols.OpenParen _ c.in-OpenParen.ensures) c.call_suffix.ensures.err
+
+pub suffix-returns-in-OpenBracket-clause-ok : goal.suffix-returns-in-OpenBracket-clause-ok
+suffix-returns-in-OpenBracket-clause-ok t c = chosen_suffix _ _ _ _ (suffix_is c.args.levels c.args.mode c.args.a.left symbols.OpenBracket _ c.in-OpenBracket.ensures) c.index_suffix.ensures.ok
+
+pub suffix-returns-in-OpenBracket-clause-err : goal.suffix-returns-in-OpenBracket-clause-err
+suffix-returns-in-OpenBracket-clause-err t c = chosen_fails _ _ (suffix_is c.args.levels c.args.mode c.args.a.left symbols.OpenBracket _ c.in-OpenBracket.ensures) c.index_suffix.ensures.err
+
+pub suffix-returns-in-Dot-clause-ok : goal.suffix-returns-in-Dot-clause-ok
+suffix-returns-in-Dot-clause-ok t c = chosen_suffix _ _ _ _ (suffix_is c.args.levels c.args.mode c.args.a.left symbols.Dot _ c.in-Dot.ensures) c.select_suffix.ensures.ok
+
+pub suffix-returns-in-Dot-clause-err : goal.suffix-returns-in-Dot-clause-err
+suffix-returns-in-Dot-clause-err t c = chosen_fails _ _ (suffix_is c.args.levels c.args.mode c.args.a.left symbols.Dot _ c.in-Dot.ensures) c.select_suffix.ensures.err
+
+pub suffix-returns-in-Colon-clause-ok : goal.suffix-returns-in-Colon-clause-ok
+suffix-returns-in-Colon-clause-ok t c = chosen_suffix _ _ _ _ (suffix_is c.args.levels c.args.mode c.args.a.left symbols.Colon _ c.in-Colon.ensures) c.method_suffix.ensures.ok
+
+pub suffix-returns-in-Colon-clause-err : goal.suffix-returns-in-Colon-clause-err
+suffix-returns-in-Colon-clause-err t c = chosen_fails _ _ (suffix_is c.args.levels c.args.mode c.args.a.left symbols.Colon _ c.in-Colon.ensures) c.method_suffix.ensures.err
+
+pub suffix-returns-in-OpenBrace-clause-ok : goal.suffix-returns-in-OpenBrace-clause-ok
+suffix-returns-in-OpenBrace-clause-ok t c = chosen_suffix _ _ _ _ (suffix_is c.args.levels c.args.mode c.args.a.left symbols.OpenBrace _ c.in-OpenBrace.ensures) c.table_suffix.ensures.ok
+
+pub suffix-returns-in-OpenBrace-clause-err : goal.suffix-returns-in-OpenBrace-clause-err
+suffix-returns-in-OpenBrace-clause-err t c = chosen_fails _ _ (suffix_is c.args.levels c.args.mode c.args.a.left symbols.OpenBrace _ c.in-OpenBrace.ensures) c.table_suffix.ensures.err
+
+pub suffix-returns-in_default : goal.suffix-returns-in_default
+suffix-returns-in_default t c =
+    let d = c.in_default in
+    let same = suffix_is c.args.levels c.args.mode c.args.a.left c.next_symbol.result _ c.next_symbol.ensures ∙ suffix_others c.args.levels c.args.mode c.args.a.left c.next_symbol.result _ d.not-OpenParen d.not-OpenBracket d.not-Dot d.not-Colon d.not-OpenBrace in
+    record { ok = chosen_suffix _ _ _ _ same c.literal_suffix.ensures.ok; err = chosen_fails _ _ same c.literal_suffix.ensures.err }
+
+pub terra_suffix-returns-in-OpenParen-clause-ok : goal.terra_suffix-returns-in-OpenParen-clause-ok
+terra_suffix-returns-in-OpenParen-clause-ok t c = chosen_terra_suffix _ _ _ _ (terra_suffix_is c.args.levels c.args.a.left symbols.OpenParen _ c.in-OpenParen.ensures) c.terra_call_suffix.ensures.ok
+
+pub terra_suffix-returns-in-OpenParen-clause-err : goal.terra_suffix-returns-in-OpenParen-clause-err
+terra_suffix-returns-in-OpenParen-clause-err t c = chosen_fails _ _ (terra_suffix_is c.args.levels c.args.a.left symbols.OpenParen _ c.in-OpenParen.ensures) c.terra_call_suffix.ensures.err
+
+pub terra_suffix-returns-in-OpenBracket-clause-ok : goal.terra_suffix-returns-in-OpenBracket-clause-ok
+terra_suffix-returns-in-OpenBracket-clause-ok t c = chosen_terra_suffix _ _ _ _ (terra_suffix_is c.args.levels c.args.a.left symbols.OpenBracket _ c.in-OpenBracket.ensures) c.terra_index_suffix.ensures.ok
+
+pub terra_suffix-returns-in-OpenBracket-clause-err : goal.terra_suffix-returns-in-OpenBracket-clause-err
+terra_suffix-returns-in-OpenBracket-clause-err t c = chosen_fails _ _ (terra_suffix_is c.args.levels c.args.a.left symbols.OpenBracket _ c.in-OpenBracket.ensures) c.terra_index_suffix.ensures.err
+
+pub terra_suffix-returns-in-Dot-clause-ok : goal.terra_suffix-returns-in-Dot-clause-ok
+terra_suffix-returns-in-Dot-clause-ok t c = chosen_terra_suffix _ _ _ _ (terra_suffix_is c.args.levels c.args.a.left symbols.Dot _ c.in-Dot.ensures) c.terra_select_suffix.ensures.ok
+
+pub terra_suffix-returns-in-Dot-clause-err : goal.terra_suffix-returns-in-Dot-clause-err
+terra_suffix-returns-in-Dot-clause-err t c = chosen_fails _ _ (terra_suffix_is c.args.levels c.args.a.left symbols.Dot _ c.in-Dot.ensures) c.terra_select_suffix.ensures.err
+
+pub terra_suffix-returns-in-Colon-clause-ok : goal.terra_suffix-returns-in-Colon-clause-ok
+terra_suffix-returns-in-Colon-clause-ok t c = chosen_terra_suffix _ _ _ _ (terra_suffix_is c.args.levels c.args.a.left symbols.Colon _ c.in-Colon.ensures) c.terra_method_suffix.ensures.ok
+
+pub terra_suffix-returns-in-Colon-clause-err : goal.terra_suffix-returns-in-Colon-clause-err
+terra_suffix-returns-in-Colon-clause-err t c = chosen_fails _ _ (terra_suffix_is c.args.levels c.args.a.left symbols.Colon _ c.in-Colon.ensures) c.terra_method_suffix.ensures.err
+
+pub terra_suffix-returns-in_default : goal.terra_suffix-returns-in_default
+terra_suffix-returns-in_default t c =
+    let d = c.in_default in
+    let same = terra_suffix_is c.args.levels c.args.a.left c.next_symbol.result _ c.next_symbol.ensures ∙ terra_suffix_others c.args.levels c.args.a.left c.next_symbol.result _ d.not-OpenParen d.not-OpenBracket d.not-Dot d.not-Colon in
+    record { ok = chosen_terra_suffix _ _ _ _ same c.construct_suffix.ensures.ok; err = chosen_fails _ _ same c.construct_suffix.ensures.err }
