@@ -419,7 +419,6 @@ invariant-terra_simple_statement-more l = Listing l.fn.self l.self (terra_simple
 abbrev pub decreases-terra_simple_statement-more : goal.decreases-terra_simple_statement-more
 decreases-terra_simple_statement-more l = length (tokens_left l.self)
 
-
 abbrev pub decreases-expression_of : goal.decreases-expression_of
 decreases-expression_of l = 64 * l.levels + 36
 
