@@ -1,5 +1,5 @@
 -- What reading each name of the grammar of Lua statements and functions gives is what its grammar gives.
-use Rattle.std.proofs.Common.{◌≡◌, ℕ, ◌-◌, Bool, true, false, cond, List, [], ◌∷◌, Option, Some, None, refl, sym, ap, ◌∙◌}
+use Rattle.std.proofs.Common.{◌≡◌, ℕ, zero, suc, ◌-◌, ◌<◌, Bool, true, false, cond, List, [], ◌∷◌, length, Option, Some, None, refl, sym, ap, ◌∙◌, arith}
 use Rattle.std.specs.Prelude.{◌&&◌, not}
 use Rattle.tl_base.specs.declared.place.Place.{Place}
 use Rattle.tl_lex.specs.declared.SyntaxKind.{SyntaxKind}
@@ -14,7 +14,7 @@ use Rattle.tl_tree.specs.Symbols.{is_bad}
 use Rattle.tl_tree.specs.Tokens.{Token, is, among, sample}
 use Rattle.tl_tree.specs.Tree as trees
 use Rattle.tl_tree.specs.Tree.{Tree, Nothing, More, Just, Expression, Statements, FunctionBody}
-use Rattle.tl_tree.specs.Grammar.{Grammar, give, token, bind, when, many, Outcome, Took, Stop, ◌>>=◌, begins, is_of, unexpected}
+use Rattle.tl_tree.specs.Grammar.{Grammar, give, token, bind, when, many, Outcome, Took, Stop, ◌>>=◌, begins, is_of, unexpected, down}
 use Rattle.tl_tree.specs.Forms.{sign, opening, name, names, listed_behind, Chained, chained, chain}
 use Rattle.tl_tree.specs.LuaExpressions as expressions
 use Rattle.tl_tree.specs.LuaStatements as lua
@@ -22,10 +22,10 @@ use Rattle.tl_tree.specs.LuaStatements.{looped, fresh, body_mode, Parameters, pa
 use Rattle.tl_tree.proofs.Unrolling.{bind_again}
 use Rattle.tl_parse.specs.Using.{reading, part_at, used, barred, sign_at, open_at, call_at, operator_at, raise_at}
 use Rattle.tl_parse.specs.Expressions.{name_at, paren_at, base_at, is_other, applied_at, suffixes_at}
-use Rattle.tl_parse.specs.Expressions.{Suffixed, shape_of, suffix_at, call_suffix_at, index_suffix_at, select_suffix_at}
+use Rattle.tl_parse.specs.Expressions.{Suffixed, attached, shape_of, suffix_at, call_suffix_at, index_suffix_at, select_suffix_at}
 use Rattle.tl_parse.specs.Expressions.{method_arguments_at, method_suffix_at, table_suffix_at, literal_suffix_at}
 use Rattle.tl_parse.specs.Expressions as suffixed
-use Rattle.tl_parse.specs.Statements.{is_unsettled, settling, settle_at, variable_at, is_call}
+use Rattle.tl_parse.specs.Statements.{is_unsettled, variable_at, is_call}
 use Rattle.tl_parse.specs.Statements.{call_or_assignment_at, do_at, loop_at, while_at, repeat_at, arm_at, more_arms_at, arms_at}
 use Rattle.tl_parse.specs.Statements.{otherwise_at, if_at, numeric_at, generic, generic_at, for_at, function_statement_at}
 use Rattle.tl_parse.specs.Statements.{local_function_at, initial_values_at, local_names_at, definition_symbols, local_at}
@@ -36,7 +36,7 @@ use Rattle.tl_parse.specs.TerraDefinitions.{local_terra_at}
 use Rattle.tl_parse.proofs.Uses.{never, both, bind_same, opened_at, opens_any, plain_is, unrolls, ends, refuses}
 use Rattle.tl_parse.proofs.Uses.{used_classes}
 use Rattle.tl_parse.proofs.Agreeing.{sign_then, open_then, then, either_is, name_agrees, paren_agrees, expression_agrees}
-use Rattle.tl_parse.proofs.Turns.{with_suffix, used_here, use_same, suffix_turn_of}
+use Rattle.tl_parse.proofs.Turns.{with_suffix, used_here, use_same, suffix_turn_of, suffixes_go, suffixes_end, suffix_shorter}
 use Rattle.tl_parse.proofs.Paths.{names_agree, path_agrees}
 use Rattle.tl_parse.proofs.TerraDefinitionAgreeing.{define_terra_is, define_struct_is, local_terra_agrees}
 use Rattle.tl_parse.proofs.Following.{behind_give, body_give, optional_agrees}
@@ -124,6 +124,14 @@ kind_by levels m left symbols.OpenBracket text place offset first ts h = IsIndex
 kind_by levels m left symbols.Dot text place offset first ts h = IsIndex refl h (select_shaped left _)
 kind_by levels m left _ text place offset first ts h = absurd (never h)
 
+-- suffixes behind a prefix expression, up to a variable
+abbrev settling : Bool → Mode → Chained → Grammar Chained
+settling true m a = bind (lua.to_variable m a) λ d. lua.variable_suffixes m d
+settling false m a = lua.variable_suffixes m a
+
+settle_at : ℕ → Mode → Chained → List Token → Outcome Chained
+settle_at levels m a ts = reading levels (settling (is_unsettled a.shape) m a) ts
+
 -- the grammars of the two turns of a target
 abbrev more_calls : Mode → Chained → Grammar Chained
 more_calls m a = many (λ b t. calls_class m t) (λ b t. expressions.suffix_extra b t) (λ b t. expressions.suffix_opens m (expressions.suffix_of t.symbol)) (λ t x b. expressions.suffix m (expressions.suffix_of t.symbol) t x b) a
@@ -172,7 +180,7 @@ settled_by levels m a t ts h =
     goes (suffixed.Indexes place x) rest = refl
     goes (suffixed.Selects place x) rest = refl
 
-pub settle_goes : (levels : ℕ) (m : Mode) (a : Chained) (b : Bool) (ts : List Token) → begins (λ t. expressions.is_suffix m t) ts ≡ true →
+settle_goes : (levels : ℕ) (m : Mode) (a : Chained) (b : Bool) (ts : List Token) → begins (λ t. expressions.is_suffix m t) ts ≡ true →
     reading levels (settling b m a) ts ≡ (suffix_at levels m a.left ts >>= λ s rest. reading levels (settling (is_unsettled (shape_of s)) m (with_suffix a s)) rest)
 settle_goes levels m a b [] h = absurd cc
 settle_goes levels m a true (t ∷ ts) h = unsettled_by levels m a t ts h (kind_by levels m a.left t.symbol t.text t.place t.offset t.first_on_line ts h)
@@ -190,10 +198,10 @@ narrower x y (t ∷ ts) h = by (symbols_bad t) (x t) (y t) h
     by false true d h = h
     by false false d h = refl
 
-pub settle_ends : (levels : ℕ) (m : Mode) (a : Chained) (ts : List Token) → begins (λ t. expressions.is_suffix m t) ts ≡ false → reading levels (settling false m a) ts ≡ Took a ts
+settle_ends : (levels : ℕ) (m : Mode) (a : Chained) (ts : List Token) → begins (λ t. expressions.is_suffix m t) ts ≡ false → reading levels (settling false m a) ts ≡ Took a ts
 settle_ends levels m a ts h = ends levels (λ b t. expressions.is_suffix m t) (λ b t. expressions.suffix_extra b t) (λ b t. expressions.suffix_opens m (expressions.suffix_of t.symbol)) (λ t x b. bind (expressions.suffix m (expressions.suffix_of t.symbol) t x b) λ d. lua.settled m d.shape d) a ts h
 
-pub settle_refuses : (levels : ℕ) (m : Mode) (a : Chained) (ts : List Token) → begins (λ t. expressions.is_suffix m t) ts ≡ false → reading levels (settling true m a) ts ≡ unexpected ts
+settle_refuses : (levels : ℕ) (m : Mode) (a : Chained) (ts : List Token) → begins (λ t. expressions.is_suffix m t) ts ≡ false → reading levels (settling true m a) ts ≡ unexpected ts
 settle_refuses levels m a ts h =
     ap (λ (o : Outcome Chained). (o >>= λ b mid. reading levels (then_index m b) mid) >>= λ d mid. reading levels (lua.variable_suffixes m d) mid)
     (ends levels (λ b t. calls_class m t) (λ b t. expressions.suffix_extra b t) (λ b t. expressions.suffix_opens m (expressions.suffix_of t.symbol)) (λ t x b. expressions.suffix m (expressions.suffix_of t.symbol) t x b) a ts (narrower (λ t. among lua.call_symbols t) (λ t. expressions.is_suffix m t) ts h))
@@ -204,6 +212,40 @@ settle_refuses levels m a ts h =
     go : (ts : List Token) → ((unexpected {A = Token × Tree} ts >>= λ x mid. reading levels (expressions.suffix m (expressions.suffix_of x.0.symbol) x.0 x.1 a) mid) >>= λ d mid. reading levels (lua.variable_suffixes m d) mid) ≡ unexpected ts
     go [] = refl
     go (t ∷ ts) = refl
+
+-- a target, or the token behind what is none
+abbrev target_of : Chained → List Token → Outcome Tree
+target_of a rest = cond (is_unsettled a.shape) (unexpected rest) (Took a.tree rest)
+
+-- Suffixes up to a variable are all suffixes, where these make a variable.
+abbrev Settles : ℕ → Mode → Chained → List Token → Type 0
+Settles levels m a ts = (reading levels (settling (is_unsettled a.shape) m a) ts >>= λ a rest. Took a.tree rest) ≡ (suffixes_at levels m a ts >>= λ a rest. target_of a rest)
+
+settles : (levels : ℕ) (m : Mode) (n : ℕ) (tree : Tree) (left : ℕ) (shape : Shape) (ts : List Token) → length ts < n → Settles levels m (chained tree left shape) ts
+settles levels m zero tree left shape ts short = absurd (omega arith)
+settles levels m (suc n) tree left shape ts short =
+    by (begins (λ t. expressions.is_suffix m t) ts) refl
+    (λ s rest less. let shorter : length rest < n = omega arith in settles levels m n (attached s tree) (down left) (shape_of s) rest shorter)
+  where
+    nothing : (us : List Token) → (unexpected {A = Chained} us >>= λ a rest. Took a.tree rest) ≡ unexpected us
+    nothing [] = refl
+    nothing (t ∷ us) = refl
+
+    last : (b : Bool) → begins (λ t. expressions.is_suffix m t) ts ≡ false →
+        (reading levels (settling b m (chained tree left shape)) ts >>= λ a rest. Took a.tree rest) ≡ cond b (unexpected ts) (Took tree ts)
+    last true h = ap (λ (o : Outcome Chained). o >>= λ a rest. Took a.tree rest) (settle_refuses levels m (chained tree left shape) ts h) ∙ nothing ts
+    last false h = ap (λ (o : Outcome Chained). o >>= λ a rest. Took a.tree rest) (settle_ends levels m (chained tree left shape) ts h)
+
+    by : (b : Bool) → begins (λ t. expressions.is_suffix m t) ts ≡ b → ((s : Suffixed) (rest : List Token) → length rest < length ts → Settles levels m (chained (attached s tree) (down left) (shape_of s)) rest) → Settles levels m (chained tree left shape) ts
+    by true h again =
+        ap (λ (o : Outcome Chained). o >>= λ a rest. Took a.tree rest) (settle_goes levels m (chained tree left shape) (is_unsettled shape) ts h)
+        ∙ bind_again (suffix_at levels m left ts) (λ s rest. reading levels (settling (is_unsettled (shape_of s)) m (chained (attached s tree) (down left) (shape_of s))) rest) (λ a rest. Took a.tree rest)
+        ∙ bind_where (suffix_at levels m left ts) (λ s rest. reading levels (settling (is_unsettled (shape_of s)) m (chained (attached s tree) (down left) (shape_of s))) rest >>= λ a us. Took a.tree us)
+        (λ s rest. suffixes_at levels m (chained (attached s tree) (down left) (shape_of s)) rest >>= λ a us. target_of a us)
+        (λ s rest e. again s rest (suffix_shorter levels m left s ts rest h e))
+        ∙ sym (bind_again (suffix_at levels m left ts) (λ s rest. suffixes_at levels m (chained (attached s tree) (down left) (shape_of s)) rest) (λ a rest. target_of a rest))
+        ∙ sym (ap (λ (o : Outcome Chained). o >>= λ a rest. target_of a rest) (suffixes_go levels m tree left shape ts h))
+    by false h again = last (is_unsettled shape) h ∙ sym (ap (λ (o : Outcome Chained). o >>= λ a rest. target_of a rest) (suffixes_end levels m (chained tree left shape) ts h))
 
 paren_settles : (levels : ℕ) (m : Mode) (ts : List Token) → (paren_at levels m ts >>= λ b mid. reading levels (settling true m b) mid) ≡ (paren_at levels m ts >>= λ b mid. settle_at levels m b mid)
 unfolding paren_at settle_at
@@ -221,9 +263,9 @@ paren_settles levels m ts =
     inner t (Took x b) = last t x (sign_at symbols.CloseParen b)
     inner t (Stop kind rest) = refl
 
-pub variable_agrees : (levels : ℕ) (m : Mode) (ts : List Token) → reading levels (lua.variable m) ts ≡ variable_at levels m ts
-unfolding variable_at base_at settle_at
-variable_agrees levels m ts = by (begins (is symbols.OpenParen) ts)
+variable_settles : (levels : ℕ) (m : Mode) (ts : List Token) → reading levels (lua.variable m) ts ≡ (base_at levels m ts >>= λ b mid. settle_at levels m b mid >>= λ a rest. Took a.tree rest)
+unfolding base_at settle_at
+variable_settles levels m ts = by (begins (is symbols.OpenParen) ts)
   where
     name_goes : (o : Outcome Tree) → (o >>= λ n mid. reading levels (lua.variable_suffixes m (chained n chain shapes.Name)) mid >>= λ a rest. Took a.tree rest) ≡ ((o >>= λ n rest. Took (chained n chain shapes.Name) rest) >>= λ b mid. settle_at levels m b mid >>= λ a rest. Took a.tree rest)
     name_goes (Took n mid) = refl
@@ -238,6 +280,18 @@ variable_agrees levels m ts = by (begins (is symbols.OpenParen) ts)
         ∙ ap (λ (o : Outcome Chained). o >>= λ a rest. Took a.tree rest) (paren_settles levels m ts)
         ∙ bind_again (paren_at levels m ts) (λ b mid. settle_at levels m b mid) (λ a rest. Took a.tree rest)
     by false = ap (λ (o : Outcome Tree). o >>= λ n mid. reading levels (lua.variable_suffixes m (chained n chain shapes.Name)) mid >>= λ a rest. Took a.tree rest) (name_agrees levels ts) ∙ name_goes (name_at ts)
+
+-- the same behind what the suffixes are behind
+base_settles : (levels : ℕ) (m : Mode) (a : Chained) (ts : List Token) → (settle_at levels m a ts >>= λ a rest. Took a.tree rest) ≡ (suffixes_at levels m a ts >>= λ a rest. target_of a rest)
+unfolding settle_at
+base_settles levels m a ts = let all : length ts < suc (length ts) = omega arith in settles levels m (suc (length ts)) a.tree a.left a.shape ts all
+
+pub variable_agrees : (levels : ℕ) (m : Mode) (ts : List Token) → reading levels (lua.variable m) ts ≡ variable_at levels m ts
+unfolding variable_at applied_at
+variable_agrees levels m ts =
+    variable_settles levels m ts
+    ∙ bind_same (base_at levels m ts) (λ b mid. settle_at levels m b mid >>= λ a rest. Took a.tree rest) (λ b mid. suffixes_at levels m b mid >>= λ a rest. target_of a rest) (λ b mid. base_settles levels m b mid)
+    ∙ sym (bind_again (base_at levels m ts) (λ b mid. suffixes_at levels m b mid) (λ a rest. target_of a rest))
 
 -- ---- loops and choices
 

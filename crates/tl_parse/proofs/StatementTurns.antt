@@ -2,30 +2,26 @@
 use Rattle.std.proofs.Common.{◌≡◌, ℕ, ◌<◌, ◌-◌, Bool, true, false, cond, List, [], ◌∷◌, length, Option, None, refl, ap, ◌∙◌}
 use Rattle.std.specs.Prelude.{◌&&◌, not}
 use Rattle.tl_lex.specs.Lexing.{answers_left}
-use Rattle.tl_tree.specs.declared.mode.Mode.{Mode}
-use Rattle.tl_tree.specs.declared.mode.Shape.{Shape}
 use Rattle.tl_tree.specs.declared.symbol.Symbol.TheVariants as symbols
 use Rattle.tl_tree.specs.Symbols.{is_bad}
 use Rattle.tl_tree.specs.Tokens.{Token, is, sample, tokens_in}
 use Rattle.tl_tree.specs.declared.mode.Extra.TheVariants.{Plain}
 use Rattle.tl_tree.specs.Tree.{Tree, Nothing, More, Name, FunctionBody}
-use Rattle.tl_tree.specs.Grammar.{give, bind, Outcome, Took, ◌>>=◌, begins, unexpected, down}
-use Rattle.tl_tree.specs.Forms.{sign, name, listed_behind, Chained, chained}
-use Rattle.tl_tree.specs.LuaExpressions as expressions
+use Rattle.tl_tree.specs.Grammar.{give, bind, Outcome, Took, ◌>>=◌, begins}
+use Rattle.tl_tree.specs.Forms.{sign, name, listed_behind}
 use Rattle.tl_tree.specs.LuaStatements as lua
 use Rattle.tl_tree.specs.LuaStatements.{parameters_of}
 use Rattle.tl_parse.specs.Parsing.{tokens_left, token_of, with_token_by, HasNext}
 use Rattle.tl_parse.specs.Using.{reading, part_at, sign_at, open_at}
 use Rattle.tl_parse.specs.Codes.{opened_body_at}
-use Rattle.tl_parse.specs.Expressions.{name_at, attached, shape_of, suffix_at}
-use Rattle.tl_parse.specs.Statements.{first_place, is_unsettled, settling, settle_at, more_parameters_at, parameter_at, next_parameter_at, with_parameter, body_at}
+use Rattle.tl_parse.specs.Expressions.{name_at}
+use Rattle.tl_parse.specs.Statements.{first_place, more_parameters_at, parameter_at, next_parameter_at, with_parameter, body_at}
 use Rattle.tl_parse.specs.Paths.{more_names_at, next_name_at, behind_sign_at, path_names_at}
 use Rattle.tl_parse.specs.declared.parser.Parser.{Parser}
 use Rattle.tl_parse.proofs.Uses.{bind_same, repeats, ends, shorter_turn}
 use Rattle.tl_parse.proofs.Agreeing.{name_agrees}
 use Rattle.tl_parse.proofs.Turns.{list_goes, list_ends, list_shorter}
 use Rattle.tl_parse.proofs.Paths.{path_turn}
-use Rattle.tl_parse.proofs.AgreeingStatements.{settle_goes, settle_ends, settle_refuses}
 use Rattle.tl_parse.proofs.AgreeingStatements.{parameter_turn, body_agrees}
 use Rattle.tl_parse.proofs.Failing.{fails_after, fails_bind, fails_from, fails_same, fails_unexpected}
 
@@ -68,28 +64,6 @@ path_ends levels before ts h = ends levels (λ b t. is symbols.Dot t) (λ b t. P
 pub path_shorter : (x : Tree) (ts rest : List Token) → behind_sign_at symbols.Dot ts ≡ Took x rest → length rest < length ts
 path_shorter x ts rest e =
     shorter_turn 0 (λ t. is symbols.Dot t) (λ t. Plain) (λ t. None) (sample symbols.Dot) (λ x. bind (sign symbols.Name) λ n. give (More Nothing (Name x.0.place n.0.offset n.0.text))) (behind_sign_at symbols.Dot ts) (λ e. More Nothing e) x ts rest (path_turn 0 Nothing ts) e
-
--- ---- targets
-
-pub settles_on : (levels : ℕ) (m : Mode) (tree : Tree) (left : ℕ) (shape : Shape) (ts : List Token) → begins (λ t. expressions.is_suffix m t) ts ≡ true → settle_at levels m (chained tree left shape) ts ≡ (suffix_at levels m left ts >>= λ s rest. settle_at levels m (chained (attached s tree) (down left) (shape_of s)) rest)
-unfolding settle_at
-settles_on levels m tree left shape ts h = settle_goes levels m (chained tree left shape) (is_unsettled shape) ts h
-
-settles_by : (levels : ℕ) (m : Mode) (a : Chained) (b : Bool) (ts : List Token) → begins (λ t. expressions.is_suffix m t) ts ≡ false → b ≡ false → reading levels (settling b m a) ts ≡ Took a ts
-settles_by levels m a true ts h k = absurd cc
-settles_by levels m a false ts h k = settle_ends levels m a ts h
-
-pub settles : (levels : ℕ) (m : Mode) (tree : Tree) (left : ℕ) (shape : Shape) (ts : List Token) → begins (λ t. expressions.is_suffix m t) ts ≡ false → is_unsettled shape ≡ false → settle_at levels m (chained tree left shape) ts ≡ Took (chained tree left shape) ts
-unfolding settle_at
-settles levels m tree left shape ts h k = settles_by levels m (chained tree left shape) (is_unsettled shape) ts h k
-
-unsettled_by : (levels : ℕ) (m : Mode) (a : Chained) (b : Bool) (ts : List Token) → begins (λ t. expressions.is_suffix m t) ts ≡ false → b ≡ true → reading levels (settling b m a) ts ≡ unexpected ts
-unsettled_by levels m a true ts h k = settle_refuses levels m a ts h
-unsettled_by levels m a false ts h k = absurd cc
-
-pub unsettled : (levels : ℕ) (m : Mode) (tree : Tree) (left : ℕ) (shape : Shape) (ts : List Token) → begins (λ t. expressions.is_suffix m t) ts ≡ false → is_unsettled shape ≡ true → settle_at levels m (chained tree left shape) ts ≡ unexpected ts
-unfolding settle_at
-unsettled levels m tree left shape ts h k = unsettled_by levels m (chained tree left shape) (is_unsettled shape) ts h k
 
 -- ---- functions
 
@@ -137,7 +111,7 @@ pub ruleset names = (fails_bind, fails_after, fails_from, names_go, names_end, n
 
 pub ruleset paths = (fails_bind, fails_after, fails_from, path_goes, path_ends, path_shorter)
 
-pub ruleset variables = (fails_bind, fails_after, fails_from, fails_unexpected, settles_on, settles, unsettled)
+pub ruleset variables = (fails_bind, fails_after, fails_unexpected)
 
 pub ruleset parameters = (fails_bind, fails_after, fails_from, parameters_go, parameters_end, parameters_stop, parameter_shorter)
 

@@ -5,7 +5,8 @@ use Rattle.tl_tree.specs.declared.symbol.Symbol.{Symbol}
 use Rattle.tl_tree.specs.declared.symbol.Symbol.TheVariants as symbols
 use Rattle.tl_tree.specs.Tokens.{Token, is, among}
 use Rattle.tl_tree.specs.Tree.{Tree, Nothing, Just, Part, Expression, TerraExpression, Arguments, TerraArguments, Statements}
-use Rattle.tl_tree.specs.Tree.{FunctionBody, TerraFunctionBody, TerraStatements, Do, While, Repeat, If, Return, TerraDo, TerraWhile, TerraRepeat, TerraIf, TerraReturn}
+use Rattle.tl_tree.specs.Tree.{TerraStatements, Do, While, Repeat, If, Return, TerraDo, TerraWhile, TerraRepeat, TerraIf, TerraReturn}
+use Rattle.tl_tree.specs.Tree.{FunctionBody, TerraFunctionBody}
 use Rattle.tl_tree.specs.Grammar.{Grammar, Outcome, Took, ◌>>=◌, begins}
 use Rattle.tl_tree.specs.LuaExpressions as lua
 use Rattle.tl_tree.specs.LuaStatements as statements
@@ -57,7 +58,8 @@ unfoldable pub opened_body_at : ℕ → List Token → Outcome Tree
 opened_body_at levels ts = open_at symbols.OpenParen levels ts >>= λ t a. part_at (levels - 1) FunctionBody a
 
 unfoldable pub opened_terra_body_at : ℕ → List Token → Outcome Tree
-opened_terra_body_at levels ts = open_at symbols.OpenParen levels ts >>= λ t a. part_at (levels - 1) (TerraFunctionBody t.place) a
+opened_terra_body_at levels ts =
+    open_at symbols.OpenParen levels ts >>= λ t a. part_at (levels - 1) (TerraFunctionBody t.place) a
 
 -- the expressions in a block, its statements, and the arms behind those before
 abbrev pub code_of : BlockCode → Code

@@ -9,7 +9,7 @@ use Rattle.tl_tree.specs.Nodes.{laid, last, last_of, if_any}
 use Rattle.tl_tree.specs.Grammar.{Outcome, Took, ◌>>=◌, down}
 use Rattle.tl_tree.specs.Forms.{Chained, chained}
 use Rattle.tl_tree.specs.LuaStatements.{Sequence, sequence, Parameters, parameters_of}
-use Rattle.tl_parse.specs.Statements.{Numeric, Generic, settle_at, more_parameters_at}
+use Rattle.tl_parse.specs.Statements.{Numeric, Generic, more_parameters_at}
 use Rattle.tl_parse.specs.Blocks.{more_statements_at}
 use Rattle.tl_parse.specs.declared.statements.Numeric as code_statements
 use Rattle.tl_parse.specs.Parsing.{token_of, tokens_left, items_of, end_of}
@@ -119,11 +119,3 @@ pub record Sequencing (levels : ℕ) (block : BlockCode) (start now : Parser) (o
   pub finish : end_of now ≡ end_of start
   pub items : items_of now ≡ (laid tree (items_of start)).items
   pub list : numbers ≡ (laid tree (items_of start)).numbers
-
--- a target so far
-pub record Settling (levels : ℕ) (m : Mode) (start now : Parser) (o : Outcome Tree) (a : Operand) : Type 0 where
-  pub tree : Tree
-  pub goes_on : o ≡ (settle_at levels m (chained tree a.left a.shape) (tokens_left now) >>= λ a rest. Took a.tree rest)
-  pub finish : end_of now ≡ end_of start
-  pub items : items_of now ≡ (laid tree (items_of start)).items
-  pub is_last : a.node ≡ last_of (items_of now)

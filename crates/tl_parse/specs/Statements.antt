@@ -13,17 +13,16 @@ use Rattle.tl_tree.specs.Tokens.{Token, among, is}
 use Rattle.tl_tree.specs.Tree.{Tree, Nothing, More, Just, Assign, Perform, NumericFor}
 use Rattle.tl_tree.specs.Tree.{GenericFor, DefineFunction, LocalFunction, Local, Emit, Break, Arm}
 use Rattle.tl_tree.specs.Tree.{Body, Expression, Statements}
-use Rattle.tl_tree.specs.Grammar.{Grammar, bind, many, Outcome, Took, ◌>>=◌, begins}
-use Rattle.tl_tree.specs.Forms.{Chained}
+use Rattle.tl_tree.specs.Grammar.{Grammar, many, Outcome, Took, ◌>>=◌, begins, unexpected}
 use Rattle.tl_tree.specs.LuaStatements as lua
 use Rattle.tl_tree.specs.LuaStatements.{fresh, Parameters, parameters_of, body_mode}
 use Rattle.tl_parse.specs.Using.{symbol_at, reading, part_at, sign_at, open_at}
 use Rattle.tl_parse.specs.Lists.{more_elements_at, expressions_at, expressions_behind_at}
-use Rattle.tl_parse.specs.Expressions.{name_at, base_at, applied_at}
+use Rattle.tl_parse.specs.Expressions.{name_at, applied_at}
 use Rattle.tl_parse.specs.Paths.{more_names_at, names_at, path_at}
 use Rattle.tl_parse.specs.TerraDefinitions.{define_terra_at, define_struct_at, local_terra_at}
-use Rattle.tl_parse.specs.Codes.{expression_in, expression_behind_at, optional_expression_at, opened_body_at, code_of, statements_in, arms_of}
-use Rattle.tl_parse.specs.Codes.{looped_code, first_symbols, do_of, while_of, repeat_of, if_of, return_of}
+use Rattle.tl_parse.specs.Codes.{expression_in, expression_behind_at, optional_expression_at, code_of, statements_in, arms_of}
+use Rattle.tl_parse.specs.Codes.{opened_body_at, looped_code, first_symbols, do_of, while_of, repeat_of, if_of, return_of}
 use Rattle.tl_parse.specs.declared.parser.Code.{Code}
 use Rattle.tl_parse.specs.declared.parser.Code.TheVariants as codes
 use Rattle.tl_parse.specs.declared.parser.Element.TheVariants as elements
@@ -43,16 +42,10 @@ is_unsettled shapes.Call = true
 is_unsettled shapes.Other = true
 is_unsettled _ = false
 
--- suffixes behind a prefix expression, up to a variable
-abbrev pub settling : Bool → Mode → Chained → Grammar Chained
-settling true m a = bind (lua.to_variable m a) λ d. lua.variable_suffixes m d
-settling false m a = lua.variable_suffixes m a
-
-unfoldable pub settle_at : ℕ → Mode → Chained → List Token → Outcome Chained
-settle_at levels m a ts = reading levels (settling (is_unsettled a.shape) m a) ts
-
+-- a prefix expression that is a variable
 unfoldable pub variable_at : ℕ → Mode → List Token → Outcome Tree
-variable_at levels m ts = base_at levels m ts >>= λ b mid. settle_at levels m b mid >>= λ a rest. Took a.tree rest
+variable_at levels m ts = applied_at levels m false ts >>= λ a rest.
+    if is_unsettled a.shape then unexpected rest else Took a.tree rest
 
 abbrev pub is_call : Shape → Bool
 is_call shapes.Call = true

@@ -232,10 +232,7 @@ impl<'a> Parser<'a> {
         ensures ok { IfOk result (λ r. TookTree self.old self.new (variable_at levels mode (tokens_left self.old)) r) }
         ensures err { IfErr result (λ e. Fails self.old (variable_at levels mode (tokens_left self.old)) e) }
     {
-        let mut a = read!(self.base(mode, levels));
-        'more: while self.next_is_suffix(mode) {
-            a = read!(self.suffix(mode, levels, a));
-        }
+        let a = read!(self.applied(mode, levels, false));
         if is_unsettled(a.shape) {
             return Err(self.refusal());
         }
@@ -742,10 +739,10 @@ impl<'a> Parser<'a> {
         ensures ok { IfOk result (λ r. TookTree self.old self.new (opened_body_at levels (tokens_left self.old)) r) }
         ensures err { IfErr result (λ e. Fails self.old (opened_body_at levels (tokens_left self.old)) e) }
     {
-        read!(self.open(Symbol::OpenParen, levels));
+        pass!(self.open(Symbol::OpenParen, levels));
         let inner = levels - 1;
         let (names, variadic) = read!(self.parameters(inner));
-        read!(self.take(Symbol::CloseParen));
+        pass!(self.take(Symbol::CloseParen));
         let block = read!(self.block(BlockCode::Lua(fresh(variadic)), inner));
         self.close(
             Symbol::End,

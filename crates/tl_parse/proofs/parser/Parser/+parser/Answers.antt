@@ -12,7 +12,7 @@ use Rattle.tl_parse.specs.Parsing.{token_of, placed, tokens_left, items_of}
 use Rattle.tl_parse.specs.Expressions.{Suffixed, attached, shape_of, suffixes_at, field_at, fields_at, more_fields_at, suffix_at, next_field_at, more_if}
 use Rattle.tl_parse.specs.Lists.{next_element_at, more_elements_at, elements_at}
 use Rattle.tl_parse.specs.Ranks.{rank_at}
-use Rattle.tl_parse.specs.Statements.{arms_at, more_arms_at, variable_at, settle_at, next_arm_at}
+use Rattle.tl_parse.specs.Statements.{arms_at, more_arms_at, next_arm_at}
 use Rattle.tl_parse.specs.TerraExpressions.{TerraSuffixed, terra_attached, terra_shape_of, terra_suffixes_at, terra_applied_at, terra_suffix_at, next_initialiser_at, more_initialisers_at}
 use Rattle.tl_parse.specs.TerraExpressions.{terra_more_at, terra_binary_at}
 use Rattle.tl_parse.specs.TerraStatements.{terra_assignment_at}
@@ -29,7 +29,6 @@ use Rattle.tl_parse.proofs.Parts.{fields_part}
 use Rattle.tl_parse.proofs.Climbing.{ranked_below, one_more_shorter}
 use Rattle.tl_parse.proofs.Binding.{binding_first, binding_none, binding_next, binding_fails, binding_ends}
 use Rattle.tl_parse.proofs.TerraParts as terra_parts
-use Rattle.tl_parse.proofs.StatementTurns.{settles_on}
 use Rattle.tl_parse.proofs.Blocks.{block_goes, statement_shorter}
 use Rattle.tl_parse.proofs.Looping.{listing_first, listing_next, listing_stops, listing_ends, numbers_next, targets_begin, targets_next, names_begin, names_next}
 use Rattle.tl_parse.proofs.Looping.{body_fails}
@@ -42,10 +41,6 @@ use Rattle.tl_parse.proofs.parser.Parser.+parser.Goals as goal
 pub applied-more-smaller : goal.applied-more-smaller
 applied-more-smaller t c =
     suffix_shorter c.args.levels c.args.mode c.more.a.left c.in-Ok-suffix.ensures.ok.suffix (tokens_left c.more.self) (tokens_left c.suffix.new.self) (sym c.next_is_suffix-in-more.ensures ∙ c.more-test.true) c.in-Ok-suffix.ensures.ok.took
-
-pub variable-more-smaller : goal.variable-more-smaller
-variable-more-smaller t c =
-    suffix_shorter c.args.levels c.args.mode c.more.a.left c.in-Ok-suffix.ensures.ok.suffix (tokens_left c.more.self) (tokens_left c.suffix.new.self) (sym c.next_is_suffix.ensures ∙ c.more-test.true) c.in-Ok-suffix.ensures.ok.took
 
 pub binary-more-smaller : goal.binary-more-smaller
 binary-more-smaller t c =
@@ -88,10 +83,10 @@ for_statement-more-preserved t c =
 
 pub function_body-returns-in-Err-block-clause-err : goal.function_body-returns-in-Err-block-clause-err
 function_body-returns-in-Err-block-clause-err t c =
-    let o = c.in-Ok.ensures.ok in
-    let p = c.in-Ok-parameters.ensures.ok in
-    let s = c.in-Ok-take.ensures.ok in
-    body_fails c.args.self.now c.take.new.self c.args.levels (tokens_left c.open.new.self) (tokens_left c.parameters.new.self) (placed o.token c.in-Ok.x) p.tree c.in-Ok-parameters.x.1 (placed s.token c.in-Ok-take.x) c.fresh.result c.in-Err-block.e
+    let o = c.in_default.ensures.ok in
+    let p = c.in-Ok.ensures.ok in
+    let s = c.in_default-take.ensures.ok in
+    body_fails c.args.self.now c.take.new.self c.args.levels (tokens_left c.open.new.self) (tokens_left c.parameters.new.self) (placed o.token c.in_default.field-0) p.tree c.in-Ok.x.1 (placed s.token c.in_default-take.field-0) c.fresh.result c.in-Err-block.e
     o.took p.took s.took c.fresh.ensures (s.finish ∙ p.finish ∙ o.finish) c.in-Err-block.ensures.err
 
 pub terra_function_body-returns-in-Err-optional_expression-clause-err : goal.terra_function_body-returns-in-Err-optional_expression-clause-err
@@ -238,39 +233,6 @@ block-more-preserved t c =
       finish = s.finish ∙ i.finish;
       items = s.items ∙ ap (λ (x : List Item). (laid s.tree x).items) i.items;
       list = numbers_next c.args.self.now c.more.self _ i.tree s.tree c.in-Ok.x.0 c.more.list c.add.new.list i.items i.list s.items s.is_last c.in-Ok-add.ensures.ok;
-    }
-
-pub variable-more-init : goal.variable-more-init
-unfolding variable_at
-variable-more-init t c =
-    let o = c.in-Ok.ensures.ok in
-    record {
-      tree = o.tree;
-      goes_on = ap (λ (o : Outcome Chained). o >>= λ b mid. settle_at c.args.levels c.args.mode b mid >>= λ a rest. Took a.tree rest) o.took;
-      finish = o.finish;
-      items = o.items;
-      is_last = o.is_last;
-    }
-
-pub variable-more-preserved : goal.variable-more-preserved
-variable-more-preserved t c =
-    let i = c.more.invariant in
-    let s = c.in-Ok-suffix.ensures.ok in
-    let r = c.in-Ok-suffix.x in
-    let made : Tree = attached s.suffix i.tree in
-    let rest : List Token = tokens_left c.suffix.new.self in
-    record {
-      tree = made;
-      goes_on =
-          i.goes_on
-          ∙ ap (λ (o : Outcome Chained). o >>= λ a rest. Took a.tree rest)
-          (settles_on c.args.levels c.args.mode i.tree c.more.a.left c.more.a.shape (tokens_left c.more.self) (sym c.next_is_suffix.ensures ∙ c.more-test.true)
-          ∙ ap (λ (o : Outcome Suffixed). o >>= λ s rest. settle_at c.args.levels c.args.mode (chained (attached s i.tree) (down c.more.a.left) (shape_of s)) rest) s.took
-          ∙ ap (λ (left : ℕ). settle_at c.args.levels c.args.mode (chained made left (shape_of s.suffix)) rest) (sym s.left)
-          ∙ ap (λ (shape : Shape). settle_at c.args.levels c.args.mode (chained made r.left shape) rest) (sym s.shape));
-      finish = s.finish ∙ i.finish;
-      items = s.items i.tree (items_of c.args.self.now) i.items i.is_last;
-      is_last = s.is_last;
     }
 
 pub fields-more-init : goal.fields-more-init

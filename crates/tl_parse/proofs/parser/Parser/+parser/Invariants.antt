@@ -8,8 +8,8 @@ use Rattle.tl_parse.specs.Using.{part_at}
 use Rattle.tl_parse.specs.Expressions.{applied_at, binary_at, more_fields_at}
 use Rattle.tl_parse.specs.declared.parser.Code.TheVariants as codes
 use Rattle.tl_parse.specs.declared.parser.Element.TheVariants as elements
-use Rattle.tl_parse.specs.Going.{Binding, Applying, Listing, Settling, Sequencing}
-use Rattle.tl_parse.specs.Statements.{first_place, call_or_assignment_at, variable_at, arms_at, more_arms_at, for_at, generic_at}
+use Rattle.tl_parse.specs.Going.{Binding, Applying, Listing, Sequencing}
+use Rattle.tl_parse.specs.Statements.{first_place, call_or_assignment_at, arms_at, more_arms_at, for_at, generic_at}
 use Rattle.tl_parse.specs.Paths.{more_names_at}
 use Rattle.tl_parse.specs.TerraExpressions.{terra_binary_at, terra_applied_at}
 use Rattle.tl_parse.specs.TerraExpressions.{more_initialisers_at}
@@ -174,7 +174,7 @@ abbrev pub decreases-expressions_behind : goal.decreases-expressions_behind
 decreases-expressions_behind l = 64 * l.levels + 45
 
 abbrev pub decreases-variable : goal.decreases-variable
-decreases-variable l = 64 * l.levels + 13
+decreases-variable l = 64 * l.levels + 14
 
 abbrev pub decreases-while_statement : goal.decreases-while_statement
 decreases-while_statement l = 64 * l.levels + 37
@@ -214,12 +214,6 @@ invariant-call_or_assignment-more l = Listing l.fn.self l.self (call_or_assignme
 
 abbrev pub decreases-call_or_assignment-more : goal.decreases-call_or_assignment-more
 decreases-call_or_assignment-more l = length (tokens_left l.self)
-
-abbrev pub invariant-variable-more : goal.invariant-variable-more
-invariant-variable-more l = Settling l.fn.levels l.fn.mode l.fn.self l.self (variable_at l.fn.levels l.fn.mode (tokens_left l.fn.self)) l.a
-
-abbrev pub decreases-variable-more : goal.decreases-variable-more
-decreases-variable-more l = length (tokens_left l.self)
 
 abbrev pub invariant-arms-more : goal.invariant-arms-more
 invariant-arms-more l = Listing l.fn.self l.self (arms_at l.fn.levels l.fn.block (tokens_left l.fn.self)) (λ (before : Tree) (ts : List Token). more_arms_at l.fn.levels l.fn.block before ts) l.list
