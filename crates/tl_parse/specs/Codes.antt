@@ -4,8 +4,10 @@ use Rattle.tl_base.specs.declared.place.Place.{Place}
 use Rattle.tl_tree.specs.declared.symbol.Symbol.{Symbol}
 use Rattle.tl_tree.specs.declared.symbol.Symbol.TheVariants as symbols
 use Rattle.tl_tree.specs.Tokens.{Token, is, among}
-use Rattle.tl_tree.specs.Tree.{Tree, Nothing, Just, Part, Expression, TerraExpression, Arguments, TerraArguments, Statements}
-use Rattle.tl_tree.specs.Tree.{TerraStatements, Do, While, Repeat, If, Return, TerraDo, TerraWhile, TerraRepeat, TerraIf, TerraReturn}
+use Rattle.tl_tree.specs.Tree.{Tree, Nothing, Just, Part, Expression, TerraExpression, Arguments, TerraArguments}
+use Rattle.tl_tree.specs.Tree.{Statements}
+use Rattle.tl_tree.specs.Tree.{TerraStatements, Do, While, Repeat, If, Return, TerraDo, TerraWhile, TerraRepeat}
+use Rattle.tl_tree.specs.Tree.{TerraIf, TerraReturn}
 use Rattle.tl_tree.specs.Tree.{FunctionBody, TerraFunctionBody}
 use Rattle.tl_tree.specs.Grammar.{Grammar, Outcome, Took, ◌>>=◌, begins}
 use Rattle.tl_tree.specs.LuaExpressions as lua
@@ -34,12 +36,14 @@ expression_behind_at levels s code ts = sign_at s ts >>= λ y a. part_at levels 
 -- the same if the sign or word is there
 unfoldable pub optional_expression_at : ℕ → Symbol → Code → List Token → Outcome Tree
 optional_expression_at levels s code ts =
-    if begins (is s) ts then (expression_behind_at levels s code ts >>= λ e rest. Took (Just e) rest) else Took Nothing ts
+    if begins (is s) ts then (expression_behind_at levels s code ts >>= λ e rest. Took (Just e) rest)
+    else Took Nothing ts
 
 -- the tokens that begin an expression
 abbrev pub lua_symbols : List Symbol
 lua_symbols =
-    symbols.Name ∷ symbols.Numeral ∷ symbols.Literal ∷ symbols.Nil ∷ symbols.False ∷ symbols.True ∷ symbols.Ellipsis ∷ symbols.Function
+    symbols.Name ∷ symbols.Numeral ∷ symbols.Literal ∷ symbols.Nil ∷ symbols.False ∷ symbols.True ∷ symbols.Ellipsis
+    ∷ symbols.Function
     ∷ symbols.OpenParen ∷ symbols.OpenBrace ∷ symbols.Not ∷ symbols.Hash ∷ symbols.Minus ∷ symbols.Ampersand
     ∷ symbols.Terra ∷ symbols.Struct
     ∷ symbols.Quote ∷ symbols.Backtick ∷ []

@@ -1,6 +1,7 @@
--- What reading each name of the grammar of Lua expressions gives, from left to right. `proofs/Agreeing.antt` shows that it is what the
--- grammar of the name gives.
-use Rattle.std.specs.Prelude.{ℕ, zero, suc, ◌-◌, Bool, true, false, not, ◌&&◌, ◌==◌, List, [], ◌∷◌, if◌then◌else◌, Option, Some, None}
+-- What reading each name of the grammar of Lua expressions gives, from left to right. `proofs/Agreeing.antt` shows that
+-- it is what the grammar of the name gives.
+use Rattle.std.specs.Prelude.{ℕ, zero, suc, ◌-◌, Bool, true, false, not, ◌&&◌, ◌==◌, List, [], ◌∷◌, if◌then◌else◌}
+use Rattle.std.specs.Prelude.{Option, Some, None}
 use Rattle.tl_base.specs.declared.place.Place.{Place}
 use Rattle.tl_tree.specs.declared.symbol.Symbol.{Symbol}
 use Rattle.tl_tree.specs.declared.symbol.Symbol.TheVariants as symbols
@@ -19,7 +20,8 @@ use Rattle.tl_tree.specs.Forms.{separated_behind, Chained, chained, chain, opera
 use Rattle.tl_tree.specs.Forms.{comparisons, additive, multiplicative, operators}
 use Rattle.tl_tree.specs.LuaExpressions as lua
 use Rattle.tl_tree.specs.LuaExpressions.{is_varargs}
-use Rattle.tl_parse.specs.Using.{symbol_at, reading, part_at, sign_at, open_at, prefix_at, operator_at, raise_at, call_at}
+use Rattle.tl_parse.specs.Using.{symbol_at, reading, part_at, sign_at, open_at, prefix_at, operator_at, raise_at}
+use Rattle.tl_parse.specs.Using.{call_at}
 use Rattle.tl_parse.specs.Using.{number_at, sign_among_at}
 use Rattle.tl_parse.specs.Codes.{expression_behind_at, opened_body_at}
 use Rattle.tl_parse.specs.Lists.{expressions_at}
@@ -44,7 +46,8 @@ table_at levels m ts =
 -- ---- arguments
 
 unfoldable pub arguments_at : ℕ → Code → List Token → Outcome Tree
-arguments_at levels code ts = if begins (is symbols.CloseParen) ts then Took Nothing ts else expressions_at levels code ts
+arguments_at levels code ts =
+    if begins (is symbols.CloseParen) ts then Took Nothing ts else expressions_at levels code ts
 
 -- ---- prefix expressions
 
@@ -59,7 +62,8 @@ base_at levels m ts =
     if begins (is symbols.OpenParen) ts then paren_at levels m ts else (name_at ts
     >>= λ n rest. Took (chained n chain shapes.Name) rest)
 
--- a suffix without what is before it: the arguments of a call, a key, a name, a method's name and arguments, each with its place
+-- a suffix without what is before it: the arguments of a call, a key, a name, a method's name and arguments, each with
+-- its place
 pub data Suffixed : Type 0 where
   Calls Indexes Selects : Place → Tree → Suffixed
   CallsMethod : Place → Tree → Tree → Suffixed
@@ -281,7 +285,8 @@ is_name _ = false
 
 abbrev pub field_behind_at : ℕ → Mode → Chained → List Token → Outcome Tree
 field_behind_at levels m e ts =
-    if is_name e.shape then (if begins (is symbols.Equal) ts then (expression_behind_at levels symbols.Equal (codes.Lua m) ts
+    if is_name e.shape then (if begins (is symbols.Equal) ts
+    then (expression_behind_at levels symbols.Equal (codes.Lua m) ts
     >>= λ v rest. Took (NamedField e.tree v) rest) else Took e.tree ts)
     else Took e.tree ts
 

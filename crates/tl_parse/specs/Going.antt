@@ -38,8 +38,10 @@ pub record TookSuffix (old new : Parser) (o : Outcome Suffixed) (a r : Operand) 
       → a.node ≡ last_of (items_of old) → items_of new ≡ (laid (attached suffix tree) before).items
   pub is_last : r.node ≡ last_of (items_of new)
 
--- An operand and operators behind it are a tree so far, and the operators of the ranks from this one on, before that one, follow.
-pub record Binding (levels rank end : ℕ) (m : Mode) (start now : Parser) (o : Outcome Chained) (a : Operand) : Type 0 where
+-- An operand and operators behind it are a tree so far, and the operators of the ranks from this one on, before that
+-- one, follow.
+pub record Binding (levels rank end : ℕ) (m : Mode) (start now : Parser) (o : Outcome Chained)
+    (a : Operand) : Type 0 where
   pub tree : Tree
   pub goes_on : o ≡ ranks_at levels (end - rank) rank m (chained tree a.left a.shape) (tokens_left now)
   pub finish : end_of now ≡ end_of start
@@ -87,7 +89,8 @@ pub record TookGeneric (old new : Parser) (o : Outcome Generic) (values : List N
   pub block_is : block ≡ last_of (items_of new)
 
 -- the names of parameters, and whether `...` is one more
-pub record TookParameters (old new : Parser) (o : Outcome Parameters) (numbers : List NodeId) (variadic : Bool) : Type 0 where
+pub record TookParameters (old new : Parser) (o : Outcome Parameters) (numbers : List NodeId)
+    (variadic : Bool) : Type 0 where
   pub tree : Tree
   pub took : o ≡ Took (parameters_of tree variadic) (tokens_left new)
   pub finish : end_of new ≡ end_of old

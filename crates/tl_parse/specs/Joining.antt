@@ -10,7 +10,8 @@ use Rattle.tl_parse.specs.declared.parser.Parser.{Parser}
 use Rattle.tl_parse.specs.declared.parser.Next as code
 use Rattle.tl_parse.specs.declared.parser.Operand.{Operand}
 
-pub record Joined (old new : Parser) (t : code.Next) (a : Operand) (right : NodeId) (chain : ℕ) (r : Operand) : Type 0 where
+pub record Joined (old new : Parser) (t : code.Next) (a : Operand) (right : NodeId) (chain : ℕ)
+    (r : Operand) : Type 0 where
   pub pushed : Pushed old new (nodes.Expression t.place (expressions.Binary (binary_of t.symbol) a.node right)) r.node
   pub left : r.left ≡ chain
   pub shape : r.shape ≡ shapes.Other

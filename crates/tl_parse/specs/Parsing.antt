@@ -21,7 +21,8 @@ use Rattle.tl_parse.specs.declared.parser.Operand as operands
 
 -- a token of the code, without where its bytes lie in memory
 abbrev pub token_of : code.Next → Token
-token_of t = record { symbol = t.symbol; text = t.text.now; place = t.place; offset = t.offset; first_on_line = t.first_on_line }
+token_of t =
+    record { symbol = t.symbol; text = t.text.now; place = t.place; offset = t.offset; first_on_line = t.first_on_line }
 
 -- a token that breaks a rule of tokens is the last
 abbrev pub unless_bad : Bool → Token → List Token → List Token
@@ -89,7 +90,8 @@ pub record TookToken (old new : Parser) (o : Outcome Token) (t : code.Next) : Ty
 
 -- a token at this place, with all else that another has
 abbrev pub placed : Token → Place → Token
-placed t place = record { symbol = t.symbol; text = t.text; place = place; offset = t.offset; first_on_line = t.first_on_line }
+placed t place =
+    record { symbol = t.symbol; text = t.text; place = place; offset = t.offset; first_on_line = t.first_on_line }
 
 -- the code took a token at this place where the outcome does
 pub record TookPlace (old new : Parser) (o : Outcome Token) (place : Place) : Type 0 where

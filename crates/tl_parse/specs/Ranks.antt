@@ -41,7 +41,7 @@ is_of_rank rank t = rank_of t.symbol == rank
 unfoldable pub ranked_at : ℕ → ℕ → List Token → Outcome Token
 ranked_at rank left ts = used (is_of_rank rank) false 0 (Continues left) ts
 
--- The rank from which it goes on behind an operator and its right operand: operators that group to the left may follow one another, and
--- what follows `..` belongs to its right operand.
+-- The rank from which it goes on behind an operator and its right operand: operators that group to the left may follow
+-- one another, and what follows `..` belongs to its right operand.
 abbrev pub rank_behind : ℕ → ℕ
 rank_behind rank = if rank == 2 then 3 else rank

@@ -1,5 +1,5 @@
--- What reading each name of the grammar of Lua statements and functions gives, from left to right. `proofs/AgreeingStatements.antt` shows
--- that it is what the grammar of the name gives.
+-- What reading each name of the grammar of Lua statements and functions gives, from left to right.
+-- `proofs/AgreeingStatements.antt` shows that it is what the grammar of the name gives.
 use Rattle.std.specs.Prelude.{ℕ, ◌-◌, Bool, true, false, not, ◌&&◌, List, [], ◌∷◌, if◌then◌else◌, Option, Some, None}
 use Rattle.tl_base.specs.declared.place.Place.{Place}
 use Rattle.tl_tree.specs.declared.symbol.Symbol.{Symbol}
@@ -21,8 +21,10 @@ use Rattle.tl_parse.specs.Lists.{more_elements_at, expressions_at, expressions_b
 use Rattle.tl_parse.specs.Expressions.{name_at, applied_at}
 use Rattle.tl_parse.specs.Paths.{more_names_at, names_at, path_at}
 use Rattle.tl_parse.specs.TerraDefinitions.{define_terra_at, define_struct_at, local_terra_at}
-use Rattle.tl_parse.specs.Codes.{expression_in, expression_behind_at, optional_expression_at, code_of, statements_in, arms_of}
-use Rattle.tl_parse.specs.Codes.{opened_body_at, looped_code, first_symbols, do_of, while_of, repeat_of, if_of, return_of}
+use Rattle.tl_parse.specs.Codes.{expression_in, expression_behind_at, optional_expression_at, code_of, statements_in}
+use Rattle.tl_parse.specs.Codes.{arms_of}
+use Rattle.tl_parse.specs.Codes.{opened_body_at, looped_code, first_symbols, do_of, while_of, repeat_of, if_of}
+use Rattle.tl_parse.specs.Codes.{return_of}
 use Rattle.tl_parse.specs.declared.parser.Code.{Code}
 use Rattle.tl_parse.specs.declared.parser.Code.TheVariants as codes
 use Rattle.tl_parse.specs.declared.parser.Element.TheVariants as elements
@@ -56,7 +58,8 @@ call_or_assignment_at levels m ts =
     applied_at levels m true ts >>= λ a b.
     if is_call a.shape then Took (Perform (first_place ts) a.tree) b
     else (more_elements_at levels (elements.Target m) (More Nothing a.tree) b >>= λ targets c.
-    expressions_behind_at levels symbols.Equal (codes.Lua m) c >>= λ es rest. Took (Assign (first_place ts) targets es) rest)
+    expressions_behind_at levels symbols.Equal (codes.Lua m) c
+    >>= λ es rest. Took (Assign (first_place ts) targets es) rest)
 
 -- ---- loops and choices
 
@@ -70,7 +73,8 @@ loop_at levels block ts =
     sign_at symbols.End b >>= λ y rest. Took x rest
 
 unfoldable pub while_at : ℕ → BlockCode → List Token → Outcome Tree
-while_at levels block ts = sign_at symbols.While ts >>= λ t a. part_at levels (expression_in (code_of block)) a >>= λ e b.
+while_at levels block ts =
+    sign_at symbols.While ts >>= λ t a. part_at levels (expression_in (code_of block)) a >>= λ e b.
     loop_at levels block b >>= λ x rest. Took (while_of block t.place e x) rest
 
 unfoldable pub repeat_at : ℕ → BlockCode → List Token → Outcome Tree
@@ -153,7 +157,8 @@ local_function_at levels place ts =
     opened_body_at levels b >>= λ x rest. Took (LocalFunction place n x) rest
 
 unfoldable pub initial_values_at : ℕ → Code → List Token → Outcome Tree
-initial_values_at levels code ts = if begins (is symbols.Equal) ts then expressions_behind_at levels symbols.Equal code ts
+initial_values_at levels code ts =
+    if begins (is symbols.Equal) ts then expressions_behind_at levels symbols.Equal code ts
     else Took Nothing ts
 
 unfoldable pub local_names_at : ℕ → Mode → Place → List Token → Outcome Tree
@@ -171,7 +176,8 @@ local_at levels c ts =
     else local_names_at levels c.mode t.place a)
 
 unfoldable pub returned_values_at : ℕ → Code → List Token → Outcome Tree
-returned_values_at levels code ts = if begins (among (first_symbols code)) ts then expressions_at levels code ts else Took Nothing ts
+returned_values_at levels code ts =
+    if begins (among (first_symbols code)) ts then expressions_at levels code ts else Took Nothing ts
 
 unfoldable pub return_at : ℕ → BlockCode → List Token → Outcome Tree
 return_at levels block ts = sign_at symbols.Return ts >>= λ t a. returned_values_at levels (code_of block) a

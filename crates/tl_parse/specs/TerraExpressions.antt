@@ -19,7 +19,8 @@ use Rattle.tl_tree.specs.Forms.{separated_behind, Chained, chained, chain, opera
 use Rattle.tl_tree.specs.Forms.{comparisons, additive, multiplicative, operators}
 use Rattle.tl_tree.specs.TerraExpressions as terra
 use Rattle.tl_tree.specs.TerraExpressions.{terra_numerals, terra_prefix_symbols, shifts}
-use Rattle.tl_parse.specs.Using.{symbol_at, reading, part_at, used, sign_at, open_at, prefix_at, operator_at, raise_at, call_at}
+use Rattle.tl_parse.specs.Using.{symbol_at, reading, part_at, used, sign_at, open_at, prefix_at, operator_at, raise_at}
+use Rattle.tl_parse.specs.Using.{call_at}
 use Rattle.tl_parse.specs.Using.{sign_among_at}
 use Rattle.tl_parse.specs.Codes.{expression_behind_at}
 use Rattle.tl_parse.specs.Expressions.{name_at, literal_at, is_name, separators}
@@ -149,7 +150,8 @@ terra_simple_at ts =
 -- the tokens that begin such an operand
 abbrev pub terra_simple_symbols : List Symbol
 terra_simple_symbols =
-    symbols.Numeral ∷ symbols.LongNumeral ∷ symbols.UnsignedNumeral ∷ symbols.Literal ∷ symbols.Nil ∷ symbols.False ∷ symbols.True ∷ []
+    symbols.Numeral ∷ symbols.LongNumeral ∷ symbols.UnsignedNumeral ∷ symbols.Literal ∷ symbols.Nil
+    ∷ symbols.False ∷ symbols.True ∷ []
 
 unfoldable pub terra_primary_at : ℕ → ℕ → List Token → Outcome Chained
 terra_primary_at levels left ts =
@@ -244,7 +246,8 @@ next_initialiser_at levels named ts =
 -- The first initialiser, and whether it is named: a name alone before "=" is.
 abbrev pub initialiser_behind_at : ℕ → Chained → List Token → Outcome (Tree × Bool)
 initialiser_behind_at levels e ts =
-    if is_name e.shape then (if begins (is symbols.Equal) ts then (expression_behind_at levels symbols.Equal codes.Terra ts
+    if is_name e.shape then (if begins (is symbols.Equal) ts
+    then (expression_behind_at levels symbols.Equal codes.Terra ts
     >>= λ v rest. Took (NamedField e.tree v, true) rest)
     else Took (e.tree, false) ts)
     else Took (e.tree, false) ts

@@ -19,8 +19,10 @@ use Rattle.tl_parse.specs.declared.parser.Next as code
 use Rattle.tl_parse.specs.declared.parser.Operand.{Operand}
 
 -- An operator with its operands is added.
-pub record TerraJoined (old new : Parser) (t : code.Next) (a : Operand) (right : NodeId) (chain : ℕ) (r : Operand) : Type 0 where
-  pub pushed : Pushed old new (nodes.TerraExpression t.place (expressions.Binary (binary_of t.symbol) a.node right)) r.node
+pub record TerraJoined (old new : Parser) (t : code.Next) (a : Operand) (right : NodeId) (chain : ℕ)
+    (r : Operand) : Type 0 where
+  pub pushed :
+      Pushed old new (nodes.TerraExpression t.place (expressions.Binary (binary_of t.symbol) a.node right)) r.node
   pub left : r.left ≡ chain
   pub shape : r.shape ≡ shapes.Other
 
@@ -36,7 +38,8 @@ pub record TookTerraSuffix (old new : Parser) (o : Outcome TerraSuffixed) (a r :
   pub is_last : r.node ≡ last_of (items_of new)
 
 -- An operand and operators behind it are a tree so far, and the rest is read from here as from the beginning.
-pub record TerraBinding (levels : ℕ) (p : TerraPrecedence) (start now : Parser) (o : Outcome Chained) (a : Operand) : Type 0 where
+pub record TerraBinding (levels : ℕ) (p : TerraPrecedence) (start now : Parser) (o : Outcome Chained)
+    (a : Operand) : Type 0 where
   pub tree : Tree
   pub goes_on : o ≡ terra_more_at levels p (chained tree a.left a.shape) (tokens_left now)
   pub finish : end_of now ≡ end_of start
@@ -44,7 +47,8 @@ pub record TerraBinding (levels : ℕ) (p : TerraPrecedence) (start now : Parser
   pub is_last : a.node ≡ last_of (items_of now)
 
 -- a `tsuf` so far
-pub record TerraApplying (levels : ℕ) (start now : Parser) (o : Outcome Chained) (a : Operand) : Type 0 where
+pub record TerraApplying (levels : ℕ) (start now : Parser) (o : Outcome Chained)
+    (a : Operand) : Type 0 where
   pub tree : Tree
   pub goes_on : o ≡ terra_suffixes_at levels (chained tree a.left a.shape) (tokens_left now)
   pub finish : end_of now ≡ end_of start
@@ -52,7 +56,8 @@ pub record TerraApplying (levels : ℕ) (start now : Parser) (o : Outcome Chaine
   pub is_last : a.node ≡ last_of (items_of now)
 
 -- the first initialiser, and whether it is named
-pub record TookInitialiser (old new : Parser) (o : Outcome (Tree × Bool)) (number : NodeId) (named : Bool) : Type 0 where
+pub record TookInitialiser (old new : Parser) (o : Outcome (Tree × Bool)) (number : NodeId)
+    (named : Bool) : Type 0 where
   pub tree : Tree
   pub took : o ≡ Took (tree, named) (tokens_left new)
   pub finish : end_of new ≡ end_of old

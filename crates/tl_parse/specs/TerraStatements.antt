@@ -41,7 +41,8 @@ placed_name place n = record { place = place; name = n }
 
 unfoldable pub placed_name_at : ℕ → List Token → Outcome PlacedName
 placed_name_at levels ts =
-    if begins (is symbols.OpenBracket) ts then (escape_at levels ts >>= λ e rest. Took (placed_name (first_place ts) e) rest)
+    if begins (is symbols.OpenBracket) ts
+    then (escape_at levels ts >>= λ e rest. Took (placed_name (first_place ts) e) rest)
     else (sign_at symbols.Name ts >>= λ n rest. Took (placed_name n.place (Name n.place n.offset n.text)) rest)
 
 unfoldable pub terra_variable_at : ℕ → List Token → Outcome Tree
@@ -88,7 +89,8 @@ terra_for_at levels ts =
 
 unfoldable pub terra_var_at : ℕ → List Token → Outcome Tree
 terra_var_at levels ts =
-    sign_at symbols.Var ts >>= λ t a. elements_at levels elements.TerraVariable a >>= λ vs b. initial_values_at levels codes.Terra b
+    sign_at symbols.Var ts >>= λ t a. elements_at levels elements.TerraVariable a >>= λ vs b.
+    initial_values_at levels codes.Terra b
     >>= λ es rest. Took (Var t.place vs es) rest
 
 unfoldable pub escape_block_at : ℕ → List Token → Outcome Tree
@@ -123,7 +125,8 @@ terra_statement_at levels ts = terra_statement_from levels (symbol_at ts) ts
 -- a parameter that Lua code gives, or a name with its type
 unfoldable pub terra_parameter_at : ℕ → List Token → Outcome Tree
 terra_parameter_at levels ts =
-    placed_name_at levels ts >>= λ p a. if begins (is symbols.OpenBracket) ts then Took (SpliceParameter p.place p.name) a
+    placed_name_at levels ts >>= λ p a.
+    if begins (is symbols.OpenBracket) ts then Took (SpliceParameter p.place p.name) a
     else (expression_behind_at levels symbols.Colon (codes.Lua modes.Types) a
     >>= λ e rest. Took (Parameter p.place p.name e) rest)
 
@@ -139,5 +142,6 @@ terra_function_body_at levels place ts =
     sign_at symbols.End e >>= λ z rest. Took (TerraBody place ps r x) rest
 
 unfoldable pub quoted_code_at : ℕ → List Token → Outcome Tree
-quoted_code_at levels ts = part_at levels TerraStatements ts >>= λ x a. optional_expression_at levels symbols.In codes.Terra a
+quoted_code_at levels ts =
+    part_at levels TerraStatements ts >>= λ x a. optional_expression_at levels symbols.In codes.Terra a
     >>= λ e rest. Took (Quoted x e) rest

@@ -10,7 +10,8 @@ use Rattle.tl_tree.specs.declared.mode.Extra.{Extra}
 use Rattle.tl_tree.specs.declared.mode.Extra.TheVariants.{Plain, Continues, Calls, LuaNumber, TerraNumber}
 use Rattle.tl_tree.specs.Tokens.{Token, among, is}
 use Rattle.tl_tree.specs.Tree.{Tree, Part, FunctionBody}
-use Rattle.tl_tree.specs.Grammar.{Grammar, Outcome, Took, Stop, blame, run, below, bar, is_of, unless, calls, chain_too_long}
+use Rattle.tl_tree.specs.Grammar.{Grammar, Outcome, Took, Stop, blame, run, below, bar, is_of, unless, calls}
+use Rattle.tl_tree.specs.Grammar.{chain_too_long}
 use Rattle.tl_tree.specs.Syntax.{syntax_of}
 
 -- the symbol of the next token, or of the end

@@ -11,7 +11,8 @@ use Rattle.tl_tree.specs.declared.tree.Tree as trees
 use Rattle.tl_parse.specs.declared.error.SyntaxError.{SyntaxError}
 use Rattle.tl_parse.specs.declared.error.SyntaxError.TheVariants as errors
 
--- The result is the tree of a text that ends at this place, unless memory ran out: its nodes are those of the tree, in their order.
+-- The result is the tree of a text that ends at this place, unless memory ran out: its nodes are those of the tree, in
+-- their order.
 abbrev pub GivesTree : Tree → Place → Result trees.Tree SyntaxError → Type 0
 GivesTree tree finish (Ok t) = (items_of t ≡ lay tree []) × (end_of t ≡ finish)
 GivesTree tree finish (Err e) = e ≡ errors.NoMemory

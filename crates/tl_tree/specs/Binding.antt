@@ -1,5 +1,6 @@
 -- Texts that differ in the names of their locals alone.
-use Rattle.std.specs.Prelude.{◌≡◌, ℕ, zero, suc, ◌+◌, ◌==◌, ◌||◌, Bool, true, false, List, [], ◌∷◌, length, Option, Some, None}
+use Rattle.std.specs.Prelude.{◌≡◌, ℕ, zero, suc, ◌+◌, ◌==◌, ◌||◌, Bool, true, false, List, [], ◌∷◌, length, Option}
+use Rattle.std.specs.Prelude.{Some, None}
 use Rattle.tl_base.specs.declared.place.Place.{Place}
 use Rattle.tl_base.specs.declared.ids.NodeId.{NodeId}
 use Rattle.tl_lex.specs.Values as literals
@@ -15,7 +16,8 @@ use Rattle.tl_tree.specs.Texts.{Reads}
 use Rattle.tl_tree.specs.Code.{Items}
 use Rattle.tl_tree.specs.Scopes.{Found, binder, declarations}
 
--- A node without the names of locals. Nodes have numbers in order of the text, and a declaration has that of the node that makes it.
+-- A node without the names of locals. Nodes have numbers in order of the text, and a declaration has that of the node
+-- that makes it.
 pub data BoundItem : Type 0 where
   -- a local's name that is declared, and a use of a local, each with the declaration's number
   Declared Used : Place → ℕ → BoundItem
@@ -64,8 +66,8 @@ bound_from items n (item ∷ more) = bound_item items n item ∷ bound_from item
 abbrev pub bound : Items → Place → Bound
 bound items finish = record { items = bound_from items 0 items; finish = finish }
 
--- Two texts that read, and bind alike: they differ in nothing but the names of locals, in how numerals and literals of one value are
--- written, and in what stands between tokens, as far as places and the grammar don't tell of it.
+-- Two texts that read, and bind alike: they differ in nothing but the names of locals, in how numerals and literals of
+-- one value are written, and in what stands between tokens, as far as places and the grammar don't tell of it.
 pub record Alike (a b : List ℕ) : Type 0 where
   pub tree : Tree
   pub other : Tree

@@ -103,7 +103,8 @@ body_of method _ = no_parts
 
 -- The node that a function is made with: the statement that defines it under a path, and its body where there is none.
 abbrev pub function_of : Items → Item → Parts
-function_of items (kept.Statement place (statements.Function path body)) = body_of (names_method items path) (item_at items body)
+function_of items (kept.Statement place (statements.Function path body)) =
+    body_of (names_method items path) (item_at items body)
 function_of items item = body_of false item
 
 abbrev pub function_at : Items → NodeId → Parts

@@ -1,12 +1,15 @@
 -- Which declaration a use of a local name refers to, by the text alone (Lua 5.1 manual, section 2.6).
 --
--- Declarations have owners: a block with the statements in it; a function, with its parameters and an implicit `self` before them; a
--- `for`, with its variables; a `repeat`, whose condition sees what its block declares; a quote, whose expression behind `in` sees it too;
--- and each of these of Terra code. Parameters and variables are declared before what the block of their owner declares.
+-- Declarations have owners: a block with the statements in it; a function, with its parameters and an implicit `self`
+-- before them; a `for`, with its variables; a `repeat`, whose condition sees what its block declares; a quote, whose
+-- expression behind `in` sees it too; and each of these of Terra code. Parameters and variables are declared before
+-- what the block of their owner declares.
 --
--- A local's scope begins after its statement; a `local function`, `local terra` or `local struct` sees itself. A parameter's scope is its
--- function's block alone, so the types of parameters and the result type of a Terra function don't see it.
-use Rattle.std.specs.Prelude.{ℕ, zero, suc, ◌+◌, Bool, true, false, List, [], ◌∷◌, ◌++◌, length, take, map, flat_map, replicate, codes}
+-- A local's scope begins after its statement; a `local function`, `local terra` or `local struct` sees itself. A
+-- parameter's scope is its function's block alone, so the types of parameters and the result type of a Terra function
+-- don't see it.
+use Rattle.std.specs.Prelude.{ℕ, zero, suc, ◌+◌, Bool, true, false, List, [], ◌∷◌, ◌++◌, length, take, map, flat_map}
+use Rattle.std.specs.Prelude.{replicate, codes}
 use Rattle.std.specs.Prelude.{bytes_eq, nat_lt, slice_set, slice_index_or, Option, Some, None, if◌then◌else◌}
 use Rattle.tl_base.specs.declared.ids.NodeId.{NodeId}
 use Rattle.tl_tree.specs.declared.node.Expression as of_expressions
@@ -76,8 +79,8 @@ sees_itself _ = false
 
 -- ---- what is within a node
 
--- The nodes within a node: those that stand where it stands itself; the names that it declares; the statements of the block that is the
--- scope of these names; and those behind the block that see all that is declared in it.
+-- The nodes within a node: those that stand where it stands itself; the names that it declares; the statements of the
+-- block that is the scope of these names; and those behind the block that see all that is declared in it.
 pub record Within : Type 0 where
   pub around : List NodeId
   pub names : List NodeId
@@ -89,7 +92,8 @@ abbrev pub plain : List NodeId → Within
 plain ns = record { around = ns; names = []; statements = []; behind = [] }
 
 abbrev pub owner : List NodeId → List NodeId → List NodeId → List NodeId → Within
-owner around names statements behind = record { around = around; names = names; statements = statements; behind = behind }
+owner around names statements behind =
+    record { around = around; names = names; statements = statements; behind = behind }
 
 -- the first name of a path, which is used, while the others are selected
 abbrev pub first_only : List NodeId → List NodeId
@@ -111,7 +115,8 @@ within_function items n around method _ = plain around
 
 abbrev pub within_terra_function : Items → NodeId → List NodeId → Bool → Item → Within
 within_terra_function items n around method (kept.Piece (pieces.TerraBody place parameters result block)) =
-    owner (around ++ parameters ++ if_any result) (implicit_self method n ++ all_bound_by items parameters) (statements_at items block) []
+    owner (around ++ parameters ++ if_any result) (implicit_self method n ++ all_bound_by items parameters)
+    (statements_at items block) []
 within_terra_function items n around method _ = plain around
 
 abbrev pub within_expression : of_expressions.Expression → Within
@@ -163,7 +168,8 @@ within_terra_expression items (terra_expressions.Escape e) = plain (e ∷ [])
 within_terra_expression items (terra_expressions.Index a key) = plain (a ∷ key ∷ [])
 within_terra_expression items (terra_expressions.Select a name) = plain (a ∷ unless_name items name)
 within_terra_expression items (terra_expressions.Call f arguments) = plain (f ∷ arguments)
-within_terra_expression items (terra_expressions.Method a name arguments) = plain (a ∷ unless_name items name ++ arguments)
+within_terra_expression items (terra_expressions.Method a name arguments) =
+    plain (a ∷ unless_name items name ++ arguments)
 within_terra_expression items (terra_expressions.Construct type initialisers) = plain (type ∷ initialisers)
 within_terra_expression items _ = plain []
 
@@ -173,7 +179,8 @@ within_terra_statement items (terra_statements.Call e) = plain (e ∷ [])
 within_terra_statement items (terra_statements.Splice e) = plain (e ∷ [])
 within_terra_statement items (terra_statements.Do block) = plain (block ∷ [])
 within_terra_statement items (terra_statements.While condition block) = plain (condition ∷ block ∷ [])
-within_terra_statement items (terra_statements.Repeat block condition) = owner [] [] (statements_at items block) (condition ∷ [])
+within_terra_statement items (terra_statements.Repeat block condition) =
+    owner [] [] (statements_at items block) (condition ∷ [])
 within_terra_statement items (terra_statements.If arms otherwise) = plain (arms ++ if_any otherwise)
 within_terra_statement items (terra_statements.For name first limit step block) =
     owner (unless_name items name ++ first ∷ limit ∷ if_any step) (if_name items name) (statements_at items block) []
@@ -185,7 +192,8 @@ within_terra_statement items terra_statements.Break = plain []
 abbrev pub within_piece : Items → NodeId → of_pieces.Piece → Within
 within_piece items n (pieces.Block ns) = owner [] [] ns []
 within_piece items n (pieces.Arm condition block) = plain (condition ∷ block ∷ [])
-within_piece items n (pieces.Body names variadic block) = within_function items n [] false (kept.Piece (pieces.Body names variadic block))
+within_piece items n (pieces.Body names variadic block) =
+    within_function items n [] false (kept.Piece (pieces.Body names variadic block))
 within_piece items n (pieces.Path names method) = plain []
 within_piece items n (pieces.NamedField name value) = plain (value ∷ [])
 within_piece items n (pieces.KeyedField key value) = plain (key ∷ value ∷ [])
@@ -217,8 +225,8 @@ declarations items n = all_declared items (within items n)
 
 -- ---- where a node stands
 
--- A node, and where it stands: the innermost owner around it, and how many of this owner's declarations are in scope. Around the owner
--- those are in scope that are where the owner stands.
+-- A node, and where it stands: the innermost owner around it, and how many of this owner's declarations are in scope.
+-- Around the owner those are in scope that are where the owner stands.
 pub record Part : Type 0 where
   pub node : NodeId
   pub scope : Scope
@@ -226,7 +234,8 @@ pub record Part : Type 0 where
 abbrev pub all_in : Scope → List NodeId → List Part
 all_in scope ns = map (λ n. record { node = n; scope = scope }) ns
 
--- The statements of an owner that has declared so many names before them. Each is in the scope of what those before it declare.
+-- The statements of an owner that has declared so many names before them. Each is in the scope of what those before it
+-- declare.
 abbrev pub in_order : Items → NodeId → ℕ → List NodeId → List Part
 in_order items owner count [] = []
 in_order items owner count (n ∷ ns) =
@@ -261,8 +270,8 @@ abbrev pub parts_if_any : Items → NodeId → Option Scope → List Part
 parts_if_any items n None = []
 parts_if_any items n (Some scope) = parts items n scope
 
--- The nodes below a number, from the last to the first, give their parts where these stand. A part has a smaller number than the node that
--- it is in, so each node has been given its own before.
+-- The nodes below a number, from the last to the first, give their parts where these stand. A part has a smaller number
+-- than the node that it is in, so each node has been given its own before.
 abbrev pub give_below : Items → ℕ → Standing → Standing
 give_below items zero standing = standing
 give_below items (suc k) standing =
@@ -276,7 +285,8 @@ outermost root = record { owner = record { 0 = suc root.0 }; count = 0 }
 abbrev pub standing_at_first : NodeId → Standing
 standing_at_first root = slice_set (replicate (suc root.0) None) root.0 (Some (outermost root))
 
--- Where each node stands. Names that are declared or selected stand nowhere, nor does a block that is part of a larger owner.
+-- Where each node stands. Names that are declared or selected stand nowhere, nor does a block that is part of a larger
+-- owner.
 abbrev pub standing_of : Items → Standing
 standing_of items = let root = last_of items in give_below items (suc root.0) (standing_at_first root)
 
@@ -285,7 +295,8 @@ scope_at items n = scope_in (standing_of items) n.0
 
 -- ---- looking a name up
 
--- What a use finds: how many owners to go outwards, the position among the declarations there, and the node that declares.
+-- What a use finds: how many owners to go outwards, the position among the declarations there, and the node that
+-- declares.
 abbrev pub Found : Type 0
 Found = Binder
 
@@ -304,8 +315,8 @@ last_found asked depth at (d ∷ ds) =
 abbrev pub declared_in : Items → Scope → List NodeId
 declared_in items scope = take scope.count (declarations items scope.owner)
 
--- The last of the declarations in scope that is one of those asked for; where there is none, the owner around is asked. There are no more
--- owners than nodes.
+-- The last of the declarations in scope that is one of those asked for; where there is none, the owner around is asked.
+-- There are no more owners than nodes.
 abbrev pub found_from : ℕ → Items → Standing → (NodeId → Bool) → ℕ → Option Scope → Option Found
 found_from zero items standing asked depth scope = None
 found_from (suc owners) items standing asked depth None = None
@@ -318,9 +329,11 @@ abbrev pub has_name : Items → List ℕ → NodeId → Bool
 has_name items name d = bytes_eq (declared_name (item_at items d)) name
 
 abbrev pub found_for : Items → Standing → Item → Option Scope → Option Found
-found_for items standing (kept.Name place offset text) scope = found_from (length standing) items standing (has_name items text) 0 scope
+found_for items standing (kept.Name place offset text) scope =
+    found_from (length standing) items standing (has_name items text) 0 scope
 found_for items standing _ scope = None
 
--- Where the use of a local finds its declaration. There is none for the use of a global, and for a node that is no use of a name.
+-- Where the use of a local finds its declaration. There is none for the use of a global, and for a node that is no use
+-- of a name.
 abbrev pub binder : Items → NodeId → Option Found
 binder items n = let standing = standing_of items in found_for items standing (item_at items n) (scope_in standing n.0)
