@@ -1,0 +1,12 @@
+import sys, os, subprocess, importlib.machinery, importlib.util
+clone, name, rest = sys.argv[1], sys.argv[2], sys.argv[3:]
+sys.argv=["rt"]
+loader = importlib.machinery.SourceFileLoader("rtmain", "/opt/rattle/bin/rt")
+spec = importlib.util.spec_from_loader("rtmain", loader)
+rt = importlib.util.module_from_spec(spec); sys.modules["rtmain"] = rt; loader.exec_module(rt)
+rtlib = rt.rtlib
+os.chdir(clone)
+c = {it.name: it for it in rtlib.crates_below(clone)}[name]
+words = [rtlib.RATTLE, "check", *c.words(["--jobs","1",*rest], keeps=False)]
+print(" ".join(words)); sys.stdout.flush()
+sys.exit(subprocess.run(words, cwd=c.folder).returncode)
