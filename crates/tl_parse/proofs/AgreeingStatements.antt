@@ -5,9 +5,9 @@ use Rattle.tl_base.specs.declared.place.Place.{Place}
 use Rattle.tl_lex.specs.declared.SyntaxKind.{SyntaxKind}
 use Rattle.tl_tree.specs.declared.mode.Mode.{Mode}
 use Rattle.tl_tree.specs.declared.mode.Context.{Context}
-use Rattle.tl_tree.specs.declared.mode.Shape.{Shape}
-use Rattle.tl_tree.specs.declared.mode.Shape.TheVariants as shapes
-use Rattle.tl_tree.specs.declared.mode.Extra.TheVariants.{Plain}
+use Rattle.tl_tree.specs.declared.mode.OperandKind.{OperandKind}
+use Rattle.tl_tree.specs.declared.mode.OperandKind.TheVariants as operands
+use Rattle.tl_tree.specs.declared.mode.TokenUse.TheVariants.{Plain}
 use Rattle.tl_tree.specs.declared.symbol.Symbol.{Symbol}
 use Rattle.tl_tree.specs.declared.symbol.Symbol.TheVariants as symbols
 use Rattle.tl_tree.specs.Symbols.{is_bad}
@@ -20,19 +20,19 @@ use Rattle.tl_tree.specs.LuaExpressions as expressions
 use Rattle.tl_tree.specs.LuaStatements as lua
 use Rattle.tl_tree.specs.LuaStatements.{looped, fresh, body_mode, Parameters, parameters_of}
 use Rattle.tl_tree.proofs.Unrolling.{bind_again}
-use Rattle.tl_parse.specs.Using.{reading, part_at, used, barred, sign_at, open_at, call_at, operator_at, raise_at}
-use Rattle.tl_parse.specs.Expressions.{name_at, paren_at, base_at, is_other, applied_at, suffixes_at}
-use Rattle.tl_parse.specs.Expressions.{Suffixed, attached, shape_of, suffix_at, call_suffix_at, index_suffix_at, select_suffix_at}
-use Rattle.tl_parse.specs.Expressions.{method_arguments_at, method_suffix_at, table_suffix_at, literal_suffix_at}
-use Rattle.tl_parse.specs.Expressions as suffixed
-use Rattle.tl_parse.specs.Statements.{is_unsettled, variable_at, is_call}
-use Rattle.tl_parse.specs.Statements.{call_or_assignment_at, do_at, loop_at, while_at, repeat_at, arm_at, more_arms_at, arms_at}
-use Rattle.tl_parse.specs.Statements.{otherwise_at, if_at, numeric_at, generic, generic_at, for_at, function_statement_at}
-use Rattle.tl_parse.specs.Statements.{local_function_at, initial_values_at, local_names_at, definition_symbols, local_at}
-use Rattle.tl_parse.specs.Statements.{returned_values_at, return_at, break_at, emit_at, statement_at}
-use Rattle.tl_parse.specs.Statements.{parameter_at, with_parameter, more_parameters, more_parameters_at, parameters_at, body_at}
-use Rattle.tl_parse.specs.Paths.{more_names_at, names_at, path_at}
-use Rattle.tl_parse.specs.TerraDefinitions.{local_terra_at}
+use Rattle.tl_parse.specs.Views.Using.{reading, part_at, used, barred, sign_at, open_at, call_at, operator_at, raise_at}
+use Rattle.tl_parse.specs.Views.Expressions.{name_at, paren_at, base_at, is_other, applied_at, suffixes_at}
+use Rattle.tl_parse.specs.Views.Expressions.{Suffixed, attached, kind_of, suffix_at, call_suffix_at, index_suffix_at, select_suffix_at}
+use Rattle.tl_parse.specs.Views.Expressions.{method_arguments_at, method_suffix_at, table_suffix_at, literal_suffix_at}
+use Rattle.tl_parse.specs.Views.Expressions as suffixed
+use Rattle.tl_parse.specs.Views.Statements.{is_no_variable, variable_at, is_call}
+use Rattle.tl_parse.specs.Views.Statements.{call_or_assignment_at, do_at, loop_at, while_at, repeat_at, arm_at, more_arms_at, arms_at}
+use Rattle.tl_parse.specs.Views.Statements.{otherwise_at, if_at, numeric_at, generic, generic_at, for_at, function_statement_at}
+use Rattle.tl_parse.specs.Views.Statements.{local_function_at, initial_values_at, local_names_at, definition_symbols, local_at}
+use Rattle.tl_parse.specs.Views.Statements.{returned_values_at, return_at, break_at, emit_at, statement_at}
+use Rattle.tl_parse.specs.Views.Statements.{parameter_at, with_parameter, more_parameters, more_parameters_at, parameters_at, body_at}
+use Rattle.tl_parse.specs.Views.Paths.{more_names_at, names_at, path_at}
+use Rattle.tl_parse.specs.Views.TerraDefinitions.{local_terra_at}
 use Rattle.tl_parse.proofs.Uses.{never, both, bind_same, opened_at, opens_any, plain_is, unrolls, ends, refuses}
 use Rattle.tl_parse.proofs.Uses.{used_classes}
 use Rattle.tl_parse.proofs.Agreeing.{sign_then, open_then, then, either_is, name_agrees, paren_agrees, expression_agrees}
@@ -41,9 +41,9 @@ use Rattle.tl_parse.proofs.Paths.{names_agree, path_agrees}
 use Rattle.tl_parse.proofs.TerraDefinitionAgreeing.{define_terra_is, define_struct_is, local_terra_agrees}
 use Rattle.tl_parse.proofs.Following.{behind_give, body_give, optional_agrees}
 use Rattle.tl_parse.proofs.TerraStatementAgreeing.{numeric_then}
-use Rattle.tl_parse.specs.Codes.{expression_behind_at, opened_body_at, lua_symbols}
+use Rattle.tl_parse.specs.Views.Codes.{expression_behind_at, opened_body_at, lua_symbols}
 use Rattle.tl_parse.specs.declared.parser.Code.TheVariants as codes
-use Rattle.tl_parse.specs.Lists.{element_at, more_elements_at, elements_at, expressions_at, expressions_behind_at}
+use Rattle.tl_parse.specs.Views.Lists.{element_at, more_elements_at, elements_at, expressions_at, expressions_behind_at}
 use Rattle.tl_parse.specs.declared.parser.Element.TheVariants as elements
 use Rattle.tl_parse.specs.declared.parser.BlockCode.TheVariants as block_codes
 
@@ -67,40 +67,40 @@ expressions_then levels s m h k same ts =
 
 -- ---- targets
 
--- the shape of what is read
-record Shaped (o : Outcome Suffixed) (shape : Shape) : Type 0 where
-  is_so : (s : Suffixed) (rest : List Token) → o ≡ Took s rest → shape_of s ≡ shape
+-- the kind of what is read
+record HasKind (o : Outcome Suffixed) (kind : OperandKind) : Type 0 where
+  is_so : (s : Suffixed) (rest : List Token) → o ≡ Took s rest → kind_of s ≡ kind
 
-shaped_took : (s : Suffixed) (rest : List Token) → Shaped (Took s rest) (shape_of s)
-shaped_took s rest = record { is_so = λ r us e. let same : s ≡ r = cc in ap (λ (x : Suffixed). shape_of x) (sym same) }
+kind_took : (s : Suffixed) (rest : List Token) → HasKind (Took s rest) (kind_of s)
+kind_took s rest = record { is_so = λ r us e. let same : s ≡ r = cc in ap (λ (x : Suffixed). kind_of x) (sym same) }
 
-shaped_bind : {A : Type 0} (o : Outcome A) (f : A → List Token → Outcome Suffixed) (shape : Shape) → ((a : A) (mid : List Token) → Shaped (f a mid) shape) → Shaped (o >>= f) shape
-shaped_bind (Took a mid) f shape h = h a mid
-shaped_bind (Stop kind rest) f shape h = record { is_so = λ s us e. absurd cc }
+kind_bind : {A : Type 0} (o : Outcome A) (f : A → List Token → Outcome Suffixed) (kind : OperandKind) → ((a : A) (mid : List Token) → HasKind (f a mid) kind) → HasKind (o >>= f) kind
+kind_bind (Took a mid) f kind h = h a mid
+kind_bind (Stop why rest) f kind h = record { is_so = λ s us e. absurd cc }
 
-call_shaped : (levels : ℕ) (m : Mode) (left : ℕ) (ts : List Token) → Shaped (call_suffix_at levels m left ts) shapes.Call
+call_kind : (levels : ℕ) (m : Mode) (links : ℕ) (ts : List Token) → HasKind (call_suffix_at levels m links ts) operands.Call
 unfolding call_suffix_at
-call_shaped levels m left ts = shaped_bind {A = Token} (call_at levels left ts) _ shapes.Call (λ t a. shaped_bind {A = Tree} (part_at (levels - 1) (trees.Arguments m) a) _ shapes.Call (λ x b. shaped_bind {A = Token} (sign_at symbols.CloseParen b) _ shapes.Call (λ y rest. shaped_took (suffixed.Calls t.place x) rest)))
+call_kind levels m links ts = kind_bind {A = Token} (call_at levels links ts) _ operands.Call (λ t a. kind_bind {A = Tree} (part_at (levels - 1) (trees.Arguments m) a) _ operands.Call (λ x b. kind_bind {A = Token} (sign_at symbols.CloseParen b) _ operands.Call (λ y rest. kind_took (suffixed.Calls t.place x) rest)))
 
-method_shaped : (levels : ℕ) (m : Mode) (left : ℕ) (ts : List Token) → Shaped (method_suffix_at levels m left ts) shapes.Call
+method_kind : (levels : ℕ) (m : Mode) (links : ℕ) (ts : List Token) → HasKind (method_suffix_at levels m links ts) operands.Call
 unfolding method_suffix_at
-method_shaped levels m left ts = shaped_bind {A = Token} (operator_at (symbols.Colon ∷ []) left ts) _ shapes.Call (λ t a. shaped_bind {A = Tree} (name_at a) _ shapes.Call (λ n b. shaped_bind {A = Tree} (method_arguments_at levels m b) _ shapes.Call (λ x rest. shaped_took (suffixed.CallsMethod t.place n x) rest)))
+method_kind levels m links ts = kind_bind {A = Token} (operator_at (symbols.Colon ∷ []) links ts) _ operands.Call (λ t a. kind_bind {A = Tree} (name_at a) _ operands.Call (λ n b. kind_bind {A = Tree} (method_arguments_at levels m b) _ operands.Call (λ x rest. kind_took (suffixed.CallsMethod t.place n x) rest)))
 
-table_shaped : (levels : ℕ) (m : Mode) (left : ℕ) (ts : List Token) → Shaped (table_suffix_at levels m left ts) shapes.Call
+table_kind : (levels : ℕ) (m : Mode) (links : ℕ) (ts : List Token) → HasKind (table_suffix_at levels m links ts) operands.Call
 unfolding table_suffix_at
-table_shaped levels m left ts = shaped_bind {A = Token} (raise_at symbols.OpenBrace levels left ts) _ shapes.Call (λ t a. shaped_bind {A = Tree} (part_at (levels - 1) (trees.Fields m) a) _ shapes.Call (λ x b. shaped_bind {A = Token} (sign_at symbols.CloseBrace b) _ shapes.Call (λ y rest. shaped_took (suffixed.Calls t.place (More Nothing (trees.Table t.place x))) rest)))
+table_kind levels m links ts = kind_bind {A = Token} (raise_at symbols.OpenBrace levels links ts) _ operands.Call (λ t a. kind_bind {A = Tree} (part_at (levels - 1) (trees.Fields m) a) _ operands.Call (λ x b. kind_bind {A = Token} (sign_at symbols.CloseBrace b) _ operands.Call (λ y rest. kind_took (suffixed.Calls t.place (More Nothing (trees.Table t.place x))) rest)))
 
-literal_shaped : (left : ℕ) (ts : List Token) → Shaped (literal_suffix_at left ts) shapes.Call
+literal_kind : (links : ℕ) (ts : List Token) → HasKind (literal_suffix_at links ts) operands.Call
 unfolding literal_suffix_at
-literal_shaped left ts = shaped_bind {A = Token} _ _ shapes.Call (λ t rest. shaped_took (suffixed.Calls t.place (More Nothing (trees.Literal t.place t.text))) rest)
+literal_kind links ts = kind_bind {A = Token} _ _ operands.Call (λ t rest. kind_took (suffixed.Calls t.place (More Nothing (trees.Literal t.place t.text))) rest)
 
-index_shaped : (levels : ℕ) (m : Mode) (left : ℕ) (ts : List Token) → Shaped (index_suffix_at levels m left ts) shapes.Variable
+index_kind : (levels : ℕ) (m : Mode) (links : ℕ) (ts : List Token) → HasKind (index_suffix_at levels m links ts) operands.Variable
 unfolding index_suffix_at
-index_shaped levels m left ts = shaped_bind {A = Token} (raise_at symbols.OpenBracket levels left ts) _ shapes.Variable (λ t a. shaped_bind {A = Tree} (part_at (levels - 1) (Expression m) a) _ shapes.Variable (λ x b. shaped_bind {A = Token} (sign_at symbols.CloseBracket b) _ shapes.Variable (λ y rest. shaped_took (suffixed.Indexes t.place x) rest)))
+index_kind levels m links ts = kind_bind {A = Token} (raise_at symbols.OpenBracket levels links ts) _ operands.Variable (λ t a. kind_bind {A = Tree} (part_at (levels - 1) (Expression m) a) _ operands.Variable (λ x b. kind_bind {A = Token} (sign_at symbols.CloseBracket b) _ operands.Variable (λ y rest. kind_took (suffixed.Indexes t.place x) rest)))
 
-select_shaped : (left : ℕ) (ts : List Token) → Shaped (select_suffix_at left ts) shapes.Variable
+select_kind : (links : ℕ) (ts : List Token) → HasKind (select_suffix_at links ts) operands.Variable
 unfolding select_suffix_at
-select_shaped left ts = shaped_bind {A = Token} (operator_at (symbols.Dot ∷ []) left ts) _ shapes.Variable (λ t a. shaped_bind {A = Tree} (name_at a) _ shapes.Variable (λ n rest. shaped_took (suffixed.Selects t.place n) rest))
+select_kind links ts = kind_bind {A = Token} (operator_at (symbols.Dot ∷ []) links ts) _ operands.Variable (λ t a. kind_bind {A = Tree} (name_at a) _ operands.Variable (λ n rest. kind_took (suffixed.Selects t.place n) rest))
 
 abbrev calls_class : Mode → Token → Bool
 calls_class m t = among lua.call_symbols t && expressions.is_suffix m t
@@ -110,19 +110,19 @@ index_class m t = among lua.index_symbols t && expressions.is_suffix m t
 
 -- A suffix is a call or an index by its first token.
 data Kind (m : Mode) (o : Outcome Suffixed) (t : Token) : Type 0 where
-  IsCall : is_of (λ t. calls_class m t) t ≡ true → Shaped o shapes.Call → Kind m o t
-  IsIndex : is_of (λ t. calls_class m t) t ≡ false → is_of (λ t. index_class m t) t ≡ true → Shaped o shapes.Variable → Kind m o t
+  IsCall : is_of (λ t. calls_class m t) t ≡ true → HasKind o operands.Call → Kind m o t
+  IsIndex : is_of (λ t. calls_class m t) t ≡ false → is_of (λ t. index_class m t) t ≡ true → HasKind o operands.Variable → Kind m o t
 
-kind_by : (levels : ℕ) (m : Mode) (left : ℕ) (symbol : Symbol) (text : List ℕ) (place : Place) (offset : ℕ) (first : Bool) (ts : List Token) → is_of (λ t. expressions.is_suffix m t) (record { symbol = symbol; text = text; place = place; offset = offset; first_on_line = first }) ≡ true →
-    Kind m (suffix_at levels m left (record { symbol = symbol; text = text; place = place; offset = offset; first_on_line = first } ∷ ts)) (record { symbol = symbol; text = text; place = place; offset = offset; first_on_line = first })
+kind_by : (levels : ℕ) (m : Mode) (links : ℕ) (symbol : Symbol) (text : List ℕ) (place : Place) (offset : ℕ) (first : Bool) (ts : List Token) → is_of (λ t. expressions.is_suffix m t) (record { symbol = symbol; text = text; place = place; offset = offset; first_on_line = first }) ≡ true →
+    Kind m (suffix_at levels m links (record { symbol = symbol; text = text; place = place; offset = offset; first_on_line = first } ∷ ts)) (record { symbol = symbol; text = text; place = place; offset = offset; first_on_line = first })
 unfolding suffix_at
-kind_by levels m left symbols.OpenParen text place offset first ts h = IsCall h (call_shaped levels m left _)
-kind_by levels m left symbols.Colon text place offset first ts h = IsCall h (method_shaped levels m left _)
-kind_by levels m left symbols.OpenBrace text place offset first ts h = IsCall h (table_shaped levels m left _)
-kind_by levels m left symbols.Literal text place offset first ts h = IsCall h (literal_shaped left _)
-kind_by levels m left symbols.OpenBracket text place offset first ts h = IsIndex refl h (index_shaped levels m left _)
-kind_by levels m left symbols.Dot text place offset first ts h = IsIndex refl h (select_shaped left _)
-kind_by levels m left _ text place offset first ts h = absurd (never h)
+kind_by levels m links symbols.OpenParen text place offset first ts h = IsCall h (call_kind levels m links _)
+kind_by levels m links symbols.Colon text place offset first ts h = IsCall h (method_kind levels m links _)
+kind_by levels m links symbols.OpenBrace text place offset first ts h = IsCall h (table_kind levels m links _)
+kind_by levels m links symbols.Literal text place offset first ts h = IsCall h (literal_kind links _)
+kind_by levels m links symbols.OpenBracket text place offset first ts h = IsIndex refl h (index_kind levels m links _)
+kind_by levels m links symbols.Dot text place offset first ts h = IsIndex refl h (select_kind links _)
+kind_by levels m links _ text place offset first ts h = absurd (never h)
 
 -- suffixes behind a prefix expression, up to a variable
 abbrev settling : Bool → Mode → Chained → Grammar Chained
@@ -130,60 +130,60 @@ settling true m a = bind (lua.to_variable m a) λ d. lua.variable_suffixes m d
 settling false m a = lua.variable_suffixes m a
 
 settle_at : ℕ → Mode → Chained → List Token → Outcome Chained
-settle_at levels m a ts = reading levels (settling (is_unsettled a.shape) m a) ts
+settle_at levels m a ts = reading levels (settling (is_no_variable a.kind) m a) ts
 
 -- the grammars of the two turns of a target
 abbrev more_calls : Mode → Chained → Grammar Chained
-more_calls m a = many (λ b t. calls_class m t) (λ b t. expressions.suffix_extra b t) (λ b t. expressions.suffix_opens m (expressions.suffix_of t.symbol)) (λ t x b. expressions.suffix m (expressions.suffix_of t.symbol) t x b) a
+more_calls m a = many (λ b t. calls_class m t) (λ b t. expressions.suffix_use b t) (λ b t. expressions.suffix_opens m (expressions.suffix_of t.symbol)) (λ t x b. expressions.suffix m (expressions.suffix_of t.symbol) t x b) a
 
 abbrev then_index : Mode → Chained → Grammar Chained
 then_index m b =
-    bind (token (λ t. index_class m t) (λ t. expressions.suffix_extra b t) (λ t. expressions.suffix_opens m (expressions.suffix_of t.symbol)) (sample symbols.Dot)) λ x. expressions.suffix m (expressions.suffix_of x.0.symbol) x.0 x.1 b
+    bind (token (λ t. index_class m t) (λ t. expressions.suffix_use b t) (λ t. expressions.suffix_opens m (expressions.suffix_of t.symbol)) (sample symbols.Dot)) λ x. expressions.suffix m (expressions.suffix_of x.0.symbol) x.0 x.1 b
 
-unsettled_by : (levels : ℕ) (m : Mode) (a : Chained) (t : Token) (ts : List Token) → is_of (λ t. expressions.is_suffix m t) t ≡ true → Kind m (suffix_at levels m a.left (t ∷ ts)) t →
-    reading levels (settling true m a) (t ∷ ts) ≡ (suffix_at levels m a.left (t ∷ ts) >>= λ s rest. reading levels (settling (is_unsettled (shape_of s)) m (with_suffix a s)) rest)
+unsettled_by : (levels : ℕ) (m : Mode) (a : Chained) (t : Token) (ts : List Token) → is_of (λ t. expressions.is_suffix m t) t ≡ true → Kind m (suffix_at levels m a.links (t ∷ ts)) t →
+    reading levels (settling true m a) (t ∷ ts) ≡ (suffix_at levels m a.links (t ∷ ts) >>= λ s rest. reading levels (settling (is_no_variable (kind_of s)) m (with_suffix a s)) rest)
 unsettled_by levels m a t ts h (IsCall c k) =
     ap (λ (o : Outcome Chained). (o >>= λ b mid. reading levels (then_index m b) mid) >>= λ d mid. reading levels (lua.variable_suffixes m d) mid)
-    (unrolls levels (λ b t. calls_class m t) (λ b t. expressions.suffix_extra b t) (λ b t. expressions.suffix_opens m (expressions.suffix_of t.symbol)) (λ t x b. expressions.suffix m (expressions.suffix_of t.symbol) t x b) (sample symbols.Dot) a (t ∷ ts) c
+    (unrolls levels (λ b t. calls_class m t) (λ b t. expressions.suffix_use b t) (λ b t. expressions.suffix_opens m (expressions.suffix_of t.symbol)) (λ t x b. expressions.suffix m (expressions.suffix_of t.symbol) t x b) (sample symbols.Dot) a (t ∷ ts) c
     ∙ ap (λ (o : Outcome Chained). o >>= λ y next. reading levels (more_calls m y) next) (suffix_turn_of levels (λ t. calls_class m t) m a (t ∷ ts) c h)
-    ∙ bind_again (suffix_at levels m a.left (t ∷ ts)) (λ s rest. Took (with_suffix a s) rest) (λ y next. reading levels (more_calls m y) next))
-    ∙ ap (λ (o : Outcome Chained). o >>= λ d mid. reading levels (lua.variable_suffixes m d) mid) (bind_again (suffix_at levels m a.left (t ∷ ts)) (λ s rest. reading levels (more_calls m (with_suffix a s)) rest) (λ b mid. reading levels (then_index m b) mid))
-    ∙ bind_again (suffix_at levels m a.left (t ∷ ts)) (λ s rest. reading levels (more_calls m (with_suffix a s)) rest >>= λ b mid. reading levels (then_index m b) mid) (λ d mid. reading levels (lua.variable_suffixes m d) mid)
-    ∙ bind_where (suffix_at levels m a.left (t ∷ ts)) (λ s rest. reading levels (settling true m (with_suffix a s)) rest) (λ s rest. reading levels (settling (is_unsettled (shape_of s)) m (with_suffix a s)) rest)
-    (λ s rest e. ap (λ (x : Shape). reading levels (settling (is_unsettled x) m (with_suffix a s)) rest) (sym (k.is_so s rest e)))
+    ∙ bind_again (suffix_at levels m a.links (t ∷ ts)) (λ s rest. Took (with_suffix a s) rest) (λ y next. reading levels (more_calls m y) next))
+    ∙ ap (λ (o : Outcome Chained). o >>= λ d mid. reading levels (lua.variable_suffixes m d) mid) (bind_again (suffix_at levels m a.links (t ∷ ts)) (λ s rest. reading levels (more_calls m (with_suffix a s)) rest) (λ b mid. reading levels (then_index m b) mid))
+    ∙ bind_again (suffix_at levels m a.links (t ∷ ts)) (λ s rest. reading levels (more_calls m (with_suffix a s)) rest >>= λ b mid. reading levels (then_index m b) mid) (λ d mid. reading levels (lua.variable_suffixes m d) mid)
+    ∙ bind_where (suffix_at levels m a.links (t ∷ ts)) (λ s rest. reading levels (settling true m (with_suffix a s)) rest) (λ s rest. reading levels (settling (is_no_variable (kind_of s)) m (with_suffix a s)) rest)
+    (λ s rest e. ap (λ (x : OperandKind). reading levels (settling (is_no_variable x) m (with_suffix a s)) rest) (sym (k.is_so s rest e)))
 unsettled_by levels m a t ts h (IsIndex c i k) =
     ap (λ (o : Outcome Chained). (o >>= λ b mid. reading levels (then_index m b) mid) >>= λ d mid. reading levels (lua.variable_suffixes m d) mid)
-    (ends levels (λ b t. calls_class m t) (λ b t. expressions.suffix_extra b t) (λ b t. expressions.suffix_opens m (expressions.suffix_of t.symbol)) (λ t x b. expressions.suffix m (expressions.suffix_of t.symbol) t x b) a (t ∷ ts) c)
+    (ends levels (λ b t. calls_class m t) (λ b t. expressions.suffix_use b t) (λ b t. expressions.suffix_opens m (expressions.suffix_of t.symbol)) (λ t x b. expressions.suffix m (expressions.suffix_of t.symbol) t x b) a (t ∷ ts) c)
     ∙ ap (λ (o : Outcome Chained). o >>= λ d mid. reading levels (lua.variable_suffixes m d) mid) (suffix_turn_of levels (λ t. index_class m t) m a (t ∷ ts) i h)
-    ∙ bind_again (suffix_at levels m a.left (t ∷ ts)) (λ s rest. Took (with_suffix a s) rest) (λ d mid. reading levels (lua.variable_suffixes m d) mid)
-    ∙ bind_where (suffix_at levels m a.left (t ∷ ts)) (λ s rest. reading levels (settling false m (with_suffix a s)) rest) (λ s rest. reading levels (settling (is_unsettled (shape_of s)) m (with_suffix a s)) rest)
-    (λ s rest e. ap (λ (x : Shape). reading levels (settling (is_unsettled x) m (with_suffix a s)) rest) (sym (k.is_so s rest e)))
+    ∙ bind_again (suffix_at levels m a.links (t ∷ ts)) (λ s rest. Took (with_suffix a s) rest) (λ d mid. reading levels (lua.variable_suffixes m d) mid)
+    ∙ bind_where (suffix_at levels m a.links (t ∷ ts)) (λ s rest. reading levels (settling false m (with_suffix a s)) rest) (λ s rest. reading levels (settling (is_no_variable (kind_of s)) m (with_suffix a s)) rest)
+    (λ s rest e. ap (λ (x : OperandKind). reading levels (settling (is_no_variable x) m (with_suffix a s)) rest) (sym (k.is_so s rest e)))
 
 -- behind a variable
 settled_by : (levels : ℕ) (m : Mode) (a : Chained) (t : Token) (ts : List Token) → is_of (λ t. expressions.is_suffix m t) t ≡ true →
-    reading levels (settling false m a) (t ∷ ts) ≡ (suffix_at levels m a.left (t ∷ ts) >>= λ s rest. reading levels (settling (is_unsettled (shape_of s)) m (with_suffix a s)) rest)
+    reading levels (settling false m a) (t ∷ ts) ≡ (suffix_at levels m a.links (t ∷ ts) >>= λ s rest. reading levels (settling (is_no_variable (kind_of s)) m (with_suffix a s)) rest)
 settled_by levels m a t ts h =
-    unrolls levels (λ b t. expressions.is_suffix m t) (λ b t. expressions.suffix_extra b t) (λ b t. expressions.suffix_opens m (expressions.suffix_of t.symbol)) (λ t x b. bind (expressions.suffix m (expressions.suffix_of t.symbol) t x b) λ d. lua.settled m d.shape d) (sample symbols.Dot) a (t ∷ ts) h
+    unrolls levels (λ b t. expressions.is_suffix m t) (λ b t. expressions.suffix_use b t) (λ b t. expressions.suffix_opens m (expressions.suffix_of t.symbol)) (λ t x b. bind (expressions.suffix m (expressions.suffix_of t.symbol) t x b) λ d. lua.as_variable m d.kind d) (sample symbols.Dot) a (t ∷ ts) h
     ∙ ap (λ (o : Outcome Chained). o >>= λ y next. reading levels (lua.variable_suffixes m y) next)
-    (sym (bind_again first (λ x mid. reading levels (expressions.suffix m (expressions.suffix_of x.0.symbol) x.0 x.1 a) mid) (λ d mid. reading levels (lua.settled m d.shape d) mid))
-    ∙ ap (λ (o : Outcome Chained). o >>= λ d mid. reading levels (lua.settled m d.shape d) mid) (suffix_turn_of levels (λ t. expressions.is_suffix m t) m a (t ∷ ts) h h)
-    ∙ bind_again (suffix_at levels m a.left (t ∷ ts)) (λ s rest. Took (with_suffix a s) rest) (λ d mid. reading levels (lua.settled m d.shape d) mid))
-    ∙ bind_again (suffix_at levels m a.left (t ∷ ts)) (λ s rest. reading levels (lua.settled m (shape_of s) (with_suffix a s)) rest) (λ y next. reading levels (lua.variable_suffixes m y) next)
-    ∙ bind_same (suffix_at levels m a.left (t ∷ ts)) (λ s rest. reading levels (lua.settled m (shape_of s) (with_suffix a s)) rest >>= λ y next. reading levels (lua.variable_suffixes m y) next) (λ s rest. reading levels (settling (is_unsettled (shape_of s)) m (with_suffix a s)) rest) (λ s rest. goes s rest)
+    (sym (bind_again first (λ x mid. reading levels (expressions.suffix m (expressions.suffix_of x.0.symbol) x.0 x.1 a) mid) (λ d mid. reading levels (lua.as_variable m d.kind d) mid))
+    ∙ ap (λ (o : Outcome Chained). o >>= λ d mid. reading levels (lua.as_variable m d.kind d) mid) (suffix_turn_of levels (λ t. expressions.is_suffix m t) m a (t ∷ ts) h h)
+    ∙ bind_again (suffix_at levels m a.links (t ∷ ts)) (λ s rest. Took (with_suffix a s) rest) (λ d mid. reading levels (lua.as_variable m d.kind d) mid))
+    ∙ bind_again (suffix_at levels m a.links (t ∷ ts)) (λ s rest. reading levels (lua.as_variable m (kind_of s) (with_suffix a s)) rest) (λ y next. reading levels (lua.variable_suffixes m y) next)
+    ∙ bind_same (suffix_at levels m a.links (t ∷ ts)) (λ s rest. reading levels (lua.as_variable m (kind_of s) (with_suffix a s)) rest >>= λ y next. reading levels (lua.variable_suffixes m y) next) (λ s rest. reading levels (settling (is_no_variable (kind_of s)) m (with_suffix a s)) rest) (λ s rest. goes s rest)
   where
     first : Outcome (Token × Tree)
-    first = reading levels (token (λ t. expressions.is_suffix m t) (λ t. expressions.suffix_extra a t) (λ t. expressions.suffix_opens m (expressions.suffix_of t.symbol)) (sample symbols.Dot)) (t ∷ ts)
+    first = reading levels (token (λ t. expressions.is_suffix m t) (λ t. expressions.suffix_use a t) (λ t. expressions.suffix_opens m (expressions.suffix_of t.symbol)) (sample symbols.Dot)) (t ∷ ts)
 
-    goes : (s : Suffixed) (rest : List Token) → (reading levels (lua.settled m (shape_of s) (with_suffix a s)) rest >>= λ y next. reading levels (lua.variable_suffixes m y) next) ≡ reading levels (settling (is_unsettled (shape_of s)) m (with_suffix a s)) rest
+    goes : (s : Suffixed) (rest : List Token) → (reading levels (lua.as_variable m (kind_of s) (with_suffix a s)) rest >>= λ y next. reading levels (lua.variable_suffixes m y) next) ≡ reading levels (settling (is_no_variable (kind_of s)) m (with_suffix a s)) rest
     goes (suffixed.Calls place x) rest = refl
     goes (suffixed.CallsMethod place n x) rest = refl
     goes (suffixed.Indexes place x) rest = refl
     goes (suffixed.Selects place x) rest = refl
 
 settle_goes : (levels : ℕ) (m : Mode) (a : Chained) (b : Bool) (ts : List Token) → begins (λ t. expressions.is_suffix m t) ts ≡ true →
-    reading levels (settling b m a) ts ≡ (suffix_at levels m a.left ts >>= λ s rest. reading levels (settling (is_unsettled (shape_of s)) m (with_suffix a s)) rest)
+    reading levels (settling b m a) ts ≡ (suffix_at levels m a.links ts >>= λ s rest. reading levels (settling (is_no_variable (kind_of s)) m (with_suffix a s)) rest)
 settle_goes levels m a b [] h = absurd cc
-settle_goes levels m a true (t ∷ ts) h = unsettled_by levels m a t ts h (kind_by levels m a.left t.symbol t.text t.place t.offset t.first_on_line ts h)
+settle_goes levels m a true (t ∷ ts) h = unsettled_by levels m a t ts h (kind_by levels m a.links t.symbol t.text t.place t.offset t.first_on_line ts h)
 settle_goes levels m a false (t ∷ ts) h = settled_by levels m a t ts h
 
 narrower : (x y : Token → Bool) (ts : List Token) → begins y ts ≡ false → begins (λ t. x t && y t) ts ≡ false
@@ -199,14 +199,14 @@ narrower x y (t ∷ ts) h = by (symbols_bad t) (x t) (y t) h
     by false false d h = refl
 
 settle_ends : (levels : ℕ) (m : Mode) (a : Chained) (ts : List Token) → begins (λ t. expressions.is_suffix m t) ts ≡ false → reading levels (settling false m a) ts ≡ Took a ts
-settle_ends levels m a ts h = ends levels (λ b t. expressions.is_suffix m t) (λ b t. expressions.suffix_extra b t) (λ b t. expressions.suffix_opens m (expressions.suffix_of t.symbol)) (λ t x b. bind (expressions.suffix m (expressions.suffix_of t.symbol) t x b) λ d. lua.settled m d.shape d) a ts h
+settle_ends levels m a ts h = ends levels (λ b t. expressions.is_suffix m t) (λ b t. expressions.suffix_use b t) (λ b t. expressions.suffix_opens m (expressions.suffix_of t.symbol)) (λ t x b. bind (expressions.suffix m (expressions.suffix_of t.symbol) t x b) λ d. lua.as_variable m d.kind d) a ts h
 
 settle_refuses : (levels : ℕ) (m : Mode) (a : Chained) (ts : List Token) → begins (λ t. expressions.is_suffix m t) ts ≡ false → reading levels (settling true m a) ts ≡ unexpected ts
 settle_refuses levels m a ts h =
     ap (λ (o : Outcome Chained). (o >>= λ b mid. reading levels (then_index m b) mid) >>= λ d mid. reading levels (lua.variable_suffixes m d) mid)
-    (ends levels (λ b t. calls_class m t) (λ b t. expressions.suffix_extra b t) (λ b t. expressions.suffix_opens m (expressions.suffix_of t.symbol)) (λ t x b. expressions.suffix m (expressions.suffix_of t.symbol) t x b) a ts (narrower (λ t. among lua.call_symbols t) (λ t. expressions.is_suffix m t) ts h))
+    (ends levels (λ b t. calls_class m t) (λ b t. expressions.suffix_use b t) (λ b t. expressions.suffix_opens m (expressions.suffix_of t.symbol)) (λ t x b. expressions.suffix m (expressions.suffix_of t.symbol) t x b) a ts (narrower (λ t. among lua.call_symbols t) (λ t. expressions.is_suffix m t) ts h))
     ∙ ap (λ (o : Outcome (Token × Tree)). (o >>= λ x mid. reading levels (expressions.suffix m (expressions.suffix_of x.0.symbol) x.0 x.1 a) mid) >>= λ d mid. reading levels (lua.variable_suffixes m d) mid)
-    (refuses levels (λ t. index_class m t) (λ t. expressions.suffix_extra a t) (λ t. expressions.suffix_opens m (expressions.suffix_of t.symbol)) (sample symbols.Dot) ts (narrower (λ t. among lua.index_symbols t) (λ t. expressions.is_suffix m t) ts h))
+    (refuses levels (λ t. index_class m t) (λ t. expressions.suffix_use a t) (λ t. expressions.suffix_opens m (expressions.suffix_of t.symbol)) (sample symbols.Dot) ts (narrower (λ t. among lua.index_symbols t) (λ t. expressions.is_suffix m t) ts h))
     ∙ go ts
   where
     go : (ts : List Token) → ((unexpected {A = Token × Tree} ts >>= λ x mid. reading levels (expressions.suffix m (expressions.suffix_of x.0.symbol) x.0 x.1 a) mid) >>= λ d mid. reading levels (lua.variable_suffixes m d) mid) ≡ unexpected ts
@@ -215,51 +215,51 @@ settle_refuses levels m a ts h =
 
 -- a target, or the token behind what is none
 abbrev target_of : Chained → List Token → Outcome Tree
-target_of a rest = cond (is_unsettled a.shape) (unexpected rest) (Took a.tree rest)
+target_of a rest = cond (is_no_variable a.kind) (unexpected rest) (Took a.tree rest)
 
 -- Suffixes up to a variable are all suffixes, where these make a variable.
 abbrev Settles : ℕ → Mode → Chained → List Token → Type 0
-Settles levels m a ts = (reading levels (settling (is_unsettled a.shape) m a) ts >>= λ a rest. Took a.tree rest) ≡ (suffixes_at levels m a ts >>= λ a rest. target_of a rest)
+Settles levels m a ts = (reading levels (settling (is_no_variable a.kind) m a) ts >>= λ a rest. Took a.tree rest) ≡ (suffixes_at levels m a ts >>= λ a rest. target_of a rest)
 
-settles : (levels : ℕ) (m : Mode) (n : ℕ) (tree : Tree) (left : ℕ) (shape : Shape) (ts : List Token) → length ts < n → Settles levels m (chained tree left shape) ts
-settles levels m zero tree left shape ts short = absurd (omega arith)
-settles levels m (suc n) tree left shape ts short =
+settles : (levels : ℕ) (m : Mode) (n : ℕ) (tree : Tree) (links : ℕ) (kind : OperandKind) (ts : List Token) → length ts < n → Settles levels m (chained tree links kind) ts
+settles levels m zero tree links kind ts short = absurd (omega arith)
+settles levels m (suc n) tree links kind ts short =
     by (begins (λ t. expressions.is_suffix m t) ts) refl
-    (λ s rest less. let shorter : length rest < n = omega arith in settles levels m n (attached s tree) (down left) (shape_of s) rest shorter)
+    (λ s rest less. let shorter : length rest < n = omega arith in settles levels m n (attached s tree) (down links) (kind_of s) rest shorter)
   where
     nothing : (us : List Token) → (unexpected {A = Chained} us >>= λ a rest. Took a.tree rest) ≡ unexpected us
     nothing [] = refl
     nothing (t ∷ us) = refl
 
     last : (b : Bool) → begins (λ t. expressions.is_suffix m t) ts ≡ false →
-        (reading levels (settling b m (chained tree left shape)) ts >>= λ a rest. Took a.tree rest) ≡ cond b (unexpected ts) (Took tree ts)
-    last true h = ap (λ (o : Outcome Chained). o >>= λ a rest. Took a.tree rest) (settle_refuses levels m (chained tree left shape) ts h) ∙ nothing ts
-    last false h = ap (λ (o : Outcome Chained). o >>= λ a rest. Took a.tree rest) (settle_ends levels m (chained tree left shape) ts h)
+        (reading levels (settling b m (chained tree links kind)) ts >>= λ a rest. Took a.tree rest) ≡ cond b (unexpected ts) (Took tree ts)
+    last true h = ap (λ (o : Outcome Chained). o >>= λ a rest. Took a.tree rest) (settle_refuses levels m (chained tree links kind) ts h) ∙ nothing ts
+    last false h = ap (λ (o : Outcome Chained). o >>= λ a rest. Took a.tree rest) (settle_ends levels m (chained tree links kind) ts h)
 
-    by : (b : Bool) → begins (λ t. expressions.is_suffix m t) ts ≡ b → ((s : Suffixed) (rest : List Token) → length rest < length ts → Settles levels m (chained (attached s tree) (down left) (shape_of s)) rest) → Settles levels m (chained tree left shape) ts
+    by : (b : Bool) → begins (λ t. expressions.is_suffix m t) ts ≡ b → ((s : Suffixed) (rest : List Token) → length rest < length ts → Settles levels m (chained (attached s tree) (down links) (kind_of s)) rest) → Settles levels m (chained tree links kind) ts
     by true h again =
-        ap (λ (o : Outcome Chained). o >>= λ a rest. Took a.tree rest) (settle_goes levels m (chained tree left shape) (is_unsettled shape) ts h)
-        ∙ bind_again (suffix_at levels m left ts) (λ s rest. reading levels (settling (is_unsettled (shape_of s)) m (chained (attached s tree) (down left) (shape_of s))) rest) (λ a rest. Took a.tree rest)
-        ∙ bind_where (suffix_at levels m left ts) (λ s rest. reading levels (settling (is_unsettled (shape_of s)) m (chained (attached s tree) (down left) (shape_of s))) rest >>= λ a us. Took a.tree us)
-        (λ s rest. suffixes_at levels m (chained (attached s tree) (down left) (shape_of s)) rest >>= λ a us. target_of a us)
-        (λ s rest e. again s rest (suffix_shorter levels m left s ts rest h e))
-        ∙ sym (bind_again (suffix_at levels m left ts) (λ s rest. suffixes_at levels m (chained (attached s tree) (down left) (shape_of s)) rest) (λ a rest. target_of a rest))
-        ∙ sym (ap (λ (o : Outcome Chained). o >>= λ a rest. target_of a rest) (suffixes_go levels m tree left shape ts h))
-    by false h again = last (is_unsettled shape) h ∙ sym (ap (λ (o : Outcome Chained). o >>= λ a rest. target_of a rest) (suffixes_end levels m (chained tree left shape) ts h))
+        ap (λ (o : Outcome Chained). o >>= λ a rest. Took a.tree rest) (settle_goes levels m (chained tree links kind) (is_no_variable kind) ts h)
+        ∙ bind_again (suffix_at levels m links ts) (λ s rest. reading levels (settling (is_no_variable (kind_of s)) m (chained (attached s tree) (down links) (kind_of s))) rest) (λ a rest. Took a.tree rest)
+        ∙ bind_where (suffix_at levels m links ts) (λ s rest. reading levels (settling (is_no_variable (kind_of s)) m (chained (attached s tree) (down links) (kind_of s))) rest >>= λ a us. Took a.tree us)
+        (λ s rest. suffixes_at levels m (chained (attached s tree) (down links) (kind_of s)) rest >>= λ a us. target_of a us)
+        (λ s rest e. again s rest (suffix_shorter levels m links s ts rest h e))
+        ∙ sym (bind_again (suffix_at levels m links ts) (λ s rest. suffixes_at levels m (chained (attached s tree) (down links) (kind_of s)) rest) (λ a rest. target_of a rest))
+        ∙ sym (ap (λ (o : Outcome Chained). o >>= λ a rest. target_of a rest) (suffixes_go levels m tree links kind ts h))
+    by false h again = last (is_no_variable kind) h ∙ sym (ap (λ (o : Outcome Chained). o >>= λ a rest. target_of a rest) (suffixes_end levels m (chained tree links kind) ts h))
 
 paren_settles : (levels : ℕ) (m : Mode) (ts : List Token) → (paren_at levels m ts >>= λ b mid. reading levels (settling true m b) mid) ≡ (paren_at levels m ts >>= λ b mid. settle_at levels m b mid)
 unfolding paren_at settle_at
 paren_settles levels m ts =
-    bind_again (open_at symbols.OpenParen levels ts) (λ t a. part_at (levels - 1) (Expression m) a >>= λ x b. sign_at symbols.CloseParen b >>= λ y rest. Took (chained (trees.Paren t.place x) chain shapes.Other) rest) (λ b mid. reading levels (settling true m b) mid)
+    bind_again (open_at symbols.OpenParen levels ts) (λ t a. part_at (levels - 1) (Expression m) a >>= λ x b. sign_at symbols.CloseParen b >>= λ y rest. Took (chained (trees.Paren t.place x) chain operands.Other) rest) (λ b mid. reading levels (settling true m b) mid)
     ∙ bind_same (open_at symbols.OpenParen levels ts) _ _ (λ t a. inner t (part_at (levels - 1) (Expression m) a))
-    ∙ sym (bind_again (open_at symbols.OpenParen levels ts) (λ t a. part_at (levels - 1) (Expression m) a >>= λ x b. sign_at symbols.CloseParen b >>= λ y rest. Took (chained (trees.Paren t.place x) chain shapes.Other) rest) (λ b mid. settle_at levels m b mid))
+    ∙ sym (bind_again (open_at symbols.OpenParen levels ts) (λ t a. part_at (levels - 1) (Expression m) a >>= λ x b. sign_at symbols.CloseParen b >>= λ y rest. Took (chained (trees.Paren t.place x) chain operands.Other) rest) (λ b mid. settle_at levels m b mid))
   where
-    last : (t : Token) (x : Tree) (o : Outcome Token) → ((o >>= λ y rest. Took (chained (trees.Paren t.place x) chain shapes.Other) rest) >>= λ b mid. reading levels (settling true m b) mid) ≡ ((o >>= λ y rest. Took (chained (trees.Paren t.place x) chain shapes.Other) rest) >>= λ b mid. settle_at levels m b mid)
+    last : (t : Token) (x : Tree) (o : Outcome Token) → ((o >>= λ y rest. Took (chained (trees.Paren t.place x) chain operands.Other) rest) >>= λ b mid. reading levels (settling true m b) mid) ≡ ((o >>= λ y rest. Took (chained (trees.Paren t.place x) chain operands.Other) rest) >>= λ b mid. settle_at levels m b mid)
     last t x (Took y rest) = refl
     last t x (Stop kind rest) = refl
 
-    inner : (t : Token) (o : Outcome Tree) → ((o >>= λ x b. sign_at symbols.CloseParen b >>= λ y rest. Took (chained (trees.Paren t.place x) chain shapes.Other) rest) >>= λ b mid. reading levels (settling true m b) mid)
-        ≡ ((o >>= λ x b. sign_at symbols.CloseParen b >>= λ y rest. Took (chained (trees.Paren t.place x) chain shapes.Other) rest) >>= λ b mid. settle_at levels m b mid)
+    inner : (t : Token) (o : Outcome Tree) → ((o >>= λ x b. sign_at symbols.CloseParen b >>= λ y rest. Took (chained (trees.Paren t.place x) chain operands.Other) rest) >>= λ b mid. reading levels (settling true m b) mid)
+        ≡ ((o >>= λ x b. sign_at symbols.CloseParen b >>= λ y rest. Took (chained (trees.Paren t.place x) chain operands.Other) rest) >>= λ b mid. settle_at levels m b mid)
     inner t (Took x b) = last t x (sign_at symbols.CloseParen b)
     inner t (Stop kind rest) = refl
 
@@ -267,24 +267,24 @@ variable_settles : (levels : ℕ) (m : Mode) (ts : List Token) → reading level
 unfolding base_at settle_at
 variable_settles levels m ts = by (begins (is symbols.OpenParen) ts)
   where
-    name_goes : (o : Outcome Tree) → (o >>= λ n mid. reading levels (lua.variable_suffixes m (chained n chain shapes.Name)) mid >>= λ a rest. Took a.tree rest) ≡ ((o >>= λ n rest. Took (chained n chain shapes.Name) rest) >>= λ b mid. settle_at levels m b mid >>= λ a rest. Took a.tree rest)
+    name_goes : (o : Outcome Tree) → (o >>= λ n mid. reading levels (lua.variable_suffixes m (chained n chain operands.Name)) mid >>= λ a rest. Took a.tree rest) ≡ ((o >>= λ n rest. Took (chained n chain operands.Name) rest) >>= λ b mid. settle_at levels m b mid >>= λ a rest. Took a.tree rest)
     name_goes (Took n mid) = refl
     name_goes (Stop kind rest) = refl
 
-    by : (b : Bool) → cond b (reading levels (bind (expressions.paren m) λ b. bind (lua.to_variable m b) λ d. bind (lua.variable_suffixes m d) λ a. give a.tree) ts) (reading levels (bind name λ n. bind (lua.variable_suffixes m (chained n chain shapes.Name)) λ a. give a.tree) ts)
-        ≡ (cond b (paren_at levels m ts) (name_at ts >>= λ n rest. Took (chained n chain shapes.Name) rest) >>= λ b mid. settle_at levels m b mid >>= λ a rest. Took a.tree rest)
+    by : (b : Bool) → cond b (reading levels (bind (expressions.paren m) λ b. bind (lua.to_variable m b) λ d. bind (lua.variable_suffixes m d) λ a. give a.tree) ts) (reading levels (bind name λ n. bind (lua.variable_suffixes m (chained n chain operands.Name)) λ a. give a.tree) ts)
+        ≡ (cond b (paren_at levels m ts) (name_at ts >>= λ n rest. Took (chained n chain operands.Name) rest) >>= λ b mid. settle_at levels m b mid >>= λ a rest. Took a.tree rest)
     by true =
         ap (λ (o : Outcome Chained). o >>= λ b mid. reading levels (bind (lua.to_variable m b) λ d. bind (lua.variable_suffixes m d) λ a. give a.tree) mid) (paren_agrees levels m ts)
         ∙ bind_same (paren_at levels m ts) (λ b mid. reading levels (bind (lua.to_variable m b) λ d. bind (lua.variable_suffixes m d) λ a. give a.tree) mid) (λ b mid. reading levels (settling true m b) mid >>= λ a rest. Took a.tree rest) (λ b mid. sym (bind_again (reading levels (lua.to_variable m b) mid) (λ d us. reading levels (lua.variable_suffixes m d) us) (λ a rest. Took a.tree rest)))
         ∙ sym (bind_again (paren_at levels m ts) (λ b mid. reading levels (settling true m b) mid) (λ a rest. Took a.tree rest))
         ∙ ap (λ (o : Outcome Chained). o >>= λ a rest. Took a.tree rest) (paren_settles levels m ts)
         ∙ bind_again (paren_at levels m ts) (λ b mid. settle_at levels m b mid) (λ a rest. Took a.tree rest)
-    by false = ap (λ (o : Outcome Tree). o >>= λ n mid. reading levels (lua.variable_suffixes m (chained n chain shapes.Name)) mid >>= λ a rest. Took a.tree rest) (name_agrees levels ts) ∙ name_goes (name_at ts)
+    by false = ap (λ (o : Outcome Tree). o >>= λ n mid. reading levels (lua.variable_suffixes m (chained n chain operands.Name)) mid >>= λ a rest. Took a.tree rest) (name_agrees levels ts) ∙ name_goes (name_at ts)
 
 -- the same behind what the suffixes are behind
 base_settles : (levels : ℕ) (m : Mode) (a : Chained) (ts : List Token) → (settle_at levels m a ts >>= λ a rest. Took a.tree rest) ≡ (suffixes_at levels m a ts >>= λ a rest. target_of a rest)
 unfolding settle_at
-base_settles levels m a ts = let all : length ts < suc (length ts) = omega arith in settles levels m (suc (length ts)) a.tree a.left a.shape ts all
+base_settles levels m a ts = let all : length ts < suc (length ts) = omega arith in settles levels m (suc (length ts)) a.tree a.links a.kind ts all
 
 pub variable_agrees : (levels : ℕ) (m : Mode) (ts : List Token) → reading levels (lua.variable m) ts ≡ variable_at levels m ts
 unfolding variable_at applied_at
@@ -386,10 +386,10 @@ returned_values_agree levels m ts =
 
 -- ---- calls and assignments
 
-target_agrees : (levels : ℕ) (m : Mode) (place : Place) (shape : Shape) (e : Tree) (t : Token) (ts : List Token) → t.place ≡ place →
-    reading levels (lua.call_or_assignment m t shape e) ts ≡ cond (is_call shape) (Took (trees.Perform place e) ts) (more_elements_at levels (elements.Target m) (More Nothing e) ts >>= λ targets c. expressions_behind_at levels symbols.Equal (codes.Lua m) c >>= λ es rest. Took (trees.Assign place targets es) rest)
+target_agrees : (levels : ℕ) (m : Mode) (place : Place) (kind : OperandKind) (e : Tree) (t : Token) (ts : List Token) → t.place ≡ place →
+    reading levels (lua.call_or_assignment m t kind e) ts ≡ cond (is_call kind) (Took (trees.CallStatement place e) ts) (more_elements_at levels (elements.Target m) (More Nothing e) ts >>= λ targets c. expressions_behind_at levels symbols.Equal (codes.Lua m) c >>= λ es rest. Took (trees.Assign place targets es) rest)
 unfolding more_elements_at
-target_agrees levels m place shape e t ts p = by shape
+target_agrees levels m place kind e t ts p = by kind
   where
     assigns : reading levels (lua.assignment m t e) ts ≡ (more_elements_at levels (elements.Target m) (More Nothing e) ts >>= λ targets c. expressions_behind_at levels symbols.Equal (codes.Lua m) c >>= λ es rest. Took (trees.Assign place targets es) rest)
     assigns =
@@ -398,12 +398,12 @@ target_agrees levels m place shape e t ts p = by shape
         ∙ ap (λ (o : Outcome Tree). o >>= λ es rest. Took (trees.Assign t.place targets es) rest) (values_agree levels m c)
         ∙ ap (λ (q : Place). expressions_behind_at levels symbols.Equal (codes.Lua m) c >>= λ es rest. Took (trees.Assign q targets es) rest) p) ts
 
-    by : (shape : Shape) → reading levels (lua.call_or_assignment m t shape e) ts ≡ cond (is_call shape) (Took (trees.Perform place e) ts) (more_elements_at levels (elements.Target m) (More Nothing e) ts >>= λ targets c. expressions_behind_at levels symbols.Equal (codes.Lua m) c >>= λ es rest. Took (trees.Assign place targets es) rest)
-    by shapes.Call = ap (λ (q : Place). Took (trees.Perform q e) ts) p
-    by shapes.Name = assigns
-    by shapes.Variable = assigns
-    by shapes.Escape = assigns
-    by shapes.Other = assigns
+    by : (kind : OperandKind) → reading levels (lua.call_or_assignment m t kind e) ts ≡ cond (is_call kind) (Took (trees.CallStatement place e) ts) (more_elements_at levels (elements.Target m) (More Nothing e) ts >>= λ targets c. expressions_behind_at levels symbols.Equal (codes.Lua m) c >>= λ es rest. Took (trees.Assign place targets es) rest)
+    by operands.Call = ap (λ (q : Place). Took (trees.CallStatement q e) ts) p
+    by operands.Name = assigns
+    by operands.Variable = assigns
+    by operands.Escape = assigns
+    by operands.Other = assigns
 
 -- one suffix and then others are suffixes, where one is next
 next_suffix_then : (levels : ℕ) (m : Mode) (a : Chained) (ts : List Token) → reading levels (bind (lua.next_suffix m a) λ b. expressions.suffixes m b) ts ≡ cond (not (begins (λ t. expressions.is_suffix m t) ts)) (unexpected ts) (suffixes_at levels m a ts)
@@ -415,10 +415,10 @@ next_suffix_then levels m a ts = by (begins (λ t. expressions.is_suffix m t) ts
     go (t ∷ ts) = refl
 
     by : (b : Bool) → begins (λ t. expressions.is_suffix m t) ts ≡ b → reading levels (bind (lua.next_suffix m a) λ b. expressions.suffixes m b) ts ≡ cond (not b) (unexpected ts) (suffixes_at levels m a ts)
-    by true h = sym (unrolls levels (λ b t. expressions.is_suffix m t) (λ b t. expressions.suffix_extra b t) (λ b t. expressions.suffix_opens m (expressions.suffix_of t.symbol)) (λ t x b. expressions.suffix m (expressions.suffix_of t.symbol) t x b) (sample symbols.Dot) a ts h)
+    by true h = sym (unrolls levels (λ b t. expressions.is_suffix m t) (λ b t. expressions.suffix_use b t) (λ b t. expressions.suffix_opens m (expressions.suffix_of t.symbol)) (λ t x b. expressions.suffix m (expressions.suffix_of t.symbol) t x b) (sample symbols.Dot) a ts h)
     by false h =
         ap (λ (o : Outcome (Token × Tree)). (o >>= λ x mid. reading levels (expressions.suffix m (expressions.suffix_of x.0.symbol) x.0 x.1 a) mid) >>= λ d mid. reading levels (expressions.suffixes m d) mid)
-        (refuses levels (λ t. expressions.is_suffix m t) (λ t. expressions.suffix_extra a t) (λ t. expressions.suffix_opens m (expressions.suffix_of t.symbol)) (sample symbols.Dot) ts h)
+        (refuses levels (λ t. expressions.is_suffix m t) (λ t. expressions.suffix_use a t) (λ t. expressions.suffix_opens m (expressions.suffix_of t.symbol)) (sample symbols.Dot) ts h)
         ∙ go ts
 
 -- ---- statements by their first token
@@ -430,44 +430,44 @@ behind levels c t mid = opened_at levels (lua.statement_opens c (lua.statement_o
 -- what such a call or assignment has behind its prefix expression
 abbrev target_behind : ℕ → Mode → Place → Chained → List Token → Outcome Tree
 target_behind levels m place a b =
-    cond (is_call a.shape) (Took (trees.Perform place a.tree) b) (more_elements_at levels (elements.Target m) (More Nothing a.tree) b >>= λ targets c. expressions_behind_at levels symbols.Equal (codes.Lua m) c >>= λ es rest. Took (trees.Assign place targets es) rest)
+    cond (is_call a.kind) (Took (trees.CallStatement place a.tree) b) (more_elements_at levels (elements.Target m) (More Nothing a.tree) b >>= λ targets c. expressions_behind_at levels symbols.Equal (codes.Lua m) c >>= λ es rest. Took (trees.Assign place targets es) rest)
 
 name_statement : (levels : ℕ) (c : Context) (text : List ℕ) (place : Place) (offset : ℕ) (first : Bool) (ts : List Token) (b : Option SyntaxKind) →
     let t : Token = token_with symbols.Name text place offset first in
     (used_here b t ts >>= λ u mid. behind levels c t mid)
-    ≡ ((((used_here b t ts >>= λ t rest. Took (trees.Name t.place t.offset t.text) rest) >>= λ n rest. Took (chained n chain shapes.Name) rest) >>= λ d rest. cond (is_other d.shape && not (begins (λ t. expressions.is_suffix c.mode t) rest)) (unexpected rest) (suffixes_at levels c.mode d rest)) >>= λ a b. target_behind levels c.mode place a b)
+    ≡ ((((used_here b t ts >>= λ t rest. Took (trees.Name t.place t.offset t.text) rest) >>= λ n rest. Took (chained n chain operands.Name) rest) >>= λ d rest. cond (is_other d.kind && not (begins (λ t. expressions.is_suffix c.mode t) rest)) (unexpected rest) (suffixes_at levels c.mode d rest)) >>= λ a b. target_behind levels c.mode place a b)
 unfolding suffixes_at
 name_statement levels c text place offset first ts (Some kind) = refl
 name_statement levels c text place offset first ts None =
     let t : Token = token_with symbols.Name text place offset first in
-    bind_same (reading levels (expressions.suffixes c.mode (chained (trees.Name place offset text) chain shapes.Name)) ts) (λ a rest. reading levels (lua.call_or_assignment c.mode t a.shape a.tree) rest) (λ a b. target_behind levels c.mode place a b) (λ a rest. target_agrees levels c.mode place a.shape a.tree t rest refl)
+    bind_same (reading levels (expressions.suffixes c.mode (chained (trees.Name place offset text) chain operands.Name)) ts) (λ a rest. reading levels (lua.call_or_assignment c.mode t a.kind a.tree) rest) (λ a b. target_behind levels c.mode place a b) (λ a rest. target_agrees levels c.mode place a.kind a.tree t rest refl)
 
 paren_statement : (levels : ℕ) (c : Context) (text : List ℕ) (place : Place) (offset : ℕ) (first : Bool) (ts : List Token) (b : Option SyntaxKind) →
     let t : Token = token_with symbols.OpenParen text place offset first in
     (used_here b t ts >>= λ u mid. behind levels c t mid)
-    ≡ (((used_here b t ts >>= λ t a. part_at (levels - 1) (Expression c.mode) a >>= λ x b. sign_at symbols.CloseParen b >>= λ y rest. Took (chained (trees.Paren t.place x) chain shapes.Other) rest) >>= λ d rest. cond (is_other d.shape && not (begins (λ t. expressions.is_suffix c.mode t) rest)) (unexpected rest) (suffixes_at levels c.mode d rest)) >>= λ a b. target_behind levels c.mode place a b)
+    ≡ (((used_here b t ts >>= λ t a. part_at (levels - 1) (Expression c.mode) a >>= λ x b. sign_at symbols.CloseParen b >>= λ y rest. Took (chained (trees.Paren t.place x) chain operands.Other) rest) >>= λ d rest. cond (is_other d.kind && not (begins (λ t. expressions.is_suffix c.mode t) rest)) (unexpected rest) (suffixes_at levels c.mode d rest)) >>= λ a b. target_behind levels c.mode place a b)
 paren_statement levels c text place offset first ts (Some kind) = refl
 paren_statement levels c text place offset first ts None = inner (part_at (levels - 1) (Expression c.mode) ts)
   where
     t : Token
     t = token_with symbols.OpenParen text place offset first
 
-    last : (x : Tree) (rest : List Token) → reading levels (bind (lua.next_suffix c.mode (chained (trees.Paren place x) chain shapes.Other)) λ b. bind (expressions.suffixes c.mode b) λ a. lua.call_or_assignment c.mode t a.shape a.tree) rest
-        ≡ (cond (not (begins (λ t. expressions.is_suffix c.mode t) rest)) (unexpected rest) (suffixes_at levels c.mode (chained (trees.Paren place x) chain shapes.Other) rest) >>= λ a b. target_behind levels c.mode place a b)
+    last : (x : Tree) (rest : List Token) → reading levels (bind (lua.next_suffix c.mode (chained (trees.Paren place x) chain operands.Other)) λ b. bind (expressions.suffixes c.mode b) λ a. lua.call_or_assignment c.mode t a.kind a.tree) rest
+        ≡ (cond (not (begins (λ t. expressions.is_suffix c.mode t) rest)) (unexpected rest) (suffixes_at levels c.mode (chained (trees.Paren place x) chain operands.Other) rest) >>= λ a b. target_behind levels c.mode place a b)
     last x rest =
-        sym (bind_again (reading levels (lua.next_suffix c.mode (chained (trees.Paren place x) chain shapes.Other)) rest) (λ b mid. reading levels (expressions.suffixes c.mode b) mid) (λ a mid. reading levels (lua.call_or_assignment c.mode t a.shape a.tree) mid))
-        ∙ ap (λ (o : Outcome Chained). o >>= λ a mid. reading levels (lua.call_or_assignment c.mode t a.shape a.tree) mid) (next_suffix_then levels c.mode (chained (trees.Paren place x) chain shapes.Other) rest)
-        ∙ bind_same (cond (not (begins (λ t. expressions.is_suffix c.mode t) rest)) (unexpected rest) (suffixes_at levels c.mode (chained (trees.Paren place x) chain shapes.Other) rest)) (λ a mid. reading levels (lua.call_or_assignment c.mode t a.shape a.tree) mid) (λ a b. target_behind levels c.mode place a b) (λ a mid. target_agrees levels c.mode place a.shape a.tree t mid refl)
+        sym (bind_again (reading levels (lua.next_suffix c.mode (chained (trees.Paren place x) chain operands.Other)) rest) (λ b mid. reading levels (expressions.suffixes c.mode b) mid) (λ a mid. reading levels (lua.call_or_assignment c.mode t a.kind a.tree) mid))
+        ∙ ap (λ (o : Outcome Chained). o >>= λ a mid. reading levels (lua.call_or_assignment c.mode t a.kind a.tree) mid) (next_suffix_then levels c.mode (chained (trees.Paren place x) chain operands.Other) rest)
+        ∙ bind_same (cond (not (begins (λ t. expressions.is_suffix c.mode t) rest)) (unexpected rest) (suffixes_at levels c.mode (chained (trees.Paren place x) chain operands.Other) rest)) (λ a mid. reading levels (lua.call_or_assignment c.mode t a.kind a.tree) mid) (λ a b. target_behind levels c.mode place a b) (λ a mid. target_agrees levels c.mode place a.kind a.tree t mid refl)
 
-    close : (x : Tree) (o : Outcome Token) → (o >>= λ y rest. reading levels (bind (lua.next_suffix c.mode (chained (trees.Paren place x) chain shapes.Other)) λ b. bind (expressions.suffixes c.mode b) λ a. lua.call_or_assignment c.mode t a.shape a.tree) rest)
-        ≡ (((o >>= λ y rest. Took (chained (trees.Paren place x) chain shapes.Other) rest) >>= λ d rest. cond (is_other d.shape && not (begins (λ t. expressions.is_suffix c.mode t) rest)) (unexpected rest) (suffixes_at levels c.mode d rest)) >>= λ a b. target_behind levels c.mode place a b)
+    close : (x : Tree) (o : Outcome Token) → (o >>= λ y rest. reading levels (bind (lua.next_suffix c.mode (chained (trees.Paren place x) chain operands.Other)) λ b. bind (expressions.suffixes c.mode b) λ a. lua.call_or_assignment c.mode t a.kind a.tree) rest)
+        ≡ (((o >>= λ y rest. Took (chained (trees.Paren place x) chain operands.Other) rest) >>= λ d rest. cond (is_other d.kind && not (begins (λ t. expressions.is_suffix c.mode t) rest)) (unexpected rest) (suffixes_at levels c.mode d rest)) >>= λ a b. target_behind levels c.mode place a b)
     close x (Took y rest) = last x rest
     close x (Stop kind rest) = refl
 
     inner : (o : Outcome Tree) → (o >>= λ x rest. reading levels (lua.statement c lua.FromParen t x) rest)
-        ≡ (((o >>= λ x b. sign_at symbols.CloseParen b >>= λ y rest. Took (chained (trees.Paren place x) chain shapes.Other) rest) >>= λ d rest. cond (is_other d.shape && not (begins (λ t. expressions.is_suffix c.mode t) rest)) (unexpected rest) (suffixes_at levels c.mode d rest)) >>= λ a b. target_behind levels c.mode place a b)
+        ≡ (((o >>= λ x b. sign_at symbols.CloseParen b >>= λ y rest. Took (chained (trees.Paren place x) chain operands.Other) rest) >>= λ d rest. cond (is_other d.kind && not (begins (λ t. expressions.is_suffix c.mode t) rest)) (unexpected rest) (suffixes_at levels c.mode d rest)) >>= λ a b. target_behind levels c.mode place a b)
     inner (Took x rest) =
-        sign_then levels symbols.CloseParen (λ y. bind (lua.next_suffix c.mode (chained (trees.Paren place x) chain shapes.Other)) λ b. bind (expressions.suffixes c.mode b) λ a. lua.call_or_assignment c.mode t a.shape a.tree) (λ y us. reading levels (bind (lua.next_suffix c.mode (chained (trees.Paren place x) chain shapes.Other)) λ b. bind (expressions.suffixes c.mode b) λ a. lua.call_or_assignment c.mode t a.shape a.tree) us) (λ y us. refl) rest
+        sign_then levels symbols.CloseParen (λ y. bind (lua.next_suffix c.mode (chained (trees.Paren place x) chain operands.Other)) λ b. bind (expressions.suffixes c.mode b) λ a. lua.call_or_assignment c.mode t a.kind a.tree) (λ y us. reading levels (bind (lua.next_suffix c.mode (chained (trees.Paren place x) chain operands.Other)) λ b. bind (expressions.suffixes c.mode b) λ a. lua.call_or_assignment c.mode t a.kind a.tree) us) (λ y us. refl) rest
         ∙ close x (sign_at symbols.CloseParen rest)
     inner (Stop kind rest) = refl
 

@@ -4,7 +4,7 @@ use Rattle.std.specs.Prelude.{◌&&◌, not}
 use Rattle.tl_base.specs.declared.place.Place.{Place}
 use Rattle.tl_lex.specs.declared.SyntaxKind.{SyntaxKind}
 use Rattle.tl_tree.specs.declared.mode.Context.{Context}
-use Rattle.tl_tree.specs.declared.mode.Extra.TheVariants.{Plain}
+use Rattle.tl_tree.specs.declared.mode.TokenUse.TheVariants.{Plain}
 use Rattle.tl_tree.specs.declared.symbol.Symbol.{Symbol}
 use Rattle.tl_tree.specs.declared.symbol.Symbol.TheVariants as symbols
 use Rattle.tl_tree.specs.Symbols.{is_bad}
@@ -15,9 +15,9 @@ use Rattle.tl_tree.specs.Forms.{sign, semicolon}
 use Rattle.tl_tree.specs.LuaStatements.{Sequence, sequence}
 use Rattle.tl_tree.specs.TerraStatements as terra
 use Rattle.tl_tree.proofs.Unrolling.{bind_again}
-use Rattle.tl_parse.specs.Using.{reading, part_at, barred, sign_at}
-use Rattle.tl_parse.specs.Codes.{statements_in, begins_statement, statement_opens, statement_behind, ends_block}
-use Rattle.tl_parse.specs.Blocks.{statement_in_at, last_symbols, next_statement_at, plain_statements, goes_on, more_statements_at, block_at}
+use Rattle.tl_parse.specs.Views.Using.{reading, part_at, barred, sign_at}
+use Rattle.tl_parse.specs.Views.Codes.{statements_in, begins_statement, statement_opens, statement_behind, ends_block}
+use Rattle.tl_parse.specs.Views.Blocks.{statement_in_at, last_symbols, next_statement_at, plain_statements, goes_on, more_statements_at, block_at}
 use Rattle.tl_parse.specs.declared.parser.BlockCode.{BlockCode}
 use Rattle.tl_parse.specs.declared.parser.BlockCode.TheVariants as block_codes
 use Rattle.tl_parse.proofs.Uses.{both, opened_at, opens_any, token_is, repeats, ends, shorter_turn}

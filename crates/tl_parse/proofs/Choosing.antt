@@ -9,15 +9,15 @@ use Rattle.tl_tree.specs.declared.mode.Context.{Context}
 use Rattle.tl_tree.specs.Tokens.{Token}
 use Rattle.tl_tree.specs.Tree.{Tree}
 use Rattle.tl_tree.specs.Grammar.{Outcome}
-use Rattle.tl_parse.specs.Using.{symbol_at}
-use Rattle.tl_parse.specs.Expressions.{Suffixed, suffix_from, suffix_at, literal_suffix_at, simple_from, simple_at}
-use Rattle.tl_parse.specs.TerraExpressions.{TerraSuffixed, terra_suffix_from, terra_suffix_at, construct_suffix_at}
-use Rattle.tl_parse.specs.TerraCode.{terra_code_at}
-use Rattle.tl_parse.specs.Statements.{statement_from, statement_at, call_or_assignment_at}
-use Rattle.tl_parse.specs.TerraStatements.{terra_statement_from, terra_statement_at, terra_simple_statement_at}
-use Rattle.tl_parse.specs.Parsing.{TookTree, Fails}
-use Rattle.tl_parse.specs.Going.{TookSuffix}
-use Rattle.tl_parse.specs.TerraGoing.{TookTerraSuffix}
+use Rattle.tl_parse.specs.Views.Using.{symbol_at}
+use Rattle.tl_parse.specs.Views.Expressions.{Suffixed, suffix_from, suffix_at, literal_suffix_at, simple_from, simple_at}
+use Rattle.tl_parse.specs.Views.TerraExpressions.{TerraSuffixed, terra_suffix_from, terra_suffix_at, construct_suffix_at}
+use Rattle.tl_parse.specs.Views.TerraCode.{terra_code_at}
+use Rattle.tl_parse.specs.Views.Statements.{statement_from, statement_at, call_or_assignment_at}
+use Rattle.tl_parse.specs.Views.TerraStatements.{terra_statement_from, terra_statement_at, terra_simple_statement_at}
+use Rattle.tl_parse.specs.Views.Parsing.{TookTree, Fails}
+use Rattle.tl_parse.specs.Views.Going.{TookSuffix}
+use Rattle.tl_parse.specs.Views.TerraGoing.{TookTerraSuffix}
 use Rattle.tl_parse.specs.declared.parser.Operand.{Operand}
 use Rattle.tl_parse.specs.declared.parser.Parser.{Parser}
 use Rattle.tl_parse.specs.declared.error.SyntaxError.{SyntaxError}
@@ -111,34 +111,34 @@ simple_others levels m _ ts _ _ _ _ _ _ _ _ = refl
 
 -- ---- suffixes of Lua expressions
 
-pub suffix_is : (levels : ℕ) (m : Mode) (left : ℕ) (s : Symbol) (ts : List Token) → s ≡ symbol_at ts →
-    suffix_at levels m left ts ≡ suffix_from levels m left s ts
+pub suffix_is : (levels : ℕ) (m : Mode) (links : ℕ) (s : Symbol) (ts : List Token) → s ≡ symbol_at ts →
+    suffix_at levels m links ts ≡ suffix_from levels m links s ts
 unfolding suffix_at
-suffix_is levels m left s ts h = ap (λ (x : Symbol). suffix_from levels m left x ts) (sym h)
+suffix_is levels m links s ts h = ap (λ (x : Symbol). suffix_from levels m links x ts) (sym h)
 
-pub suffix_others : (levels : ℕ) (m : Mode) (left : ℕ) (s : Symbol) (ts : List Token) →
+pub suffix_others : (levels : ℕ) (m : Mode) (links : ℕ) (s : Symbol) (ts : List Token) →
     (s ≡ symbols.OpenParen → ⊥) → (s ≡ symbols.OpenBracket → ⊥) → (s ≡ symbols.Dot → ⊥) → (s ≡ symbols.Colon → ⊥) →
     (s ≡ symbols.OpenBrace → ⊥) →
-    suffix_from levels m left s ts ≡ literal_suffix_at left ts
-suffix_others levels m left symbols.OpenParen ts h0 _ _ _ _ = absurd (h0 refl)
-suffix_others levels m left symbols.OpenBracket ts _ h1 _ _ _ = absurd (h1 refl)
-suffix_others levels m left symbols.Dot ts _ _ h2 _ _ = absurd (h2 refl)
-suffix_others levels m left symbols.Colon ts _ _ _ h3 _ = absurd (h3 refl)
-suffix_others levels m left symbols.OpenBrace ts _ _ _ _ h4 = absurd (h4 refl)
-suffix_others levels m left _ ts _ _ _ _ _ = refl
+    suffix_from levels m links s ts ≡ literal_suffix_at links ts
+suffix_others levels m links symbols.OpenParen ts h0 _ _ _ _ = absurd (h0 refl)
+suffix_others levels m links symbols.OpenBracket ts _ h1 _ _ _ = absurd (h1 refl)
+suffix_others levels m links symbols.Dot ts _ _ h2 _ _ = absurd (h2 refl)
+suffix_others levels m links symbols.Colon ts _ _ _ h3 _ = absurd (h3 refl)
+suffix_others levels m links symbols.OpenBrace ts _ _ _ _ h4 = absurd (h4 refl)
+suffix_others levels m links _ ts _ _ _ _ _ = refl
 
 -- ---- suffixes of Terra expressions
 
-pub terra_suffix_is : (levels left : ℕ) (s : Symbol) (ts : List Token) → s ≡ symbol_at ts →
-    terra_suffix_at levels left ts ≡ terra_suffix_from levels left s ts
+pub terra_suffix_is : (levels links : ℕ) (s : Symbol) (ts : List Token) → s ≡ symbol_at ts →
+    terra_suffix_at levels links ts ≡ terra_suffix_from levels links s ts
 unfolding terra_suffix_at
-terra_suffix_is levels left s ts h = ap (λ (x : Symbol). terra_suffix_from levels left x ts) (sym h)
+terra_suffix_is levels links s ts h = ap (λ (x : Symbol). terra_suffix_from levels links x ts) (sym h)
 
-pub terra_suffix_others : (levels left : ℕ) (s : Symbol) (ts : List Token) →
+pub terra_suffix_others : (levels links : ℕ) (s : Symbol) (ts : List Token) →
     (s ≡ symbols.OpenParen → ⊥) → (s ≡ symbols.OpenBracket → ⊥) → (s ≡ symbols.Dot → ⊥) → (s ≡ symbols.Colon → ⊥) →
-    terra_suffix_from levels left s ts ≡ construct_suffix_at levels left ts
-terra_suffix_others levels left symbols.OpenParen ts h0 _ _ _ = absurd (h0 refl)
-terra_suffix_others levels left symbols.OpenBracket ts _ h1 _ _ = absurd (h1 refl)
-terra_suffix_others levels left symbols.Dot ts _ _ h2 _ = absurd (h2 refl)
-terra_suffix_others levels left symbols.Colon ts _ _ _ h3 = absurd (h3 refl)
-terra_suffix_others levels left _ ts _ _ _ _ = refl
+    terra_suffix_from levels links s ts ≡ construct_suffix_at levels links ts
+terra_suffix_others levels links symbols.OpenParen ts h0 _ _ _ = absurd (h0 refl)
+terra_suffix_others levels links symbols.OpenBracket ts _ h1 _ _ = absurd (h1 refl)
+terra_suffix_others levels links symbols.Dot ts _ _ h2 _ = absurd (h2 refl)
+terra_suffix_others levels links symbols.Colon ts _ _ _ h3 = absurd (h3 refl)
+terra_suffix_others levels links _ ts _ _ _ _ = refl

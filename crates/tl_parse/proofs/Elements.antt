@@ -2,11 +2,11 @@
 use Rattle.std.proofs.Common.{◌≡◌, ℕ, List}
 use Rattle.tl_tree.specs.declared.mode.Mode.{Mode}
 use Rattle.tl_tree.specs.Tokens.{Token}
-use Rattle.tl_parse.specs.Using.{part_at}
-use Rattle.tl_parse.specs.Codes.{expression_in}
-use Rattle.tl_parse.specs.Lists.{element_at}
-use Rattle.tl_parse.specs.Statements.{variable_at}
-use Rattle.tl_parse.specs.TerraStatements.{terra_variable_at, terra_parameter_at}
+use Rattle.tl_parse.specs.Views.Using.{part_at}
+use Rattle.tl_parse.specs.Views.Codes.{expression_in}
+use Rattle.tl_parse.specs.Views.Lists.{element_at}
+use Rattle.tl_parse.specs.Views.Statements.{variable_at}
+use Rattle.tl_parse.specs.Views.TerraStatements.{terra_variable_at, terra_parameter_at}
 use Rattle.tl_parse.specs.declared.parser.Code.{Code}
 use Rattle.tl_parse.specs.declared.parser.Element.TheVariants as elements
 use Rattle.tl_parse.proofs.Following.{expression_agrees}

@@ -2,7 +2,7 @@
 use Rattle.std.proofs.Common.{◌≡◌, List, [], ◌∷◌, refl, sym, ap, subst, ◌∙◌}
 use Rattle.tl_tree.specs.Tokens.{Token, place_of}
 use Rattle.tl_tree.specs.Grammar.{Outcome, Took, Stop, ◌>>=◌, unexpected}
-use Rattle.tl_parse.specs.Parsing.{StopsWhere, Fails, Refuses, tokens_left, blame_of, end_of}
+use Rattle.tl_parse.specs.Views.Parsing.{StopsWhere, Fails, Refuses, tokens_left, blame_of, end_of}
 use Rattle.tl_base.specs.declared.place.Place.{Place}
 use Rattle.tl_parse.specs.declared.error.SyntaxError.{SyntaxError}
 use Rattle.tl_parse.specs.declared.error.SyntaxError.TheVariants as errors

@@ -8,9 +8,9 @@ use Rattle.tl_tree.specs.Tree.{Tree, Nothing, Just, Part, FunctionBody, TerraFun
 use Rattle.tl_tree.specs.Grammar.{Grammar, give, bind, when, Outcome, Took, Stop, ◌>>=◌, begins}
 use Rattle.tl_tree.specs.Forms.{sign, opening, opening_at}
 use Rattle.tl_tree.proofs.Unrolling.{bind_again}
-use Rattle.tl_parse.specs.Using.{reading, part_at, sign_at, open_at}
-use Rattle.tl_parse.specs.Codes.{expression_of, expression_in, expression_behind_at, optional_expression_at, opened_body_at}
-use Rattle.tl_parse.specs.Codes.{opened_terra_body_at}
+use Rattle.tl_parse.specs.Views.Using.{reading, part_at, sign_at, open_at}
+use Rattle.tl_parse.specs.Views.Codes.{expression_of, expression_in, expression_behind_at, optional_expression_at, opened_body_at}
+use Rattle.tl_parse.specs.Views.Codes.{opened_terra_body_at}
 use Rattle.tl_parse.specs.declared.parser.Code.{Code}
 use Rattle.tl_parse.specs.declared.parser.Code.TheVariants as codes
 use Rattle.tl_parse.proofs.Uses.{both, bind_same, sign_is, open_is, opening_at_is}

@@ -20,14 +20,14 @@ use Rattle.tl_tree.specs.Tokens as tokens
 use Rattle.tl_tree.specs.Tokens.{Token, among, is, tokens_in, place_of}
 use Rattle.tl_tree.specs.Grammar.{begins, is_of, blame}
 use Rattle.tl_tree.specs.Nodes.{item_of}
-use Rattle.tl_parse.specs.Parsing.{token_of, with_token, unless_bad, tokens_left, end_of, items_of, blame_of, HasNext}
+use Rattle.tl_parse.specs.Views.Parsing.{token_of, with_token, unless_bad, tokens_left, end_of, items_of, blame_of, HasNext}
 use Rattle.tl_tree.specs.declared.mode.Mode.{Mode}
 use Rattle.tl_tree.specs.declared.mode.Mode.TheVariants as modes
-use Rattle.tl_tree.specs.LuaExpressions.{is_suffix, suffix_symbols, stays, is_varargs}
-use Rattle.tl_parse.specs.Expressions.{is_types, is_variadic}
-use Rattle.tl_parse.specs.Parsing.{with_token_by}
-use Rattle.tl_parse.specs.Looking.{IsNext, Advanced, BeginsAt}
-use Rattle.tl_parse.specs.Using.{is_end, symbol_at}
+use Rattle.tl_tree.specs.LuaExpressions.{is_suffix, suffix_symbols, may_continue, is_varargs}
+use Rattle.tl_parse.specs.Views.Expressions.{is_types, is_variadic}
+use Rattle.tl_parse.specs.Views.Parsing.{with_token_by}
+use Rattle.tl_parse.specs.Views.Looking.{IsNext, Advanced, BeginsAt}
+use Rattle.tl_parse.specs.Views.Using.{is_end, symbol_at}
 use Rattle.tl_parse.specs.declared.parser.Parser.{Parser}
 use Rattle.tl_parse.specs.declared.parser.Next as code
 use Rattle.tl_parse.specs.declared.error.SyntaxError.TheVariants as errors
@@ -246,18 +246,18 @@ begins_suffix p m = go p.current.is_end (is_bad p.current.symbol)
     ts : List Token
     ts = (tokens_in (answers_left p.lexer)).tokens
 
-    stays-is : (m : Mode) (t : Token) (b : Bool) → cond b false (among suffix_symbols t && stays m t) ≡ (not (is_types m && (cond b false (is symbols.OpenBracket t) && t.first_on_line)) && cond b false (among suffix_symbols t))
-    stays-is modes.Types t true = refl
-    stays-is modes.Types t false = and_swap (among suffix_symbols t) (not (is symbols.OpenBracket t && t.first_on_line))
-    stays-is modes.Plain t true = refl
-    stays-is modes.Plain t false = and_true (among suffix_symbols t)
-    stays-is modes.Variadic t true = refl
-    stays-is modes.Variadic t false = and_true (among suffix_symbols t)
+    may_continue-is : (m : Mode) (t : Token) (b : Bool) → cond b false (among suffix_symbols t && may_continue m t) ≡ (not (is_types m && (cond b false (is symbols.OpenBracket t) && t.first_on_line)) && cond b false (among suffix_symbols t))
+    may_continue-is modes.Types t true = refl
+    may_continue-is modes.Types t false = and_swap (among suffix_symbols t) (not (is symbols.OpenBracket t && t.first_on_line))
+    may_continue-is modes.Plain t true = refl
+    may_continue-is modes.Plain t false = and_true (among suffix_symbols t)
+    may_continue-is modes.Variadic t true = refl
+    may_continue-is modes.Variadic t false = and_true (among suffix_symbols t)
 
     go : (e b : Bool) → begins (λ t. is_suffix m t) (with_token_by e b (token_of p.current) ts) ≡ (not (is_types m && (begins (is symbols.OpenBracket) (with_token_by e b (token_of p.current) ts) && p.current.first_on_line)) && begins (among suffix_symbols) (with_token_by e b (token_of p.current) ts))
     go true b = ends_so m
-    go false true = stays-is m (token_of p.current) (is_bad p.current.symbol)
-    go false false = stays-is m (token_of p.current) (is_bad p.current.symbol)
+    go false true = may_continue-is m (token_of p.current) (is_bad p.current.symbol)
+    go false false = may_continue-is m (token_of p.current) (is_bad p.current.symbol)
 
 suffix_by : (x y : Bool) (b : Bool) → b ≡ (not x && y) → (x ≡ true → false ≡ b) × (x ≡ false → y ≡ b)
 suffix_by true y b e = (λ h. sym e, λ h. absurd cc)

@@ -4,34 +4,34 @@ use Rattle.tl_base.specs.declared.place.Place.{Place}
 use Rattle.tl_base.specs.declared.ids.NodeId.{NodeId}
 use Rattle.tl_tree.specs.declared.mode.Mode.{Mode}
 use Rattle.tl_tree.specs.declared.mode.Context.{Context}
-use Rattle.tl_tree.specs.declared.mode.Shape.{Shape}
+use Rattle.tl_tree.specs.declared.mode.OperandKind.{OperandKind}
 use Rattle.tl_tree.specs.declared.symbol.Symbol.TheVariants as symbols
 use Rattle.tl_tree.specs.Tokens.{Token, is}
-use Rattle.tl_tree.specs.Tree.{Tree, Nothing, More, Assign, NumericFor, GenericFor, Perform, Body, Statements}
+use Rattle.tl_tree.specs.Tree.{Tree, Nothing, More, Assign, NumericFor, GenericFor, CallStatement, Body, Statements}
 use Rattle.tl_tree.specs.Item.{Item}
-use Rattle.tl_tree.specs.Nodes.{laid, last_of}
+use Rattle.tl_tree.specs.Nodes.{added, last_of}
 use Rattle.tl_tree.specs.Grammar.{Outcome, Took, ◌>>=◌, begins}
 use Rattle.tl_tree.specs.Forms.{Chained, chained}
 use Rattle.tl_tree.specs.LuaStatements.{fresh, body_mode, Parameters, parameters_of}
-use Rattle.tl_parse.specs.Parsing.{tokens_left, items_of, end_of, Fails, TookList}
-use Rattle.tl_parse.specs.Using.{part_at, sign_at, open_at}
-use Rattle.tl_parse.specs.Codes.{opened_body_at}
-use Rattle.tl_parse.specs.Expressions.{name_at, applied_at}
-use Rattle.tl_parse.specs.Statements.{first_place, is_call, call_or_assignment_at, numeric_at}
-use Rattle.tl_parse.specs.Statements.{generic_at, for_at, parameters_at, body_at}
-use Rattle.tl_parse.specs.Paths.{next_name_at, more_names_at}
-use Rattle.tl_parse.specs.Going.{Listing}
+use Rattle.tl_parse.specs.Views.Parsing.{tokens_left, items_of, end_of, Fails, TookList}
+use Rattle.tl_parse.specs.Views.Using.{part_at, sign_at, open_at}
+use Rattle.tl_parse.specs.Views.Codes.{opened_body_at}
+use Rattle.tl_parse.specs.Views.Expressions.{name_at, applied_at}
+use Rattle.tl_parse.specs.Views.Statements.{first_place, is_call, call_or_assignment_at, numeric_at}
+use Rattle.tl_parse.specs.Views.Statements.{generic_at, for_at, parameters_at, body_at}
+use Rattle.tl_parse.specs.Views.Paths.{next_name_at, more_names_at}
+use Rattle.tl_parse.specs.Views.Going.{Listing}
 use Rattle.tl_parse.specs.declared.error.SyntaxError.{SyntaxError}
 use Rattle.tl_parse.specs.declared.parser.Parser.{Parser}
 use Rattle.tl_parse.proofs.Failing.{fails_bind, fails_from}
-use Rattle.tl_parse.specs.Lists.{next_element_at, more_elements_at, expressions_behind_at}
+use Rattle.tl_parse.specs.Views.Lists.{next_element_at, more_elements_at, expressions_behind_at}
 use Rattle.tl_parse.proofs.Turns.{elements_go}
 use Rattle.tl_parse.proofs.StatementTurns.{names_go, body_part}
 use Rattle.tl_parse.specs.declared.parser.Code.TheVariants as codes
 use Rattle.tl_parse.specs.declared.parser.Element.TheVariants as elements
 use Rattle.tl_parse.specs.declared.parser.BlockCode.TheVariants as block_codes
 
-pub listing_first : (start now : Parser) (o : Outcome Tree) (more : Tree → List Token → Outcome Tree) (e : Tree) (n : NodeId) (numbers : List NodeId) → o ≡ more (More Nothing e) (tokens_left now) → end_of now ≡ end_of start → items_of now ≡ (laid e (items_of start)).items → n ≡ last_of (items_of now) → numbers ≡ n ∷ [] → Listing start now o more numbers
+pub listing_first : (start now : Parser) (o : Outcome Tree) (more : Tree → List Token → Outcome Tree) (e : Tree) (n : NodeId) (numbers : List NodeId) → o ≡ more (More Nothing e) (tokens_left now) → end_of now ≡ end_of start → items_of now ≡ (added e (items_of start)).items → n ≡ last_of (items_of now) → numbers ≡ n ∷ [] → Listing start now o more numbers
 listing_first start now o more e n numbers goes finish items is_last list =
     record {
       tree = More Nothing e;
@@ -41,15 +41,15 @@ listing_first start now o more e n numbers goes finish items is_last list =
       list = list ∙ ap (λ (x : NodeId). x ∷ []) (is_last ∙ ap (λ (i : List Item). last_of i) items);
     }
 
-pub listing_next : (start now new : Parser) (o : Outcome Tree) (more : Tree → List Token → Outcome Tree) (e : Tree) (n : NodeId) (numbers longer : List NodeId) (s : Listing start now o more numbers) → more s.tree (tokens_left now) ≡ more (More s.tree e) (tokens_left new) → end_of new ≡ end_of now → items_of new ≡ (laid e (items_of now)).items → n ≡ last_of (items_of new) → longer ≡ numbers ++ n ∷ [] → Listing start new o more longer
+pub listing_next : (start now new : Parser) (o : Outcome Tree) (more : Tree → List Token → Outcome Tree) (e : Tree) (n : NodeId) (numbers longer : List NodeId) (s : Listing start now o more numbers) → more s.tree (tokens_left now) ≡ more (More s.tree e) (tokens_left new) → end_of new ≡ end_of now → items_of new ≡ (added e (items_of now)).items → n ≡ last_of (items_of new) → longer ≡ numbers ++ n ∷ [] → Listing start new o more longer
 listing_next start now new o more e n numbers longer s goes finish items is_last list =
-    let all : items_of new ≡ (laid e (laid s.tree (items_of start)).items).items = items ∙ ap (λ (i : List Item). (laid e i).items) s.items in
+    let all : items_of new ≡ (added e (added s.tree (items_of start)).items).items = items ∙ ap (λ (i : List Item). (added e i).items) s.items in
     record {
       tree = More s.tree e;
       goes_on = s.goes_on ∙ goes;
       finish = finish ∙ s.finish;
       items = all;
-      list = list ∙ ap (λ (x : NodeId). numbers ++ x ∷ []) (is_last ∙ ap (λ (i : List Item). last_of i) all) ∙ ap (λ (ns : List NodeId). ns ++ last_of (laid e (laid s.tree (items_of start)).items).items ∷ []) s.list;
+      list = list ∙ ap (λ (x : NodeId). numbers ++ x ∷ []) (is_last ∙ ap (λ (i : List Item). last_of i) all) ∙ ap (λ (ns : List NodeId). ns ++ last_of (added e (added s.tree (items_of start)).items).items ∷ []) s.list;
     }
 
 -- what is read behind a list so far stops where it does
@@ -65,22 +65,22 @@ pub listing_ends : (start now : Parser) (o : Outcome Tree) (more : Tree → List
 listing_ends start now o more numbers s goes = record { tree = s.tree; took = s.goes_on ∙ goes; finish = s.finish; items = s.items; list = s.list }
 
 -- the numbers of one more tree
-pub numbers_next : (start now new : Parser) (tree e : Tree) (n : NodeId) (numbers longer : List NodeId) → items_of now ≡ (laid tree (items_of start)).items → numbers ≡ (laid tree (items_of start)).numbers → items_of new ≡ (laid e (items_of now)).items → n ≡ last_of (items_of new) → longer ≡ numbers ++ n ∷ [] →
-    longer ≡ (laid (More tree e) (items_of start)).numbers
+pub numbers_next : (start now new : Parser) (tree e : Tree) (n : NodeId) (numbers longer : List NodeId) → items_of now ≡ (added tree (items_of start)).items → numbers ≡ (added tree (items_of start)).numbers → items_of new ≡ (added e (items_of now)).items → n ≡ last_of (items_of new) → longer ≡ numbers ++ n ∷ [] →
+    longer ≡ (added (More tree e) (items_of start)).numbers
 numbers_next start now new tree e n numbers longer before list items is_last one_more =
-    let all : items_of new ≡ (laid e (laid tree (items_of start)).items).items = items ∙ ap (λ (i : List Item). (laid e i).items) before in
-    one_more ∙ ap (λ (x : NodeId). numbers ++ x ∷ []) (is_last ∙ ap (λ (i : List Item). last_of i) all) ∙ ap (λ (ns : List NodeId). ns ++ last_of (laid e (laid tree (items_of start)).items).items ∷ []) list
+    let all : items_of new ≡ (added e (added tree (items_of start)).items).items = items ∙ ap (λ (i : List Item). (added e i).items) before in
+    one_more ∙ ap (λ (x : NodeId). numbers ++ x ∷ []) (is_last ∙ ap (λ (i : List Item). last_of i) all) ∙ ap (λ (ns : List NodeId). ns ++ last_of (added e (added tree (items_of start)).items).items ∷ []) list
 
 -- ---- targets
 
-pub targets_begin : (levels : ℕ) (m : Mode) (ts us : List Token) (tree : Tree) (left : ℕ) (shape : Shape) → applied_at levels m true ts ≡ Took (chained tree left shape) us → is_call shape ≡ false →
+pub targets_begin : (levels : ℕ) (m : Mode) (ts us : List Token) (tree : Tree) (links : ℕ) (kind : OperandKind) → applied_at levels m true ts ≡ Took (chained tree links kind) us → is_call kind ≡ false →
     call_or_assignment_at levels m ts ≡ (more_elements_at levels (elements.Target m) (More Nothing tree) us >>= λ targets c. expressions_behind_at levels symbols.Equal (codes.Lua m) c >>= λ es rest. Took (Assign (first_place ts) targets es) rest)
 unfolding call_or_assignment_at
-targets_begin levels m ts us tree left shape took isnt =
-    ap (λ (o : Outcome Chained). o >>= λ a b. chosen a.tree (is_call a.shape) b) took ∙ ap (λ (b : Bool). chosen tree b us) isnt
+targets_begin levels m ts us tree links kind took isnt =
+    ap (λ (o : Outcome Chained). o >>= λ a b. chosen a.tree (is_call a.kind) b) took ∙ ap (λ (b : Bool). chosen tree b us) isnt
   where
     chosen : Tree → Bool → List Token → Outcome Tree
-    chosen e b us = cond b (Took (Perform (first_place ts) e) us) (more_elements_at levels (elements.Target m) (More Nothing e) us >>= λ targets c. expressions_behind_at levels symbols.Equal (codes.Lua m) c >>= λ es rest. Took (Assign (first_place ts) targets es) rest)
+    chosen e b us = cond b (Took (CallStatement (first_place ts) e) us) (more_elements_at levels (elements.Target m) (More Nothing e) us >>= λ targets c. expressions_behind_at levels symbols.Equal (codes.Lua m) c >>= λ es rest. Took (Assign (first_place ts) targets es) rest)
 
 pub targets_next : (levels : ℕ) (m : Mode) (place : Place) (before e : Tree) (ts us : List Token) → begins (is symbols.Comma) ts ≡ true → next_element_at levels (elements.Target m) ts ≡ Took e us →
     (more_elements_at levels (elements.Target m) before ts >>= λ targets c. expressions_behind_at levels symbols.Equal (codes.Lua m) c >>= λ es rest. Took (Assign place targets es) rest) ≡ (more_elements_at levels (elements.Target m) (More before e) us >>= λ targets c. expressions_behind_at levels symbols.Equal (codes.Lua m) c >>= λ es rest. Took (Assign place targets es) rest)

@@ -6,10 +6,10 @@ use Rattle.tl_tree.specs.Tokens.{Token, is}
 use Rattle.tl_tree.specs.Tree.{Tree, Nothing, More, Expression, Operand, Concatenation, Fields}
 use Rattle.tl_tree.specs.Grammar.{Outcome, Took, ◌>>=◌, begins}
 use Rattle.tl_tree.specs.Forms.{Chained, chain}
-use Rattle.tl_parse.specs.Using.{part_at}
-use Rattle.tl_parse.specs.Expressions.{arguments_at, unary_at, chained_at, binary_at, more_fields_at, fields_at}
-use Rattle.tl_parse.specs.Codes.{arguments_in}
-use Rattle.tl_parse.specs.Lists.{element_at, more_elements_at, elements_at}
+use Rattle.tl_parse.specs.Views.Using.{part_at}
+use Rattle.tl_parse.specs.Views.Expressions.{arguments_at, unary_at, chained_at, binary_at, more_fields_at, fields_at}
+use Rattle.tl_parse.specs.Views.Codes.{arguments_in}
+use Rattle.tl_parse.specs.Views.Lists.{element_at, more_elements_at, elements_at}
 use Rattle.tl_parse.specs.declared.parser.Code.{Code}
 use Rattle.tl_parse.specs.declared.parser.Code.TheVariants as codes
 use Rattle.tl_parse.proofs.Agreeing.{unary_agrees, binary_agrees, chained_agrees, field_agrees}

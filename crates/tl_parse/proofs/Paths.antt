@@ -1,6 +1,6 @@
 -- What reading lists of names and paths gives is what their grammar gives.
 use Rattle.std.proofs.Common.{◌≡◌, ℕ, Bool, true, false, cond, List, None, refl, sym, ap, ◌∙◌}
-use Rattle.tl_tree.specs.declared.mode.Extra.TheVariants.{Plain}
+use Rattle.tl_tree.specs.declared.mode.TokenUse.TheVariants.{Plain}
 use Rattle.tl_tree.specs.declared.symbol.Symbol.TheVariants as symbols
 use Rattle.tl_tree.specs.Tokens.{Token, is, sample}
 use Rattle.tl_tree.specs.Tree as trees
@@ -9,9 +9,9 @@ use Rattle.tl_tree.specs.Grammar.{give, token, bind, Outcome, Took, Stop, ◌>>=
 use Rattle.tl_tree.specs.Forms.{sign, name, names, listed_behind, path_names}
 use Rattle.tl_tree.specs.LuaStatements as lua
 use Rattle.tl_tree.proofs.Unrolling.{bind_again}
-use Rattle.tl_parse.specs.Using.{reading, sign_at}
-use Rattle.tl_parse.specs.Expressions.{name_at}
-use Rattle.tl_parse.specs.Paths.{more_names_at, names_at, behind_sign_at, path_names_at, path_method_at, path_at}
+use Rattle.tl_parse.specs.Views.Using.{reading, sign_at}
+use Rattle.tl_parse.specs.Views.Expressions.{name_at}
+use Rattle.tl_parse.specs.Views.Paths.{more_names_at, names_at, behind_sign_at, path_names_at, path_method_at, path_at}
 use Rattle.tl_parse.proofs.Uses.{bind_same}
 use Rattle.tl_parse.proofs.Following.{sign_then, then}
 use Rattle.tl_parse.proofs.Agreeing.{name_agrees}

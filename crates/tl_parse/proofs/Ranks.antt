@@ -3,15 +3,15 @@ use Rattle.std.proofs.Common.{◌≡◌, ℕ, zero, suc, ◌<◌, Bool, true, fa
 use Rattle.tl_lex.specs.Lexing.{answers_left}
 use Rattle.tl_tree.specs.declared.symbol.Symbol.{Symbol}
 use Rattle.tl_tree.specs.declared.symbol.Symbol.TheVariants as symbols
-use Rattle.tl_tree.specs.declared.mode.Extra.TheVariants.{Continues}
+use Rattle.tl_tree.specs.declared.mode.TokenUse.TheVariants.{Continues}
 use Rattle.tl_tree.specs.Symbols.{number_of, is_bad, has}
 use Rattle.tl_tree.specs.Tokens.{Token, among, tokens_in}
 use Rattle.tl_tree.specs.Grammar.{begins}
 use Rattle.tl_tree.specs.Forms.{comparisons, additive, multiplicative}
-use Rattle.tl_parse.specs.Parsing.{token_of, tokens_left, with_token_by}
-use Rattle.tl_parse.specs.Using.{operator_at}
-use Rattle.tl_parse.specs.Expressions.{symbols_of}
-use Rattle.tl_parse.specs.Ranks.{rank_of, rank_at, is_of_rank, ranked_at}
+use Rattle.tl_parse.specs.Views.Parsing.{token_of, tokens_left, with_token_by}
+use Rattle.tl_parse.specs.Views.Using.{operator_at}
+use Rattle.tl_parse.specs.Views.Expressions.{symbols_of}
+use Rattle.tl_parse.specs.Views.Ranks.{rank_of, rank_at, is_of_rank, ranked_at}
 use Rattle.tl_parse.specs.declared.parser.Parser.{Parser}
 use Rattle.tl_parse.proofs.Uses.{used_classes}
 
@@ -91,6 +91,6 @@ begins_rank rank (t ∷ ts) h =
     ap (λ (b : Bool). cond (is_bad t.symbol) false b) (among_rank rank t.symbol h) ∙ sym (of_rank t.symbol rank h)
 
 -- taking one of the symbols is taking an operator of the rank
-pub operator_ranked : (rank left : ℕ) (ts : List Token) → rank < 6 → operator_at (symbols_of rank) left ts ≡ ranked_at rank left ts
+pub operator_ranked : (rank links : ℕ) (ts : List Token) → rank < 6 → operator_at (symbols_of rank) links ts ≡ ranked_at rank links ts
 unfolding operator_at ranked_at
-operator_ranked rank left ts h = used_classes (among (symbols_of rank)) (is_of_rank rank) false 0 (Continues left) (λ t. among_rank rank t.symbol h) ts
+operator_ranked rank links ts h = used_classes (among (symbols_of rank)) (is_of_rank rank) false 0 (Continues links) (λ t. among_rank rank t.symbol h) ts

@@ -5,18 +5,18 @@ use Rattle.tl_lex.specs.Lexing.{answers_left}
 use Rattle.tl_tree.specs.declared.symbol.Symbol.TheVariants as symbols
 use Rattle.tl_tree.specs.Symbols.{is_bad}
 use Rattle.tl_tree.specs.Tokens.{Token, is, sample, tokens_in}
-use Rattle.tl_tree.specs.declared.mode.Extra.TheVariants.{Plain}
+use Rattle.tl_tree.specs.declared.mode.TokenUse.TheVariants.{Plain}
 use Rattle.tl_tree.specs.Tree.{Tree, Nothing, More, Name, FunctionBody}
 use Rattle.tl_tree.specs.Grammar.{give, bind, Outcome, Took, ◌>>=◌, begins}
 use Rattle.tl_tree.specs.Forms.{sign, name, listed_behind}
 use Rattle.tl_tree.specs.LuaStatements as lua
 use Rattle.tl_tree.specs.LuaStatements.{parameters_of}
-use Rattle.tl_parse.specs.Parsing.{tokens_left, token_of, with_token_by, HasNext}
-use Rattle.tl_parse.specs.Using.{reading, part_at, sign_at, open_at}
-use Rattle.tl_parse.specs.Codes.{opened_body_at}
-use Rattle.tl_parse.specs.Expressions.{name_at}
-use Rattle.tl_parse.specs.Statements.{first_place, more_parameters_at, parameter_at, next_parameter_at, with_parameter, body_at}
-use Rattle.tl_parse.specs.Paths.{more_names_at, next_name_at, behind_sign_at, path_names_at}
+use Rattle.tl_parse.specs.Views.Parsing.{tokens_left, token_of, with_token_by, HasNext}
+use Rattle.tl_parse.specs.Views.Using.{reading, part_at, sign_at, open_at}
+use Rattle.tl_parse.specs.Views.Codes.{opened_body_at}
+use Rattle.tl_parse.specs.Views.Expressions.{name_at}
+use Rattle.tl_parse.specs.Views.Statements.{first_place, more_parameters_at, parameter_at, next_parameter_at, with_parameter, body_at}
+use Rattle.tl_parse.specs.Views.Paths.{more_names_at, next_name_at, behind_sign_at, path_names_at}
 use Rattle.tl_parse.specs.declared.parser.Parser.{Parser}
 use Rattle.tl_parse.proofs.Uses.{bind_same, repeats, ends, shorter_turn}
 use Rattle.tl_parse.proofs.Agreeing.{name_agrees}

@@ -7,9 +7,9 @@ use Rattle.tl_tree.specs.Tree.{TerraFunction, Struct, Quote, Backtick, Entries, 
 use Rattle.tl_tree.specs.Grammar.{give, bind, Took, ◌>>=◌, begins}
 use Rattle.tl_tree.specs.Forms.{sign, opening_at}
 use Rattle.tl_tree.specs.LuaExpressions as lua
-use Rattle.tl_parse.specs.Using.{reading, sign_at}
-use Rattle.tl_parse.specs.TerraCode.{terra_function_at, struct_body_at, struct_at, quote_at, backtick_at, terra_code_at}
-use Rattle.tl_parse.specs.Codes.{opened_terra_body_at}
+use Rattle.tl_parse.specs.Views.Using.{reading, sign_at}
+use Rattle.tl_parse.specs.Views.TerraCode.{terra_function_at, struct_body_at, struct_at, quote_at, backtick_at, terra_code_at}
+use Rattle.tl_parse.specs.Views.Codes.{opened_terra_body_at}
 use Rattle.tl_parse.proofs.Following.{sign_then, open_then, then, either_is, terra_body_give}
 
 terra_function_agrees : (levels : ℕ) (ts : List Token) → reading levels lua.terra_function ts ≡ terra_function_at levels ts

@@ -9,13 +9,13 @@ use Rattle.tl_tree.specs.Grammar.{give, bind, Outcome, Took, ◌>>=◌, begins, 
 use Rattle.tl_tree.specs.Forms.{sign, opening_at, name, path_names}
 use Rattle.tl_tree.specs.LuaExpressions as expressions
 use Rattle.tl_tree.specs.LuaStatements as lua
-use Rattle.tl_parse.specs.Using.{reading, sign_at}
-use Rattle.tl_parse.specs.Expressions.{name_at}
-use Rattle.tl_parse.specs.Paths.{path_names_at, path_at}
-use Rattle.tl_parse.specs.TerraCode.{struct_body_at}
-use Rattle.tl_parse.specs.TerraDefinitions.{struct_path_at, define_terra_at, local_terra_function_at, local_struct_at, local_terra_at}
-use Rattle.tl_parse.specs.TerraDefinitions.{define_struct_at}
-use Rattle.tl_parse.specs.Codes.{expression_behind_at, opened_terra_body_at}
+use Rattle.tl_parse.specs.Views.Using.{reading, sign_at}
+use Rattle.tl_parse.specs.Views.Expressions.{name_at}
+use Rattle.tl_parse.specs.Views.Paths.{path_names_at, path_at}
+use Rattle.tl_parse.specs.Views.TerraCode.{struct_body_at}
+use Rattle.tl_parse.specs.Views.TerraDefinitions.{struct_path_at, define_terra_at, local_terra_function_at, local_struct_at, local_terra_at}
+use Rattle.tl_parse.specs.Views.TerraDefinitions.{define_struct_at}
+use Rattle.tl_parse.specs.Views.Codes.{expression_behind_at, opened_terra_body_at}
 use Rattle.tl_parse.specs.declared.parser.Code.TheVariants as codes
 use Rattle.tl_parse.proofs.Following.{sign_then, then, either_is, behind_give, terra_body_give}
 use Rattle.tl_parse.proofs.Agreeing.{name_agrees}

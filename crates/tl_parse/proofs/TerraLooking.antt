@@ -7,7 +7,7 @@ use Rattle.tl_tree.specs.Symbols.{is_bad}
 use Rattle.tl_tree.specs.Tokens.{Token, among, is, tokens_in}
 use Rattle.tl_tree.specs.Grammar.{begins}
 use Rattle.tl_tree.specs.TerraExpressions.{is_terra_suffix, terra_suffix_symbols}
-use Rattle.tl_parse.specs.Parsing.{token_of, with_token_by, tokens_left}
+use Rattle.tl_parse.specs.Views.Parsing.{token_of, with_token_by, tokens_left}
 use Rattle.tl_parse.specs.declared.parser.Parser.{Parser}
 
 and_swap : (a b : Bool) → (a && b) ≡ (b && a)
@@ -23,14 +23,14 @@ begins_terra_suffix p = go p.current.is_end (is_bad p.current.symbol)
     ts : List Token
     ts = (tokens_in (answers_left p.lexer)).tokens
 
-    stays-is : (t : Token) (b : Bool) → cond b false (among terra_suffix_symbols t && not (is symbols.OpenBracket t && t.first_on_line)) ≡ (not (cond b false (is symbols.OpenBracket t) && t.first_on_line) && cond b false (among terra_suffix_symbols t))
-    stays-is t true = refl
-    stays-is t false = and_swap (among terra_suffix_symbols t) (not (is symbols.OpenBracket t && t.first_on_line))
+    may_continue-is : (t : Token) (b : Bool) → cond b false (among terra_suffix_symbols t && not (is symbols.OpenBracket t && t.first_on_line)) ≡ (not (cond b false (is symbols.OpenBracket t) && t.first_on_line) && cond b false (among terra_suffix_symbols t))
+    may_continue-is t true = refl
+    may_continue-is t false = and_swap (among terra_suffix_symbols t) (not (is symbols.OpenBracket t && t.first_on_line))
 
     go : (e b : Bool) → begins (λ t. is_terra_suffix t) (with_token_by e b (token_of p.current) ts) ≡ (not (begins (is symbols.OpenBracket) (with_token_by e b (token_of p.current) ts) && p.current.first_on_line) && begins (among terra_suffix_symbols) (with_token_by e b (token_of p.current) ts))
     go true b = refl
-    go false true = stays-is (token_of p.current) (is_bad p.current.symbol)
-    go false false = stays-is (token_of p.current) (is_bad p.current.symbol)
+    go false true = may_continue-is (token_of p.current) (is_bad p.current.symbol)
+    go false false = may_continue-is (token_of p.current) (is_bad p.current.symbol)
 
 suffix_by : (x y b : Bool) → b ≡ (not x && y) → (x ≡ true → false ≡ b) × (x ≡ false → y ≡ b)
 suffix_by true y b e = (λ h. sym e, λ h. absurd cc)

@@ -4,15 +4,15 @@ use Rattle.std.proofs.lemmas.Bool.{lt-ltb, ltb-false}
 use Rattle.std.specs.Prelude.{nat_lt}
 use Rattle.tl_lex.specs.declared.SyntaxKind.TheVariants as why
 use Rattle.tl_lex.specs.Lexing.{answers_left}
-use Rattle.tl_tree.specs.declared.mode.Extra.TheVariants.{Plain, TerraNumber}
+use Rattle.tl_tree.specs.declared.mode.TokenUse.TheVariants.{Plain, TerraNumber}
 use Rattle.tl_tree.specs.Symbols.{is_bad}
 use Rattle.tl_tree.specs.Numbers.{fitting, value_of, largest_terra}
 use Rattle.tl_tree.specs.Tokens.{Token, among, tokens_in}
 use Rattle.tl_tree.specs.TerraExpressions.{terra_numerals}
 use Rattle.tl_tree.specs.Grammar.{Outcome, Took, Stop, begins, is_of, unless, blame}
-use Rattle.tl_parse.specs.Parsing.{token_of, with_token_by, tokens_left, Fails, TookToken}
-use Rattle.tl_parse.specs.Using.{used}
-use Rattle.tl_parse.specs.Taking.{Uses, Barred}
+use Rattle.tl_parse.specs.Views.Parsing.{token_of, with_token_by, tokens_left, Fails, TookToken}
+use Rattle.tl_parse.specs.Views.Using.{used}
+use Rattle.tl_parse.specs.Views.Taking.{Uses, Barred}
 use Rattle.tl_parse.specs.declared.error.SyntaxError.{SyntaxError}
 use Rattle.tl_parse.specs.declared.error.SyntaxError.TheVariants as errors
 use Rattle.tl_parse.specs.declared.parser.Parser.{Parser}

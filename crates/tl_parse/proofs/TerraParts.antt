@@ -5,10 +5,10 @@ use Rattle.tl_tree.specs.Tokens.{Token}
 use Rattle.tl_tree.specs.Tree.{Nothing, TerraExpression, TerraOperand, Initialisers, Entries}
 use Rattle.tl_tree.specs.Grammar.{Outcome, Took, ◌>>=◌}
 use Rattle.tl_tree.specs.Forms.{Chained, chain}
-use Rattle.tl_parse.specs.Using.{part_at}
-use Rattle.tl_parse.specs.TerraExpressions.{terra_exponent_at, terra_unary_at, terra_inner_at, terra_first_at, terra_binary_at}
-use Rattle.tl_parse.specs.TerraExpressions.{initialisers_at}
-use Rattle.tl_parse.specs.Entries.{more_entries_at}
+use Rattle.tl_parse.specs.Views.Using.{part_at}
+use Rattle.tl_parse.specs.Views.TerraExpressions.{terra_exponent_at, terra_unary_at, terra_inner_at, terra_first_at, terra_binary_at}
+use Rattle.tl_parse.specs.Views.TerraExpressions.{initialisers_at}
+use Rattle.tl_parse.specs.Views.Entries.{more_entries_at}
 use Rattle.tl_parse.specs.declared.terra_expressions.TerraPrecedence.{TerraPrecedence}
 use Rattle.tl_parse.specs.declared.terra_expressions.TerraPrecedence.TheVariants as precedences
 use Rattle.tl_parse.proofs.TerraAgreeing.{terra_exponent_agrees, terra_unary_agrees, terra_product_agrees, terra_sum_agrees}
@@ -32,38 +32,38 @@ pub entries_part : (levels : ℕ) (m : Mode) (ts : List Token) → part_at level
 unfolding part_at more_entries_at
 entries_part levels m ts = refl
 
-pub inner_power : (levels left : ℕ) (ts : List Token) → terra_inner_at levels precedences.Power left ts ≡ terra_exponent_at levels left ts
+pub inner_power : (levels links : ℕ) (ts : List Token) → terra_inner_at levels precedences.Power links ts ≡ terra_exponent_at levels links ts
 unfolding terra_inner_at
-inner_power levels left ts = terra_exponent_agrees levels left ts
+inner_power levels links ts = terra_exponent_agrees levels links ts
 
-pub inner_product : (levels left : ℕ) (ts : List Token) → terra_inner_at levels precedences.Product left ts ≡ terra_unary_at levels left ts
+pub inner_product : (levels links : ℕ) (ts : List Token) → terra_inner_at levels precedences.Product links ts ≡ terra_unary_at levels links ts
 unfolding terra_inner_at
-inner_product levels left ts = terra_unary_agrees levels left ts
+inner_product levels links ts = terra_unary_agrees levels links ts
 
-pub inner_sum : (levels left : ℕ) (ts : List Token) → terra_inner_at levels precedences.Sum left ts ≡ terra_binary_at levels precedences.Product left ts
+pub inner_sum : (levels links : ℕ) (ts : List Token) → terra_inner_at levels precedences.Sum links ts ≡ terra_binary_at levels precedences.Product links ts
 unfolding terra_inner_at
-inner_sum levels left ts = terra_product_agrees levels left ts
+inner_sum levels links ts = terra_product_agrees levels links ts
 
-pub inner_shift : (levels left : ℕ) (ts : List Token) → terra_inner_at levels precedences.Shift left ts ≡ terra_binary_at levels precedences.Sum left ts
+pub inner_shift : (levels links : ℕ) (ts : List Token) → terra_inner_at levels precedences.Shift links ts ≡ terra_binary_at levels precedences.Sum links ts
 unfolding terra_inner_at
-inner_shift levels left ts = terra_sum_agrees levels left ts
+inner_shift levels links ts = terra_sum_agrees levels links ts
 
-pub inner_comparison : (levels left : ℕ) (ts : List Token) → terra_inner_at levels precedences.Comparison left ts ≡ terra_binary_at levels precedences.Shift left ts
+pub inner_comparison : (levels links : ℕ) (ts : List Token) → terra_inner_at levels precedences.Comparison links ts ≡ terra_binary_at levels precedences.Shift links ts
 unfolding terra_inner_at
-inner_comparison levels left ts = terra_shift_agrees levels left ts
+inner_comparison levels links ts = terra_shift_agrees levels links ts
 
-pub inner_conjunction : (levels left : ℕ) (ts : List Token) → terra_inner_at levels precedences.Conjunction left ts ≡ terra_binary_at levels precedences.Comparison left ts
+pub inner_conjunction : (levels links : ℕ) (ts : List Token) → terra_inner_at levels precedences.Conjunction links ts ≡ terra_binary_at levels precedences.Comparison links ts
 unfolding terra_inner_at
-inner_conjunction levels left ts = terra_comparison_agrees levels left ts
+inner_conjunction levels links ts = terra_comparison_agrees levels links ts
 
-pub inner_disjunction : (levels left : ℕ) (ts : List Token) → terra_inner_at levels precedences.Disjunction left ts ≡ terra_binary_at levels precedences.Conjunction left ts
+pub inner_disjunction : (levels links : ℕ) (ts : List Token) → terra_inner_at levels precedences.Disjunction links ts ≡ terra_binary_at levels precedences.Conjunction links ts
 unfolding terra_inner_at
-inner_disjunction levels left ts = terra_conjunction_agrees levels left ts
+inner_disjunction levels links ts = terra_conjunction_agrees levels links ts
 
-pub first_others : (p : TerraPrecedence) (levels left : ℕ) (ts : List Token) → (p ≡ precedences.Power → ⊥) → terra_first_at levels p left ts ≡ terra_inner_at levels p left ts
+pub first_others : (p : TerraPrecedence) (levels links : ℕ) (ts : List Token) → (p ≡ precedences.Power → ⊥) → terra_first_at levels p links ts ≡ terra_inner_at levels p links ts
 unfolding terra_first_at
-first_others precedences.Power levels left ts h = absurd (h refl)
-first_others _ levels left ts h = refl
+first_others precedences.Power levels links ts h = absurd (h refl)
+first_others _ levels links ts h = refl
 
 pub ruleset inner = (fails_bind, fails_after, inner_power, inner_product, inner_sum, inner_shift, inner_comparison, inner_conjunction, inner_disjunction, fails_same)
 

@@ -4,9 +4,9 @@ use Rattle.std.specs.Prelude.{◌&&◌, not}
 use Rattle.tl_base.specs.declared.place.Place.{Place}
 use Rattle.tl_lex.specs.declared.SyntaxKind.{SyntaxKind}
 use Rattle.tl_tree.specs.declared.mode.Mode.TheVariants as modes
-use Rattle.tl_tree.specs.declared.mode.Shape.{Shape}
-use Rattle.tl_tree.specs.declared.mode.Shape.TheVariants as shapes
-use Rattle.tl_tree.specs.declared.mode.Extra.TheVariants.{Plain}
+use Rattle.tl_tree.specs.declared.mode.OperandKind.{OperandKind}
+use Rattle.tl_tree.specs.declared.mode.OperandKind.TheVariants as operands
+use Rattle.tl_tree.specs.declared.mode.TokenUse.TheVariants.{Plain}
 use Rattle.tl_tree.specs.declared.node.UnaryOperator.{UnaryOperator}
 use Rattle.tl_tree.specs.declared.node.UnaryOperator.TheVariants as unary
 use Rattle.tl_tree.specs.declared.symbol.Symbol.{Symbol}
@@ -22,28 +22,28 @@ use Rattle.tl_tree.specs.TerraExpressions.{shifts, terra_prefix_symbols}
 use Rattle.tl_tree.specs.TerraExpressions as expressions
 use Rattle.tl_tree.specs.TerraStatements as terra
 use Rattle.tl_tree.proofs.Unrolling.{bind_again}
-use Rattle.tl_parse.specs.Using.{reading, part_at, used, barred, sign_at, open_at, prefix_at}
-use Rattle.tl_parse.specs.Expressions.{name_at}
-use Rattle.tl_parse.specs.Statements.{first_place}
-use Rattle.tl_parse.specs.TerraExpressions.{escape_at, terra_name_at, terra_paren_at, terra_base_at, terra_suffixes_at, terra_applied_at}
-use Rattle.tl_parse.specs.TerraExpressions.{terra_prefixed_at, terra_unary_at, terra_binary_at}
-use Rattle.tl_parse.specs.TerraStatements.{written_type_at}
-use Rattle.tl_parse.specs.TerraStatements.{placed_name, placed_name_at, terra_variable_at}
-use Rattle.tl_parse.specs.TerraStatements.{terra_target_at}
-use Rattle.tl_parse.specs.TerraStatements.{terra_assignment_at, assignment_symbols, terra_statement_behind_at, terra_simple_statement_at}
-use Rattle.tl_parse.specs.Statements.{do_at, while_at, repeat_at, if_at, return_at}
-use Rattle.tl_parse.specs.TerraStatements.{terra_for_at, terra_var_at}
-use Rattle.tl_parse.specs.TerraStatements.{escape_block_at, terra_break_at, terra_statement_at, terra_parameter_at}
-use Rattle.tl_parse.specs.TerraStatements.{terra_parameters_at}
+use Rattle.tl_parse.specs.Views.Using.{reading, part_at, used, barred, sign_at, open_at, prefix_at}
+use Rattle.tl_parse.specs.Views.Expressions.{name_at}
+use Rattle.tl_parse.specs.Views.Statements.{first_place}
+use Rattle.tl_parse.specs.Views.TerraExpressions.{escape_at, terra_name_at, terra_paren_at, terra_base_at, terra_suffixes_at, terra_applied_at}
+use Rattle.tl_parse.specs.Views.TerraExpressions.{terra_prefixed_at, terra_unary_at, terra_binary_at}
+use Rattle.tl_parse.specs.Views.TerraStatements.{written_type_at}
+use Rattle.tl_parse.specs.Views.TerraStatements.{placed_name, placed_name_at, terra_variable_at}
+use Rattle.tl_parse.specs.Views.TerraStatements.{terra_target_at}
+use Rattle.tl_parse.specs.Views.TerraStatements.{terra_assignment_at, assignment_symbols, terra_statement_behind_at, terra_simple_statement_at}
+use Rattle.tl_parse.specs.Views.Statements.{do_at, while_at, repeat_at, if_at, return_at}
+use Rattle.tl_parse.specs.Views.TerraStatements.{terra_for_at, terra_var_at}
+use Rattle.tl_parse.specs.Views.TerraStatements.{escape_block_at, terra_break_at, terra_statement_at, terra_parameter_at}
+use Rattle.tl_parse.specs.Views.TerraStatements.{terra_parameters_at}
 use Rattle.tl_parse.specs.declared.terra_expressions.TerraPrecedence.TheVariants as precedences
 use Rattle.tl_parse.proofs.Uses.{never, bind_same, opens_any, opened_at, used_first}
 use Rattle.tl_parse.proofs.Following.{sign_then, open_then, then, either_is, behind_then, behind_give, optional_agrees}
 use Rattle.tl_parse.proofs.Turns.{used_here, used_use}
 use Rattle.tl_parse.proofs.TerraAgreeing.{terra_name_agrees, terra_unary_agrees, terra_expression_agrees}
-use Rattle.tl_parse.specs.Lists.{element_at, more_elements_at, elements_at, expressions_at, expressions_behind_at}
-use Rattle.tl_parse.specs.Statements.{arm_at, arms_at, initial_values_at, loop_at, more_arms_at, otherwise_at, returned_values_at}
-use Rattle.tl_parse.specs.Statements.{Numeric, numeric, numeric_at}
-use Rattle.tl_parse.specs.Codes.{expression_of, expression_behind_at, optional_expression_at, code_of}
+use Rattle.tl_parse.specs.Views.Lists.{element_at, more_elements_at, elements_at, expressions_at, expressions_behind_at}
+use Rattle.tl_parse.specs.Views.Statements.{arm_at, arms_at, initial_values_at, loop_at, more_arms_at, otherwise_at, returned_values_at}
+use Rattle.tl_parse.specs.Views.Statements.{Numeric, numeric, numeric_at}
+use Rattle.tl_parse.specs.Views.Codes.{expression_of, expression_behind_at, optional_expression_at, code_of}
 use Rattle.tl_parse.specs.declared.parser.Code.TheVariants as codes
 use Rattle.tl_parse.specs.declared.parser.Element.TheVariants as elements
 use Rattle.tl_parse.specs.declared.parser.BlockCode.{BlockCode}
@@ -207,18 +207,18 @@ splice_or : (b : Bool) (x y z : Outcome Tree) → x ≡ y → cond b x z ≡ con
 splice_or true x y z e = e
 splice_or false x y z e = refl
 
-simple_by : (levels : ℕ) (t : Token) (tree : Tree) (left : ℕ) (shape : Shape) (ts : List Token) → reading levels (terra.terra_simple_statement t shape tree) ts ≡ terra_statement_behind_at levels t.place (chained tree left shape) ts
-simple_by levels t tree left shapes.Call ts = refl
-simple_by levels t tree left shapes.Escape ts =
+simple_by : (levels : ℕ) (t : Token) (tree : Tree) (links : ℕ) (kind : OperandKind) (ts : List Token) → reading levels (terra.terra_simple_statement t kind tree) ts ≡ terra_statement_behind_at levels t.place (chained tree links kind) ts
+simple_by levels t tree links operands.Call ts = refl
+simple_by levels t tree links operands.Escape ts =
     splice_or (begins (among assignment_symbols) ts) (reading levels (terra.terra_assignment t tree) ts) (terra_assignment_at levels t.place (More Nothing tree) ts) (Took (Splice t.place tree) ts) (terra_assignment_agrees levels t tree ts)
-simple_by levels t tree left shapes.Name ts = terra_assignment_agrees levels t tree ts
-simple_by levels t tree left shapes.Variable ts = terra_assignment_agrees levels t tree ts
-simple_by levels t tree left shapes.Other ts = terra_assignment_agrees levels t tree ts
+simple_by levels t tree links operands.Name ts = terra_assignment_agrees levels t tree ts
+simple_by levels t tree links operands.Variable ts = terra_assignment_agrees levels t tree ts
+simple_by levels t tree links operands.Other ts = terra_assignment_agrees levels t tree ts
 
 simple_behind_agrees : (levels : ℕ) (t : Token) (b : Chained) (ts : List Token) → reading levels (terra.terra_simple_behind t b) ts ≡ (terra_suffixes_at levels b ts >>= λ a rest. terra_statement_behind_at levels t.place a rest)
 unfolding terra_suffixes_at
 simple_behind_agrees levels t b ts =
-    then levels (expressions.terra_suffixes b) (λ a. terra.terra_simple_statement t a.shape a.tree) (λ us. terra_suffixes_at levels b us) (λ a rest. terra_statement_behind_at levels t.place a rest) (λ us. refl) (λ a us. simple_by levels t a.tree a.left a.shape us) ts
+    then levels (expressions.terra_suffixes b) (λ a. terra.terra_simple_statement t a.kind a.tree) (λ us. terra_suffixes_at levels b us) (λ a rest. terra_statement_behind_at levels t.place a rest) (λ us. refl) (λ a us. simple_by levels t a.tree a.links a.kind us) ts
 
 -- ---- the first token of a statement
 
@@ -321,29 +321,29 @@ name_is : (levels : ℕ) (t : Token) (ts : List Token) → is_of (is symbols.Nam
     reading levels (terra.terra_statement terra.FromName t Nothing) ts ≡ terra_simple_statement_at levels (t ∷ ts)
 unfolding terra_simple_statement_at terra_target_at terra_applied_at terra_base_at name_at
 name_is levels t ts h no_at no_paren no_bracket =
-    simple_behind_agrees levels t (chained (Name t.place t.offset t.text) chain shapes.Name) ts
-    ∙ sym (ap (λ (b : Bool). cond b (part_at levels TerraExpression (t ∷ ts) >>= λ e rest. Took (chained e chain shapes.Other) rest) (cond (begins (is symbols.OpenParen) (t ∷ ts)) (terra_paren_at levels (t ∷ ts)) (cond (begins (is symbols.OpenBracket) (t ∷ ts)) bracket named) >>= λ b rest. terra_suffixes_at levels b rest) >>= λ a rest. terra_statement_behind_at levels t.place a rest) no_at
+    simple_behind_agrees levels t (chained (Name t.place t.offset t.text) chain operands.Name) ts
+    ∙ sym (ap (λ (b : Bool). cond b (part_at levels TerraExpression (t ∷ ts) >>= λ e rest. Took (chained e chain operands.Other) rest) (cond (begins (is symbols.OpenParen) (t ∷ ts)) (terra_paren_at levels (t ∷ ts)) (cond (begins (is symbols.OpenBracket) (t ∷ ts)) bracket named) >>= λ b rest. terra_suffixes_at levels b rest) >>= λ a rest. terra_statement_behind_at levels t.place a rest) no_at
     ∙ ap (λ (b : Bool). (cond b (terra_paren_at levels (t ∷ ts)) (cond (begins (is symbols.OpenBracket) (t ∷ ts)) bracket named) >>= λ b rest. terra_suffixes_at levels b rest) >>= λ a rest. terra_statement_behind_at levels t.place a rest) no_paren
     ∙ ap (λ (b : Bool). (cond b bracket named >>= λ b rest. terra_suffixes_at levels b rest) >>= λ a rest. terra_statement_behind_at levels t.place a rest) no_bracket
-    ∙ ap (λ (o : Outcome Token). (((o >>= λ t rest. Took (Name t.place t.offset t.text) rest) >>= λ n rest. Took (chained n chain shapes.Name) rest) >>= λ b rest. terra_suffixes_at levels b rest) >>= λ a rest. terra_statement_behind_at levels t.place a rest) (sign_first symbols.Name t ts h))
+    ∙ ap (λ (o : Outcome Token). (((o >>= λ t rest. Took (Name t.place t.offset t.text) rest) >>= λ n rest. Took (chained n chain operands.Name) rest) >>= λ b rest. terra_suffixes_at levels b rest) >>= λ a rest. terra_statement_behind_at levels t.place a rest) (sign_first symbols.Name t ts h))
   where
     bracket : Outcome Chained
-    bracket = escape_at levels (t ∷ ts) >>= λ e rest. Took (chained e chain shapes.Escape) rest
+    bracket = escape_at levels (t ∷ ts) >>= λ e rest. Took (chained e chain operands.Escape) rest
 
     named : Outcome Chained
-    named = name_at (t ∷ ts) >>= λ n rest. Took (chained n chain shapes.Name) rest
+    named = name_at (t ∷ ts) >>= λ n rest. Took (chained n chain operands.Name) rest
 
 -- a part and a sign behind it make the first part of a statement
-enclosed : (levels : ℕ) (opener closer : Symbol) (part : Part) (t : Token) (ts : List Token) (make : Place → Tree → Tree) (shape : Shape) → is_of (is opener) t ≡ true →
-    (used_here (barred true levels Plain t) t ts >>= λ u mid. part_at (levels - 1) part mid >>= λ x rest. reading levels (bind (sign closer) λ y. terra.terra_simple_behind t (chained (make t.place x) chain shape)) rest)
-    ≡ (((open_at opener levels (t ∷ ts) >>= λ u a. part_at (levels - 1) part a >>= λ x b. sign_at closer b >>= λ y rest. Took (chained (make u.place x) chain shape) rest) >>= λ b rest. terra_suffixes_at levels b rest) >>= λ a rest. terra_statement_behind_at levels t.place a rest)
-enclosed levels opener closer part t ts make shape h =
-    opened_form levels opener part t ts (λ x. bind (sign closer) λ y. terra.terra_simple_behind t (chained (make t.place x) chain shape)) (λ u x b. sign_at closer b >>= λ y rest. behind (chained (make u.place x) chain shape) rest) h
-    (λ x us. sign_then levels closer (λ y. terra.terra_simple_behind t (chained (make t.place x) chain shape)) (λ y rest. behind (chained (make t.place x) chain shape) rest) (λ y vs. simple_behind_agrees levels t (chained (make t.place x) chain shape) vs) us)
-    ∙ sym (bind_again (open_at opener levels (t ∷ ts) >>= λ u a. part_at (levels - 1) part a >>= λ x b. sign_at closer b >>= λ y rest. Took (chained (make u.place x) chain shape) rest) (λ b rest. terra_suffixes_at levels b rest) (λ a rest. terra_statement_behind_at levels t.place a rest)
-    ∙ after (open_at opener levels (t ∷ ts)) (λ u a. part_at (levels - 1) part a >>= λ x b. sign_at closer b >>= λ y rest. Took (chained (make u.place x) chain shape) rest) (λ b rest. behind b rest) (λ u a. part_at (levels - 1) part a >>= λ x b. sign_at closer b >>= λ y rest. behind (chained (make u.place x) chain shape) rest)
-    (λ u us. after (part_at (levels - 1) part us) (λ x b. sign_at closer b >>= λ y rest. Took (chained (make u.place x) chain shape) rest) (λ b rest. behind b rest) (λ x b. sign_at closer b >>= λ y rest. behind (chained (make u.place x) chain shape) rest)
-    (λ x vs. bind_again (sign_at closer vs) (λ y rest. Took (chained (make u.place x) chain shape) rest) (λ b rest. behind b rest))))
+enclosed : (levels : ℕ) (opener closer : Symbol) (part : Part) (t : Token) (ts : List Token) (make : Place → Tree → Tree) (kind : OperandKind) → is_of (is opener) t ≡ true →
+    (used_here (barred true levels Plain t) t ts >>= λ u mid. part_at (levels - 1) part mid >>= λ x rest. reading levels (bind (sign closer) λ y. terra.terra_simple_behind t (chained (make t.place x) chain kind)) rest)
+    ≡ (((open_at opener levels (t ∷ ts) >>= λ u a. part_at (levels - 1) part a >>= λ x b. sign_at closer b >>= λ y rest. Took (chained (make u.place x) chain kind) rest) >>= λ b rest. terra_suffixes_at levels b rest) >>= λ a rest. terra_statement_behind_at levels t.place a rest)
+enclosed levels opener closer part t ts make kind h =
+    opened_form levels opener part t ts (λ x. bind (sign closer) λ y. terra.terra_simple_behind t (chained (make t.place x) chain kind)) (λ u x b. sign_at closer b >>= λ y rest. behind (chained (make u.place x) chain kind) rest) h
+    (λ x us. sign_then levels closer (λ y. terra.terra_simple_behind t (chained (make t.place x) chain kind)) (λ y rest. behind (chained (make t.place x) chain kind) rest) (λ y vs. simple_behind_agrees levels t (chained (make t.place x) chain kind) vs) us)
+    ∙ sym (bind_again (open_at opener levels (t ∷ ts) >>= λ u a. part_at (levels - 1) part a >>= λ x b. sign_at closer b >>= λ y rest. Took (chained (make u.place x) chain kind) rest) (λ b rest. terra_suffixes_at levels b rest) (λ a rest. terra_statement_behind_at levels t.place a rest)
+    ∙ after (open_at opener levels (t ∷ ts)) (λ u a. part_at (levels - 1) part a >>= λ x b. sign_at closer b >>= λ y rest. Took (chained (make u.place x) chain kind) rest) (λ b rest. behind b rest) (λ u a. part_at (levels - 1) part a >>= λ x b. sign_at closer b >>= λ y rest. behind (chained (make u.place x) chain kind) rest)
+    (λ u us. after (part_at (levels - 1) part us) (λ x b. sign_at closer b >>= λ y rest. Took (chained (make u.place x) chain kind) rest) (λ b rest. behind b rest) (λ x b. sign_at closer b >>= λ y rest. behind (chained (make u.place x) chain kind) rest)
+    (λ x vs. bind_again (sign_at closer vs) (λ y rest. Took (chained (make u.place x) chain kind) rest) (λ b rest. behind b rest))))
   where
     behind : Chained → List Token → Outcome Tree
     behind b rest = terra_suffixes_at levels b rest >>= λ a next. terra_statement_behind_at levels t.place a next
@@ -352,41 +352,41 @@ paren_is : (levels : ℕ) (t : Token) (ts : List Token) → is_of (is symbols.Op
     (used_here (barred true levels Plain t) t ts >>= λ u mid. part_at (levels - 1) TerraExpression mid >>= λ x rest. reading levels (terra.terra_statement terra.FromParen t x) rest) ≡ terra_simple_statement_at levels (t ∷ ts)
 unfolding terra_simple_statement_at terra_target_at terra_applied_at terra_base_at terra_paren_at
 paren_is levels t ts h no_at =
-    enclosed levels symbols.OpenParen symbols.CloseParen TerraExpression t ts (λ p x. TerraParen p x) shapes.Other h
-    ∙ sym (ap (λ (b : Bool). cond b (part_at levels TerraExpression (t ∷ ts) >>= λ e rest. Took (chained e chain shapes.Other) rest) (cond (begins (is symbols.OpenParen) (t ∷ ts)) inner other >>= λ b rest. terra_suffixes_at levels b rest) >>= λ a rest. terra_statement_behind_at levels t.place a rest) no_at
+    enclosed levels symbols.OpenParen symbols.CloseParen TerraExpression t ts (λ p x. TerraParen p x) operands.Other h
+    ∙ sym (ap (λ (b : Bool). cond b (part_at levels TerraExpression (t ∷ ts) >>= λ e rest. Took (chained e chain operands.Other) rest) (cond (begins (is symbols.OpenParen) (t ∷ ts)) inner other >>= λ b rest. terra_suffixes_at levels b rest) >>= λ a rest. terra_statement_behind_at levels t.place a rest) no_at
     ∙ ap (λ (b : Bool). (cond b inner other >>= λ b rest. terra_suffixes_at levels b rest) >>= λ a rest. terra_statement_behind_at levels t.place a rest) h)
   where
     inner : Outcome Chained
-    inner = open_at symbols.OpenParen levels (t ∷ ts) >>= λ u a. part_at (levels - 1) TerraExpression a >>= λ x b. sign_at symbols.CloseParen b >>= λ y rest. Took (chained (TerraParen u.place x) chain shapes.Other) rest
+    inner = open_at symbols.OpenParen levels (t ∷ ts) >>= λ u a. part_at (levels - 1) TerraExpression a >>= λ x b. sign_at symbols.CloseParen b >>= λ y rest. Took (chained (TerraParen u.place x) chain operands.Other) rest
 
     other : Outcome Chained
-    other = cond (begins (is symbols.OpenBracket) (t ∷ ts)) (escape_at levels (t ∷ ts) >>= λ e rest. Took (chained e chain shapes.Escape) rest) (name_at (t ∷ ts) >>= λ n rest. Took (chained n chain shapes.Name) rest)
+    other = cond (begins (is symbols.OpenBracket) (t ∷ ts)) (escape_at levels (t ∷ ts) >>= λ e rest. Took (chained e chain operands.Escape) rest) (name_at (t ∷ ts) >>= λ n rest. Took (chained n chain operands.Name) rest)
 
 -- what is made of an escape
-escaped : (levels : ℕ) (ts : List Token) → (escape_at levels ts >>= λ e rest. Took (chained e chain shapes.Escape) rest)
-    ≡ (open_at symbols.OpenBracket levels ts >>= λ u a. part_at (levels - 1) (Expression modes.Plain) a >>= λ x b. sign_at symbols.CloseBracket b >>= λ y rest. Took (chained (Escape u.place x) chain shapes.Escape) rest)
+escaped : (levels : ℕ) (ts : List Token) → (escape_at levels ts >>= λ e rest. Took (chained e chain operands.Escape) rest)
+    ≡ (open_at symbols.OpenBracket levels ts >>= λ u a. part_at (levels - 1) (Expression modes.Plain) a >>= λ x b. sign_at symbols.CloseBracket b >>= λ y rest. Took (chained (Escape u.place x) chain operands.Escape) rest)
 unfolding escape_at
 escaped levels ts =
-    after (open_at symbols.OpenBracket levels ts) (λ u a. part_at (levels - 1) (Expression modes.Plain) a >>= λ x b. sign_at symbols.CloseBracket b >>= λ y rest. Took (Escape u.place x) rest) (λ e rest. Took (chained e chain shapes.Escape) rest)
-    (λ u a. part_at (levels - 1) (Expression modes.Plain) a >>= λ x b. sign_at symbols.CloseBracket b >>= λ y rest. Took (chained (Escape u.place x) chain shapes.Escape) rest)
-    (λ u us. after (part_at (levels - 1) (Expression modes.Plain) us) (λ x b. sign_at symbols.CloseBracket b >>= λ y rest. Took (Escape u.place x) rest) (λ e rest. Took (chained e chain shapes.Escape) rest) (λ x b. sign_at symbols.CloseBracket b >>= λ y rest. Took (chained (Escape u.place x) chain shapes.Escape) rest)
-    (λ x vs. bind_again (sign_at symbols.CloseBracket vs) (λ y rest. Took (Escape u.place x) rest) (λ e rest. Took (chained e chain shapes.Escape) rest)))
+    after (open_at symbols.OpenBracket levels ts) (λ u a. part_at (levels - 1) (Expression modes.Plain) a >>= λ x b. sign_at symbols.CloseBracket b >>= λ y rest. Took (Escape u.place x) rest) (λ e rest. Took (chained e chain operands.Escape) rest)
+    (λ u a. part_at (levels - 1) (Expression modes.Plain) a >>= λ x b. sign_at symbols.CloseBracket b >>= λ y rest. Took (chained (Escape u.place x) chain operands.Escape) rest)
+    (λ u us. after (part_at (levels - 1) (Expression modes.Plain) us) (λ x b. sign_at symbols.CloseBracket b >>= λ y rest. Took (Escape u.place x) rest) (λ e rest. Took (chained e chain operands.Escape) rest) (λ x b. sign_at symbols.CloseBracket b >>= λ y rest. Took (chained (Escape u.place x) chain operands.Escape) rest)
+    (λ x vs. bind_again (sign_at symbols.CloseBracket vs) (λ y rest. Took (Escape u.place x) rest) (λ e rest. Took (chained e chain operands.Escape) rest)))
 
 bracket_is : (levels : ℕ) (t : Token) (ts : List Token) → is_of (is symbols.OpenBracket) t ≡ true → begins (is symbols.At) (t ∷ ts) ≡ false → begins (is symbols.OpenParen) (t ∷ ts) ≡ false →
     (used_here (barred true levels Plain t) t ts >>= λ u mid. part_at (levels - 1) (Expression modes.Plain) mid >>= λ x rest. reading levels (terra.terra_statement terra.FromBracket t x) rest) ≡ terra_simple_statement_at levels (t ∷ ts)
 unfolding terra_simple_statement_at terra_target_at terra_applied_at terra_base_at
 bracket_is levels t ts h no_at no_paren =
-    enclosed levels symbols.OpenBracket symbols.CloseBracket (Expression modes.Plain) t ts (λ p x. Escape p x) shapes.Escape h
-    ∙ sym (ap (λ (b : Bool). cond b (part_at levels TerraExpression (t ∷ ts) >>= λ e rest. Took (chained e chain shapes.Other) rest) (cond (begins (is symbols.OpenParen) (t ∷ ts)) (terra_paren_at levels (t ∷ ts)) (cond (begins (is symbols.OpenBracket) (t ∷ ts)) inner named) >>= λ b rest. terra_suffixes_at levels b rest) >>= λ a rest. terra_statement_behind_at levels t.place a rest) no_at
+    enclosed levels symbols.OpenBracket symbols.CloseBracket (Expression modes.Plain) t ts (λ p x. Escape p x) operands.Escape h
+    ∙ sym (ap (λ (b : Bool). cond b (part_at levels TerraExpression (t ∷ ts) >>= λ e rest. Took (chained e chain operands.Other) rest) (cond (begins (is symbols.OpenParen) (t ∷ ts)) (terra_paren_at levels (t ∷ ts)) (cond (begins (is symbols.OpenBracket) (t ∷ ts)) inner named) >>= λ b rest. terra_suffixes_at levels b rest) >>= λ a rest. terra_statement_behind_at levels t.place a rest) no_at
     ∙ ap (λ (b : Bool). (cond b (terra_paren_at levels (t ∷ ts)) (cond (begins (is symbols.OpenBracket) (t ∷ ts)) inner named) >>= λ b rest. terra_suffixes_at levels b rest) >>= λ a rest. terra_statement_behind_at levels t.place a rest) no_paren
     ∙ ap (λ (b : Bool). (cond b inner named >>= λ b rest. terra_suffixes_at levels b rest) >>= λ a rest. terra_statement_behind_at levels t.place a rest) h
     ∙ ap (λ (o : Outcome Chained). (o >>= λ b rest. terra_suffixes_at levels b rest) >>= λ a rest. terra_statement_behind_at levels t.place a rest) (escaped levels (t ∷ ts)))
   where
     inner : Outcome Chained
-    inner = escape_at levels (t ∷ ts) >>= λ e rest. Took (chained e chain shapes.Escape) rest
+    inner = escape_at levels (t ∷ ts) >>= λ e rest. Took (chained e chain operands.Escape) rest
 
     named : Outcome Chained
-    named = name_at (t ∷ ts) >>= λ n rest. Took (chained n chain shapes.Name) rest
+    named = name_at (t ∷ ts) >>= λ n rest. Took (chained n chain operands.Name) rest
 
 -- readings one after the other
 chain_of_4 : (o : Outcome Chained) (f2 f3 f4 f5 : Chained → List Token → Outcome Chained) → ((((o >>= f2) >>= f3) >>= f4) >>= f5) ≡ (o >>= λ d r2. f2 d r2 >>= λ e r3. f3 e r3 >>= λ f r4. f4 f r4 >>= λ g r5. f5 g r5)
@@ -439,8 +439,8 @@ at_is levels t ts h is_prefix same_operator =
     use_same (barred true levels Plain t) t ts (λ u mid. part_at (levels - 1) TerraOperand mid >>= λ x rest. reading levels (terra.terra_statement terra.FromAt t x) rest) (λ u mid. part_at (levels - 1) TerraOperand mid >>= λ x rest. goes (operand chain (TerraUnary u.place (unary_of u.symbol) x)) rest)
     (bind_same (part_at (levels - 1) TerraOperand ts) (λ x rest. reading levels (terra.terra_statement terra.FromAt t x) rest) (λ x rest. goes (operand chain (TerraUnary t.place (unary_of t.symbol) x)) rest)
     (λ x us. at_behind levels t (operand chain (TerraUnary t.place unary.Dereference x)) us ∙ sym (ap (λ (o : UnaryOperator). goes (operand chain (TerraUnary t.place o x)) us) same_operator)))
-    ∙ sym (ap (λ (b : Bool). cond b (part_at levels TerraExpression (t ∷ ts) >>= λ e rest. Took (chained e chain shapes.Other) rest) (terra_applied_at levels (t ∷ ts)) >>= λ a rest. terra_statement_behind_at levels t.place a rest) h
-    ∙ bind_again (part_at levels TerraExpression (t ∷ ts)) (λ e rest. Took (chained e chain shapes.Other) rest) (λ a rest. terra_statement_behind_at levels t.place a rest)
+    ∙ sym (ap (λ (b : Bool). cond b (part_at levels TerraExpression (t ∷ ts) >>= λ e rest. Took (chained e chain operands.Other) rest) (terra_applied_at levels (t ∷ ts)) >>= λ a rest. terra_statement_behind_at levels t.place a rest) h
+    ∙ bind_again (part_at levels TerraExpression (t ∷ ts)) (λ e rest. Took (chained e chain operands.Other) rest) (λ a rest. terra_statement_behind_at levels t.place a rest)
     ∙ ap (λ (o : Outcome Tree). o >>= λ e rest. terra_assignment_at levels t.place (More Nothing e) rest) (sym (terra_expression_agrees levels (t ∷ ts)))
     ∙ bind_again (reading levels (expressions.terra_disjunction chain) (t ∷ ts)) (λ a rest. Took a.tree rest) (λ e rest. terra_assignment_at levels t.place (More Nothing e) rest)
     ∙ ap (λ (o : Outcome Chained). o >>= λ a rest. terra_assignment_at levels t.place (More Nothing a.tree) rest) (expression_from levels (t ∷ ts))

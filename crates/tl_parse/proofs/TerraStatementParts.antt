@@ -9,11 +9,11 @@ use Rattle.tl_tree.specs.Forms.{sign}
 use Rattle.tl_tree.specs.TerraExpressions as expressions
 use Rattle.tl_tree.specs.TerraStatements as terra
 use Rattle.tl_tree.proofs.Unrolling.{bind_again}
-use Rattle.tl_parse.specs.Parsing.{tokens_left, end_of, Fails}
-use Rattle.tl_parse.specs.Using.{reading, part_at, sign_at, open_at}
-use Rattle.tl_parse.specs.TerraStatements.{written_type_at, terra_parameters_at}
-use Rattle.tl_parse.specs.TerraStatements.{terra_function_body_at, quoted_code_at}
-use Rattle.tl_parse.specs.Codes.{expression_behind_at, optional_expression_at, opened_terra_body_at}
+use Rattle.tl_parse.specs.Views.Parsing.{tokens_left, end_of, Fails}
+use Rattle.tl_parse.specs.Views.Using.{reading, part_at, sign_at, open_at}
+use Rattle.tl_parse.specs.Views.TerraStatements.{written_type_at, terra_parameters_at}
+use Rattle.tl_parse.specs.Views.TerraStatements.{terra_function_body_at, quoted_code_at}
+use Rattle.tl_parse.specs.Views.Codes.{expression_behind_at, optional_expression_at, opened_terra_body_at}
 use Rattle.tl_parse.specs.declared.error.SyntaxError.{SyntaxError}
 use Rattle.tl_parse.specs.declared.parser.Code.TheVariants as codes
 use Rattle.tl_parse.specs.declared.parser.Parser.{Parser}

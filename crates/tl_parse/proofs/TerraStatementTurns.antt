@@ -1,7 +1,7 @@
 -- The repetitions of Terra statements, turn by turn.
 use Rattle.std.proofs.Common.{◌≡◌, ℕ, ◌<◌, true, false, List, length, None, sym, ap, ◌∙◌}
 use Rattle.tl_base.specs.declared.place.Place.{Place}
-use Rattle.tl_tree.specs.declared.mode.Extra.TheVariants.{Plain}
+use Rattle.tl_tree.specs.declared.mode.TokenUse.TheVariants.{Plain}
 use Rattle.tl_tree.specs.declared.symbol.Symbol.TheVariants as symbols
 use Rattle.tl_tree.specs.Tokens.{Token, is, sample}
 use Rattle.tl_tree.specs.Tree as trees
@@ -10,8 +10,8 @@ use Rattle.tl_tree.specs.Grammar.{token, bind, Outcome, Took, ◌>>=◌, begins}
 use Rattle.tl_tree.specs.LuaStatements as lua
 use Rattle.tl_tree.specs.TerraStatements as terra
 use Rattle.tl_tree.proofs.Unrolling.{bind_again}
-use Rattle.tl_parse.specs.Using.{reading, sign_at}
-use Rattle.tl_parse.specs.TerraStatements.{terra_assignment_at}
+use Rattle.tl_parse.specs.Views.Using.{reading, sign_at}
+use Rattle.tl_parse.specs.Views.TerraStatements.{terra_assignment_at}
 use Rattle.tl_parse.proofs.Uses.{repeats, ends, shorter_turn}
 use Rattle.tl_parse.proofs.Following.{sign_then}
 use Rattle.tl_parse.proofs.Turns.{elements_go, elements_end, element_shorter}
@@ -19,8 +19,8 @@ use Rattle.tl_parse.proofs.TerraStatementAgreeing.{terra_arm_agrees}
 use Rattle.tl_parse.proofs.AgreeingStatements.{arm_turn}
 use Rattle.tl_parse.proofs.Failing.{fails_after, fails_bind, fails_from}
 use Rattle.tl_parse.proofs.Taking.{next_of}
-use Rattle.tl_parse.specs.Lists.{next_element_at, more_elements_at, expressions_behind_at}
-use Rattle.tl_parse.specs.Statements.{arm_at, more_arms_at, next_arm_at}
+use Rattle.tl_parse.specs.Views.Lists.{next_element_at, more_elements_at, expressions_behind_at}
+use Rattle.tl_parse.specs.Views.Statements.{arm_at, more_arms_at, next_arm_at}
 use Rattle.tl_parse.specs.declared.parser.Code.TheVariants as codes
 use Rattle.tl_parse.specs.declared.parser.Element.TheVariants as elements
 use Rattle.tl_parse.specs.declared.parser.BlockCode.{BlockCode}

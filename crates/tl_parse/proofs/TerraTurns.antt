@@ -3,9 +3,9 @@ use Rattle.std.proofs.Common.{◌≡◌, ℕ, ◌-◌, ◌<◌, Bool, true, fals
 use Rattle.tl_base.specs.declared.place.Place.{Place}
 use Rattle.tl_lex.specs.declared.SyntaxKind.{SyntaxKind}
 use Rattle.tl_tree.specs.declared.mode.Mode.{Mode}
-use Rattle.tl_tree.specs.declared.mode.Shape.{Shape}
-use Rattle.tl_tree.specs.declared.mode.Shape.TheVariants as shapes
-use Rattle.tl_tree.specs.declared.mode.Extra.TheVariants.{Plain, Continues, Calls}
+use Rattle.tl_tree.specs.declared.mode.OperandKind.{OperandKind}
+use Rattle.tl_tree.specs.declared.mode.OperandKind.TheVariants as operands
+use Rattle.tl_tree.specs.declared.mode.TokenUse.TheVariants.{Plain, Continues, Calls}
 use Rattle.tl_tree.specs.declared.symbol.Symbol.{Symbol}
 use Rattle.tl_tree.specs.declared.symbol.Symbol.TheVariants as symbols
 use Rattle.tl_tree.specs.Tokens.{Token, is, among, sample}
@@ -16,18 +16,18 @@ use Rattle.tl_tree.specs.Forms.{sign, opening, separator, Chained, chained, oper
 use Rattle.tl_tree.specs.LuaExpressions as lua
 use Rattle.tl_tree.specs.TerraExpressions as terra
 use Rattle.tl_tree.proofs.Unrolling.{bind_again}
-use Rattle.tl_parse.specs.Using.{reading, part_at, used, barred, sign_at, open_at, sign_among_at, operator_at, raise_at, call_at}
-use Rattle.tl_parse.specs.Expressions.{name_at, separators, more_if}
-use Rattle.tl_parse.specs.TerraExpressions.{TerraSuffixed, terra_attached, terra_shape_of, terra_name_at, terra_call_suffix_at}
-use Rattle.tl_parse.specs.TerraExpressions.{terra_index_suffix_at, terra_select_suffix_at, terra_method_suffix_at, construct_suffix_at}
-use Rattle.tl_parse.specs.TerraExpressions.{terra_suffix_at, terra_suffixes_at, terra_symbols_of, terra_inner_of, terra_inner_at}
-use Rattle.tl_parse.specs.TerraExpressions.{terra_more_at, terra_one_more_at}
-use Rattle.tl_parse.specs.TerraExpressions.{initialiser_of, initialiser_at, more_initialisers_at, next_initialiser_at}
-use Rattle.tl_parse.specs.TerraExpressions as suffixed
-use Rattle.tl_parse.specs.Entries.{separator_at, entry_at, more_entries_at}
+use Rattle.tl_parse.specs.Views.Using.{reading, part_at, used, barred, sign_at, open_at, sign_among_at, operator_at, raise_at, call_at}
+use Rattle.tl_parse.specs.Views.Expressions.{name_at, separators, more_if}
+use Rattle.tl_parse.specs.Views.TerraExpressions.{TerraSuffixed, terra_attached, terra_kind_of, terra_name_at, terra_call_suffix_at}
+use Rattle.tl_parse.specs.Views.TerraExpressions.{terra_index_suffix_at, terra_select_suffix_at, terra_method_suffix_at, construct_suffix_at}
+use Rattle.tl_parse.specs.Views.TerraExpressions.{terra_suffix_at, terra_suffixes_at, terra_symbols_of, terra_inner_of, terra_inner_at}
+use Rattle.tl_parse.specs.Views.TerraExpressions.{terra_more_at, terra_one_more_at}
+use Rattle.tl_parse.specs.Views.TerraExpressions.{initialiser_of, initialiser_at, more_initialisers_at, next_initialiser_at}
+use Rattle.tl_parse.specs.Views.TerraExpressions as suffixed
+use Rattle.tl_parse.specs.Views.Entries.{separator_at, entry_at, more_entries_at}
 use Rattle.tl_parse.specs.declared.terra_expressions.TerraPrecedence.{TerraPrecedence}
 use Rattle.tl_parse.proofs.Uses.{never, both, operator_with, opened_at, opens_any, token_is, plain_is, sign_is, repeats, ends, shorter_turn}
-use Rattle.tl_parse.specs.Codes.{expression_behind_at}
+use Rattle.tl_parse.specs.Views.Codes.{expression_behind_at}
 use Rattle.tl_parse.specs.declared.parser.Code.TheVariants as codes
 use Rattle.tl_parse.proofs.Following.{sign_then, open_then, then, either_is, behind_then}
 use Rattle.tl_parse.proofs.TerraAgreeing.{terra_name_agrees, initialiser_agrees}
@@ -38,20 +38,20 @@ use Rattle.tl_parse.proofs.TerraParts.{entries_part, initialisers_part}
 
 -- ---- operators
 
-pub terra_operations_go : (levels : ℕ) (p : TerraPrecedence) (tree : Tree) (left : ℕ) (shape : Shape) (ts : List Token) → begins (among (terra_symbols_of p)) ts ≡ true → terra_more_at levels p (chained tree left shape) ts ≡ (terra_one_more_at levels p left ts >>= λ r rest. terra_more_at levels p (operand r.1.left (terra.terra_operation r.0 tree r.1.tree)) rest)
+pub terra_operations_go : (levels : ℕ) (p : TerraPrecedence) (tree : Tree) (links : ℕ) (kind : OperandKind) (ts : List Token) → begins (among (terra_symbols_of p)) ts ≡ true → terra_more_at levels p (chained tree links kind) ts ≡ (terra_one_more_at levels p links ts >>= λ r rest. terra_more_at levels p (operand r.1.links (terra.terra_operation r.0 tree r.1.tree)) rest)
 unfolding terra_more_at terra_one_more_at terra_inner_at
-terra_operations_go levels p tree left shape ts h = operators_goes levels (terra_symbols_of p) (λ left. terra_inner_of p left) terra.terra_operation (chained tree left shape) ts h
+terra_operations_go levels p tree links kind ts h = operators_goes levels (terra_symbols_of p) (λ links. terra_inner_of p links) terra.terra_operation (chained tree links kind) ts h
 
 pub terra_operations_end : (levels : ℕ) (p : TerraPrecedence) (a : Chained) (ts : List Token) → begins (among (terra_symbols_of p)) ts ≡ false → terra_more_at levels p a ts ≡ Took a ts
 unfolding terra_more_at
-terra_operations_end levels p a ts h = ends levels (λ a t. among (terra_symbols_of p) t) (λ a t. Continues a.left) (λ a t. None) (λ t y a. bind (terra_inner_of p (down a.left)) λ b. give (operand b.left (terra.terra_operation t a.tree b.tree))) a ts h
+terra_operations_end levels p a ts h = ends levels (λ a t. among (terra_symbols_of p) t) (λ a t. Continues a.links) (λ a t. None) (λ t y a. bind (terra_inner_of p (down a.links)) λ b. give (operand b.links (terra.terra_operation t a.tree b.tree))) a ts h
 
-pub terra_operation_shorter : (levels : ℕ) (p : TerraPrecedence) (left : ℕ) (x : Token × Chained) (ts rest : List Token) → terra_one_more_at levels p left ts ≡ Took x rest → length rest < length ts
+pub terra_operation_shorter : (levels : ℕ) (p : TerraPrecedence) (links : ℕ) (x : Token × Chained) (ts rest : List Token) → terra_one_more_at levels p links ts ≡ Took x rest → length rest < length ts
 unfolding terra_one_more_at terra_inner_at
-terra_operation_shorter levels p left x ts rest e =
-    let a : Chained = operand left Nothing in
-    shorter_turn levels (λ t. among (terra_symbols_of p) t) (λ t. Continues left) (λ t. None) (sample symbols.Plus) (λ y. bind (terra_inner_of p (down left)) λ b. give (operand b.left (terra.terra_operation y.0 Nothing b.tree)))
-    (operator_at (terra_symbols_of p) left ts >>= λ t mid. reading levels (terra_inner_of p (down left)) mid >>= λ b rest. Took (operator_with t b) rest) (λ p. operand p.1.left (terra.terra_operation p.0 Nothing p.1.tree)) x ts rest (operators_turn levels (terra_symbols_of p) (λ left. terra_inner_of p left) terra.terra_operation (sample symbols.Plus) a ts) e
+terra_operation_shorter levels p links x ts rest e =
+    let a : Chained = operand links Nothing in
+    shorter_turn levels (λ t. among (terra_symbols_of p) t) (λ t. Continues links) (λ t. None) (sample symbols.Plus) (λ y. bind (terra_inner_of p (down links)) λ b. give (operand b.links (terra.terra_operation y.0 Nothing b.tree)))
+    (operator_at (terra_symbols_of p) links ts >>= λ t mid. reading levels (terra_inner_of p (down links)) mid >>= λ b rest. Took (operator_with t b) rest) (λ p. operand p.1.links (terra.terra_operation p.0 Nothing p.1.tree)) x ts rest (operators_turn levels (terra_symbols_of p) (λ links. terra_inner_of p links) terra.terra_operation (sample symbols.Plus) a ts) e
 
 -- ---- initialisers
 
@@ -122,7 +122,7 @@ entry_shorter levels m x ts rest e =
 
 -- the tree of a whole suffix
 abbrev with_suffix : Chained → TerraSuffixed → Chained
-with_suffix a s = chained (terra_attached s a.tree) (down a.left) (terra_shape_of s)
+with_suffix a s = chained (terra_attached s a.tree) (down a.links) (terra_kind_of s)
 
 -- what a turn does behind its token
 abbrev behind : ℕ → Chained → Token → List Token → Outcome Chained
@@ -134,12 +134,12 @@ turn_of levels a t ts None = bind_again (opened_at levels (terra.terra_suffix_op
 turn_of levels a t ts (Some kind) = refl
 
 suffix_token : (levels : ℕ) (a : Chained) (t : Token) (ts : List Token) → is_of (λ t. terra.is_terra_suffix t) t ≡ true →
-    reading levels (bind (token (λ t. terra.is_terra_suffix t) (λ t. lua.suffix_extra a t) (λ t. terra.terra_suffix_opens (terra.terra_suffix_of t.symbol)) (sample symbols.Dot)) λ x. terra.terra_suffix (terra.terra_suffix_of x.0.symbol) x.0 x.1 a) (t ∷ ts)
-    ≡ (used_here (barred (opens_any (terra.terra_suffix_opens (terra.terra_suffix_of t.symbol))) levels (lua.suffix_extra a t) t) t ts >>= λ u mid. behind levels a t mid)
+    reading levels (bind (token (λ t. terra.is_terra_suffix t) (λ t. lua.suffix_use a t) (λ t. terra.terra_suffix_opens (terra.terra_suffix_of t.symbol)) (sample symbols.Dot)) λ x. terra.terra_suffix (terra.terra_suffix_of x.0.symbol) x.0 x.1 a) (t ∷ ts)
+    ≡ (used_here (barred (opens_any (terra.terra_suffix_opens (terra.terra_suffix_of t.symbol))) levels (lua.suffix_use a t) t) t ts >>= λ u mid. behind levels a t mid)
 suffix_token levels a t ts h =
-    ap (λ (o : Outcome (Token × Tree)). o >>= λ x mid. reading levels (terra.terra_suffix (terra.terra_suffix_of x.0.symbol) x.0 x.1 a) mid) (token_is levels (λ t. terra.is_terra_suffix t) (λ t. lua.suffix_extra a t) (λ t. terra.terra_suffix_opens (terra.terra_suffix_of t.symbol)) (sample symbols.Dot) t ts)
-    ∙ ap (λ (o : Outcome Token). (o >>= λ u mid. opened_at levels (terra.terra_suffix_opens (terra.terra_suffix_of t.symbol)) mid >>= λ x rest. Took (both u x) rest) >>= λ x mid. reading levels (terra.terra_suffix (terra.terra_suffix_of x.0.symbol) x.0 x.1 a) mid) (used_use (λ t. terra.is_terra_suffix t) (opens_any (terra.terra_suffix_opens (terra.terra_suffix_of t.symbol))) levels (lua.suffix_extra a t) t ts h)
-    ∙ turn_of levels a t ts (barred (opens_any (terra.terra_suffix_opens (terra.terra_suffix_of t.symbol))) levels (lua.suffix_extra a t) t)
+    ap (λ (o : Outcome (Token × Tree)). o >>= λ x mid. reading levels (terra.terra_suffix (terra.terra_suffix_of x.0.symbol) x.0 x.1 a) mid) (token_is levels (λ t. terra.is_terra_suffix t) (λ t. lua.suffix_use a t) (λ t. terra.terra_suffix_opens (terra.terra_suffix_of t.symbol)) (sample symbols.Dot) t ts)
+    ∙ ap (λ (o : Outcome Token). (o >>= λ u mid. opened_at levels (terra.terra_suffix_opens (terra.terra_suffix_of t.symbol)) mid >>= λ x rest. Took (both u x) rest) >>= λ x mid. reading levels (terra.terra_suffix (terra.terra_suffix_of x.0.symbol) x.0 x.1 a) mid) (used_use (λ t. terra.is_terra_suffix t) (opens_any (terra.terra_suffix_opens (terra.terra_suffix_of t.symbol))) levels (lua.suffix_use a t) t ts h)
+    ∙ turn_of levels a t ts (barred (opens_any (terra.terra_suffix_opens (terra.terra_suffix_of t.symbol))) levels (lua.suffix_use a t) t)
 
 -- a part and a sign behind it
 part_behind : (levels : ℕ) (part : Part) (s : Symbol) (a : Chained) (v : Tree → Chained) (w : Tree → TerraSuffixed) (us : List Token) → ((x : Tree) → with_suffix a (w x) ≡ v x) →
@@ -180,52 +180,52 @@ method_behind levels a place ts =
     go (Stop kind rest) = refl
 
 suffix_by : (levels : ℕ) (a : Chained) (symbol : Symbol) (text : List ℕ) (place : Place) (offset : ℕ) (first : Bool) (ts : List Token) → is_of (λ t. terra.is_terra_suffix t) (record { symbol = symbol; text = text; place = place; offset = offset; first_on_line = first }) ≡ true →
-    (let t : Token = record { symbol = symbol; text = text; place = place; offset = offset; first_on_line = first } in used_here (barred (opens_any (terra.terra_suffix_opens (terra.terra_suffix_of t.symbol))) levels (lua.suffix_extra a t) t) t ts >>= λ u mid. behind levels a t mid)
-    ≡ (terra_suffix_at levels a.left (record { symbol = symbol; text = text; place = place; offset = offset; first_on_line = first } ∷ ts) >>= λ s rest. Took (with_suffix a s) rest)
+    (let t : Token = record { symbol = symbol; text = text; place = place; offset = offset; first_on_line = first } in used_here (barred (opens_any (terra.terra_suffix_opens (terra.terra_suffix_of t.symbol))) levels (lua.suffix_use a t) t) t ts >>= λ u mid. behind levels a t mid)
+    ≡ (terra_suffix_at levels a.links (record { symbol = symbol; text = text; place = place; offset = offset; first_on_line = first } ∷ ts) >>= λ s rest. Took (with_suffix a s) rest)
 unfolding terra_suffix_at terra_call_suffix_at terra_index_suffix_at terra_select_suffix_at terra_method_suffix_at construct_suffix_at call_at raise_at operator_at used
 suffix_by levels a symbols.OpenParen text place offset first ts h =
     let t : Token = record { symbol = symbols.OpenParen; text = text; place = place; offset = offset; first_on_line = first } in
-    use_behind (barred true levels (Calls a.left) t) t ts (λ mid. behind levels a t mid) (λ t b. part_at (levels - 1) TerraArguments b >>= λ x c. sign_at symbols.CloseParen c >>= λ y rest. Took (suffixed.Calls t.place x) rest) (λ r. with_suffix a r)
+    use_behind (barred true levels (Calls a.links) t) t ts (λ mid. behind levels a t mid) (λ t b. part_at (levels - 1) TerraArguments b >>= λ x c. sign_at symbols.CloseParen c >>= λ y rest. Took (suffixed.Calls t.place x) rest) (λ r. with_suffix a r)
     (part_behind levels TerraArguments symbols.CloseParen a (λ x. lua.called a (TerraCall place a.tree x)) (λ x. suffixed.Calls place x) ts (λ x. refl))
 suffix_by levels a symbols.OpenBracket text place offset first ts h =
     let t : Token = record { symbol = symbols.OpenBracket; text = text; place = place; offset = offset; first_on_line = first } in
-    use_behind (barred true levels (Continues a.left) t) t ts (λ mid. behind levels a t mid) (λ t b. part_at (levels - 1) TerraExpression b >>= λ x c. sign_at symbols.CloseBracket c >>= λ y rest. Took (suffixed.Indexes t.place x) rest) (λ r. with_suffix a r)
+    use_behind (barred true levels (Continues a.links) t) t ts (λ mid. behind levels a t mid) (λ t b. part_at (levels - 1) TerraExpression b >>= λ x c. sign_at symbols.CloseBracket c >>= λ y rest. Took (suffixed.Indexes t.place x) rest) (λ r. with_suffix a r)
     (part_behind levels TerraExpression symbols.CloseBracket a (λ x. lua.indexed a (TerraIndex place a.tree x)) (λ x. suffixed.Indexes place x) ts (λ x. refl))
 suffix_by levels a symbols.OpenBrace text place offset first ts h =
     let t : Token = record { symbol = symbols.OpenBrace; text = text; place = place; offset = offset; first_on_line = first } in
-    use_behind (barred true levels (Continues a.left) t) t ts (λ mid. behind levels a t mid) (λ t b. part_at (levels - 1) Initialisers b >>= λ x c. sign_at symbols.CloseBrace c >>= λ y rest. Took (suffixed.Constructs t.place x) rest) (λ r. with_suffix a r)
-    (part_behind levels Initialisers symbols.CloseBrace a (λ x. chained (Construct place a.tree x) (down a.left) shapes.Other) (λ x. suffixed.Constructs place x) ts (λ x. refl))
+    use_behind (barred true levels (Continues a.links) t) t ts (λ mid. behind levels a t mid) (λ t b. part_at (levels - 1) Initialisers b >>= λ x c. sign_at symbols.CloseBrace c >>= λ y rest. Took (suffixed.Constructs t.place x) rest) (λ r. with_suffix a r)
+    (part_behind levels Initialisers symbols.CloseBrace a (λ x. chained (Construct place a.tree x) (down a.links) operands.Other) (λ x. suffixed.Constructs place x) ts (λ x. refl))
 suffix_by levels a symbols.Dot text place offset first ts h =
     let t : Token = record { symbol = symbols.Dot; text = text; place = place; offset = offset; first_on_line = first } in
-    use_behind (barred false levels (Continues a.left) t) t ts (λ mid. behind levels a t mid) (λ t b. terra_name_at levels b >>= λ n rest. Took (suffixed.Selects t.place n) rest) (λ r. with_suffix a r)
+    use_behind (barred false levels (Continues a.links) t) t ts (λ mid. behind levels a t mid) (λ t b. terra_name_at levels b >>= λ n rest. Took (suffixed.Selects t.place n) rest) (λ r. with_suffix a r)
     (ap (λ (o : Outcome Tree). o >>= λ n rest. Took (lua.indexed a (TerraSelect place a.tree n)) rest) (terra_name_agrees levels ts) ∙ sym (bind_again (terra_name_at levels ts) (λ n rest. Took (suffixed.Selects place n) rest) (λ r rest. Took (with_suffix a r) rest)))
 suffix_by levels a symbols.Colon text place offset first ts h =
     let t : Token = record { symbol = symbols.Colon; text = text; place = place; offset = offset; first_on_line = first } in
-    use_behind (barred false levels (Continues a.left) t) t ts (λ mid. behind levels a t mid)
+    use_behind (barred false levels (Continues a.links) t) t ts (λ mid. behind levels a t mid)
     (λ t b. terra_name_at levels b >>= λ n c. open_at symbols.OpenParen levels c >>= λ u d. part_at (levels - 1) TerraArguments d >>= λ x e. sign_at symbols.CloseParen e >>= λ y rest. Took (suffixed.CallsMethod t.place n x) rest) (λ r. with_suffix a r) (method_behind levels a place ts)
 suffix_by levels a _ text place offset first ts h = absurd (never h)
 
 suffix_turn : (levels : ℕ) (a : Chained) (ts : List Token) → begins (λ t. terra.is_terra_suffix t) ts ≡ true →
-    reading levels (bind (token (λ t. terra.is_terra_suffix t) (λ t. lua.suffix_extra a t) (λ t. terra.terra_suffix_opens (terra.terra_suffix_of t.symbol)) (sample symbols.Dot)) λ x. terra.terra_suffix (terra.terra_suffix_of x.0.symbol) x.0 x.1 a) ts
-    ≡ (terra_suffix_at levels a.left ts >>= λ s rest. Took (with_suffix a s) rest)
+    reading levels (bind (token (λ t. terra.is_terra_suffix t) (λ t. lua.suffix_use a t) (λ t. terra.terra_suffix_opens (terra.terra_suffix_of t.symbol)) (sample symbols.Dot)) λ x. terra.terra_suffix (terra.terra_suffix_of x.0.symbol) x.0 x.1 a) ts
+    ≡ (terra_suffix_at levels a.links ts >>= λ s rest. Took (with_suffix a s) rest)
 suffix_turn levels a [] h = absurd cc
 suffix_turn levels a (t ∷ ts) h = suffix_token levels a t ts h ∙ suffix_by levels a t.symbol t.text t.place t.offset t.first_on_line ts h
 
-pub terra_suffixes_go : (levels : ℕ) (tree : Tree) (left : ℕ) (shape : Shape) (ts : List Token) → begins (λ t. terra.is_terra_suffix t) ts ≡ true → terra_suffixes_at levels (chained tree left shape) ts ≡ (terra_suffix_at levels left ts >>= λ s rest. terra_suffixes_at levels (chained (terra_attached s tree) (down left) (terra_shape_of s)) rest)
+pub terra_suffixes_go : (levels : ℕ) (tree : Tree) (links : ℕ) (kind : OperandKind) (ts : List Token) → begins (λ t. terra.is_terra_suffix t) ts ≡ true → terra_suffixes_at levels (chained tree links kind) ts ≡ (terra_suffix_at levels links ts >>= λ s rest. terra_suffixes_at levels (chained (terra_attached s tree) (down links) (terra_kind_of s)) rest)
 unfolding terra_suffixes_at
-terra_suffixes_go levels tree left shape ts h =
-    repeats levels (λ b t. terra.is_terra_suffix t) (λ b t. lua.suffix_extra b t) (λ b t. terra.terra_suffix_opens (terra.terra_suffix_of t.symbol)) (λ t x b. terra.terra_suffix (terra.terra_suffix_of t.symbol) t x b) (sample symbols.Dot) (chained tree left shape)
-    (terra_suffix_at levels left ts) (λ s. chained (terra_attached s tree) (down left) (terra_shape_of s)) ts h (suffix_turn levels (chained tree left shape) ts h)
+terra_suffixes_go levels tree links kind ts h =
+    repeats levels (λ b t. terra.is_terra_suffix t) (λ b t. lua.suffix_use b t) (λ b t. terra.terra_suffix_opens (terra.terra_suffix_of t.symbol)) (λ t x b. terra.terra_suffix (terra.terra_suffix_of t.symbol) t x b) (sample symbols.Dot) (chained tree links kind)
+    (terra_suffix_at levels links ts) (λ s. chained (terra_attached s tree) (down links) (terra_kind_of s)) ts h (suffix_turn levels (chained tree links kind) ts h)
 
 pub terra_suffixes_end : (levels : ℕ) (a : Chained) (ts : List Token) → begins (λ t. terra.is_terra_suffix t) ts ≡ false → terra_suffixes_at levels a ts ≡ Took a ts
 unfolding terra_suffixes_at
-terra_suffixes_end levels a ts h = ends levels (λ b t. terra.is_terra_suffix t) (λ b t. lua.suffix_extra b t) (λ b t. terra.terra_suffix_opens (terra.terra_suffix_of t.symbol)) (λ t x b. terra.terra_suffix (terra.terra_suffix_of t.symbol) t x b) a ts h
+terra_suffixes_end levels a ts h = ends levels (λ b t. terra.is_terra_suffix t) (λ b t. lua.suffix_use b t) (λ b t. terra.terra_suffix_opens (terra.terra_suffix_of t.symbol)) (λ t x b. terra.terra_suffix (terra.terra_suffix_of t.symbol) t x b) a ts h
 
-pub terra_suffix_shorter : (levels left : ℕ) (x : TerraSuffixed) (ts rest : List Token) → begins (λ t. terra.is_terra_suffix t) ts ≡ true → terra_suffix_at levels left ts ≡ Took x rest → length rest < length ts
-terra_suffix_shorter levels left x ts rest h e =
-    let a : Chained = operand left Nothing in
-    shorter_turn levels (λ t. terra.is_terra_suffix t) (λ t. lua.suffix_extra a t) (λ t. terra.terra_suffix_opens (terra.terra_suffix_of t.symbol)) (sample symbols.Dot) (λ x. terra.terra_suffix (terra.terra_suffix_of x.0.symbol) x.0 x.1 a)
-    (terra_suffix_at levels left ts) (λ s. chained (terra_attached s Nothing) (down left) (terra_shape_of s)) x ts rest (suffix_turn levels a ts h) e
+pub terra_suffix_shorter : (levels links : ℕ) (x : TerraSuffixed) (ts rest : List Token) → begins (λ t. terra.is_terra_suffix t) ts ≡ true → terra_suffix_at levels links ts ≡ Took x rest → length rest < length ts
+terra_suffix_shorter levels links x ts rest h e =
+    let a : Chained = operand links Nothing in
+    shorter_turn levels (λ t. terra.is_terra_suffix t) (λ t. lua.suffix_use a t) (λ t. terra.terra_suffix_opens (terra.terra_suffix_of t.symbol)) (sample symbols.Dot) (λ x. terra.terra_suffix (terra.terra_suffix_of x.0.symbol) x.0 x.1 a)
+    (terra_suffix_at levels links ts) (λ s. chained (terra_attached s Nothing) (down links) (terra_kind_of s)) x ts rest (suffix_turn levels a ts h) e
 
 pub ruleset entries = (fails_bind, fails_after, entries_part, fails_same, fails_from, entries_go, entries_end, entry_shorter)
 

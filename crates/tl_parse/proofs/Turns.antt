@@ -3,9 +3,9 @@ use Rattle.std.proofs.Common.{◌≡◌, ℕ, ◌-◌, ◌<◌, Bool, true, fals
 use Rattle.tl_base.specs.declared.place.Place.{Place}
 use Rattle.tl_lex.specs.declared.SyntaxKind.{SyntaxKind}
 use Rattle.tl_tree.specs.declared.mode.Mode.{Mode}
-use Rattle.tl_tree.specs.declared.mode.Shape.{Shape}
-use Rattle.tl_tree.specs.declared.mode.Extra.{Extra}
-use Rattle.tl_tree.specs.declared.mode.Extra.TheVariants.{Plain, Continues, Calls}
+use Rattle.tl_tree.specs.declared.mode.OperandKind.{OperandKind}
+use Rattle.tl_tree.specs.declared.mode.TokenUse.{TokenUse}
+use Rattle.tl_tree.specs.declared.mode.TokenUse.TheVariants.{Plain, Continues, Calls}
 use Rattle.tl_tree.specs.declared.symbol.Symbol.{Symbol}
 use Rattle.tl_tree.specs.declared.symbol.Symbol.TheVariants as symbols
 use Rattle.tl_tree.specs.Tokens.{Token, is, among, sample}
@@ -14,15 +14,15 @@ use Rattle.tl_tree.specs.Grammar.{Grammar, give, token, bind, when, Outcome, Too
 use Rattle.tl_tree.specs.Forms.{sign, Chained, chained, operand, listed_behind, operators}
 use Rattle.tl_tree.specs.LuaExpressions as lua
 use Rattle.tl_tree.proofs.Unrolling.{bind_again}
-use Rattle.tl_parse.specs.Using.{reading, part_at, used, barred, sign_at, sign_among_at, operator_at, raise_at, call_at}
-use Rattle.tl_parse.specs.Expressions.{name_at, Suffixed, attached, shape_of, call_suffix_at, index_suffix_at, select_suffix_at, method_arguments_at, method_suffix_at, table_suffix_at, literal_suffix_at, suffix_at, suffixes_at, separators, field_at, more_fields_at, next_field_at, more_if}
-use Rattle.tl_parse.specs.Expressions as suffixed
+use Rattle.tl_parse.specs.Views.Using.{reading, part_at, used, barred, sign_at, sign_among_at, operator_at, raise_at, call_at}
+use Rattle.tl_parse.specs.Views.Expressions.{name_at, Suffixed, attached, kind_of, call_suffix_at, index_suffix_at, select_suffix_at, method_arguments_at, method_suffix_at, table_suffix_at, literal_suffix_at, suffix_at, suffixes_at, separators, field_at, more_fields_at, next_field_at, more_if}
+use Rattle.tl_parse.specs.Views.Expressions as suffixed
 use Rattle.tl_tree.specs.Tree as trees
 use Rattle.tl_parse.proofs.Uses.{never, both, operator_with, bind_same, opened_at, opens_any, token_is, plain_is, sign_is, repeats, ends, shorter_turn}
 use Rattle.tl_parse.proofs.Agreeing.{name_agrees, method_arguments_agree, field_agrees}
 use Rattle.tl_parse.proofs.Failing.{fails_after, fails_bind, fails_from, fails_same, fails_unexpected}
 use Rattle.tl_parse.proofs.Parts.{fields_part}
-use Rattle.tl_parse.specs.Lists.{element_of, element_at, next_element_at, more_elements_at}
+use Rattle.tl_parse.specs.Views.Lists.{element_of, element_at, next_element_at, more_elements_at}
 use Rattle.tl_parse.specs.declared.parser.Element.{Element}
 
 -- ---- lists
@@ -65,23 +65,23 @@ element_shorter levels kind x ts rest e = list_shorter levels (element_of kind) 
 -- ---- operators that group to the left
 
 pub operators_turn : (levels : ℕ) (ss : List Symbol) (x : ℕ → Grammar Chained) (make : Token → Tree → Tree → Tree) (piece : Token) (a : Chained) (ts : List Token) →
-    reading levels (bind (token (λ t. among ss t) (λ t. Continues a.left) (λ t. None) piece) λ y. bind (x (down a.left)) λ b. give (operand b.left (make y.0 a.tree b.tree))) ts
-    ≡ ((operator_at ss a.left ts >>= λ t mid. reading levels (x (down a.left)) mid >>= λ b rest. Took (operator_with t b) rest) >>= λ p rest. Took (operand p.1.left (make p.0 a.tree p.1.tree)) rest)
+    reading levels (bind (token (λ t. among ss t) (λ t. Continues a.links) (λ t. None) piece) λ y. bind (x (down a.links)) λ b. give (operand b.links (make y.0 a.tree b.tree))) ts
+    ≡ ((operator_at ss a.links ts >>= λ t mid. reading levels (x (down a.links)) mid >>= λ b rest. Took (operator_with t b) rest) >>= λ p rest. Took (operand p.1.links (make p.0 a.tree p.1.tree)) rest)
 unfolding operator_at
 operators_turn levels ss x make piece a ts =
-    ap (λ (o : Outcome (Token × Tree)). o >>= λ y mid. reading levels (x (down a.left)) mid >>= λ b rest. Took (operand b.left (make y.0 a.tree b.tree)) rest) (plain_is levels (λ t. among ss t) (Continues a.left) piece ts)
-    ∙ go (used (among ss) false 0 (Continues a.left) ts)
+    ap (λ (o : Outcome (Token × Tree)). o >>= λ y mid. reading levels (x (down a.links)) mid >>= λ b rest. Took (operand b.links (make y.0 a.tree b.tree)) rest) (plain_is levels (λ t. among ss t) (Continues a.links) piece ts)
+    ∙ go (used (among ss) false 0 (Continues a.links) ts)
   where
-    go : (o : Outcome Token) → ((o >>= λ t rest. Took (both t Nothing) rest) >>= λ y mid. reading levels (x (down a.left)) mid >>= λ b rest. Took (operand b.left (make y.0 a.tree b.tree)) rest)
-        ≡ ((o >>= λ t mid. reading levels (x (down a.left)) mid >>= λ b rest. Took (operator_with t b) rest) >>= λ p rest. Took (operand p.1.left (make p.0 a.tree p.1.tree)) rest)
-    go (Took t rest) = sym (bind_again (reading levels (x (down a.left)) rest) (λ b rest. Took (operator_with t b) rest) (λ p rest. Took (operand p.1.left (make p.0 a.tree p.1.tree)) rest))
+    go : (o : Outcome Token) → ((o >>= λ t rest. Took (both t Nothing) rest) >>= λ y mid. reading levels (x (down a.links)) mid >>= λ b rest. Took (operand b.links (make y.0 a.tree b.tree)) rest)
+        ≡ ((o >>= λ t mid. reading levels (x (down a.links)) mid >>= λ b rest. Took (operator_with t b) rest) >>= λ p rest. Took (operand p.1.links (make p.0 a.tree p.1.tree)) rest)
+    go (Took t rest) = sym (bind_again (reading levels (x (down a.links)) rest) (λ b rest. Took (operator_with t b) rest) (λ p rest. Took (operand p.1.links (make p.0 a.tree p.1.tree)) rest))
     go (Stop kind rest) = refl
 
 pub operators_goes : (levels : ℕ) (ss : List Symbol) (x : ℕ → Grammar Chained) (make : Token → Tree → Tree → Tree) (a : Chained) (ts : List Token) → begins (among ss) ts ≡ true →
-    reading levels (operators ss x make a) ts ≡ ((operator_at ss a.left ts >>= λ t mid. reading levels (x (down a.left)) mid >>= λ b rest. Took (operator_with t b) rest) >>= λ p rest. reading levels (operators ss x make (operand p.1.left (make p.0 a.tree p.1.tree))) rest)
+    reading levels (operators ss x make a) ts ≡ ((operator_at ss a.links ts >>= λ t mid. reading levels (x (down a.links)) mid >>= λ b rest. Took (operator_with t b) rest) >>= λ p rest. reading levels (operators ss x make (operand p.1.links (make p.0 a.tree p.1.tree))) rest)
 operators_goes levels ss x make a ts h =
-    repeats levels (λ a t. among ss t) (λ a t. Continues a.left) (λ a t. None) (λ t y a. bind (x (down a.left)) λ b. give (operand b.left (make t a.tree b.tree))) (sample symbols.Plus) a
-    (operator_at ss a.left ts >>= λ t mid. reading levels (x (down a.left)) mid >>= λ b rest. Took (operator_with t b) rest) (λ p. operand p.1.left (make p.0 a.tree p.1.tree)) ts h (operators_turn levels ss x make (sample symbols.Plus) a ts)
+    repeats levels (λ a t. among ss t) (λ a t. Continues a.links) (λ a t. None) (λ t y a. bind (x (down a.links)) λ b. give (operand b.links (make t a.tree b.tree))) (sample symbols.Plus) a
+    (operator_at ss a.links ts >>= λ t mid. reading levels (x (down a.links)) mid >>= λ b rest. Took (operator_with t b) rest) (λ p. operand p.1.links (make p.0 a.tree p.1.tree)) ts h (operators_turn levels ss x make (sample symbols.Plus) a ts)
 
 -- ---- fields
 
@@ -122,7 +122,7 @@ field_shorter levels m x ts rest e =
 
 -- the tree of a whole suffix
 abbrev pub with_suffix : Chained → Suffixed → Chained
-with_suffix a s = chained (attached s a.tree) (down a.left) (shape_of s)
+with_suffix a s = chained (attached s a.tree) (down a.links) (kind_of s)
 
 -- a token that the limits allow or refuse
 abbrev pub used_here : Option SyntaxKind → Token → List Token → Outcome Token
@@ -132,9 +132,9 @@ pub use_same : {A : Type 0} (b : Option SyntaxKind) (t : Token) (ts : List Token
 use_same None t ts f g h = h
 use_same (Some kind) t ts f g h = refl
 
-pub used_use : (class : Token → Bool) (opens : Bool) (levels : ℕ) (extra : Extra) (t : Token) (ts : List Token) → is_of class t ≡ true → used class opens levels extra (t ∷ ts) ≡ used_here (barred opens levels extra t) t ts
+pub used_use : (class : Token → Bool) (opens : Bool) (levels : ℕ) (usage : TokenUse) (t : Token) (ts : List Token) → is_of class t ≡ true → used class opens levels usage (t ∷ ts) ≡ used_here (barred opens levels usage t) t ts
 unfolding used
-used_use class opens levels extra t ts h = ap (λ (c : Bool). cond c (used_here (barred opens levels extra t) t ts) (Stop (blame t.symbol) (t ∷ ts))) h
+used_use class opens levels usage t ts h = ap (λ (c : Bool). cond c (used_here (barred opens levels usage t) t ts) (Stop (blame t.symbol) (t ∷ ts))) h
 
 -- what a turn does behind its token
 abbrev behind : ℕ → Mode → Chained → Token → List Token → Outcome Chained
@@ -146,12 +146,12 @@ turn_of levels m a t ts None = bind_again (opened_at levels (lua.suffix_opens m 
 turn_of levels m a t ts (Some kind) = refl
 
 suffix_token : (levels : ℕ) (class : Token → Bool) (m : Mode) (a : Chained) (t : Token) (ts : List Token) → is_of class t ≡ true →
-    reading levels (bind (token class (λ t. lua.suffix_extra a t) (λ t. lua.suffix_opens m (lua.suffix_of t.symbol)) (sample symbols.Dot)) λ x. lua.suffix m (lua.suffix_of x.0.symbol) x.0 x.1 a) (t ∷ ts)
-    ≡ (used_here (barred (opens_any (lua.suffix_opens m (lua.suffix_of t.symbol))) levels (lua.suffix_extra a t) t) t ts >>= λ u mid. behind levels m a t mid)
+    reading levels (bind (token class (λ t. lua.suffix_use a t) (λ t. lua.suffix_opens m (lua.suffix_of t.symbol)) (sample symbols.Dot)) λ x. lua.suffix m (lua.suffix_of x.0.symbol) x.0 x.1 a) (t ∷ ts)
+    ≡ (used_here (barred (opens_any (lua.suffix_opens m (lua.suffix_of t.symbol))) levels (lua.suffix_use a t) t) t ts >>= λ u mid. behind levels m a t mid)
 suffix_token levels class m a t ts h =
-    ap (λ (o : Outcome (Token × Tree)). o >>= λ x mid. reading levels (lua.suffix m (lua.suffix_of x.0.symbol) x.0 x.1 a) mid) (token_is levels class (λ t. lua.suffix_extra a t) (λ t. lua.suffix_opens m (lua.suffix_of t.symbol)) (sample symbols.Dot) t ts)
-    ∙ ap (λ (o : Outcome Token). (o >>= λ u mid. opened_at levels (lua.suffix_opens m (lua.suffix_of t.symbol)) mid >>= λ x rest. Took (both u x) rest) >>= λ x mid. reading levels (lua.suffix m (lua.suffix_of x.0.symbol) x.0 x.1 a) mid) (used_use class (opens_any (lua.suffix_opens m (lua.suffix_of t.symbol))) levels (lua.suffix_extra a t) t ts h)
-    ∙ turn_of levels m a t ts (barred (opens_any (lua.suffix_opens m (lua.suffix_of t.symbol))) levels (lua.suffix_extra a t) t)
+    ap (λ (o : Outcome (Token × Tree)). o >>= λ x mid. reading levels (lua.suffix m (lua.suffix_of x.0.symbol) x.0 x.1 a) mid) (token_is levels class (λ t. lua.suffix_use a t) (λ t. lua.suffix_opens m (lua.suffix_of t.symbol)) (sample symbols.Dot) t ts)
+    ∙ ap (λ (o : Outcome Token). (o >>= λ u mid. opened_at levels (lua.suffix_opens m (lua.suffix_of t.symbol)) mid >>= λ x rest. Took (both u x) rest) >>= λ x mid. reading levels (lua.suffix m (lua.suffix_of x.0.symbol) x.0 x.1 a) mid) (used_use class (opens_any (lua.suffix_opens m (lua.suffix_of t.symbol))) levels (lua.suffix_use a t) t ts h)
+    ∙ turn_of levels m a t ts (barred (opens_any (lua.suffix_opens m (lua.suffix_of t.symbol))) levels (lua.suffix_use a t) t)
 
 -- behind a sign, what is read goes on
 pub sign_behind : {A B : Type 0} (levels : ℕ) (s : Symbol) (v : A) (w : B) (f : B → A) (us : List Token) → f w ≡ v → reading levels (bind (sign s) λ y. give v) us ≡ ((sign_at s us >>= λ y rest. Took w rest) >>= λ b rest. Took (f b) rest)
@@ -175,63 +175,63 @@ use_behind None t ts f k g h = h
 use_behind (Some kind) t ts f k g h = refl
 
 suffix_by : (levels : ℕ) (m : Mode) (a : Chained) (symbol : Symbol) (text : List ℕ) (place : Place) (offset : ℕ) (first : Bool) (ts : List Token) → is_of (λ t. lua.is_suffix m t) (record { symbol = symbol; text = text; place = place; offset = offset; first_on_line = first }) ≡ true →
-    (let t : Token = record { symbol = symbol; text = text; place = place; offset = offset; first_on_line = first } in used_here (barred (opens_any (lua.suffix_opens m (lua.suffix_of t.symbol))) levels (lua.suffix_extra a t) t) t ts >>= λ u mid. behind levels m a t mid)
-    ≡ (suffix_at levels m a.left (record { symbol = symbol; text = text; place = place; offset = offset; first_on_line = first } ∷ ts) >>= λ s rest. Took (with_suffix a s) rest)
+    (let t : Token = record { symbol = symbol; text = text; place = place; offset = offset; first_on_line = first } in used_here (barred (opens_any (lua.suffix_opens m (lua.suffix_of t.symbol))) levels (lua.suffix_use a t) t) t ts >>= λ u mid. behind levels m a t mid)
+    ≡ (suffix_at levels m a.links (record { symbol = symbol; text = text; place = place; offset = offset; first_on_line = first } ∷ ts) >>= λ s rest. Took (with_suffix a s) rest)
 unfolding suffix_at call_suffix_at index_suffix_at select_suffix_at method_suffix_at table_suffix_at literal_suffix_at call_at raise_at operator_at used
 suffix_by levels m a symbols.OpenParen text place offset first ts h =
     let t : Token = record { symbol = symbols.OpenParen; text = text; place = place; offset = offset; first_on_line = first } in
-    use_behind (barred true levels (Calls a.left) t) t ts (λ mid. behind levels m a t mid) (λ t b. part_at (levels - 1) (Arguments m) b >>= λ x c. sign_at symbols.CloseParen c >>= λ y rest. Took (suffixed.Calls t.place x) rest) (λ r. with_suffix a r)
+    use_behind (barred true levels (Calls a.links) t) t ts (λ mid. behind levels m a t mid) (λ t b. part_at (levels - 1) (Arguments m) b >>= λ x c. sign_at symbols.CloseParen c >>= λ y rest. Took (suffixed.Calls t.place x) rest) (λ r. with_suffix a r)
     (part_behind levels (Arguments m) symbols.CloseParen a (λ x. lua.called a (trees.Call place a.tree x)) (λ x. suffixed.Calls place x) ts (λ x. refl))
 suffix_by levels m a symbols.OpenBracket text place offset first ts h =
     let t : Token = record { symbol = symbols.OpenBracket; text = text; place = place; offset = offset; first_on_line = first } in
-    use_behind (barred true levels (Continues a.left) t) t ts (λ mid. behind levels m a t mid) (λ t b. part_at (levels - 1) (Expression m) b >>= λ x c. sign_at symbols.CloseBracket c >>= λ y rest. Took (suffixed.Indexes t.place x) rest) (λ r. with_suffix a r)
+    use_behind (barred true levels (Continues a.links) t) t ts (λ mid. behind levels m a t mid) (λ t b. part_at (levels - 1) (Expression m) b >>= λ x c. sign_at symbols.CloseBracket c >>= λ y rest. Took (suffixed.Indexes t.place x) rest) (λ r. with_suffix a r)
     (part_behind levels (Expression m) symbols.CloseBracket a (λ x. lua.indexed a (trees.Index place a.tree x)) (λ x. suffixed.Indexes place x) ts (λ x. refl))
 suffix_by levels m a symbols.OpenBrace text place offset first ts h =
     let t : Token = record { symbol = symbols.OpenBrace; text = text; place = place; offset = offset; first_on_line = first } in
-    use_behind (barred true levels (Continues a.left) t) t ts (λ mid. behind levels m a t mid) (λ t b. part_at (levels - 1) (Fields m) b >>= λ x c. sign_at symbols.CloseBrace c >>= λ y rest. Took (suffixed.Calls t.place (More Nothing (trees.Table t.place x))) rest) (λ r. with_suffix a r)
+    use_behind (barred true levels (Continues a.links) t) t ts (λ mid. behind levels m a t mid) (λ t b. part_at (levels - 1) (Fields m) b >>= λ x c. sign_at symbols.CloseBrace c >>= λ y rest. Took (suffixed.Calls t.place (More Nothing (trees.Table t.place x))) rest) (λ r. with_suffix a r)
     (part_behind levels (Fields m) symbols.CloseBrace a (λ x. lua.called a (trees.Call place a.tree (More Nothing (trees.Table place x)))) (λ x. suffixed.Calls place (More Nothing (trees.Table place x))) ts (λ x. refl))
 suffix_by levels m a symbols.Dot text place offset first ts h =
     let t : Token = record { symbol = symbols.Dot; text = text; place = place; offset = offset; first_on_line = first } in
-    use_behind (barred false levels (Continues a.left) t) t ts (λ mid. behind levels m a t mid) (λ t b. name_at b >>= λ n rest. Took (suffixed.Selects t.place n) rest) (λ r. with_suffix a r)
+    use_behind (barred false levels (Continues a.links) t) t ts (λ mid. behind levels m a t mid) (λ t b. name_at b >>= λ n rest. Took (suffixed.Selects t.place n) rest) (λ r. with_suffix a r)
     (ap (λ (o : Outcome Tree). o >>= λ n rest. Took (lua.indexed a (trees.Select place a.tree n)) rest) (name_agrees levels ts) ∙ sym (bind_again (name_at ts) (λ n rest. Took (suffixed.Selects place n) rest) (λ r rest. Took (with_suffix a r) rest)))
 suffix_by levels m a symbols.Colon text place offset first ts h =
     let t : Token = record { symbol = symbols.Colon; text = text; place = place; offset = offset; first_on_line = first } in
-    use_behind (barred false levels (Continues a.left) t) t ts (λ mid. behind levels m a t mid) (λ t b. name_at b >>= λ n c. method_arguments_at levels m c >>= λ x rest. Took (suffixed.CallsMethod t.place n x) rest) (λ r. with_suffix a r)
+    use_behind (barred false levels (Continues a.links) t) t ts (λ mid. behind levels m a t mid) (λ t b. name_at b >>= λ n c. method_arguments_at levels m c >>= λ x rest. Took (suffixed.CallsMethod t.place n x) rest) (λ r. with_suffix a r)
     (ap (λ (o : Outcome Tree). o >>= λ n mid. reading levels (lua.arguments m) mid >>= λ es rest. Took (lua.called a (trees.Method place a.tree n es)) rest) (name_agrees levels ts)
     ∙ bind_same (name_at ts) (λ n mid. reading levels (lua.arguments m) mid >>= λ es rest. Took (lua.called a (trees.Method place a.tree n es)) rest) (λ n c. (method_arguments_at levels m c >>= λ x rest. Took (suffixed.CallsMethod place n x) rest) >>= λ r rest. Took (with_suffix a r) rest)
     (λ n c. ap (λ (o : Outcome Tree). o >>= λ es rest. Took (lua.called a (trees.Method place a.tree n es)) rest) (method_arguments_agree levels m c) ∙ sym (bind_again (method_arguments_at levels m c) (λ x rest. Took (suffixed.CallsMethod place n x) rest) (λ r rest. Took (with_suffix a r) rest)))
     ∙ sym (bind_again (name_at ts) (λ n c. method_arguments_at levels m c >>= λ x rest. Took (suffixed.CallsMethod place n x) rest) (λ r rest. Took (with_suffix a r) rest)))
 suffix_by levels m a symbols.Literal text place offset first ts h =
     let t : Token = record { symbol = symbols.Literal; text = text; place = place; offset = offset; first_on_line = first } in
-    use_behind (barred false levels (Continues a.left) t) t ts (λ mid. behind levels m a t mid) (λ t rest. Took (suffixed.Calls t.place (More Nothing (trees.Literal t.place t.text))) rest) (λ r. with_suffix a r) refl
+    use_behind (barred false levels (Continues a.links) t) t ts (λ mid. behind levels m a t mid) (λ t rest. Took (suffixed.Calls t.place (More Nothing (trees.Literal t.place t.text))) rest) (λ r. with_suffix a r) refl
 suffix_by levels m a _ text place offset first ts h = absurd (never h)
 
 pub suffix_turn_of : (levels : ℕ) (class : Token → Bool) (m : Mode) (a : Chained) (ts : List Token) → begins class ts ≡ true → begins (λ t. lua.is_suffix m t) ts ≡ true →
-    reading levels (bind (token class (λ t. lua.suffix_extra a t) (λ t. lua.suffix_opens m (lua.suffix_of t.symbol)) (sample symbols.Dot)) λ x. lua.suffix m (lua.suffix_of x.0.symbol) x.0 x.1 a) ts
-    ≡ (suffix_at levels m a.left ts >>= λ s rest. Took (with_suffix a s) rest)
+    reading levels (bind (token class (λ t. lua.suffix_use a t) (λ t. lua.suffix_opens m (lua.suffix_of t.symbol)) (sample symbols.Dot)) λ x. lua.suffix m (lua.suffix_of x.0.symbol) x.0 x.1 a) ts
+    ≡ (suffix_at levels m a.links ts >>= λ s rest. Took (with_suffix a s) rest)
 suffix_turn_of levels class m a [] h k = absurd cc
 suffix_turn_of levels class m a (t ∷ ts) h k = suffix_token levels class m a t ts h ∙ suffix_by levels m a t.symbol t.text t.place t.offset t.first_on_line ts k
 
 suffix_turn : (levels : ℕ) (m : Mode) (a : Chained) (ts : List Token) → begins (λ t. lua.is_suffix m t) ts ≡ true →
-    reading levels (bind (token (λ t. lua.is_suffix m t) (λ t. lua.suffix_extra a t) (λ t. lua.suffix_opens m (lua.suffix_of t.symbol)) (sample symbols.Dot)) λ x. lua.suffix m (lua.suffix_of x.0.symbol) x.0 x.1 a) ts
-    ≡ (suffix_at levels m a.left ts >>= λ s rest. Took (with_suffix a s) rest)
+    reading levels (bind (token (λ t. lua.is_suffix m t) (λ t. lua.suffix_use a t) (λ t. lua.suffix_opens m (lua.suffix_of t.symbol)) (sample symbols.Dot)) λ x. lua.suffix m (lua.suffix_of x.0.symbol) x.0 x.1 a) ts
+    ≡ (suffix_at levels m a.links ts >>= λ s rest. Took (with_suffix a s) rest)
 suffix_turn levels m a ts h = suffix_turn_of levels (λ t. lua.is_suffix m t) m a ts h h
 
-pub suffixes_go : (levels : ℕ) (m : Mode) (tree : Tree) (left : ℕ) (shape : Shape) (ts : List Token) → begins (λ t. lua.is_suffix m t) ts ≡ true → suffixes_at levels m (chained tree left shape) ts ≡ (suffix_at levels m left ts >>= λ s rest. suffixes_at levels m (chained (attached s tree) (down left) (shape_of s)) rest)
+pub suffixes_go : (levels : ℕ) (m : Mode) (tree : Tree) (links : ℕ) (kind : OperandKind) (ts : List Token) → begins (λ t. lua.is_suffix m t) ts ≡ true → suffixes_at levels m (chained tree links kind) ts ≡ (suffix_at levels m links ts >>= λ s rest. suffixes_at levels m (chained (attached s tree) (down links) (kind_of s)) rest)
 unfolding suffixes_at
-suffixes_go levels m tree left shape ts h =
-    repeats levels (λ b t. lua.is_suffix m t) (λ b t. lua.suffix_extra b t) (λ b t. lua.suffix_opens m (lua.suffix_of t.symbol)) (λ t x b. lua.suffix m (lua.suffix_of t.symbol) t x b) (sample symbols.Dot) (chained tree left shape)
-    (suffix_at levels m left ts) (λ s. chained (attached s tree) (down left) (shape_of s)) ts h (suffix_turn levels m (chained tree left shape) ts h)
+suffixes_go levels m tree links kind ts h =
+    repeats levels (λ b t. lua.is_suffix m t) (λ b t. lua.suffix_use b t) (λ b t. lua.suffix_opens m (lua.suffix_of t.symbol)) (λ t x b. lua.suffix m (lua.suffix_of t.symbol) t x b) (sample symbols.Dot) (chained tree links kind)
+    (suffix_at levels m links ts) (λ s. chained (attached s tree) (down links) (kind_of s)) ts h (suffix_turn levels m (chained tree links kind) ts h)
 
 pub suffixes_end : (levels : ℕ) (m : Mode) (a : Chained) (ts : List Token) → begins (λ t. lua.is_suffix m t) ts ≡ false → suffixes_at levels m a ts ≡ Took a ts
 unfolding suffixes_at
-suffixes_end levels m a ts h = ends levels (λ b t. lua.is_suffix m t) (λ b t. lua.suffix_extra b t) (λ b t. lua.suffix_opens m (lua.suffix_of t.symbol)) (λ t x b. lua.suffix m (lua.suffix_of t.symbol) t x b) a ts h
+suffixes_end levels m a ts h = ends levels (λ b t. lua.is_suffix m t) (λ b t. lua.suffix_use b t) (λ b t. lua.suffix_opens m (lua.suffix_of t.symbol)) (λ t x b. lua.suffix m (lua.suffix_of t.symbol) t x b) a ts h
 
-pub suffix_shorter : (levels : ℕ) (m : Mode) (left : ℕ) (x : Suffixed) (ts rest : List Token) → begins (λ t. lua.is_suffix m t) ts ≡ true → suffix_at levels m left ts ≡ Took x rest → length rest < length ts
-suffix_shorter levels m left x ts rest h e =
-    let a : Chained = operand left Nothing in
-    shorter_turn levels (λ t. lua.is_suffix m t) (λ t. lua.suffix_extra a t) (λ t. lua.suffix_opens m (lua.suffix_of t.symbol)) (sample symbols.Dot) (λ x. lua.suffix m (lua.suffix_of x.0.symbol) x.0 x.1 a)
-    (suffix_at levels m left ts) (λ s. chained (attached s Nothing) (down left) (shape_of s)) x ts rest (suffix_turn levels m a ts h) e
+pub suffix_shorter : (levels : ℕ) (m : Mode) (links : ℕ) (x : Suffixed) (ts rest : List Token) → begins (λ t. lua.is_suffix m t) ts ≡ true → suffix_at levels m links ts ≡ Took x rest → length rest < length ts
+suffix_shorter levels m links x ts rest h e =
+    let a : Chained = operand links Nothing in
+    shorter_turn levels (λ t. lua.is_suffix m t) (λ t. lua.suffix_use a t) (λ t. lua.suffix_opens m (lua.suffix_of t.symbol)) (sample symbols.Dot) (λ x. lua.suffix m (lua.suffix_of x.0.symbol) x.0 x.1 a)
+    (suffix_at levels m links ts) (λ s. chained (attached s Nothing) (down links) (kind_of s)) x ts rest (suffix_turn levels m a ts h) e
 
 pub ruleset elements = (fails_bind, fails_after, fails_from, elements_go, elements_end, element_shorter)
 

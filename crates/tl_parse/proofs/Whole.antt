@@ -16,9 +16,9 @@ use Rattle.tl_tree.specs.Texts.{Reads}
 use Rattle.tl_tree.specs.Texts as texts
 use Rattle.tl_tree.specs.declared.tree.Tree as trees
 use Rattle.tl_tree.proofs.Answering.{reads, chunk_says, chunk_only}
-use Rattle.tl_parse.specs.Using.{part_at}
-use Rattle.tl_parse.specs.Parsing.{tokens_left, end_of, items_of, blame_of, Refuses, StopsWhere, Fails, TookTree}
-use Rattle.tl_parse.specs.Looking.{BeginsAt}
+use Rattle.tl_parse.specs.Views.Using.{part_at}
+use Rattle.tl_parse.specs.Views.Parsing.{tokens_left, end_of, items_of, blame_of, Refuses, StopsWhere, Fails, TookTree}
+use Rattle.tl_parse.specs.Views.Looking.{BeginsAt}
 use Rattle.tl_parse.specs.Whole.{GivesTree, GivesRefusal, ComesOf}
 use Rattle.tl_parse.specs.declared.error.SyntaxError.{SyntaxError}
 use Rattle.tl_parse.specs.declared.error.SyntaxError.TheVariants as errors

@@ -6,26 +6,26 @@ ghost use Rattle.tl_tree.specs.LuaExpressions as lua;
 ghost use Rattle.tl_tree.specs.Tokens.{among};
 ghost use Rattle.tl_tree.specs.Tree as parts;
 ghost use Rattle.tl_tree.specs.Grammar.{begins};
-ghost use Rattle.tl_parse.specs.Parsing.{tokens_left, Fails, TookToken, TookTree, TookOperand, TookList};
-ghost use Rattle.tl_parse.specs.Parsing.{TookMaybe, TookOption};
-ghost use Rattle.tl_parse.specs.Using.{part_at, number_at};
-ghost use Rattle.tl_parse.specs.Codes.{expression_in, expression_behind_at, optional_expression_at, arguments_in};
-ghost use Rattle.tl_parse.specs.Expressions.{name_at, arguments_at, paren_at};
-ghost use Rattle.tl_parse.specs.Expressions.{base_at, call_suffix_at, index_suffix_at, select_suffix_at};
-ghost use Rattle.tl_parse.specs.Expressions.{listed_arguments_at, method_arguments_at, method_suffix_at};
-ghost use Rattle.tl_parse.specs.Expressions.{table_suffix_at, literal_suffix_at, suffix_at, applied_at, prefixed_at, number_tree_at};
-ghost use Rattle.tl_parse.specs.Expressions.{literal_at, constant_of, constant_at, function_at, table_at, simple_at};
-ghost use Rattle.tl_parse.specs.Expressions.{is_simple, primary_at, power_at, unary_at};
-ghost use Rattle.tl_parse.specs.Expressions.{one_more_at, binary_at, chained_at, is_name, is_other};
-ghost use Rattle.tl_parse.specs.Expressions.{field_behind_at, keyed_field_at, field_at, next_field_at, fields_at};
-ghost use Rattle.tl_parse.specs.Expressions.{simple_symbols, separators};
-ghost use Rattle.tl_parse.specs.Going.{TookOperation, TookSuffix};
+ghost use Rattle.tl_parse.specs.Views.Parsing.{tokens_left, Fails, TookToken, TookTree, TookOperand, TookList};
+ghost use Rattle.tl_parse.specs.Views.Parsing.{TookMaybe, TookOption};
+ghost use Rattle.tl_parse.specs.Views.Using.{part_at, number_at};
+ghost use Rattle.tl_parse.specs.Views.Codes.{expression_in, expression_behind_at, optional_expression_at, arguments_in};
+ghost use Rattle.tl_parse.specs.Views.Expressions.{name_at, arguments_at, paren_at};
+ghost use Rattle.tl_parse.specs.Views.Expressions.{base_at, call_suffix_at, index_suffix_at, select_suffix_at};
+ghost use Rattle.tl_parse.specs.Views.Expressions.{listed_arguments_at, method_arguments_at, method_suffix_at};
+ghost use Rattle.tl_parse.specs.Views.Expressions.{table_suffix_at, literal_suffix_at, suffix_at, applied_at, prefixed_at, number_tree_at};
+ghost use Rattle.tl_parse.specs.Views.Expressions.{literal_at, constant_of, constant_at, function_at, table_at, simple_at};
+ghost use Rattle.tl_parse.specs.Views.Expressions.{is_simple, primary_at, power_at, unary_at};
+ghost use Rattle.tl_parse.specs.Views.Expressions.{one_more_at, binary_at, chained_at, is_name, is_other};
+ghost use Rattle.tl_parse.specs.Views.Expressions.{field_behind_at, keyed_field_at, field_at, next_field_at, fields_at};
+ghost use Rattle.tl_parse.specs.Views.Expressions.{simple_symbols, separators};
+ghost use Rattle.tl_parse.specs.Views.Going.{TookOperation, TookSuffix};
 
 use crate::error::SyntaxError;
 use crate::parser::{CHAIN, Code, Element, Next, Operand, Parser};
 use crate::symbols::{CONCATENATION, rank_behind};
 use tl_base::NodeId;
-use tl_tree::{Expression, Mode, Node, NodeList, Shape, Symbol, UnaryOperator};
+use tl_tree::{Expression, Mode, Node, NodeList, OperandKind, Symbol, UnaryOperator};
 
 /// How many ranks the operators have that group to the left, and `..`.
 const RANKS: u8 = 6;
@@ -63,27 +63,27 @@ fn constant_of(symbol: Symbol) -> Expression
     }
 }
 
-pub(crate) fn is_name(shape: Shape) -> bool
-    ensures { result ≡ is_name shape }
+pub(crate) fn is_name(kind: OperandKind) -> bool
+    ensures { result ≡ is_name kind }
 {
-    match shape {
-        Shape::Name => true,
+    match kind {
+        OperandKind::Name => true,
         _ => false,
     }
 }
 
-fn is_other(shape: Shape) -> bool
-    ensures { result ≡ is_other shape }
+fn is_other(kind: OperandKind) -> bool
+    ensures { result ≡ is_other kind }
 {
-    match shape {
-        Shape::Other => true,
+    match kind {
+        OperandKind::Other => true,
         _ => false,
     }
 }
 
 impl<'a> Parser<'a> {
     /// Name
-    #[tactic(auto, using(crate::proofs::Failing::failing), unfolding(crate::specs::Expressions::name_at))]
+    #[tactic(auto, using(crate::proofs::Failing::failing), unfolding(crate::specs::Views::Expressions::name_at))]
     pub(crate) fn name(&mut self) -> Result<NodeId, SyntaxError>
         ensures ok { IfOk result (λ r. TookTree self.old self.new (name_at (tokens_left self.old)) r) }
         ensures err { IfErr result (λ e. Fails self.old (name_at (tokens_left self.old)) e) }
@@ -93,7 +93,7 @@ impl<'a> Parser<'a> {
     }
 
     /// Numeral, of Lua code
-    #[tactic(auto, using(crate::proofs::Failing::failing), unfolding(crate::specs::Expressions::number_tree_at))]
+    #[tactic(auto, using(crate::proofs::Failing::failing), unfolding(crate::specs::Views::Expressions::number_tree_at))]
     pub(crate) fn number(&mut self) -> Result<NodeId, SyntaxError>
         ensures ok { IfOk result (λ r. TookTree self.old self.new (number_tree_at (tokens_left self.old)) r) }
         ensures err { IfErr result (λ e. Fails self.old (number_tree_at (tokens_left self.old)) e) }
@@ -103,7 +103,7 @@ impl<'a> Parser<'a> {
     }
 
     /// Text
-    #[tactic(auto, using(crate::proofs::Failing::failing), unfolding(crate::specs::Expressions::literal_at))]
+    #[tactic(auto, using(crate::proofs::Failing::failing), unfolding(crate::specs::Views::Expressions::literal_at))]
     pub(crate) fn literal(&mut self) -> Result<NodeId, SyntaxError>
         ensures ok { IfOk result (λ r. TookTree self.old self.new (literal_at (tokens_left self.old)) r) }
         ensures err { IfErr result (λ e. Fails self.old (literal_at (tokens_left self.old)) e) }
@@ -113,7 +113,7 @@ impl<'a> Parser<'a> {
     }
 
     /// "nil" | "false" | "true" | "..."
-    #[tactic(auto, using(crate::proofs::Constants::constants), unfolding(crate::specs::Expressions::constant_at))]
+    #[tactic(auto, using(crate::proofs::Constants::constants), unfolding(crate::specs::Views::Expressions::constant_at))]
     fn constant(&mut self, symbol: Symbol) -> Result<NodeId, SyntaxError>
         requires { is_bad symbol ≡ false }
         ensures ok { IfOk result (λ r. TookTree self.old self.new (constant_at symbol (tokens_left self.old)) r) }
@@ -149,7 +149,7 @@ impl<'a> Parser<'a> {
 
     /// sign exp, or sign texp
     #[cycle(parser)]
-    #[tactic(auto, using(crate::proofs::Failing::failing), unfolding(crate::specs::Codes::expression_behind_at))]
+    #[tactic(auto, using(crate::proofs::Failing::failing), unfolding(crate::specs::Views::Codes::expression_behind_at))]
     pub(crate) fn expression_behind(
         &mut self,
         symbol: Symbol,
@@ -166,7 +166,7 @@ impl<'a> Parser<'a> {
 
     /// [sign exp], or [sign texp]
     #[cycle(parser)]
-    #[tactic(auto, using(crate::proofs::Failing::failing), unfolding(crate::specs::Codes::optional_expression_at))]
+    #[tactic(auto, using(crate::proofs::Failing::failing), unfolding(crate::specs::Views::Codes::optional_expression_at))]
     pub(crate) fn optional_expression(
         &mut self,
         symbol: Symbol,
@@ -208,7 +208,7 @@ impl<'a> Parser<'a> {
 
     /// [exps] or [texps], up to a ")"
     #[cycle(parser)]
-    #[tactic(auto, using(crate::proofs::Parts::arguments), unfolding(crate::specs::Expressions::arguments_at))]
+    #[tactic(auto, using(crate::proofs::Parts::arguments), unfolding(crate::specs::Views::Expressions::arguments_at))]
     pub(crate) fn arguments(&mut self, code: Code, levels: u32) -> Result<NodeList, SyntaxError>
         ensures ok { IfOk result (λ r. TookList self.old self.new (part_at levels (arguments_in code) (tokens_left self.old)) r) }
         ensures err { IfErr result (λ e. Fails self.old (part_at levels (arguments_in code) (tokens_left self.old)) e) }
@@ -221,7 +221,7 @@ impl<'a> Parser<'a> {
 
     /// "(" exp ")"
     #[cycle(parser)]
-    #[tactic(auto, using(crate::proofs::Failing::failing), unfolding(crate::specs::Expressions::paren_at))]
+    #[tactic(auto, using(crate::proofs::Failing::failing), unfolding(crate::specs::Views::Expressions::paren_at))]
     fn paren(&mut self, mode: Mode, levels: u32) -> Result<Operand, SyntaxError>
         ensures ok { IfOk result (λ r. TookOperand self.old self.new (paren_at levels mode (tokens_left self.old)) r) }
         ensures err { IfErr result (λ e. Fails self.old (paren_at levels mode (tokens_left self.old)) e) }
@@ -232,13 +232,13 @@ impl<'a> Parser<'a> {
             Symbol::CloseParen,
             Node::Expression(place, Expression::Paren(inner)),
             CHAIN,
-            Shape::Other,
+            OperandKind::Other,
         )
     }
 
     /// Name | "(" exp ")"
     #[cycle(parser)]
-    #[tactic(auto, using(crate::proofs::Failing::failing), unfolding(crate::specs::Expressions::base_at))]
+    #[tactic(auto, using(crate::proofs::Failing::failing), unfolding(crate::specs::Views::Expressions::base_at))]
     #[inline(always)]
     pub(crate) fn base(&mut self, mode: Mode, levels: u32) -> Result<Operand, SyntaxError>
         ensures ok { IfOk result (λ r. TookOperand self.old self.new (base_at levels mode (tokens_left self.old)) r) }
@@ -250,85 +250,85 @@ impl<'a> Parser<'a> {
         let node = read!(self.name());
         Ok(Operand {
             node,
-            left: CHAIN,
-            shape: Shape::Name,
+            links: CHAIN,
+            kind: OperandKind::Name,
         })
     }
 
     /// args = "(" [exps] ")"
     #[cycle(parser)]
-    #[tactic(auto, using(crate::proofs::Taking::shorter), unfolding(crate::specs::Expressions::call_suffix_at))]
+    #[tactic(auto, using(crate::proofs::Taking::shorter), unfolding(crate::specs::Views::Expressions::call_suffix_at))]
     fn call_suffix(&mut self, mode: Mode, levels: u32, a: Operand) -> Result<Operand, SyntaxError>
-        ensures ok { IfOk result (λ r. TookSuffix self.old self.new (call_suffix_at levels mode a.left (tokens_left self.old)) a r) }
-        ensures err { IfErr result (λ e. Fails self.old (call_suffix_at levels mode a.left (tokens_left self.old)) e) }
+        ensures ok { IfOk result (λ r. TookSuffix self.old self.new (call_suffix_at levels mode a.links (tokens_left self.old)) a r) }
+        ensures err { IfErr result (λ e. Fails self.old (call_suffix_at levels mode a.links (tokens_left self.old)) e) }
     {
-        let place = read!(self.open_call(levels, a.left));
+        let place = read!(self.open_call(levels, a.links));
         let arguments = read!(self.arguments(Code::Lua(mode), levels - 1));
         self.close_operand(
             Symbol::CloseParen,
             Node::Expression(place, Expression::Call(a.node, arguments)),
-            a.left - 1,
-            Shape::Call,
+            a.links - 1,
+            OperandKind::Call,
         )
     }
 
     /// "[" exp "]"
     #[cycle(parser)]
-    #[tactic(auto, using(crate::proofs::Taking::shorter), unfolding(crate::specs::Expressions::index_suffix_at))]
+    #[tactic(auto, using(crate::proofs::Taking::shorter), unfolding(crate::specs::Views::Expressions::index_suffix_at))]
     fn index_suffix(&mut self, mode: Mode, levels: u32, a: Operand) -> Result<Operand, SyntaxError>
-        ensures ok { IfOk result (λ r. TookSuffix self.old self.new (index_suffix_at levels mode a.left (tokens_left self.old)) a r) }
-        ensures err { IfErr result (λ e. Fails self.old (index_suffix_at levels mode a.left (tokens_left self.old)) e) }
+        ensures ok { IfOk result (λ r. TookSuffix self.old self.new (index_suffix_at levels mode a.links (tokens_left self.old)) a r) }
+        ensures err { IfErr result (λ e. Fails self.old (index_suffix_at levels mode a.links (tokens_left self.old)) e) }
     {
-        let place = read!(self.open_suffix(Symbol::OpenBracket, levels, a.left));
+        let place = read!(self.open_suffix(Symbol::OpenBracket, levels, a.links));
         let key = read!(self.expression(mode, levels - 1));
         self.close_operand(
             Symbol::CloseBracket,
             Node::Expression(place, Expression::Index(a.node, key)),
-            a.left - 1,
-            Shape::Variable,
+            a.links - 1,
+            OperandKind::Variable,
         )
     }
 
     /// "." Name
-    #[tactic(auto, using(crate::proofs::Taking::shorter), unfolding(crate::specs::Expressions::select_suffix_at))]
+    #[tactic(auto, using(crate::proofs::Taking::shorter), unfolding(crate::specs::Views::Expressions::select_suffix_at))]
     fn select_suffix(&mut self, a: Operand) -> Result<Operand, SyntaxError>
-        ensures ok { IfOk result (λ r. TookSuffix self.old self.new (select_suffix_at a.left (tokens_left self.old)) a r) }
-        ensures err { IfErr result (λ e. Fails self.old (select_suffix_at a.left (tokens_left self.old)) e) }
+        ensures ok { IfOk result (λ r. TookSuffix self.old self.new (select_suffix_at a.links (tokens_left self.old)) a r) }
+        ensures err { IfErr result (λ e. Fails self.old (select_suffix_at a.links (tokens_left self.old)) e) }
     {
-        let place = read!(self.suffix_sign(&DOT, a.left));
+        let place = read!(self.suffix_sign(&DOT, a.links));
         let name = read!(self.name());
         self.push_operand(
             Node::Expression(place, Expression::Select(a.node, name)),
-            a.left - 1,
-            Shape::Variable,
+            a.links - 1,
+            OperandKind::Variable,
         )
     }
 
     /// ":" Name args
     #[cycle(parser)]
-    #[tactic(auto, using(crate::proofs::Taking::shorter), unfolding(crate::specs::Expressions::method_suffix_at))]
+    #[tactic(auto, using(crate::proofs::Taking::shorter), unfolding(crate::specs::Views::Expressions::method_suffix_at))]
     fn method_suffix(&mut self, mode: Mode, levels: u32, a: Operand) -> Result<Operand, SyntaxError>
-        ensures ok { IfOk result (λ r. TookSuffix self.old self.new (method_suffix_at levels mode a.left (tokens_left self.old)) a r) }
-        ensures err { IfErr result (λ e. Fails self.old (method_suffix_at levels mode a.left (tokens_left self.old)) e) }
+        ensures ok { IfOk result (λ r. TookSuffix self.old self.new (method_suffix_at levels mode a.links (tokens_left self.old)) a r) }
+        ensures err { IfErr result (λ e. Fails self.old (method_suffix_at levels mode a.links (tokens_left self.old)) e) }
     {
-        let place = read!(self.suffix_sign(&COLON, a.left));
+        let place = read!(self.suffix_sign(&COLON, a.links));
         let name = read!(self.name());
         let arguments = read!(self.method_arguments(mode, levels));
         self.push_operand(
             Node::Expression(place, Expression::Method(a.node, name, arguments)),
-            a.left - 1,
-            Shape::Call,
+            a.links - 1,
+            OperandKind::Call,
         )
     }
 
     /// args = table
     #[cycle(parser)]
-    #[tactic(auto, using(crate::proofs::Taking::shorter), unfolding(crate::specs::Expressions::table_suffix_at))]
+    #[tactic(auto, using(crate::proofs::Taking::shorter), unfolding(crate::specs::Views::Expressions::table_suffix_at))]
     fn table_suffix(&mut self, mode: Mode, levels: u32, a: Operand) -> Result<Operand, SyntaxError>
-        ensures ok { IfOk result (λ r. TookSuffix self.old self.new (table_suffix_at levels mode a.left (tokens_left self.old)) a r) }
-        ensures err { IfErr result (λ e. Fails self.old (table_suffix_at levels mode a.left (tokens_left self.old)) e) }
+        ensures ok { IfOk result (λ r. TookSuffix self.old self.new (table_suffix_at levels mode a.links (tokens_left self.old)) a r) }
+        ensures err { IfErr result (λ e. Fails self.old (table_suffix_at levels mode a.links (tokens_left self.old)) e) }
     {
-        let token = read!(self.raise(Symbol::OpenBrace, levels, a.left));
+        let token = read!(self.raise(Symbol::OpenBrace, levels, a.links));
         let fields = read!(self.fields(mode, levels - 1));
         let table = read!(self.close(
             Symbol::CloseBrace,
@@ -341,30 +341,30 @@ impl<'a> Parser<'a> {
         )));
         Ok(Operand {
             node,
-            left: a.left - 1,
-            shape: Shape::Call,
+            links: a.links - 1,
+            kind: OperandKind::Call,
         })
     }
 
     /// args = Text
-    #[tactic(auto, using(crate::proofs::Taking::shorter), unfolding(crate::specs::Expressions::literal_suffix_at))]
+    #[tactic(auto, using(crate::proofs::Taking::shorter), unfolding(crate::specs::Views::Expressions::literal_suffix_at))]
     fn literal_suffix(&mut self, a: Operand) -> Result<Operand, SyntaxError>
-        ensures ok { IfOk result (λ r. TookSuffix self.old self.new (literal_suffix_at a.left (tokens_left self.old)) a r) }
-        ensures err { IfErr result (λ e. Fails self.old (literal_suffix_at a.left (tokens_left self.old)) e) }
+        ensures ok { IfOk result (λ r. TookSuffix self.old self.new (literal_suffix_at a.links (tokens_left self.old)) a r) }
+        ensures err { IfErr result (λ e. Fails self.old (literal_suffix_at a.links (tokens_left self.old)) e) }
     {
-        let token = read!(self.operator(&LITERAL, a.left));
+        let token = read!(self.operator(&LITERAL, a.links));
         let text = read!(self.push(Node::Literal(token.place, token.text)));
         let arguments = read!(self.one_node(text));
         self.push_operand(
             Node::Expression(token.place, Expression::Call(a.node, arguments)),
-            a.left - 1,
-            Shape::Call,
+            a.links - 1,
+            OperandKind::Call,
         )
     }
 
     /// "(" [exps] ")"
     #[cycle(parser)]
-    #[tactic(auto, using(crate::proofs::Failing::failing), unfolding(crate::specs::Expressions::listed_arguments_at))]
+    #[tactic(auto, using(crate::proofs::Failing::failing), unfolding(crate::specs::Views::Expressions::listed_arguments_at))]
     fn listed_arguments(&mut self, mode: Mode, levels: u32) -> Result<NodeList, SyntaxError>
         ensures ok { IfOk result (λ r. TookList self.old self.new (listed_arguments_at levels mode (tokens_left self.old)) r) }
         ensures err { IfErr result (λ e. Fails self.old (listed_arguments_at levels mode (tokens_left self.old)) e) }
@@ -377,7 +377,7 @@ impl<'a> Parser<'a> {
 
     /// args = "(" [exps] ")" | table | Text
     #[cycle(parser)]
-    #[tactic(auto, using(crate::proofs::Failing::failing), unfolding(crate::specs::Expressions::method_arguments_at))]
+    #[tactic(auto, using(crate::proofs::Failing::failing), unfolding(crate::specs::Views::Expressions::method_arguments_at))]
     fn method_arguments(&mut self, mode: Mode, levels: u32) -> Result<NodeList, SyntaxError>
         ensures ok { IfOk result (λ r. TookList self.old self.new (method_arguments_at levels mode (tokens_left self.old)) r) }
         ensures err { IfErr result (λ e. Fails self.old (method_arguments_at levels mode (tokens_left self.old)) e) }
@@ -402,8 +402,8 @@ impl<'a> Parser<'a> {
         levels: u32,
         a: Operand,
     ) -> Result<Operand, SyntaxError>
-        ensures ok { IfOk result (λ r. TookSuffix self.old self.new (suffix_at levels mode a.left (tokens_left self.old)) a r) }
-        ensures err { IfErr result (λ e. Fails self.old (suffix_at levels mode a.left (tokens_left self.old)) e) }
+        ensures ok { IfOk result (λ r. TookSuffix self.old self.new (suffix_at levels mode a.links (tokens_left self.old)) a r) }
+        ensures err { IfErr result (λ e. Fails self.old (suffix_at levels mode a.links (tokens_left self.old)) e) }
     {
         match self.next_symbol() {
             Symbol::OpenParen => self.call_suffix(mode, levels, a),
@@ -417,7 +417,7 @@ impl<'a> Parser<'a> {
 
     /// prefix = var | call | "(" exp ")"; where it is to be `bare`, brackets alone are none
     #[cycle(parser)]
-    #[tactic(auto, using(crate::proofs::Turns::suffixes), unfolding(crate::specs::Expressions::applied_at))]
+    #[tactic(auto, using(crate::proofs::Turns::suffixes), unfolding(crate::specs::Views::Expressions::applied_at))]
     #[inline(always)]
     pub(crate) fn applied(
         &mut self,
@@ -429,7 +429,7 @@ impl<'a> Parser<'a> {
         ensures err { IfErr result (λ e. Fails self.old (applied_at levels mode bare (tokens_left self.old)) e) }
     {
         let mut a = read!(self.base(mode, levels));
-        if bare && is_other(a.shape) && !self.next_is_suffix(mode) {
+        if bare && is_other(a.kind) && !self.next_is_suffix(mode) {
             return Err(self.refusal());
         }
         'more: while self.next_is_suffix(mode) {
@@ -440,22 +440,22 @@ impl<'a> Parser<'a> {
 
     /// prefix, as an operand
     #[cycle(parser)]
-    #[tactic(auto, using(crate::proofs::Failing::failing), unfolding(crate::specs::Expressions::prefixed_at))]
-    fn prefixed(&mut self, mode: Mode, levels: u32, left: u32) -> Result<Operand, SyntaxError>
-        ensures ok { IfOk result (λ r. TookOperand self.old self.new (prefixed_at levels mode left (tokens_left self.old)) r) }
-        ensures err { IfErr result (λ e. Fails self.old (prefixed_at levels mode left (tokens_left self.old)) e) }
+    #[tactic(auto, using(crate::proofs::Failing::failing), unfolding(crate::specs::Views::Expressions::prefixed_at))]
+    fn prefixed(&mut self, mode: Mode, levels: u32, links: u32) -> Result<Operand, SyntaxError>
+        ensures ok { IfOk result (λ r. TookOperand self.old self.new (prefixed_at levels mode links (tokens_left self.old)) r) }
+        ensures err { IfErr result (λ e. Fails self.old (prefixed_at levels mode links (tokens_left self.old)) e) }
     {
         let a = read!(self.applied(mode, levels, false));
         Ok(Operand {
             node: a.node,
-            left,
-            shape: a.shape,
+            links,
+            kind: a.kind,
         })
     }
 
     /// "function" body
     #[cycle(parser)]
-    #[tactic(auto, using(crate::proofs::Failing::failing), unfolding(crate::specs::Expressions::function_at))]
+    #[tactic(auto, using(crate::proofs::Failing::failing), unfolding(crate::specs::Views::Expressions::function_at))]
     fn function(&mut self, levels: u32) -> Result<NodeId, SyntaxError>
         ensures ok { IfOk result (λ r. TookTree self.old self.new (function_at levels (tokens_left self.old)) r) }
         ensures err { IfErr result (λ e. Fails self.old (function_at levels (tokens_left self.old)) e) }
@@ -487,44 +487,44 @@ impl<'a> Parser<'a> {
 
     /// exp, without operators
     #[cycle(parser)]
-    #[tactic(auto, using(crate::proofs::Failing::failing), unfolding(crate::specs::Expressions::primary_at))]
-    fn primary(&mut self, mode: Mode, levels: u32, left: u32) -> Result<Operand, SyntaxError>
-        ensures ok { IfOk result (λ r. TookOperand self.old self.new (primary_at levels mode left (tokens_left self.old)) r) }
-        ensures err { IfErr result (λ e. Fails self.old (primary_at levels mode left (tokens_left self.old)) e) }
+    #[tactic(auto, using(crate::proofs::Failing::failing), unfolding(crate::specs::Views::Expressions::primary_at))]
+    fn primary(&mut self, mode: Mode, levels: u32, links: u32) -> Result<Operand, SyntaxError>
+        ensures ok { IfOk result (λ r. TookOperand self.old self.new (primary_at levels mode links (tokens_left self.old)) r) }
+        ensures err { IfErr result (λ e. Fails self.old (primary_at levels mode links (tokens_left self.old)) e) }
     {
         if self.next_is_simple(mode) {
             let node = read!(self.simple(mode, levels));
             return Ok(Operand {
                 node,
-                left,
-                shape: Shape::Other,
+                links,
+                kind: OperandKind::Other,
             });
         }
-        self.prefixed(mode, levels, left)
+        self.prefixed(mode, levels, links)
     }
 
     /// exp "^" exp
     #[cycle(parser)]
-    #[tactic(auto, using(crate::proofs::Taking::shorter), unfolding(crate::specs::Expressions::power_at))]
-    fn power(&mut self, mode: Mode, levels: u32, left: u32) -> Result<Operand, SyntaxError>
-        ensures ok { IfOk result (λ r. TookOperand self.old self.new (power_at levels mode left (tokens_left self.old)) r) }
-        ensures err { IfErr result (λ e. Fails self.old (power_at levels mode left (tokens_left self.old)) e) }
+    #[tactic(auto, using(crate::proofs::Taking::shorter), unfolding(crate::specs::Views::Expressions::power_at))]
+    fn power(&mut self, mode: Mode, levels: u32, links: u32) -> Result<Operand, SyntaxError>
+        ensures ok { IfOk result (λ r. TookOperand self.old self.new (power_at levels mode links (tokens_left self.old)) r) }
+        ensures err { IfErr result (λ e. Fails self.old (power_at levels mode links (tokens_left self.old)) e) }
     {
-        let a = read!(self.primary(mode, levels, left));
+        let a = read!(self.primary(mode, levels, links));
         if self.next_is(Symbol::Caret) {
-            let token = read!(self.raise(Symbol::Caret, levels, a.left));
+            let token = read!(self.raise(Symbol::Caret, levels, a.links));
             let right = read!(self.operand(mode, levels - 1));
-            return self.operation(token, a, right, a.left - 1);
+            return self.operation(token, a, right, a.links - 1);
         }
         Ok(a)
     }
 
     /// operator exp
     #[cycle(parser)]
-    #[tactic(auto, using(crate::proofs::Failing::failing), unfolding(crate::specs::Expressions::unary_at))]
-    fn unary(&mut self, mode: Mode, levels: u32, left: u32) -> Result<Operand, SyntaxError>
-        ensures ok { IfOk result (λ r. TookOperand self.old self.new (unary_at levels mode left (tokens_left self.old)) r) }
-        ensures err { IfErr result (λ e. Fails self.old (unary_at levels mode left (tokens_left self.old)) e) }
+    #[tactic(auto, using(crate::proofs::Failing::failing), unfolding(crate::specs::Views::Expressions::unary_at))]
+    fn unary(&mut self, mode: Mode, levels: u32, links: u32) -> Result<Operand, SyntaxError>
+        ensures ok { IfOk result (λ r. TookOperand self.old self.new (unary_at levels mode links (tokens_left self.old)) r) }
+        ensures err { IfErr result (λ e. Fails self.old (unary_at levels mode links (tokens_left self.old)) e) }
     {
         if self.next_is_prefix() {
             let token = read!(self.open_among(&PREFIX, levels));
@@ -534,40 +534,40 @@ impl<'a> Parser<'a> {
                     token.place,
                     Expression::Unary(unary_of(token.symbol), operand),
                 ),
-                left,
-                Shape::Other,
+                links,
+                OperandKind::Other,
             );
         }
-        self.power(mode, levels, left)
+        self.power(mode, levels, links)
     }
 
     /// operator exp, of a rank
     #[cycle(parser)]
-    #[tactic(auto, using(crate::proofs::Taking::shorter), unfolding(crate::specs::Expressions::one_more_at))]
+    #[tactic(auto, using(crate::proofs::Taking::shorter), unfolding(crate::specs::Views::Expressions::one_more_at))]
     #[inline(never)]
     fn one_more(
         &mut self,
         rank: u8,
         mode: Mode,
         levels: u32,
-        left: u32,
+        links: u32,
     ) -> Result<(Next<'a>, Operand), SyntaxError>
         requires { rank < 6 }
-        ensures ok { IfOk result (λ r. TookOperation self.old self.new (one_more_at levels rank mode left (tokens_left self.old)) r.0 r.1) }
-        ensures err { IfErr result (λ e. Fails self.old (one_more_at levels rank mode left (tokens_left self.old)) e) }
+        ensures ok { IfOk result (λ r. TookOperation self.old self.new (one_more_at levels rank mode links (tokens_left self.old)) r.0 r.1) }
+        ensures err { IfErr result (λ e. Fails self.old (one_more_at levels rank mode links (tokens_left self.old)) e) }
     {
         if rank == CONCATENATION {
-            let token = read!(self.raise(Symbol::DoubleDot, levels, left));
+            let token = read!(self.raise(Symbol::DoubleDot, levels, links));
             let node = read!(self.concatenated(mode, levels - 1));
             let right = Operand {
                 node,
-                left: left - 1,
-                shape: Shape::Other,
+                links: links - 1,
+                kind: OperandKind::Other,
             };
             return Ok((token, right));
         }
-        let token = read!(self.ranked_operator(rank, left));
-        let operand = read!(self.binary(rank, mode, levels, left - 1));
+        let token = read!(self.ranked_operator(rank, links));
+        let operand = read!(self.binary(rank, mode, levels, links - 1));
         Ok((token, operand))
     }
 
@@ -579,19 +579,19 @@ impl<'a> Parser<'a> {
         ranks: u8,
         mode: Mode,
         levels: u32,
-        left: u32,
+        links: u32,
     ) -> Result<Operand, SyntaxError>
         requires { ranks ≤ 6 }
-        ensures ok { IfOk result (λ r. TookOperand self.old self.new (binary_at levels ranks mode left (tokens_left self.old)) r) }
-        ensures err { IfErr result (λ e. Fails self.old (binary_at levels ranks mode left (tokens_left self.old)) e) }
+        ensures ok { IfOk result (λ r. TookOperand self.old self.new (binary_at levels ranks mode links (tokens_left self.old)) r) }
+        ensures err { IfErr result (λ e. Fails self.old (binary_at levels ranks mode links (tokens_left self.old)) e) }
     {
-        let mut a = read!(self.unary(mode, levels, left));
+        let mut a = read!(self.unary(mode, levels, links));
         let mut from = 0;
         // An operator that binds more than the one before it stands in the right operand of that.
         'more: while self.next_is_ranked(from, ranks) {
             let rank = self.next_rank();
-            let (token, b) = read!(self.one_more(rank, mode, levels, a.left));
-            a = read!(self.operation(token, a, b.node, b.left));
+            let (token, b) = read!(self.one_more(rank, mode, levels, a.links));
+            a = read!(self.operation(token, a, b.node, b.links));
             from = rank_behind(rank);
         }
         Ok(a)
@@ -599,7 +599,7 @@ impl<'a> Parser<'a> {
 
     /// exp {"->" exp}, with what it is
     #[cycle(parser)]
-    #[tactic(auto, using(crate::proofs::Taking::shorter), unfolding(crate::specs::Expressions::chained_at))]
+    #[tactic(auto, using(crate::proofs::Taking::shorter), unfolding(crate::specs::Views::Expressions::chained_at))]
     #[inline(always)]
     pub(crate) fn chained(&mut self, mode: Mode, levels: u32) -> Result<Operand, SyntaxError>
         ensures ok { IfOk result (λ r. TookOperand self.old self.new (chained_at levels mode (tokens_left self.old)) r) }
@@ -607,9 +607,9 @@ impl<'a> Parser<'a> {
     {
         let a = read!(self.binary(RANKS, mode, levels, CHAIN));
         if self.next_is(Symbol::Arrow) {
-            let token = read!(self.raise(Symbol::Arrow, levels, a.left));
+            let token = read!(self.raise(Symbol::Arrow, levels, a.links));
             let right = read!(self.expression(mode, levels - 1));
-            return self.operation(token, a, right, a.left - 1);
+            return self.operation(token, a, right, a.links - 1);
         }
         Ok(a)
     }

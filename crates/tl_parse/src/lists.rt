@@ -1,8 +1,8 @@
 // Reading of lists with commas.
 ghost use Rattle.std.specs.Prelude.{◌≡◌, false, IfOk, IfErr};
 ghost use Rattle.tl_tree.specs.Symbols.{is_bad};
-ghost use Rattle.tl_parse.specs.Parsing.{tokens_left, Fails, TookTree, TookList};
-ghost use Rattle.tl_parse.specs.Lists.{element_at, next_element_at, elements_at, expressions_behind_at};
+ghost use Rattle.tl_parse.specs.Views.Parsing.{tokens_left, Fails, TookTree, TookList};
+ghost use Rattle.tl_parse.specs.Views.Lists.{element_at, next_element_at, elements_at, expressions_behind_at};
 
 use crate::error::SyntaxError;
 use crate::parser::{Code, Element, Parser, add};
@@ -27,7 +27,7 @@ impl<'a> Parser<'a> {
 
     /// "," element
     #[cycle(parser)]
-    #[tactic(auto, using(crate::proofs::Failing::failing), unfolding(crate::specs::Lists::next_element_at))]
+    #[tactic(auto, using(crate::proofs::Failing::failing), unfolding(crate::specs::Views::Lists::next_element_at))]
     pub(crate) fn next_element(&mut self, kind: Element, levels: u32) -> Result<NodeId, SyntaxError>
         ensures ok { IfOk result (λ r. TookTree self.old self.new (next_element_at levels kind (tokens_left self.old)) r) }
         ensures err { IfErr result (λ e. Fails self.old (next_element_at levels kind (tokens_left self.old)) e) }
@@ -38,7 +38,7 @@ impl<'a> Parser<'a> {
 
     /// element {"," element}
     #[cycle(parser)]
-    #[tactic(auto, using(crate::proofs::Turns::elements), unfolding(crate::specs::Lists::elements_at))]
+    #[tactic(auto, using(crate::proofs::Turns::elements), unfolding(crate::specs::Views::Lists::elements_at))]
     pub(crate) fn elements(&mut self, kind: Element, levels: u32) -> Result<NodeList, SyntaxError>
         ensures ok { IfOk result (λ r. TookList self.old self.new (elements_at levels kind (tokens_left self.old)) r) }
         ensures err { IfErr result (λ e. Fails self.old (elements_at levels kind (tokens_left self.old)) e) }
@@ -54,7 +54,7 @@ impl<'a> Parser<'a> {
 
     /// sign exps, or sign texps
     #[cycle(parser)]
-    #[tactic(auto, using(crate::proofs::Failing::failing), unfolding(crate::specs::Lists::expressions_behind_at))]
+    #[tactic(auto, using(crate::proofs::Failing::failing), unfolding(crate::specs::Views::Lists::expressions_behind_at))]
     pub(crate) fn expressions_behind(
         &mut self,
         symbol: Symbol,

@@ -7,17 +7,17 @@ ghost use Rattle.tl_tree.specs.Forms as forms;
 ghost use Rattle.tl_tree.specs.LuaExpressions as lua;
 ghost use Rattle.tl_tree.specs.TerraExpressions as terra;
 ghost use Rattle.tl_tree.specs.Numbers.{largest_terra};
-ghost use Rattle.tl_parse.specs.TerraExpressions.{terra_number_at};
-ghost use Rattle.tl_parse.specs.Expressions.{is_simple, simple_symbols, is_types, is_variadic};
-ghost use Rattle.tl_parse.specs.Statements.{first_place};
-ghost use Rattle.tl_parse.specs.Blocks.{goes_on, plain_statements};
+ghost use Rattle.tl_parse.specs.Views.TerraExpressions.{terra_number_at};
+ghost use Rattle.tl_parse.specs.Views.Expressions.{is_simple, simple_symbols, is_types, is_variadic};
+ghost use Rattle.tl_parse.specs.Views.Statements.{first_place};
+ghost use Rattle.tl_parse.specs.Views.Blocks.{goes_on, plain_statements};
 ghost use Rattle.tl_lex.specs.Lexing.{answers_left};
 ghost use Rattle.tl_tree.specs.Symbols.{number_of, is_bad, has};
 ghost use Rattle.tl_tree.specs.Tokens.{Token, among, is, tokens_in};
 ghost use Rattle.tl_tree.specs.Grammar.{begins, blame, calls, chain_too_long};
-ghost use Rattle.tl_parse.specs.Using.{symbol_at, is_number, sign_at, open_at, sign_among_at, prefix_at, operator_at, raise_at};
-ghost use Rattle.tl_parse.specs.Using.{call_at, number_at, is_end, bar_of};
-ghost use Rattle.tl_parse.specs.Ranks.{rank_at, is_ranked, is_of_rank, ranked_at};
+ghost use Rattle.tl_parse.specs.Views.Using.{symbol_at, is_number, sign_at, open_at, sign_among_at, prefix_at, operator_at, raise_at};
+ghost use Rattle.tl_parse.specs.Views.Using.{call_at, number_at, is_end, bar_of};
+ghost use Rattle.tl_parse.specs.Views.Ranks.{rank_at, is_ranked, is_of_rank, ranked_at};
 
 use crate::error::SyntaxError;
 use crate::numerals::is_above;
@@ -29,7 +29,8 @@ use tl_base::limits::LARGEST_NUMBER;
 use tl_base::{NodeId, Place};
 use tl_lex::{LONGEST_TEXT, LexError, Lexer, SyntaxKind, TokenKind};
 use tl_tree::{
-    BinaryOperator, Context, Expression, Extra, Mode, Node, NodeList, Shape, Symbol, symbol_of,
+    BinaryOperator, Context, Expression, Mode, Node, NodeList, OperandKind, Symbol, TokenUse,
+    symbol_of,
 };
 
 /// How many tokens may continue a chain.
@@ -86,8 +87,8 @@ pub(crate) struct Next<'a> {
 #[derive(Clone, Copy)]
 pub(crate) struct Operand {
     pub(crate) node: NodeId,
-    pub(crate) left: u32,
-    pub(crate) shape: Shape,
+    pub(crate) links: u32,
+    pub(crate) kind: OperandKind,
 }
 
 /// The language of an expression.
@@ -125,7 +126,7 @@ pub(crate) struct Parser<'a> {
 }
 
 impl<'a> Next<'a> {
-    ghost use Rattle.tl_parse.specs.Looking.{IsNext};
+    ghost use Rattle.tl_parse.specs.Views.Looking.{IsNext};
 
     /// The answer of the lexer as a token.
     #[inline(always)]
@@ -163,31 +164,31 @@ fn blame(symbol: Symbol) -> SyntaxKind
     }
 }
 
-fn is_spent(extra: Extra) -> bool
-    ensures { result ≡ chain_too_long extra }
+fn is_spent(usage: TokenUse) -> bool
+    ensures { result ≡ chain_too_long usage }
 {
-    match extra {
-        Extra::Continues(left) | Extra::Calls(left) => left == 0,
+    match usage {
+        TokenUse::Continues(links) | TokenUse::Calls(links) => links == 0,
         _ => false,
     }
 }
 
-fn calls(extra: Extra) -> bool
-    ensures { result ≡ calls extra }
+fn calls(usage: TokenUse) -> bool
+    ensures { result ≡ calls usage }
 {
-    match extra {
-        Extra::Calls(_) => true,
+    match usage {
+        TokenUse::Calls(_) => true,
         _ => false,
     }
 }
 
 /// Why the limits refuse a use of a token, if they do.
-fn bar(opens: bool, levels: u32, extra: Extra, first_on_line: bool) -> Option<SyntaxKind>
-    ensures { result ≡ bar_of opens levels extra first_on_line }
+fn bar(opens: bool, levels: u32, usage: TokenUse, first_on_line: bool) -> Option<SyntaxKind>
+    ensures { result ≡ bar_of opens levels usage first_on_line }
 {
-    if (opens && levels == 0) || is_spent(extra) {
+    if (opens && levels == 0) || is_spent(usage) {
         Some(SyntaxKind::TooDeep)
-    } else if calls(extra) && first_on_line {
+    } else if calls(usage) && first_on_line {
         Some(SyntaxKind::Ambiguous)
     } else {
         None
@@ -204,10 +205,10 @@ fn is_end(kind: TokenKind) -> bool
 }
 
 impl<'a> Parser<'a> {
-    ghost use Rattle.tl_parse.specs.Parsing.{tokens_left, end_of, items_of, Refuses, Pushed, HasNext, Fails, TookToken, TookPlace, Closed};
-    ghost use Rattle.tl_parse.specs.Looking.{BeginsAt, Advanced};
-    ghost use Rattle.tl_parse.specs.Taking.{Uses, Barred};
-    ghost use Rattle.tl_parse.specs.Joining.{Joined};
+    ghost use Rattle.tl_parse.specs.Views.Parsing.{tokens_left, end_of, items_of, Refuses, Pushed, HasNext, Fails, TookToken, TookPlace, Closed};
+    ghost use Rattle.tl_parse.specs.Views.Looking.{BeginsAt, Advanced};
+    ghost use Rattle.tl_parse.specs.Views.Taking.{Uses, Barred};
+    ghost use Rattle.tl_parse.specs.Views.Joining.{Joined};
 
     /// A parser before the first token of a text.
     #[tactic(auto, using(crate::proofs::Looking::begins_at))]
@@ -226,7 +227,7 @@ impl<'a> Parser<'a> {
     }
 
     /// The nodes that it made.
-    #[tactic(auto, unfolding(crate::specs::Parsing::items_of))]
+    #[tactic(auto, unfolding(crate::specs::Views::Parsing::items_of))]
     pub(crate) fn into_nodes(self) -> Vec<Node<'a>>
         ensures { map item_of result.items ≡ items_of self.entry }
     {
@@ -240,7 +241,7 @@ impl<'a> Parser<'a> {
     }
 
     /// Is the next token this one?
-    #[tactic(auto, unfolding(crate::specs::Parsing::tokens_left))]
+    #[tactic(auto, unfolding(crate::specs::Views::Parsing::tokens_left))]
     pub(crate) fn next_is(&self, symbol: Symbol) -> bool
         requires { is_bad symbol ≡ false }
         ensures { result ≡ begins (is symbol) (tokens_left self.now) }
@@ -249,7 +250,7 @@ impl<'a> Parser<'a> {
     }
 
     /// Is the next token one of these?
-    #[tactic(auto, using(crate::proofs::Looking::next_is_among), unfolding(crate::specs::Parsing::tokens_left))]
+    #[tactic(auto, using(crate::proofs::Looking::next_is_among), unfolding(crate::specs::Views::Parsing::tokens_left))]
     pub(crate) fn next_is_among(&self, symbols: &[Symbol]) -> bool
         requires { has symbols.now 65 ≡ false }
         ensures { result ≡ begins (among symbols.now) (tokens_left self.now) }
@@ -258,7 +259,7 @@ impl<'a> Parser<'a> {
     }
 
     /// The symbol of the next token, or of the end.
-    #[tactic(auto, using(crate::proofs::Looking::next_symbol), unfolding(crate::specs::Parsing::tokens_left))]
+    #[tactic(auto, using(crate::proofs::Looking::next_symbol), unfolding(crate::specs::Views::Parsing::tokens_left))]
     #[inline(always)]
     pub(crate) fn next_symbol(&self) -> Symbol
         ensures { result ≡ symbol_at (tokens_left self.now) }
@@ -271,7 +272,7 @@ impl<'a> Parser<'a> {
     }
 
     /// The rank of the next token.
-    #[tactic(auto, using(crate::proofs::Ranks::next_rank), unfolding(crate::specs::Parsing::tokens_left))]
+    #[tactic(auto, using(crate::proofs::Ranks::next_rank), unfolding(crate::specs::Views::Parsing::tokens_left))]
     #[inline(always)]
     pub(crate) fn next_rank(&self) -> u8
         ensures { result ≡ rank_at (tokens_left self.now) }
@@ -302,7 +303,7 @@ impl<'a> Parser<'a> {
     }
 
     /// Is there no next token?
-    #[tactic(auto, using(crate::proofs::Looking::some_left), unfolding(crate::specs::Parsing::tokens_left))]
+    #[tactic(auto, using(crate::proofs::Looking::some_left), unfolding(crate::specs::Views::Parsing::tokens_left))]
     pub(crate) fn at_end(&self) -> bool
         ensures end { result ≡ true → tokens_left self.now ≡ [] }
         ensures more { result ≡ false → tokens_left self.now ≡ [] → ⊥ }
@@ -320,7 +321,7 @@ impl<'a> Parser<'a> {
     }
 
     /// The refusal of the next token, where the grammar does not go on with it.
-    #[tactic(auto, using(crate::proofs::Looking::blames, crate::proofs::Looking::end_blame), unfolding(crate::specs::Parsing::tokens_left))]
+    #[tactic(auto, using(crate::proofs::Looking::blames, crate::proofs::Looking::end_blame), unfolding(crate::specs::Views::Parsing::tokens_left))]
     pub(crate) fn refusal(&self) -> SyntaxError
         ensures { Refuses self.now result }
     {
@@ -348,16 +349,16 @@ impl<'a> Parser<'a> {
     pub(crate) fn push_operand(
         &mut self,
         node: Node<'a>,
-        left: u32,
-        shape: Shape,
+        links: u32,
+        kind: OperandKind,
     ) -> Result<Operand, SyntaxError>
         ensures ok { IfOk result (λ r. Pushed self.old self.new node.entry r.node) }
-        ensures left { IfOk result (λ r. r.left ≡ left) }
-        ensures shape { IfOk result (λ r. r.shape ≡ shape) }
+        ensures links { IfOk result (λ r. r.links ≡ links) }
+        ensures kind { IfOk result (λ r. r.kind ≡ kind) }
         ensures err { IfErr result (λ e. e ≡ SyntaxError.NoMemory) }
     {
         let node = read!(self.push(node));
-        Ok(Operand { node, left, shape })
+        Ok(Operand { node, links, kind })
     }
 
     /// Passes over the next token.
@@ -384,13 +385,18 @@ impl<'a> Parser<'a> {
     /// Takes the next token, where the limits allow its use.
     #[tactic(auto, using(crate::proofs::Taking::advancing))]
     #[inline(always)]
-    fn advance(&mut self, opens: bool, levels: u32, extra: Extra) -> Result<Next<'a>, SyntaxError>
+    fn advance(
+        &mut self,
+        opens: bool,
+        levels: u32,
+        usage: TokenUse,
+    ) -> Result<Next<'a>, SyntaxError>
         requires next { HasNext (tokens_left self.old) }
-        requires sized { is_number extra ≡ false }
-        ensures ok { IfOk result (λ t. Uses opens levels extra self.old self.new t) }
-        ensures err { IfErr result (λ e. Barred opens levels extra self.old e) }
+        requires sized { is_number usage ≡ false }
+        ensures ok { IfOk result (λ t. Uses opens levels usage self.old self.new t) }
+        ensures err { IfErr result (λ e. Barred opens levels usage self.old e) }
     {
-        match bar(opens, levels, extra, self.current.first_on_line) {
+        match bar(opens, levels, usage, self.current.first_on_line) {
             Some(kind) => Err(SyntaxError::Refused {
                 kind,
                 place: self.current.place,
@@ -406,7 +412,7 @@ impl<'a> Parser<'a> {
         ensures err { IfErr result (λ e. Fails self.old (sign_at symbol (tokens_left self.old)) e) }
     {
         if self.next_is(symbol) {
-            Ok(read!(self.advance(false, 0, Extra::Plain)))
+            Ok(read!(self.advance(false, 0, TokenUse::Plain)))
         } else {
             Err(self.refusal())
         }
@@ -442,17 +448,17 @@ impl<'a> Parser<'a> {
         &mut self,
         symbol: Symbol,
         node: Node<'a>,
-        left: u32,
-        shape: Shape,
+        links: u32,
+        kind: OperandKind,
     ) -> Result<Operand, SyntaxError>
         requires { is_bad symbol ≡ false }
         ensures ok { IfOk result (λ r. Closed self.old self.new (sign_at symbol (tokens_left self.old)) node.entry r.node) }
-        ensures left { IfOk result (λ r. r.left ≡ left) }
-        ensures shape { IfOk result (λ r. r.shape ≡ shape) }
+        ensures links { IfOk result (λ r. r.links ≡ links) }
+        ensures kind { IfOk result (λ r. r.kind ≡ kind) }
         ensures err { IfErr result (λ e. Fails self.old (sign_at symbol (tokens_left self.old)) e) }
     {
         let node = read!(self.close(symbol, node));
-        Ok(Operand { node, left, shape })
+        Ok(Operand { node, links, kind })
     }
 
     /// Takes this token, which opens a level of nesting where so many are left, and gives its place.
@@ -463,7 +469,7 @@ impl<'a> Parser<'a> {
         ensures err { IfErr result (λ e. Fails self.old (open_at symbol levels (tokens_left self.old)) e) }
     {
         if self.next_is(symbol) {
-            let token = read!(self.advance(true, levels, Extra::Plain));
+            let token = read!(self.advance(true, levels, TokenUse::Plain));
             Ok(token.place)
         } else {
             Err(self.refusal())
@@ -471,14 +477,14 @@ impl<'a> Parser<'a> {
     }
 
     /// Takes one of these tokens, which has no other use, and gives its place.
-    #[tactic(auto, using(crate::proofs::Taking::taking_place), unfolding(crate::specs::Using::sign_among_at))]
+    #[tactic(auto, using(crate::proofs::Taking::taking_place), unfolding(crate::specs::Views::Using::sign_among_at))]
     pub(crate) fn take_among(&mut self, symbols: &[Symbol]) -> Result<Place, SyntaxError>
         requires { has symbols.now 65 ≡ false }
         ensures ok { IfOk result (λ place. TookPlace self.old self.new (sign_among_at symbols.now (tokens_left self.old)) place) }
         ensures err { IfErr result (λ e. Fails self.old (sign_among_at symbols.now (tokens_left self.old)) e) }
     {
         if self.next_is_among(symbols) {
-            let token = read!(self.advance(false, 0, Extra::Plain));
+            let token = read!(self.advance(false, 0, TokenUse::Plain));
             Ok(token.place)
         } else {
             Err(self.refusal())
@@ -486,7 +492,7 @@ impl<'a> Parser<'a> {
     }
 
     /// Takes one of these tokens, which opens a level of nesting where so many are left.
-    #[tactic(auto, using(crate::proofs::Taking::taking, crate::proofs::Taking::level_left), unfolding(crate::specs::Using::prefix_at))]
+    #[tactic(auto, using(crate::proofs::Taking::taking, crate::proofs::Taking::level_left), unfolding(crate::specs::Views::Using::prefix_at))]
     pub(crate) fn open_among(
         &mut self,
         symbols: &[Symbol],
@@ -498,26 +504,26 @@ impl<'a> Parser<'a> {
         ensures err { IfErr result (λ e. Fails self.old (prefix_at symbols.now levels (tokens_left self.old)) e) }
     {
         if self.next_is_among(symbols) {
-            Ok(read!(self.advance(true, levels, Extra::Plain)))
+            Ok(read!(self.advance(true, levels, TokenUse::Plain)))
         } else {
             Err(self.refusal())
         }
     }
 
     /// Takes one of these tokens, which continues a chain that so many may continue.
-    #[tactic(auto, using(crate::proofs::Taking::taking, crate::proofs::Taking::chain_left), unfolding(crate::specs::Using::operator_at))]
+    #[tactic(auto, using(crate::proofs::Taking::taking, crate::proofs::Taking::chain_left), unfolding(crate::specs::Views::Using::operator_at))]
     pub(crate) fn operator(
         &mut self,
         symbols: &[Symbol],
-        left: u32,
+        links: u32,
     ) -> Result<Next<'a>, SyntaxError>
         requires { has symbols.now 65 ≡ false }
-        ensures ok { IfOk result (λ t. TookToken self.old self.new (operator_at symbols.now left (tokens_left self.old)) t) }
-        ensures chain { IfOk result (λ _. 0 < left) }
-        ensures err { IfErr result (λ e. Fails self.old (operator_at symbols.now left (tokens_left self.old)) e) }
+        ensures ok { IfOk result (λ t. TookToken self.old self.new (operator_at symbols.now links (tokens_left self.old)) t) }
+        ensures chain { IfOk result (λ _. 0 < links) }
+        ensures err { IfErr result (λ e. Fails self.old (operator_at symbols.now links (tokens_left self.old)) e) }
     {
         if self.next_is_among(symbols) {
-            Ok(read!(self.advance(false, 0, Extra::Continues(left))))
+            Ok(read!(self.advance(false, 0, TokenUse::Continues(links))))
         } else {
             Err(self.refusal())
         }
@@ -529,27 +535,27 @@ impl<'a> Parser<'a> {
     pub(crate) fn suffix_sign(
         &mut self,
         symbols: &[Symbol],
-        left: u32,
+        links: u32,
     ) -> Result<Place, SyntaxError>
         requires { has symbols.now 65 ≡ false }
-        ensures ok { IfOk result (λ place. TookPlace self.old self.new (operator_at symbols.now left (tokens_left self.old)) place) }
-        ensures chain { IfOk result (λ _. 0 < left) }
-        ensures err { IfErr result (λ e. Fails self.old (operator_at symbols.now left (tokens_left self.old)) e) }
+        ensures ok { IfOk result (λ place. TookPlace self.old self.new (operator_at symbols.now links (tokens_left self.old)) place) }
+        ensures chain { IfOk result (λ _. 0 < links) }
+        ensures err { IfErr result (λ e. Fails self.old (operator_at symbols.now links (tokens_left self.old)) e) }
     {
-        let token = read!(self.operator(symbols, left));
+        let token = read!(self.operator(symbols, links));
         Ok(token.place)
     }
 
     /// Takes an operator of this rank, which continues a chain that so many may continue.
-    #[tactic(auto, using(crate::proofs::Taking::taking, crate::proofs::Taking::chain_left), unfolding(crate::specs::Ranks::ranked_at))]
-    pub(crate) fn ranked_operator(&mut self, rank: u8, left: u32) -> Result<Next<'a>, SyntaxError>
+    #[tactic(auto, using(crate::proofs::Taking::taking, crate::proofs::Taking::chain_left), unfolding(crate::specs::Views::Ranks::ranked_at))]
+    pub(crate) fn ranked_operator(&mut self, rank: u8, links: u32) -> Result<Next<'a>, SyntaxError>
         requires { rank < 6 }
-        ensures ok { IfOk result (λ t. TookToken self.old self.new (ranked_at rank left (tokens_left self.old)) t) }
-        ensures chain { IfOk result (λ _. 0 < left) }
-        ensures err { IfErr result (λ e. Fails self.old (ranked_at rank left (tokens_left self.old)) e) }
+        ensures ok { IfOk result (λ t. TookToken self.old self.new (ranked_at rank links (tokens_left self.old)) t) }
+        ensures chain { IfOk result (λ _. 0 < links) }
+        ensures err { IfErr result (λ e. Fails self.old (ranked_at rank links (tokens_left self.old)) e) }
     {
         if self.next_is_of_rank(rank) {
-            Ok(read!(self.advance(false, 0, Extra::Continues(left))))
+            Ok(read!(self.advance(false, 0, TokenUse::Continues(links))))
         } else {
             Err(self.refusal())
         }
@@ -560,16 +566,16 @@ impl<'a> Parser<'a> {
         &mut self,
         symbol: Symbol,
         levels: u32,
-        left: u32,
+        links: u32,
     ) -> Result<Next<'a>, SyntaxError>
         requires { is_bad symbol ≡ false }
-        ensures ok { IfOk result (λ t. TookToken self.old self.new (raise_at symbol levels left (tokens_left self.old)) t) }
+        ensures ok { IfOk result (λ t. TookToken self.old self.new (raise_at symbol levels links (tokens_left self.old)) t) }
         ensures level { IfOk result (λ _. 0 < levels) }
-        ensures chain { IfOk result (λ _. 0 < left) }
-        ensures err { IfErr result (λ e. Fails self.old (raise_at symbol levels left (tokens_left self.old)) e) }
+        ensures chain { IfOk result (λ _. 0 < links) }
+        ensures err { IfErr result (λ e. Fails self.old (raise_at symbol levels links (tokens_left self.old)) e) }
     {
         if self.next_is(symbol) {
-            Ok(read!(self.advance(true, levels, Extra::Continues(left))))
+            Ok(read!(self.advance(true, levels, TokenUse::Continues(links))))
         } else {
             Err(self.refusal())
         }
@@ -582,28 +588,28 @@ impl<'a> Parser<'a> {
         &mut self,
         symbol: Symbol,
         levels: u32,
-        left: u32,
+        links: u32,
     ) -> Result<Place, SyntaxError>
         requires { is_bad symbol ≡ false }
-        ensures ok { IfOk result (λ place. TookPlace self.old self.new (raise_at symbol levels left (tokens_left self.old)) place) }
+        ensures ok { IfOk result (λ place. TookPlace self.old self.new (raise_at symbol levels links (tokens_left self.old)) place) }
         ensures level { IfOk result (λ _. 0 < levels) }
-        ensures chain { IfOk result (λ _. 0 < left) }
-        ensures err { IfErr result (λ e. Fails self.old (raise_at symbol levels left (tokens_left self.old)) e) }
+        ensures chain { IfOk result (λ _. 0 < links) }
+        ensures err { IfErr result (λ e. Fails self.old (raise_at symbol levels links (tokens_left self.old)) e) }
     {
-        let token = read!(self.raise(symbol, levels, left));
+        let token = read!(self.raise(symbol, levels, links));
         Ok(token.place)
     }
 
     /// Takes the bracket that calls what is before it, and gives its place.
-    #[tactic(auto, using(crate::proofs::Taking::calling), unfolding(crate::specs::Using::call_at))]
-    pub(crate) fn open_call(&mut self, levels: u32, left: u32) -> Result<Place, SyntaxError>
-        ensures ok { IfOk result (λ place. TookPlace self.old self.new (call_at levels left (tokens_left self.old)) place) }
+    #[tactic(auto, using(crate::proofs::Taking::calling), unfolding(crate::specs::Views::Using::call_at))]
+    pub(crate) fn open_call(&mut self, levels: u32, links: u32) -> Result<Place, SyntaxError>
+        ensures ok { IfOk result (λ place. TookPlace self.old self.new (call_at levels links (tokens_left self.old)) place) }
         ensures level { IfOk result (λ _. 0 < levels) }
-        ensures chain { IfOk result (λ _. 0 < left) }
-        ensures err { IfErr result (λ e. Fails self.old (call_at levels left (tokens_left self.old)) e) }
+        ensures chain { IfOk result (λ _. 0 < links) }
+        ensures err { IfErr result (λ e. Fails self.old (call_at levels links (tokens_left self.old)) e) }
     {
         if self.next_is(Symbol::OpenParen) {
-            let token = read!(self.advance(true, levels, Extra::Calls(left)));
+            let token = read!(self.advance(true, levels, TokenUse::Calls(links)));
             Ok(token.place)
         } else {
             Err(self.refusal())
@@ -611,7 +617,7 @@ impl<'a> Parser<'a> {
     }
 
     /// Takes a number of Lua code.
-    #[tactic(auto, using(crate::proofs::Numbers::numbers), unfolding(crate::specs::Using::number_at))]
+    #[tactic(auto, using(crate::proofs::Numbers::numbers), unfolding(crate::specs::Views::Using::number_at))]
     pub(crate) fn take_number(&mut self) -> Result<Next<'a>, SyntaxError>
         ensures ok { IfOk result (λ t. TookToken self.old self.new (number_at (tokens_left self.old)) t) }
         ensures err { IfErr result (λ e. Fails self.old (number_at (tokens_left self.old)) e) }
@@ -625,11 +631,11 @@ impl<'a> Parser<'a> {
                 place: self.current.place,
             });
         }
-        Ok(read!(self.advance(false, 0, Extra::Plain)))
+        Ok(read!(self.advance(false, 0, TokenUse::Plain)))
     }
 
     /// Takes a number of Terra code.
-    #[tactic(auto, using(crate::proofs::TerraNumbers::numbers), unfolding(crate::specs::TerraExpressions::terra_number_at))]
+    #[tactic(auto, using(crate::proofs::TerraNumbers::numbers), unfolding(crate::specs::Views::TerraExpressions::terra_number_at))]
     pub(crate) fn take_terra_number(&mut self) -> Result<Next<'a>, SyntaxError>
         ensures ok { IfOk result (λ t. TookToken self.old self.new (terra_number_at (tokens_left self.old)) t) }
         ensures err { IfErr result (λ e. Fails self.old (terra_number_at (tokens_left self.old)) e) }
@@ -643,7 +649,7 @@ impl<'a> Parser<'a> {
                 place: self.current.place,
             });
         }
-        Ok(read!(self.advance(false, 0, Extra::Plain)))
+        Ok(read!(self.advance(false, 0, TokenUse::Plain)))
     }
 
     /// Does the next token follow a prefix expression of Terra code, and belong to it?
@@ -665,7 +671,7 @@ impl<'a> Parser<'a> {
     }
 
     /// Does the next token follow a prefix expression, wherever that stands?
-    #[tactic(auto, using(crate::proofs::Looking::next_is_among), unfolding(crate::specs::Parsing::tokens_left))]
+    #[tactic(auto, using(crate::proofs::Looking::next_is_among), unfolding(crate::specs::Views::Parsing::tokens_left))]
     #[inline(always)]
     fn next_is_any_suffix(&self) -> bool
         ensures { result ≡ begins (among lua.suffix_symbols) (tokens_left self.now) }
@@ -686,7 +692,7 @@ impl<'a> Parser<'a> {
     }
 
     /// Is the next token an operator before its operand?
-    #[tactic(auto, using(crate::proofs::Looking::next_is_among), unfolding(crate::specs::Parsing::tokens_left))]
+    #[tactic(auto, using(crate::proofs::Looking::next_is_among), unfolding(crate::specs::Views::Parsing::tokens_left))]
     pub(crate) fn next_is_prefix(&self) -> bool
         ensures { result ≡ begins (among lua.prefix_symbols) (tokens_left self.now) }
     {
@@ -694,7 +700,7 @@ impl<'a> Parser<'a> {
     }
 
     /// Does the next token begin an operand that is no prefix expression, in all functions?
-    #[tactic(auto, using(crate::proofs::Looking::next_is_among), unfolding(crate::specs::Parsing::tokens_left))]
+    #[tactic(auto, using(crate::proofs::Looking::next_is_among), unfolding(crate::specs::Views::Parsing::tokens_left))]
     fn next_is_plain_simple(&self) -> bool
         ensures { result ≡ begins (among simple_symbols) (tokens_left self.now) }
     {
@@ -702,7 +708,7 @@ impl<'a> Parser<'a> {
     }
 
     /// Does the next token begin an operand that is no prefix expression?
-    #[tactic(auto, using(crate::proofs::Looking::begins_varargs), unfolding(crate::specs::Expressions::is_simple))]
+    #[tactic(auto, using(crate::proofs::Looking::begins_varargs), unfolding(crate::specs::Views::Expressions::is_simple))]
     pub(crate) fn next_is_simple(&self, mode: Mode) -> bool
         ensures { result ≡ is_simple mode (tokens_left self.now) }
     {
@@ -719,7 +725,7 @@ impl<'a> Parser<'a> {
     }
 
     /// Does the next token begin a statement, in all blocks of Lua code?
-    #[tactic(auto, using(crate::proofs::Looking::next_is_among), unfolding(crate::specs::Parsing::tokens_left))]
+    #[tactic(auto, using(crate::proofs::Looking::next_is_among), unfolding(crate::specs::Views::Parsing::tokens_left))]
     fn next_is_statement(&self) -> bool
         ensures { result ≡ begins (among plain_statements) (tokens_left self.now) }
     {
@@ -772,9 +778,9 @@ impl<'a> Parser<'a> {
         token: Next<'a>,
         a: Operand,
         right: NodeId,
-        left: u32,
+        links: u32,
     ) -> Result<Operand, SyntaxError>
-        ensures ok { IfOk result (λ r. Joined self.old self.new token.entry a right left r) }
+        ensures ok { IfOk result (λ r. Joined self.old self.new token.entry a right links r) }
         ensures err { IfErr result (λ e. e ≡ SyntaxError.NoMemory) }
     {
         self.push_operand(
@@ -782,8 +788,8 @@ impl<'a> Parser<'a> {
                 token.place,
                 Expression::Binary(binary_of(token.symbol), a.node, right),
             ),
-            left,
-            Shape::Other,
+            links,
+            OperandKind::Other,
         )
     }
 }

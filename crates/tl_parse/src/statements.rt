@@ -6,25 +6,27 @@ ghost use Rattle.tl_tree.specs.LuaStatements as lua;
 ghost use Rattle.tl_tree.specs.Tree as parts;
 ghost use Rattle.tl_tree.specs.Grammar.{begins};
 ghost use Rattle.tl_tree.specs.Tokens.{among};
-ghost use Rattle.tl_parse.specs.Parsing.{tokens_left, Fails, HasNext, TookTree, TookList, TookOption, TookMaybe};
-ghost use Rattle.tl_parse.specs.Using.{part_at};
-ghost use Rattle.tl_parse.specs.Codes.{opened_body_at, code_of, statements_in, looped_code, first_symbols};
-ghost use Rattle.tl_parse.specs.Statements.{first_place, is_unsettled, variable_at, is_call};
-ghost use Rattle.tl_parse.specs.Statements.{call_or_assignment_at, do_at, loop_at, while_at, repeat_at};
-ghost use Rattle.tl_parse.specs.Statements.{arm_at, next_arm_at, arms_at, otherwise_at, if_at, numeric_at};
-ghost use Rattle.tl_parse.specs.Statements.{generic_at, for_at, function_statement_at, local_function_at};
-ghost use Rattle.tl_parse.specs.Statements.{initial_values_at, local_names_at, local_at, returned_values_at};
-ghost use Rattle.tl_parse.specs.Statements.{return_at, break_at, emit_at, statement_at};
-ghost use Rattle.tl_parse.specs.Statements.{parameter_at, next_parameter_at};
-ghost use Rattle.tl_parse.specs.Blocks.{next_statement_at};
-ghost use Rattle.tl_parse.specs.Statements.{parameters_at};
-ghost use Rattle.tl_parse.specs.Paths.{names_at, next_name_at, behind_sign_at, path_method_at, path_at};
-ghost use Rattle.tl_parse.specs.Going.{TookNumeric, TookGeneric, TookParameters, TookStatement};
+ghost use Rattle.tl_parse.specs.Views.Parsing.{tokens_left, Fails, HasNext, TookTree, TookList, TookOption, TookMaybe};
+ghost use Rattle.tl_parse.specs.Views.Using.{part_at};
+ghost use Rattle.tl_parse.specs.Views.Codes.{opened_body_at, code_of, statements_in, looped_code, first_symbols};
+ghost use Rattle.tl_parse.specs.Views.Statements.{first_place, is_no_variable, variable_at, is_call};
+ghost use Rattle.tl_parse.specs.Views.Statements.{call_or_assignment_at, do_at, loop_at, while_at, repeat_at};
+ghost use Rattle.tl_parse.specs.Views.Statements.{arm_at, next_arm_at, arms_at, otherwise_at, if_at, numeric_at};
+ghost use Rattle.tl_parse.specs.Views.Statements.{generic_at, for_at, function_statement_at, local_function_at};
+ghost use Rattle.tl_parse.specs.Views.Statements.{initial_values_at, local_names_at, local_at, returned_values_at};
+ghost use Rattle.tl_parse.specs.Views.Statements.{return_at, break_at, emit_at, statement_at};
+ghost use Rattle.tl_parse.specs.Views.Statements.{parameter_at, next_parameter_at};
+ghost use Rattle.tl_parse.specs.Views.Blocks.{next_statement_at};
+ghost use Rattle.tl_parse.specs.Views.Statements.{parameters_at};
+ghost use Rattle.tl_parse.specs.Views.Paths.{names_at, next_name_at, behind_sign_at, path_method_at, path_at};
+ghost use Rattle.tl_parse.specs.Views.Going.{TookNumeric, TookGeneric, TookParameters, TookStatement};
 
 use crate::error::SyntaxError;
 use crate::parser::{BlockCode, Code, Element, Parser, add};
 use tl_base::{NodeId, Place};
-use tl_tree::{Context, Mode, Node, NodeList, Piece, Shape, Statement, Symbol, TerraStatement};
+use tl_tree::{
+    Context, Mode, Node, NodeList, OperandKind, Piece, Statement, Symbol, TerraStatement,
+};
 
 /// What a numeric `for` has behind its name.
 #[derive(Clone, Copy)]
@@ -78,21 +80,21 @@ static DEFINITION: [Symbol; 2] = [Symbol::Terra, Symbol::Struct];
 static LAST: [Symbol; 2] = [Symbol::Return, Symbol::Break];
 
 /// Is it no variable?
-fn is_unsettled(shape: Shape) -> bool
-    ensures { result ≡ is_unsettled shape }
+fn is_no_variable(kind: OperandKind) -> bool
+    ensures { result ≡ is_no_variable kind }
 {
-    match shape {
-        Shape::Call => true,
-        Shape::Other => true,
+    match kind {
+        OperandKind::Call => true,
+        OperandKind::Other => true,
         _ => false,
     }
 }
 
-pub(crate) fn is_call(shape: Shape) -> bool
-    ensures { result ≡ is_call shape }
+pub(crate) fn is_call(kind: OperandKind) -> bool
+    ensures { result ≡ is_call kind }
 {
-    match shape {
-        Shape::Call => true,
+    match kind {
+        OperandKind::Call => true,
         _ => false,
     }
 }
@@ -160,7 +162,7 @@ fn fresh(variadic: bool) -> Context
 
 impl<'a> Parser<'a> {
     /// "," Name
-    #[tactic(auto, using(crate::proofs::Failing::failing), unfolding(crate::specs::Paths::next_name_at))]
+    #[tactic(auto, using(crate::proofs::Failing::failing), unfolding(crate::specs::Views::Paths::next_name_at))]
     fn next_name(&mut self) -> Result<NodeId, SyntaxError>
         ensures ok { IfOk result (λ r. TookTree self.old self.new (next_name_at (tokens_left self.old)) r) }
         ensures err { IfErr result (λ e. Fails self.old (next_name_at (tokens_left self.old)) e) }
@@ -170,7 +172,7 @@ impl<'a> Parser<'a> {
     }
 
     /// names = Name {"," Name}
-    #[tactic(auto, using(crate::proofs::StatementTurns::names), unfolding(crate::specs::Paths::names_at))]
+    #[tactic(auto, using(crate::proofs::StatementTurns::names), unfolding(crate::specs::Views::Paths::names_at))]
     fn names(&mut self, levels: u32) -> Result<NodeList, SyntaxError>
         ensures ok { IfOk result (λ r. TookList self.old self.new (names_at levels (tokens_left self.old)) r) }
         ensures err { IfErr result (λ e. Fails self.old (names_at levels (tokens_left self.old)) e) }
@@ -185,7 +187,7 @@ impl<'a> Parser<'a> {
     }
 
     /// "." Name, or ":" Name, with the place of the sign
-    #[tactic(auto, using(crate::proofs::Failing::failing), unfolding(crate::specs::Paths::behind_sign_at))]
+    #[tactic(auto, using(crate::proofs::Failing::failing), unfolding(crate::specs::Views::Paths::behind_sign_at))]
     pub(crate) fn behind_sign(&mut self, symbol: Symbol) -> Result<NodeId, SyntaxError>
         requires { is_bad symbol ≡ false }
         ensures ok { IfOk result (λ r. TookTree self.old self.new (behind_sign_at symbol (tokens_left self.old)) r) }
@@ -197,7 +199,7 @@ impl<'a> Parser<'a> {
     }
 
     /// [":" Name]
-    #[tactic(auto, using(crate::proofs::Failing::failing), unfolding(crate::specs::Paths::path_method_at))]
+    #[tactic(auto, using(crate::proofs::Failing::failing), unfolding(crate::specs::Views::Paths::path_method_at))]
     fn path_method(&mut self) -> Result<Option<NodeId>, SyntaxError>
         ensures ok { IfOk result (λ r. TookOption self.old self.new (path_method_at (tokens_left self.old)) r) }
         ensures err { IfErr result (λ e. Fails self.old (path_method_at (tokens_left self.old)) e) }
@@ -210,7 +212,7 @@ impl<'a> Parser<'a> {
     }
 
     /// path = Name {"." Name} [":" Name]
-    #[tactic(auto, using(crate::proofs::StatementTurns::paths), unfolding(crate::specs::Paths::path_at))]
+    #[tactic(auto, using(crate::proofs::StatementTurns::paths), unfolding(crate::specs::Views::Paths::path_at))]
     pub(crate) fn path(&mut self, levels: u32) -> Result<NodeId, SyntaxError>
         ensures ok { IfOk result (λ r. TookTree self.old self.new (path_at levels (tokens_left self.old)) r) }
         ensures err { IfErr result (λ e. Fails self.old (path_at levels (tokens_left self.old)) e) }
@@ -227,13 +229,13 @@ impl<'a> Parser<'a> {
 
     /// var = Name | prefix "[" exp "]" | prefix "." Name
     #[cycle(parser)]
-    #[tactic(auto, using(crate::proofs::StatementTurns::variables), unfolding(crate::specs::Statements::variable_at))]
+    #[tactic(auto, using(crate::proofs::StatementTurns::variables), unfolding(crate::specs::Views::Statements::variable_at))]
     pub(crate) fn variable(&mut self, mode: Mode, levels: u32) -> Result<NodeId, SyntaxError>
         ensures ok { IfOk result (λ r. TookTree self.old self.new (variable_at levels mode (tokens_left self.old)) r) }
         ensures err { IfErr result (λ e. Fails self.old (variable_at levels mode (tokens_left self.old)) e) }
     {
         let a = read!(self.applied(mode, levels, false));
-        if is_unsettled(a.shape) {
+        if is_no_variable(a.kind) {
             return Err(self.refusal());
         }
         Ok(a.node)
@@ -241,7 +243,7 @@ impl<'a> Parser<'a> {
 
     /// stat = var {"," var} "=" exps | call
     #[cycle(parser)]
-    #[tactic(auto, using(crate::proofs::Turns::elements), unfolding(crate::specs::Statements::call_or_assignment_at))]
+    #[tactic(auto, using(crate::proofs::Turns::elements), unfolding(crate::specs::Views::Statements::call_or_assignment_at))]
     fn call_or_assignment(&mut self, mode: Mode, levels: u32) -> Result<NodeId, SyntaxError>
         requires { HasNext (tokens_left self.old) }
         ensures ok { IfOk result (λ r. TookTree self.old self.new (call_or_assignment_at levels mode (tokens_left self.old)) r) }
@@ -249,7 +251,7 @@ impl<'a> Parser<'a> {
     {
         let place = self.next_place();
         let a = read!(self.applied(mode, levels, true));
-        if is_call(a.shape) {
+        if is_call(a.kind) {
             return self.push(Node::Statement(place, Statement::Call(a.node)));
         }
         let mut targets = read!(self.one_node(a.node));
@@ -263,7 +265,7 @@ impl<'a> Parser<'a> {
 
     /// stat = "do" block "end", or tstat = "do" tblock "end"
     #[cycle(parser)]
-    #[tactic(auto, using(crate::proofs::Failing::failing), unfolding(crate::specs::Statements::do_at))]
+    #[tactic(auto, using(crate::proofs::Failing::failing), unfolding(crate::specs::Views::Statements::do_at))]
     pub(crate) fn do_statement(
         &mut self,
         block: BlockCode,
@@ -288,7 +290,7 @@ impl<'a> Parser<'a> {
 
     /// "do" block "end" or "do" tblock "end", of a loop
     #[cycle(parser)]
-    #[tactic(auto, using(crate::proofs::Failing::failing), unfolding(crate::specs::Statements::loop_at))]
+    #[tactic(auto, using(crate::proofs::Failing::failing), unfolding(crate::specs::Views::Statements::loop_at))]
     fn loop_block(&mut self, block: BlockCode, levels: u32) -> Result<NodeId, SyntaxError>
         ensures ok { IfOk result (λ r. TookTree self.old self.new (loop_at levels block (tokens_left self.old)) r) }
         ensures err { IfErr result (λ e. Fails self.old (loop_at levels block (tokens_left self.old)) e) }
@@ -301,7 +303,7 @@ impl<'a> Parser<'a> {
 
     /// stat = "while" exp "do" block "end", or tstat = "while" texp "do" tblock "end"
     #[cycle(parser)]
-    #[tactic(auto, using(crate::proofs::Failing::failing), unfolding(crate::specs::Statements::while_at))]
+    #[tactic(auto, using(crate::proofs::Failing::failing), unfolding(crate::specs::Views::Statements::while_at))]
     pub(crate) fn while_statement(
         &mut self,
         block: BlockCode,
@@ -327,7 +329,7 @@ impl<'a> Parser<'a> {
 
     /// stat = "repeat" block "until" exp, or tstat = "repeat" tblock "until" texp
     #[cycle(parser)]
-    #[tactic(auto, using(crate::proofs::Failing::failing), unfolding(crate::specs::Statements::repeat_at))]
+    #[tactic(auto, using(crate::proofs::Failing::failing), unfolding(crate::specs::Views::Statements::repeat_at))]
     pub(crate) fn repeat_statement(
         &mut self,
         block: BlockCode,
@@ -354,7 +356,7 @@ impl<'a> Parser<'a> {
 
     /// exp "then" block, or texp "then" tblock
     #[cycle(parser)]
-    #[tactic(auto, using(crate::proofs::Failing::failing), unfolding(crate::specs::Statements::arm_at))]
+    #[tactic(auto, using(crate::proofs::Failing::failing), unfolding(crate::specs::Views::Statements::arm_at))]
     fn arm(&mut self, block: BlockCode, levels: u32) -> Result<NodeId, SyntaxError>
         ensures ok { IfOk result (λ r. TookTree self.old self.new (arm_at levels block (tokens_left self.old)) r) }
         ensures err { IfErr result (λ e. Fails self.old (arm_at levels block (tokens_left self.old)) e) }
@@ -367,7 +369,7 @@ impl<'a> Parser<'a> {
 
     /// "elseif" exp "then" block, or "elseif" texp "then" tblock
     #[cycle(parser)]
-    #[tactic(auto, using(crate::proofs::Failing::failing), unfolding(crate::specs::Statements::next_arm_at))]
+    #[tactic(auto, using(crate::proofs::Failing::failing), unfolding(crate::specs::Views::Statements::next_arm_at))]
     fn next_arm(&mut self, block: BlockCode, levels: u32) -> Result<NodeId, SyntaxError>
         ensures ok { IfOk result (λ r. TookTree self.old self.new (next_arm_at levels block (tokens_left self.old)) r) }
         ensures err { IfErr result (λ e. Fails self.old (next_arm_at levels block (tokens_left self.old)) e) }
@@ -378,7 +380,7 @@ impl<'a> Parser<'a> {
 
     /// exp "then" block {"elseif" exp "then" block}, or texp "then" tblock {"elseif" texp "then" tblock}
     #[cycle(parser)]
-    #[tactic(auto, using(crate::proofs::TerraStatementTurns::arms), unfolding(crate::specs::Statements::arms_at))]
+    #[tactic(auto, using(crate::proofs::TerraStatementTurns::arms), unfolding(crate::specs::Views::Statements::arms_at))]
     fn arms(&mut self, block: BlockCode, levels: u32) -> Result<NodeList, SyntaxError>
         ensures ok { IfOk result (λ r. TookList self.old self.new (arms_at levels block (tokens_left self.old)) r) }
         ensures err { IfErr result (λ e. Fails self.old (arms_at levels block (tokens_left self.old)) e) }
@@ -394,7 +396,7 @@ impl<'a> Parser<'a> {
 
     /// ["else" block], or ["else" tblock]
     #[cycle(parser)]
-    #[tactic(auto, using(crate::proofs::Failing::failing), unfolding(crate::specs::Statements::otherwise_at))]
+    #[tactic(auto, using(crate::proofs::Failing::failing), unfolding(crate::specs::Views::Statements::otherwise_at))]
     fn otherwise(&mut self, block: BlockCode, levels: u32) -> Result<Option<NodeId>, SyntaxError>
         ensures ok { IfOk result (λ r. TookOption self.old self.new (otherwise_at levels block (tokens_left self.old)) r) }
         ensures err { IfErr result (λ e. Fails self.old (otherwise_at levels block (tokens_left self.old)) e) }
@@ -409,7 +411,7 @@ impl<'a> Parser<'a> {
 
     /// stat = "if" exp "then" block {"elseif" exp "then" block} ["else" block] "end", or the same of texp and tblock
     #[cycle(parser)]
-    #[tactic(auto, using(crate::proofs::Failing::failing), unfolding(crate::specs::Statements::if_at))]
+    #[tactic(auto, using(crate::proofs::Failing::failing), unfolding(crate::specs::Views::Statements::if_at))]
     pub(crate) fn if_statement(
         &mut self,
         block: BlockCode,
@@ -435,7 +437,7 @@ impl<'a> Parser<'a> {
 
     /// "=" exp "," exp ["," exp] "do" block "end", or "=" texp .. "end", behind "for" and a name
     #[cycle(parser)]
-    #[tactic(auto, using(crate::proofs::Failing::failing), unfolding(crate::specs::Statements::numeric_at))]
+    #[tactic(auto, using(crate::proofs::Failing::failing), unfolding(crate::specs::Views::Statements::numeric_at))]
     pub(crate) fn numeric(&mut self, block: BlockCode, levels: u32) -> Result<Numeric, SyntaxError>
         ensures ok { IfOk result (λ r. TookNumeric self.old self.new (numeric_at levels block (tokens_left self.old)) r) }
         ensures err { IfErr result (λ e. Fails self.old (numeric_at levels block (tokens_left self.old)) e) }
@@ -455,7 +457,7 @@ impl<'a> Parser<'a> {
 
     /// "in" exps "do" block "end", behind "for" names
     #[cycle(parser)]
-    #[tactic(auto, using(crate::proofs::Failing::failing), unfolding(crate::specs::Statements::generic_at))]
+    #[tactic(auto, using(crate::proofs::Failing::failing), unfolding(crate::specs::Views::Statements::generic_at))]
     fn generic(&mut self, context: Context, levels: u32) -> Result<(NodeList, NodeId), SyntaxError>
         ensures ok { IfOk result (λ r. TookGeneric self.old self.new (generic_at levels context (tokens_left self.old)) r.0 r.1) }
         ensures err { IfErr result (λ e. Fails self.old (generic_at levels context (tokens_left self.old)) e) }
@@ -467,7 +469,7 @@ impl<'a> Parser<'a> {
 
     /// stat = "for" Name "=" .. | "for" names "in" ..
     #[cycle(parser)]
-    #[tactic(auto, using(crate::proofs::StatementTurns::names), unfolding(crate::specs::Statements::for_at))]
+    #[tactic(auto, using(crate::proofs::StatementTurns::names), unfolding(crate::specs::Views::Statements::for_at))]
     fn for_statement(&mut self, context: Context, levels: u32) -> Result<NodeId, SyntaxError>
         ensures ok { IfOk result (λ r. TookTree self.old self.new (for_at levels context (tokens_left self.old)) r) }
         ensures err { IfErr result (λ e. Fails self.old (for_at levels context (tokens_left self.old)) e) }
@@ -492,7 +494,7 @@ impl<'a> Parser<'a> {
 
     /// stat = "function" path body
     #[cycle(parser)]
-    #[tactic(auto, using(crate::proofs::Failing::failing), unfolding(crate::specs::Statements::function_statement_at))]
+    #[tactic(auto, using(crate::proofs::Failing::failing), unfolding(crate::specs::Views::Statements::function_statement_at))]
     fn function_statement(&mut self, levels: u32) -> Result<NodeId, SyntaxError>
         ensures ok { IfOk result (λ r. TookTree self.old self.new (function_statement_at levels (tokens_left self.old)) r) }
         ensures err { IfErr result (λ e. Fails self.old (function_statement_at levels (tokens_left self.old)) e) }
@@ -505,7 +507,7 @@ impl<'a> Parser<'a> {
 
     /// stat = "local" "function" Name body, behind "local"
     #[cycle(parser)]
-    #[tactic(auto, using(crate::proofs::Failing::failing), unfolding(crate::specs::Statements::local_function_at))]
+    #[tactic(auto, using(crate::proofs::Failing::failing), unfolding(crate::specs::Views::Statements::local_function_at))]
     fn local_function(&mut self, levels: u32, place: Place) -> Result<NodeId, SyntaxError>
         ensures ok { IfOk result (λ r. TookTree self.old self.new (local_function_at levels place (tokens_left self.old)) r) }
         ensures err { IfErr result (λ e. Fails self.old (local_function_at levels place (tokens_left self.old)) e) }
@@ -518,7 +520,7 @@ impl<'a> Parser<'a> {
 
     /// ["=" exps], or ["=" texps]
     #[cycle(parser)]
-    #[tactic(auto, using(crate::proofs::Failing::failing), unfolding(crate::specs::Statements::initial_values_at))]
+    #[tactic(auto, using(crate::proofs::Failing::failing), unfolding(crate::specs::Views::Statements::initial_values_at))]
     pub(crate) fn initial_values(
         &mut self,
         code: Code,
@@ -535,7 +537,7 @@ impl<'a> Parser<'a> {
 
     /// stat = "local" names ["=" exps], behind "local"
     #[cycle(parser)]
-    #[tactic(auto, using(crate::proofs::Failing::failing), unfolding(crate::specs::Statements::local_names_at))]
+    #[tactic(auto, using(crate::proofs::Failing::failing), unfolding(crate::specs::Views::Statements::local_names_at))]
     fn local_names(&mut self, mode: Mode, levels: u32, place: Place) -> Result<NodeId, SyntaxError>
         ensures ok { IfOk result (λ r. TookTree self.old self.new (local_names_at levels mode place (tokens_left self.old)) r) }
         ensures err { IfErr result (λ e. Fails self.old (local_names_at levels mode place (tokens_left self.old)) e) }
@@ -547,7 +549,7 @@ impl<'a> Parser<'a> {
 
     /// stat = "local" ("function" .. | "terra" .. | "struct" .. | names ..)
     #[cycle(parser)]
-    #[tactic(auto, using(crate::proofs::Failing::failing), unfolding(crate::specs::Statements::local_at))]
+    #[tactic(auto, using(crate::proofs::Failing::failing), unfolding(crate::specs::Views::Statements::local_at))]
     fn local_statement(&mut self, context: Context, levels: u32) -> Result<NodeId, SyntaxError>
         ensures ok { IfOk result (λ r. TookTree self.old self.new (local_at levels context (tokens_left self.old)) r) }
         ensures err { IfErr result (λ e. Fails self.old (local_at levels context (tokens_left self.old)) e) }
@@ -564,7 +566,7 @@ impl<'a> Parser<'a> {
 
     /// [exps] or [texps], behind "return"
     #[cycle(parser)]
-    #[tactic(auto, using(crate::proofs::Failing::failing), unfolding(crate::specs::Statements::returned_values_at))]
+    #[tactic(auto, using(crate::proofs::Failing::failing), unfolding(crate::specs::Views::Statements::returned_values_at))]
     fn returned_values(&mut self, code: Code, levels: u32) -> Result<NodeList, SyntaxError>
         ensures ok { IfOk result (λ r. TookList self.old self.new (returned_values_at levels code (tokens_left self.old)) r) }
         ensures err { IfErr result (λ e. Fails self.old (returned_values_at levels code (tokens_left self.old)) e) }
@@ -577,7 +579,7 @@ impl<'a> Parser<'a> {
 
     /// "return" [exps], or "return" [texps]
     #[cycle(parser)]
-    #[tactic(auto, using(crate::proofs::Failing::failing), unfolding(crate::specs::Statements::return_at))]
+    #[tactic(auto, using(crate::proofs::Failing::failing), unfolding(crate::specs::Views::Statements::return_at))]
     pub(crate) fn return_statement(
         &mut self,
         block: BlockCode,
@@ -598,7 +600,7 @@ impl<'a> Parser<'a> {
     }
 
     /// "break"
-    #[tactic(auto, using(crate::proofs::Failing::failing), unfolding(crate::specs::Statements::break_at))]
+    #[tactic(auto, using(crate::proofs::Failing::failing), unfolding(crate::specs::Views::Statements::break_at))]
     fn break_statement(&mut self) -> Result<NodeId, SyntaxError>
         ensures ok { IfOk result (λ r. TookTree self.old self.new (break_at (tokens_left self.old)) r) }
         ensures err { IfErr result (λ e. Fails self.old (break_at (tokens_left self.old)) e) }
@@ -609,7 +611,7 @@ impl<'a> Parser<'a> {
 
     /// stat = "emit" exp
     #[cycle(parser)]
-    #[tactic(auto, using(crate::proofs::Failing::failing), unfolding(crate::specs::Statements::emit_at))]
+    #[tactic(auto, using(crate::proofs::Failing::failing), unfolding(crate::specs::Views::Statements::emit_at))]
     fn emit_statement(&mut self, mode: Mode, levels: u32) -> Result<NodeId, SyntaxError>
         ensures ok { IfOk result (λ r. TookTree self.old self.new (emit_at levels mode (tokens_left self.old)) r) }
         ensures err { IfErr result (λ e. Fails self.old (emit_at levels mode (tokens_left self.old)) e) }
@@ -646,7 +648,7 @@ impl<'a> Parser<'a> {
 
     /// stat [";"], or tstat [";"], and whether it ends its block
     #[cycle(parser)]
-    #[tactic(auto, using(crate::proofs::Failing::failing), unfolding(crate::specs::Blocks::next_statement_at))]
+    #[tactic(auto, using(crate::proofs::Failing::failing), unfolding(crate::specs::Views::Blocks::next_statement_at))]
     fn next_statement(
         &mut self,
         block: BlockCode,
@@ -670,7 +672,7 @@ impl<'a> Parser<'a> {
 
     /// block = { stat [";"] } [ ("return" [exps] | "break") [";"] ], or tblock, the same of tstat and texps
     #[cycle(parser)]
-    #[tactic(auto, using(crate::proofs::Blocks::blocks), unfolding(crate::specs::Blocks::block_at))]
+    #[tactic(auto, using(crate::proofs::Blocks::blocks), unfolding(crate::specs::Views::Blocks::block_at))]
     pub(crate) fn block(&mut self, block: BlockCode, levels: u32) -> Result<NodeId, SyntaxError>
         ensures ok { IfOk result (λ r. TookTree self.old self.new (part_at levels (statements_in block) (tokens_left self.old)) r) }
         ensures err { IfErr result (λ e. Fails self.old (part_at levels (statements_in block) (tokens_left self.old)) e) }
@@ -686,7 +688,7 @@ impl<'a> Parser<'a> {
     }
 
     /// Name | "..."
-    #[tactic(auto, using(crate::proofs::Failing::failing), unfolding(crate::specs::Statements::parameter_at))]
+    #[tactic(auto, using(crate::proofs::Failing::failing), unfolding(crate::specs::Views::Statements::parameter_at))]
     fn parameter(&mut self) -> Result<Option<NodeId>, SyntaxError>
         ensures ok { IfOk result (λ r. TookMaybe self.old self.new (parameter_at (tokens_left self.old)) r) }
         ensures err { IfErr result (λ e. Fails self.old (parameter_at (tokens_left self.old)) e) }
@@ -700,7 +702,7 @@ impl<'a> Parser<'a> {
     }
 
     /// "," (Name | "...")
-    #[tactic(auto, using(crate::proofs::Failing::failing), unfolding(crate::specs::Statements::next_parameter_at))]
+    #[tactic(auto, using(crate::proofs::Failing::failing), unfolding(crate::specs::Views::Statements::next_parameter_at))]
     fn next_parameter(&mut self) -> Result<Option<NodeId>, SyntaxError>
         ensures ok { IfOk result (λ r. TookMaybe self.old self.new (next_parameter_at (tokens_left self.old)) r) }
         ensures err { IfErr result (λ e. Fails self.old (next_parameter_at (tokens_left self.old)) e) }
@@ -710,7 +712,7 @@ impl<'a> Parser<'a> {
     }
 
     /// [names ["," "..."] | "..."], up to a ")"
-    #[tactic(auto, using(crate::proofs::StatementTurns::parameters), unfolding(crate::specs::Statements::parameters_at))]
+    #[tactic(auto, using(crate::proofs::StatementTurns::parameters), unfolding(crate::specs::Views::Statements::parameters_at))]
     fn parameters(&mut self, levels: u32) -> Result<(NodeList, bool), SyntaxError>
         ensures ok { IfOk result (λ r. TookParameters self.old self.new (parameters_at levels (tokens_left self.old)) r.0 r.1) }
         ensures err { IfErr result (λ e. Fails self.old (parameters_at levels (tokens_left self.old)) e) }
@@ -734,7 +736,7 @@ impl<'a> Parser<'a> {
 
     /// body = "(" [names ["," "..."] | "..."] ")" block "end"
     #[cycle(parser)]
-    #[tactic(auto, using(crate::proofs::StatementTurns::body), unfolding(crate::specs::Statements::body_at))]
+    #[tactic(auto, using(crate::proofs::StatementTurns::body), unfolding(crate::specs::Views::Statements::body_at))]
     pub(crate) fn function_body(&mut self, levels: u32) -> Result<NodeId, SyntaxError>
         ensures ok { IfOk result (λ r. TookTree self.old self.new (opened_body_at levels (tokens_left self.old)) r) }
         ensures err { IfErr result (λ e. Fails self.old (opened_body_at levels (tokens_left self.old)) e) }

@@ -1,9 +1,9 @@
 // The symbols of tokens.
 ghost use Rattle.std.specs.Prelude.{◌≡◌};
 ghost use Rattle.tl_tree.specs.Symbols as spec;
-ghost use Rattle.tl_parse.specs.Ranks as ranks;
-ghost use Rattle.tl_parse.specs.Expressions.{simple_symbols};
-ghost use Rattle.tl_parse.specs.Blocks.{plain_statements};
+ghost use Rattle.tl_parse.specs.Views.Ranks as ranks;
+ghost use Rattle.tl_parse.specs.Views.Expressions.{simple_symbols};
+ghost use Rattle.tl_parse.specs.Views.Blocks.{plain_statements};
 ghost use Rattle.tl_tree.specs.LuaExpressions.{prefix_symbols, suffix_symbols};
 
 use tl_tree::Symbol;

@@ -1,9 +1,9 @@
 // Reading of tables (Lua 5.1 manual, section 2.5.7).
 ghost use Rattle.std.specs.Prelude.{◌≡◌, ◌<◌, ◌≤◌, ◌-◌, ℕ, length, true, false, IfOk, IfErr, [], ◌∷◌};
 ghost use Rattle.tl_tree.specs.Tree as parts;
-ghost use Rattle.tl_parse.specs.Parsing.{tokens_left, Fails, TookTree, TookList, TookMaybe};
-ghost use Rattle.tl_parse.specs.Using.{part_at};
-ghost use Rattle.tl_parse.specs.Expressions.{table_at, keyed_field_at, field_at, next_field_at};
+ghost use Rattle.tl_parse.specs.Views.Parsing.{tokens_left, Fails, TookTree, TookList, TookMaybe};
+ghost use Rattle.tl_parse.specs.Views.Using.{part_at};
+ghost use Rattle.tl_parse.specs.Views.Expressions.{table_at, keyed_field_at, field_at, next_field_at};
 
 use crate::error::SyntaxError;
 use crate::expressions::is_name;
@@ -16,7 +16,7 @@ static SEPARATOR: [Symbol; 2] = [Symbol::Comma, Symbol::Semicolon];
 impl<'a> Parser<'a> {
     /// table = "{" [field {("," | ";") field} ["," | ";"]] "}"
     #[cycle(parser)]
-    #[tactic(auto, using(crate::proofs::Failing::failing), unfolding(crate::specs::Expressions::table_at))]
+    #[tactic(auto, using(crate::proofs::Failing::failing), unfolding(crate::specs::Views::Expressions::table_at))]
     pub(crate) fn table(&mut self, mode: Mode, levels: u32) -> Result<NodeId, SyntaxError>
         ensures ok { IfOk result (λ r. TookTree self.old self.new (table_at levels mode (tokens_left self.old)) r) }
         ensures err { IfErr result (λ e. Fails self.old (table_at levels mode (tokens_left self.old)) e) }
@@ -31,7 +31,7 @@ impl<'a> Parser<'a> {
 
     /// "[" exp "]" "=" exp
     #[cycle(parser)]
-    #[tactic(auto, using(crate::proofs::Failing::failing), unfolding(crate::specs::Expressions::keyed_field_at))]
+    #[tactic(auto, using(crate::proofs::Failing::failing), unfolding(crate::specs::Views::Expressions::keyed_field_at))]
     fn keyed_field(&mut self, mode: Mode, levels: u32) -> Result<NodeId, SyntaxError>
         ensures ok { IfOk result (λ r. TookTree self.old self.new (keyed_field_at levels mode (tokens_left self.old)) r) }
         ensures err { IfErr result (λ e. Fails self.old (keyed_field_at levels mode (tokens_left self.old)) e) }
@@ -45,7 +45,7 @@ impl<'a> Parser<'a> {
 
     /// field = "[" exp "]" "=" exp | Name "=" exp | exp
     #[cycle(parser)]
-    #[tactic(auto, using(crate::proofs::Failing::failing), unfolding(crate::specs::Expressions::field_at))]
+    #[tactic(auto, using(crate::proofs::Failing::failing), unfolding(crate::specs::Views::Expressions::field_at))]
     fn field(&mut self, mode: Mode, levels: u32) -> Result<NodeId, SyntaxError>
         ensures ok { IfOk result (λ r. TookTree self.old self.new (field_at levels mode (tokens_left self.old)) r) }
         ensures err { IfErr result (λ e. Fails self.old (field_at levels mode (tokens_left self.old)) e) }
@@ -54,7 +54,7 @@ impl<'a> Parser<'a> {
             return self.keyed_field(mode, levels);
         }
         let e = read!(self.chained(mode, levels));
-        if is_name(e.shape) {
+        if is_name(e.kind) {
             if self.next_is(Symbol::Equal) {
                 let value = read!(self.expression_behind(Symbol::Equal, Code::Lua(mode), levels));
                 return self.push(Node::Piece(Piece::NamedField(e.node, value)));
@@ -65,7 +65,7 @@ impl<'a> Parser<'a> {
 
     /// ("," | ";") [field]
     #[cycle(parser)]
-    #[tactic(auto, using(crate::proofs::Failing::failing), unfolding(crate::specs::Expressions::next_field_at))]
+    #[tactic(auto, using(crate::proofs::Failing::failing), unfolding(crate::specs::Views::Expressions::next_field_at))]
     fn next_field(&mut self, mode: Mode, levels: u32) -> Result<Option<NodeId>, SyntaxError>
         ensures ok { IfOk result (λ r. TookMaybe self.old self.new (next_field_at levels mode (tokens_left self.old)) r) }
         ensures err { IfErr result (λ e. Fails self.old (next_field_at levels mode (tokens_left self.old)) e) }
@@ -80,7 +80,7 @@ impl<'a> Parser<'a> {
 
     /// [field {("," | ";") field} ["," | ";"]], up to a "}"
     #[cycle(parser)]
-    #[tactic(auto, using(crate::proofs::Turns::fields), unfolding(crate::specs::Expressions::fields_at))]
+    #[tactic(auto, using(crate::proofs::Turns::fields), unfolding(crate::specs::Views::Expressions::fields_at))]
     pub(crate) fn fields(&mut self, mode: Mode, levels: u32) -> Result<NodeList, SyntaxError>
         ensures ok { IfOk result (λ r. TookList self.old self.new (part_at levels (parts.Fields mode) (tokens_left self.old)) r) }
         ensures err { IfErr result (λ e. Fails self.old (part_at levels (parts.Fields mode) (tokens_left self.old)) e) }

@@ -1,12 +1,12 @@
 // Reading of the Terra code in Lua expressions.
 ghost use Rattle.std.specs.Prelude.{◌≡◌, ◌<◌, ◌≤◌, ◌-◌, ℕ, length, true, false, IfOk, IfErr, [], ◌∷◌};
 ghost use Rattle.tl_tree.specs.Tree as parts;
-ghost use Rattle.tl_parse.specs.Parsing.{tokens_left, Fails, TookTree, TookList};
-ghost use Rattle.tl_parse.specs.Using.{part_at};
-ghost use Rattle.tl_parse.specs.TerraCode.{terra_function_at, struct_body_at, struct_at, quote_at, backtick_at};
-ghost use Rattle.tl_parse.specs.TerraCode.{terra_code_at};
-ghost use Rattle.tl_parse.specs.Entries.{separator_at, entry_at};
-ghost use Rattle.tl_parse.specs.TerraGoing.{TookNothing};
+ghost use Rattle.tl_parse.specs.Views.Parsing.{tokens_left, Fails, TookTree, TookList};
+ghost use Rattle.tl_parse.specs.Views.Using.{part_at};
+ghost use Rattle.tl_parse.specs.Views.TerraCode.{terra_function_at, struct_body_at, struct_at, quote_at, backtick_at};
+ghost use Rattle.tl_parse.specs.Views.TerraCode.{terra_code_at};
+ghost use Rattle.tl_parse.specs.Views.Entries.{separator_at, entry_at};
+ghost use Rattle.tl_parse.specs.Views.TerraGoing.{TookNothing};
 
 use crate::error::SyntaxError;
 use crate::parser::{Code, Parser, add};
@@ -18,7 +18,7 @@ static SEPARATOR: [Symbol; 2] = [Symbol::Comma, Symbol::Semicolon];
 impl<'a> Parser<'a> {
     /// exp = "terra" tbody
     #[cycle(parser)]
-    #[tactic(auto, using(crate::proofs::Failing::failing), unfolding(crate::specs::TerraCode::terra_function_at))]
+    #[tactic(auto, using(crate::proofs::Failing::failing), unfolding(crate::specs::Views::TerraCode::terra_function_at))]
     fn terra_function(&mut self, levels: u32) -> Result<NodeId, SyntaxError>
         ensures ok { IfOk result (λ r. TookTree self.old self.new (terra_function_at levels (tokens_left self.old)) r) }
         ensures err { IfErr result (λ e. Fails self.old (terra_function_at levels (tokens_left self.old)) e) }
@@ -30,7 +30,7 @@ impl<'a> Parser<'a> {
 
     /// sbody = "{" {Name ":" exp ["," | ";"]} "}"
     #[cycle(parser)]
-    #[tactic(auto, using(crate::proofs::Failing::failing), unfolding(crate::specs::TerraCode::struct_body_at))]
+    #[tactic(auto, using(crate::proofs::Failing::failing), unfolding(crate::specs::Views::TerraCode::struct_body_at))]
     pub(crate) fn struct_body(&mut self, mode: Mode, levels: u32) -> Result<NodeList, SyntaxError>
         ensures ok { IfOk result (λ r. TookList self.old self.new (struct_body_at levels mode (tokens_left self.old)) r) }
         ensures err { IfErr result (λ e. Fails self.old (struct_body_at levels mode (tokens_left self.old)) e) }
@@ -43,7 +43,7 @@ impl<'a> Parser<'a> {
 
     /// exp = "struct" sbody
     #[cycle(parser)]
-    #[tactic(auto, using(crate::proofs::Failing::failing), unfolding(crate::specs::TerraCode::struct_at))]
+    #[tactic(auto, using(crate::proofs::Failing::failing), unfolding(crate::specs::Views::TerraCode::struct_at))]
     fn struct_type(&mut self, mode: Mode, levels: u32) -> Result<NodeId, SyntaxError>
         ensures ok { IfOk result (λ r. TookTree self.old self.new (struct_at levels mode (tokens_left self.old)) r) }
         ensures err { IfErr result (λ e. Fails self.old (struct_at levels mode (tokens_left self.old)) e) }
@@ -55,7 +55,7 @@ impl<'a> Parser<'a> {
 
     /// exp = "quote" tblock ["in" texp] "end"
     #[cycle(parser)]
-    #[tactic(auto, using(crate::proofs::Failing::failing), unfolding(crate::specs::TerraCode::quote_at))]
+    #[tactic(auto, using(crate::proofs::Failing::failing), unfolding(crate::specs::Views::TerraCode::quote_at))]
     fn quote(&mut self, levels: u32) -> Result<NodeId, SyntaxError>
         ensures ok { IfOk result (λ r. TookTree self.old self.new (quote_at levels (tokens_left self.old)) r) }
         ensures err { IfErr result (λ e. Fails self.old (quote_at levels (tokens_left self.old)) e) }
@@ -70,7 +70,7 @@ impl<'a> Parser<'a> {
 
     /// exp = "`" texp
     #[cycle(parser)]
-    #[tactic(auto, using(crate::proofs::Failing::failing), unfolding(crate::specs::TerraCode::backtick_at))]
+    #[tactic(auto, using(crate::proofs::Failing::failing), unfolding(crate::specs::Views::TerraCode::backtick_at))]
     fn backtick(&mut self, levels: u32) -> Result<NodeId, SyntaxError>
         ensures ok { IfOk result (λ r. TookTree self.old self.new (backtick_at levels (tokens_left self.old)) r) }
         ensures err { IfErr result (λ e. Fails self.old (backtick_at levels (tokens_left self.old)) e) }
@@ -82,7 +82,7 @@ impl<'a> Parser<'a> {
 
     /// "terra" tbody | "struct" sbody | "quote" .. "end" | "`" texp
     #[cycle(parser)]
-    #[tactic(auto, using(crate::proofs::Failing::failing), unfolding(crate::specs::TerraCode::terra_code_at))]
+    #[tactic(auto, using(crate::proofs::Failing::failing), unfolding(crate::specs::Views::TerraCode::terra_code_at))]
     pub(crate) fn terra_code(&mut self, mode: Mode, levels: u32) -> Result<NodeId, SyntaxError>
         ensures ok { IfOk result (λ r. TookTree self.old self.new (terra_code_at levels mode (tokens_left self.old)) r) }
         ensures err { IfErr result (λ e. Fails self.old (terra_code_at levels mode (tokens_left self.old)) e) }
@@ -100,7 +100,7 @@ impl<'a> Parser<'a> {
     }
 
     /// ["," | ";"]
-    #[tactic(auto, using(crate::proofs::Failing::failing), unfolding(crate::specs::Entries::separator_at))]
+    #[tactic(auto, using(crate::proofs::Failing::failing), unfolding(crate::specs::Views::Entries::separator_at))]
     fn separator(&mut self) -> Result<(), SyntaxError>
         ensures ok { IfOk result (λ r. TookNothing self.old self.new (separator_at (tokens_left self.old))) }
         ensures err { IfErr result (λ e. Fails self.old (separator_at (tokens_left self.old)) e) }
@@ -113,7 +113,7 @@ impl<'a> Parser<'a> {
 
     /// Name ":" exp ["," | ";"]
     #[cycle(parser)]
-    #[tactic(auto, using(crate::proofs::Failing::failing), unfolding(crate::specs::Entries::entry_at))]
+    #[tactic(auto, using(crate::proofs::Failing::failing), unfolding(crate::specs::Views::Entries::entry_at))]
     fn entry(&mut self, mode: Mode, levels: u32) -> Result<NodeId, SyntaxError>
         ensures ok { IfOk result (λ r. TookTree self.old self.new (entry_at levels mode (tokens_left self.old)) r) }
         ensures err { IfErr result (λ e. Fails self.old (entry_at levels mode (tokens_left self.old)) e) }

@@ -1,8 +1,8 @@
 // Reading of the Lua statements that define Terra functions and types.
 ghost use Rattle.std.specs.Prelude.{◌≡◌, length, true, false, IfOk, IfErr};
-ghost use Rattle.tl_parse.specs.Parsing.{tokens_left, Fails, TookTree};
-ghost use Rattle.tl_parse.specs.TerraDefinitions.{struct_path_at, define_terra_at, local_terra_function_at};
-ghost use Rattle.tl_parse.specs.TerraDefinitions.{local_struct_at, local_terra_at, define_struct_at};
+ghost use Rattle.tl_parse.specs.Views.Parsing.{tokens_left, Fails, TookTree};
+ghost use Rattle.tl_parse.specs.Views.TerraDefinitions.{struct_path_at, define_terra_at, local_terra_function_at};
+ghost use Rattle.tl_parse.specs.Views.TerraDefinitions.{local_struct_at, local_terra_at, define_struct_at};
 
 use crate::error::SyntaxError;
 use crate::parser::{Code, Parser, add};
@@ -11,7 +11,7 @@ use tl_tree::{Mode, Node, Piece, Statement, Symbol};
 
 impl<'a> Parser<'a> {
     /// Name {"." Name}
-    #[tactic(auto, using(crate::proofs::StatementTurns::paths), unfolding(crate::specs::TerraDefinitions::struct_path_at))]
+    #[tactic(auto, using(crate::proofs::StatementTurns::paths), unfolding(crate::specs::Views::TerraDefinitions::struct_path_at))]
     fn struct_path(&mut self, levels: u32) -> Result<NodeId, SyntaxError>
         ensures ok { IfOk result (λ r. TookTree self.old self.new (struct_path_at levels (tokens_left self.old)) r) }
         ensures err { IfErr result (λ e. Fails self.old (struct_path_at levels (tokens_left self.old)) e) }
@@ -27,7 +27,7 @@ impl<'a> Parser<'a> {
 
     /// stat = "terra" path (tbody | "::" exp)
     #[cycle(parser)]
-    #[tactic(auto, using(crate::proofs::Failing::failing), unfolding(crate::specs::TerraDefinitions::define_terra_at))]
+    #[tactic(auto, using(crate::proofs::Failing::failing), unfolding(crate::specs::Views::TerraDefinitions::define_terra_at))]
     pub(crate) fn define_terra(&mut self, mode: Mode, levels: u32) -> Result<NodeId, SyntaxError>
         ensures ok { IfOk result (λ r. TookTree self.old self.new (define_terra_at levels mode (tokens_left self.old)) r) }
         ensures err { IfErr result (λ e. Fails self.old (define_terra_at levels mode (tokens_left self.old)) e) }
@@ -48,7 +48,7 @@ impl<'a> Parser<'a> {
 
     /// stat = "local" "terra" Name (tbody | "::" exp), behind "local" at this place
     #[cycle(parser)]
-    #[tactic(auto, using(crate::proofs::Failing::failing), unfolding(crate::specs::TerraDefinitions::local_terra_function_at))]
+    #[tactic(auto, using(crate::proofs::Failing::failing), unfolding(crate::specs::Views::TerraDefinitions::local_terra_function_at))]
     fn local_terra_function(
         &mut self,
         mode: Mode,
@@ -77,7 +77,7 @@ impl<'a> Parser<'a> {
 
     /// stat = "local" "struct" Name sbody, behind "local" at this place
     #[cycle(parser)]
-    #[tactic(auto, using(crate::proofs::Failing::failing), unfolding(crate::specs::TerraDefinitions::local_struct_at))]
+    #[tactic(auto, using(crate::proofs::Failing::failing), unfolding(crate::specs::Views::TerraDefinitions::local_struct_at))]
     fn local_struct(&mut self, mode: Mode, place: Place, levels: u32) -> Result<NodeId, SyntaxError>
         ensures ok { IfOk result (λ r. TookTree self.old self.new (local_struct_at levels mode place (tokens_left self.old)) r) }
         ensures err { IfErr result (λ e. Fails self.old (local_struct_at levels mode place (tokens_left self.old)) e) }
@@ -90,7 +90,7 @@ impl<'a> Parser<'a> {
 
     /// "terra" .. | "struct" .., behind "local" at this place
     #[cycle(parser)]
-    #[tactic(auto, using(crate::proofs::Failing::failing), unfolding(crate::specs::TerraDefinitions::local_terra_at))]
+    #[tactic(auto, using(crate::proofs::Failing::failing), unfolding(crate::specs::Views::TerraDefinitions::local_terra_at))]
     pub(crate) fn local_terra(
         &mut self,
         mode: Mode,
@@ -108,7 +108,7 @@ impl<'a> Parser<'a> {
 
     /// stat = "struct" Name {"." Name} sbody
     #[cycle(parser)]
-    #[tactic(auto, using(crate::proofs::Failing::failing), unfolding(crate::specs::TerraDefinitions::define_struct_at))]
+    #[tactic(auto, using(crate::proofs::Failing::failing), unfolding(crate::specs::Views::TerraDefinitions::define_struct_at))]
     pub(crate) fn define_struct(&mut self, mode: Mode, levels: u32) -> Result<NodeId, SyntaxError>
         ensures ok { IfOk result (λ r. TookTree self.old self.new (define_struct_at levels mode (tokens_left self.old)) r) }
         ensures err { IfErr result (λ e. Fails self.old (define_struct_at levels mode (tokens_left self.old)) e) }

@@ -1,25 +1,25 @@
 // Reading of Terra statements, of the bodies of Terra functions and of quotes.
 ghost use Rattle.std.specs.Prelude.{◌≡◌, length, true, false, IfOk, IfErr, [], ◌∷◌};
 ghost use Rattle.tl_tree.specs.Tree as parts;
-ghost use Rattle.tl_parse.specs.Parsing.{tokens_left, HasNext, Fails, TookTree, TookOperand, TookList};
-ghost use Rattle.tl_parse.specs.Using.{part_at};
-ghost use Rattle.tl_parse.specs.Codes.{opened_terra_body_at};
-ghost use Rattle.tl_parse.specs.Statements.{is_call};
-ghost use Rattle.tl_parse.specs.TerraLines.{TookPlacedName};
-ghost use Rattle.tl_parse.specs.TerraStatements.{placed_name_at, terra_variable_at};
-ghost use Rattle.tl_parse.specs.TerraStatements.{terra_target_at};
-ghost use Rattle.tl_parse.specs.TerraStatements.{terra_simple_statement_at, is_escape};
-ghost use Rattle.tl_parse.specs.TerraStatements.{quoted_code_at};
-ghost use Rattle.tl_parse.specs.TerraStatements.{terra_for_at, terra_var_at, escape_block_at};
-ghost use Rattle.tl_parse.specs.TerraStatements.{terra_break_at, terra_statement_at};
-ghost use Rattle.tl_parse.specs.TerraStatements.{terra_parameter_at};
-ghost use Rattle.tl_parse.specs.TerraStatements.{terra_parameters_at};
+ghost use Rattle.tl_parse.specs.Views.Parsing.{tokens_left, HasNext, Fails, TookTree, TookOperand, TookList};
+ghost use Rattle.tl_parse.specs.Views.Using.{part_at};
+ghost use Rattle.tl_parse.specs.Views.Codes.{opened_terra_body_at};
+ghost use Rattle.tl_parse.specs.Views.Statements.{is_call};
+ghost use Rattle.tl_parse.specs.Views.TerraLines.{TookPlacedName};
+ghost use Rattle.tl_parse.specs.Views.TerraStatements.{placed_name_at, terra_variable_at};
+ghost use Rattle.tl_parse.specs.Views.TerraStatements.{terra_target_at};
+ghost use Rattle.tl_parse.specs.Views.TerraStatements.{terra_simple_statement_at, is_escape};
+ghost use Rattle.tl_parse.specs.Views.TerraStatements.{quoted_code_at};
+ghost use Rattle.tl_parse.specs.Views.TerraStatements.{terra_for_at, terra_var_at, escape_block_at};
+ghost use Rattle.tl_parse.specs.Views.TerraStatements.{terra_break_at, terra_statement_at};
+ghost use Rattle.tl_parse.specs.Views.TerraStatements.{terra_parameter_at};
+ghost use Rattle.tl_parse.specs.Views.TerraStatements.{terra_parameters_at};
 
 use crate::error::SyntaxError;
 use crate::parser::{BlockCode, CHAIN, Code, Element, Operand, Parser, add};
 use crate::statements::is_call;
 use tl_base::{NodeId, Place};
-use tl_tree::{Context, Mode, Node, NodeList, Piece, Shape, Symbol, TerraStatement};
+use tl_tree::{Context, Mode, Node, NodeList, OperandKind, Piece, Symbol, TerraStatement};
 
 /// The types of Terra code.
 const TYPES: Code = Code::Lua(Mode::Types);
@@ -33,11 +33,11 @@ const EMITTING: Context = Context {
 
 static ASSIGNMENT: [Symbol; 2] = [Symbol::Equal, Symbol::Comma];
 
-fn is_escape(shape: Shape) -> bool
-    ensures { result ≡ is_escape shape }
+fn is_escape(kind: OperandKind) -> bool
+    ensures { result ≡ is_escape kind }
 {
-    match shape {
-        Shape::Escape => true,
+    match kind {
+        OperandKind::Escape => true,
         _ => false,
     }
 }
@@ -45,7 +45,7 @@ fn is_escape(shape: Shape) -> bool
 impl<'a> Parser<'a> {
     /// tname, with its place
     #[cycle(parser)]
-    #[tactic(auto, using(crate::proofs::TerraStatementTurns::placed_names), unfolding(crate::specs::TerraStatements::placed_name_at))]
+    #[tactic(auto, using(crate::proofs::TerraStatementTurns::placed_names), unfolding(crate::specs::Views::TerraStatements::placed_name_at))]
     fn placed_name(&mut self, levels: u32) -> Result<(Place, NodeId), SyntaxError>
         ensures ok { IfOk result (λ r. TookPlacedName self.old self.new (placed_name_at levels (tokens_left self.old)) r.0 r.1) }
         ensures err { IfErr result (λ e. Fails self.old (placed_name_at levels (tokens_left self.old)) e) }
@@ -62,7 +62,7 @@ impl<'a> Parser<'a> {
 
     /// tvar = tname [":" exp]
     #[cycle(parser)]
-    #[tactic(auto, using(crate::proofs::Failing::failing), unfolding(crate::specs::TerraStatements::terra_variable_at))]
+    #[tactic(auto, using(crate::proofs::Failing::failing), unfolding(crate::specs::Views::TerraStatements::terra_variable_at))]
     pub(crate) fn terra_variable(&mut self, levels: u32) -> Result<NodeId, SyntaxError>
         ensures ok { IfOk result (λ r. TookTree self.old self.new (terra_variable_at levels (tokens_left self.old)) r) }
         ensures err { IfErr result (λ e. Fails self.old (terra_variable_at levels (tokens_left self.old)) e) }
@@ -74,7 +74,7 @@ impl<'a> Parser<'a> {
 
     /// the first texp of a statement that no word begins
     #[cycle(parser)]
-    #[tactic(auto, using(crate::proofs::Failing::failing), unfolding(crate::specs::TerraStatements::terra_target_at))]
+    #[tactic(auto, using(crate::proofs::Failing::failing), unfolding(crate::specs::Views::TerraStatements::terra_target_at))]
     fn terra_target(&mut self, levels: u32) -> Result<Operand, SyntaxError>
         ensures ok { IfOk result (λ r. TookOperand self.old self.new (terra_target_at levels (tokens_left self.old)) r) }
         ensures err { IfErr result (λ e. Fails self.old (terra_target_at levels (tokens_left self.old)) e) }
@@ -83,8 +83,8 @@ impl<'a> Parser<'a> {
             let node = read!(self.terra_expression(levels));
             return Ok(Operand {
                 node,
-                left: CHAIN,
-                shape: Shape::Other,
+                links: CHAIN,
+                kind: OperandKind::Other,
             });
         }
         self.terra_applied(levels)
@@ -92,7 +92,7 @@ impl<'a> Parser<'a> {
 
     /// tstat = texp {"," texp} "=" texps | tcall | "[" exp "]"
     #[cycle(parser)]
-    #[tactic(auto, using(crate::proofs::TerraStatementTurns::targets), unfolding(crate::specs::TerraStatements::terra_simple_statement_at))]
+    #[tactic(auto, using(crate::proofs::TerraStatementTurns::targets), unfolding(crate::specs::Views::TerraStatements::terra_simple_statement_at))]
     fn terra_simple_statement(&mut self, levels: u32) -> Result<NodeId, SyntaxError>
         requires { HasNext (tokens_left self.old) }
         ensures ok { IfOk result (λ r. TookTree self.old self.new (terra_simple_statement_at levels (tokens_left self.old)) r) }
@@ -100,10 +100,10 @@ impl<'a> Parser<'a> {
     {
         let place = self.next_place();
         let first = read!(self.terra_target(levels));
-        if is_call(first.shape) {
+        if is_call(first.kind) {
             return self.push(Node::TerraStatement(place, TerraStatement::Call(first.node)));
         }
-        if is_escape(first.shape) && !self.next_is_among(&ASSIGNMENT) {
+        if is_escape(first.kind) && !self.next_is_among(&ASSIGNMENT) {
             return self.push(Node::TerraStatement(place, TerraStatement::Splice(first.node)));
         }
         let mut targets = read!(self.one_node(first.node));
@@ -117,7 +117,7 @@ impl<'a> Parser<'a> {
 
     /// tstat = "for" tname "=" texp "," texp ["," texp] "do" tblock "end"
     #[cycle(parser)]
-    #[tactic(auto, using(crate::proofs::Failing::failing), unfolding(crate::specs::TerraStatements::terra_for_at))]
+    #[tactic(auto, using(crate::proofs::Failing::failing), unfolding(crate::specs::Views::TerraStatements::terra_for_at))]
     fn terra_for(&mut self, levels: u32) -> Result<NodeId, SyntaxError>
         ensures ok { IfOk result (λ r. TookTree self.old self.new (terra_for_at levels (tokens_left self.old)) r) }
         ensures err { IfErr result (λ e. Fails self.old (terra_for_at levels (tokens_left self.old)) e) }
@@ -133,7 +133,7 @@ impl<'a> Parser<'a> {
 
     /// tstat = "var" tvar {"," tvar} ["=" texps]
     #[cycle(parser)]
-    #[tactic(auto, using(crate::proofs::Failing::failing), unfolding(crate::specs::TerraStatements::terra_var_at))]
+    #[tactic(auto, using(crate::proofs::Failing::failing), unfolding(crate::specs::Views::TerraStatements::terra_var_at))]
     fn terra_var(&mut self, levels: u32) -> Result<NodeId, SyntaxError>
         ensures ok { IfOk result (λ r. TookTree self.old self.new (terra_var_at levels (tokens_left self.old)) r) }
         ensures err { IfErr result (λ e. Fails self.old (terra_var_at levels (tokens_left self.old)) e) }
@@ -146,7 +146,7 @@ impl<'a> Parser<'a> {
 
     /// tstat = "escape" block "end"
     #[cycle(parser)]
-    #[tactic(auto, using(crate::proofs::Failing::failing), unfolding(crate::specs::TerraStatements::escape_block_at))]
+    #[tactic(auto, using(crate::proofs::Failing::failing), unfolding(crate::specs::Views::TerraStatements::escape_block_at))]
     fn escape_block(&mut self, levels: u32) -> Result<NodeId, SyntaxError>
         ensures ok { IfOk result (λ r. TookTree self.old self.new (escape_block_at levels (tokens_left self.old)) r) }
         ensures err { IfErr result (λ e. Fails self.old (escape_block_at levels (tokens_left self.old)) e) }
@@ -160,7 +160,7 @@ impl<'a> Parser<'a> {
     }
 
     /// "break"
-    #[tactic(auto, using(crate::proofs::Failing::failing), unfolding(crate::specs::TerraStatements::terra_break_at))]
+    #[tactic(auto, using(crate::proofs::Failing::failing), unfolding(crate::specs::Views::TerraStatements::terra_break_at))]
     fn terra_break(&mut self) -> Result<NodeId, SyntaxError>
         ensures ok { IfOk result (λ r. TookTree self.old self.new (terra_break_at (tokens_left self.old)) r) }
         ensures err { IfErr result (λ e. Fails self.old (terra_break_at (tokens_left self.old)) e) }
@@ -193,7 +193,7 @@ impl<'a> Parser<'a> {
 
     /// param = Name ":" exp | "[" exp "]"
     #[cycle(parser)]
-    #[tactic(auto, using(crate::proofs::Failing::failing), unfolding(crate::specs::TerraStatements::terra_parameter_at))]
+    #[tactic(auto, using(crate::proofs::Failing::failing), unfolding(crate::specs::Views::TerraStatements::terra_parameter_at))]
     pub(crate) fn terra_parameter(&mut self, levels: u32) -> Result<NodeId, SyntaxError>
         ensures ok { IfOk result (λ r. TookTree self.old self.new (terra_parameter_at levels (tokens_left self.old)) r) }
         ensures err { IfErr result (λ e. Fails self.old (terra_parameter_at levels (tokens_left self.old)) e) }
@@ -209,7 +209,7 @@ impl<'a> Parser<'a> {
 
     /// [param {"," param}], up to a ")"
     #[cycle(parser)]
-    #[tactic(auto, using(crate::proofs::Failing::failing), unfolding(crate::specs::TerraStatements::terra_parameters_at))]
+    #[tactic(auto, using(crate::proofs::Failing::failing), unfolding(crate::specs::Views::TerraStatements::terra_parameters_at))]
     fn terra_parameters(&mut self, levels: u32) -> Result<NodeList, SyntaxError>
         ensures ok { IfOk result (λ r. TookList self.old self.new (terra_parameters_at levels (tokens_left self.old)) r) }
         ensures err { IfErr result (λ e. Fails self.old (terra_parameters_at levels (tokens_left self.old)) e) }
@@ -222,7 +222,7 @@ impl<'a> Parser<'a> {
 
     /// tbody = "(" [param {"," param}] ")" [":" exp] tblock "end"
     #[cycle(parser)]
-    #[tactic(auto, using(crate::proofs::TerraStatementParts::terra_body), unfolding(crate::specs::TerraStatements::terra_function_body_at))]
+    #[tactic(auto, using(crate::proofs::TerraStatementParts::terra_body), unfolding(crate::specs::Views::TerraStatements::terra_function_body_at))]
     pub(crate) fn terra_function_body(&mut self, levels: u32) -> Result<NodeId, SyntaxError>
         ensures ok { IfOk result (λ r. TookTree self.old self.new (opened_terra_body_at levels (tokens_left self.old)) r) }
         ensures err { IfErr result (λ e. Fails self.old (opened_terra_body_at levels (tokens_left self.old)) e) }
@@ -241,7 +241,7 @@ impl<'a> Parser<'a> {
 
     /// tblock ["in" texp], behind "quote"
     #[cycle(parser)]
-    #[tactic(auto, using(crate::proofs::TerraStatementParts::quoted_code), unfolding(crate::specs::TerraStatements::quoted_code_at))]
+    #[tactic(auto, using(crate::proofs::TerraStatementParts::quoted_code), unfolding(crate::specs::Views::TerraStatements::quoted_code_at))]
     pub(crate) fn quoted_code(&mut self, levels: u32) -> Result<NodeId, SyntaxError>
         ensures ok { IfOk result (λ r. TookTree self.old self.new (part_at levels parts.QuotedCode (tokens_left self.old)) r) }
         ensures err { IfErr result (λ e. Fails self.old (part_at levels parts.QuotedCode (tokens_left self.old)) e) }

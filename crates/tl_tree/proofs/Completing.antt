@@ -8,7 +8,7 @@ use Rattle.tl_tree.specs.declared.symbol.Symbol.{Symbol}
 use Rattle.tl_tree.specs.declared.symbol.Symbol.TheVariants.{Bad}
 use Rattle.tl_lex.specs.declared.SyntaxKind.{SyntaxKind}
 use Rattle.tl_lex.specs.declared.SyntaxKind.TheVariants.{BadNumber, TooDeep, Ambiguous}
-use Rattle.tl_tree.specs.declared.mode.Extra.{Extra}
+use Rattle.tl_tree.specs.declared.mode.TokenUse.{TokenUse}
 use Rattle.tl_tree.specs.Symbols.{is_bad}
 use Rattle.tl_tree.specs.Tree.{Tree, Nothing, Part}
 use Rattle.tl_tree.specs.Grammar.{Use, bar, is_of, Grammar, give, token, bind, when, many, begins, Rule}
@@ -279,12 +279,12 @@ module _ (levels : ℕ) (parts : Rule → Parts) where
   bare-give a after p = record
       { more = []; spelled = tt; value = a; starts = λ close k. k; reads = λ close k rule al le. (refl, refl) }
 
-  pub bare-opened : (class : Token → Bool) (extra : Token → Extra) (opens : Token → Option Part) (sample : Token)
+  pub bare-opened : (class : Token → Bool) (usage : Token → TokenUse) (opens : Token → Option Part) (sample : Token)
       (k : Symbol) (p : Position) (first other after : Token → Bool) → is_written k ≡ true
       → is_of class (placed p k) ≡ true → first (placed p k) ≡ true
       → Bare (λ rule ts x rest. Opened (parts rule) (opens (placed p k)) ts x rest) (next_word p k) other after
-      → Bare (λ rule ts a rest. Reads rule levels (parts rule) (token class extra opens sample) ts a rest) p first after
-  bare-opened class extra opens sample k p first other after written good good_first c =
+      → Bare (λ rule ts a rest. Reads rule levels (parts rule) (token class usage opens sample) ts a rest) p first after
+  bare-opened class usage opens sample k p first other after written good good_first c =
       let t : Token = placed p k in
       record {
         more = t ∷ c.more;
@@ -295,7 +295,7 @@ module _ (levels : ℕ) (parts : Rule → Parts) where
           c.more ++ close,
           refl,
           good,
-          le (record { opens = opens t; levels = levels; extra = extra t }) (t ∷ (c.more ++ close))
+          le (record { opens = opens t; levels = levels; usage = usage t }) (t ∷ (c.more ++ close))
               (omega arith),
           c.reads close h rule al (λ usage ts short. le usage ts (omega arith)),
         );
@@ -306,12 +306,12 @@ module _ (levels : ℕ) (parts : Rule → Parts) where
   bare-none p after = record
       { more = []; spelled = tt; value = Nothing; starts = λ close k. k; reads = λ close k rule al le. (refl, refl) }
 
-  pub bare-token : (class : Token → Bool) (extra : Token → Extra) (opens : Token → Option Part) (sample : Token)
+  pub bare-token : (class : Token → Bool) (usage : Token → TokenUse) (opens : Token → Option Part) (sample : Token)
       (k : Symbol) (first after : Token → Bool) → is_written k ≡ true
       → ((p : Position) → is_of class (placed p k) ≡ true) → ((p : Position) → first (placed p k) ≡ true)
-      → ((p : Position) → opens (placed p k) ≡ None) → Starts (token class extra opens sample) first after
-  bare-token class extra opens sample k first after written good good_first none p =
-      bare-opened class extra opens sample k p first after after written (good p) (good_first p)
+      → ((p : Position) → opens (placed p k) ≡ None) → Starts (token class usage opens sample) first after
+  bare-token class usage opens sample k first after written good good_first none p =
+      bare-opened class usage opens sample k p first after after written (good p) (good_first p)
       (subst (λ (o : Option Part). Bare (λ rule ts x rest. Opened (parts rule) o ts x rest) (next_word p k) after
       after) (sym (none p)) (bare-none (next_word p k) after))
 
@@ -335,11 +335,11 @@ module _ (levels : ℕ) (parts : Rule → Parts) where
             inr (apart first class far (c.more ++ close) (c.starts close k), c.reads close k rule al le);
       }
 
-  pub bare-many : {A : Type 0} (class : A → Token → Bool) (extra : A → Token → Extra) (opens : A → Token → Option Part)
+  pub bare-many : {A : Type 0} (class : A → Token → Bool) (usage : A → Token → TokenUse) (opens : A → Token → Option Part)
       (step : Token → Tree → A → Grammar A) (a : A) (after : Token → Bool)
       → ((b : A) (t : Token) → after t ≡ true → is_of (class b) t ≡ false)
-      → Starts (many class extra opens step a) after after
-  bare-many class extra opens step a after far p =
+      → Starts (many class usage opens step a) after after
+  bare-many class usage opens step a after far p =
       record {
         more = [];
         spelled = tt;

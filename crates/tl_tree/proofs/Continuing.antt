@@ -6,7 +6,7 @@ use Rattle.tl_lex.specs.Answers.{Position}
 use Rattle.tl_tree.specs.Tokens.{Token}
 use Rattle.tl_tree.specs.declared.symbol.Symbol.{Symbol}
 use Rattle.tl_lex.specs.declared.SyntaxKind.{SyntaxKind}
-use Rattle.tl_tree.specs.declared.mode.Extra.{Extra}
+use Rattle.tl_tree.specs.declared.mode.TokenUse.{TokenUse}
 use Rattle.tl_tree.specs.Tree.{Tree, Nothing, Part}
 use Rattle.tl_tree.specs.Grammar.{Use, bar, is_of, is_none_left, Grammar, give, token, bind, when, many, begins, Rule}
 use Rattle.tl_tree.specs.Grammar.{Parts, Opened, Turns, stop, turn, Reads, Outcome, Took, Stop, ◌>>=◌, blame, unless}
@@ -81,12 +81,12 @@ module _ (levels : ℕ) (readers : Readers) (parts : Rule → Parts) (part_after
             λ close k rule al le. c.reads close (fits_also after (part_after part) h close k) rule al le;
       }
 
-  opened_completes : (extra : Extra) (t : Token) (o : Option Part) (p : Position) (after : Token → Bool)
-      → Covers after o → bar (record { opens = o; levels = levels; extra = extra }) t ≡ None → (front r : List Token)
+  opened_completes : (usage : TokenUse) (t : Token) (o : Option Part) (p : Position) (after : Token → Bool)
+      → Covers after o → bar (record { opens = o; levels = levels; usage = usage }) t ≡ None → (front r : List Token)
       → Shows (opened readers o (front ++ r)) r
       → Completion (λ rule ts x rest. Opened (parts rule) o ts x rest) p (opened readers o (front ++ r)) (λ t. true)
       after front
-  opened_completes extra t None p after h k [] r s =
+  opened_completes usage t None p after h k [] r s =
       record {
         more = [];
         spelled = tt;
@@ -95,9 +95,9 @@ module _ (levels : ℕ) (readers : Readers) (parts : Rule → Parts) (part_after
             all_fit close;
         reads = λ close k2 rule al le fo. (refl, refl);
       }
-  opened_completes extra t None p after h k (u ∷ front) r s = absurd cc
-  opened_completes extra t (Some part) p after h k front r s =
-      let c = readers_complete (bar_levels part levels extra t k) part p front r s in
+  opened_completes usage t None p after h k (u ∷ front) r s = absurd cc
+  opened_completes usage t (Some part) p after h k front r s =
+      let c = readers_complete (bar_levels part levels usage t k) part p front r s in
       record {
         more = c.more;
         spelled = c.spelled;
@@ -136,13 +136,13 @@ module _ (levels : ℕ) (readers : Readers) (parts : Rule → Parts) (part_after
       }
   completes-give a after p (t ∷ front) r sh = absurd cc
 
-  pub completes-token : (class : Token → Bool) (extra : Token → Extra) (opens : Token → Option Part) (sample : Token)
+  pub completes-token : (class : Token → Bool) (usage : Token → TokenUse) (opens : Token → Option Part) (sample : Token)
       (k : Symbol) (first after : Token → Bool) → is_written k ≡ true
       → ((p : Position) → is_of class (placed p k) ≡ true) → ((p : Position) → first (placed p k) ≡ true)
       → ((t : Token) → is_of class t ≡ true → Covers after (opens t))
-      → Completes (token class extra opens sample) first after
-  completes-token class extra opens sample k first after written good good_first covers p [] r sh =
-      let c = bare-opened levels parts class extra opens sample k p first (λ t. true) after written (good p)
+      → Completes (token class usage opens sample) first after
+  completes-token class usage opens sample k first after written good good_first covers p [] r sh =
+      let c = bare-opened levels parts class usage opens sample k p first (λ t. true) after written (good p)
       (good_first p) (opened_bare (opens (placed p k)) (next_word p k) after (covers (placed p k) (good p))) in
       record {
         more = c.more;
@@ -152,19 +152,19 @@ module _ (levels : ℕ) (readers : Readers) (parts : Rule → Parts) (part_after
             c.starts close h;
         reads = λ close h rule al le fo. c.reads close h rule al le;
       }
-  completes-token class extra opens sample k first after written good good_first covers p (t ∷ front) r sh =
+  completes-token class usage opens sample k first after written good good_first covers p (t ∷ front) r sh =
       go (is_of class t) refl (bar (use_of t) t) refl sh
     where
       use_of : Token → Use
-      use_of t = record { opens = opens t; levels = levels; extra = extra t }
+      use_of t = record { opens = opens t; levels = levels; usage = usage t }
 
       go : (c : Bool) → is_of class t ≡ c → (o : Option SyntaxKind)
-          → bar (record { opens = opens t; levels = levels; extra = extra t }) t ≡ o
+          → bar (record { opens = opens t; levels = levels; usage = usage t }) t ≡ o
           → Shows {A = Token × Tree}
           (cond c (unless o (t ∷ (front ++ r)) (opened readers (opens t) (front ++ r) >>= λ x mid. Took (t, x) mid))
           (Stop (blame t.symbol) (t ∷ (front ++ r)))) r
           → Completion {A = Token × Tree}
-          (λ rule ts a rest. Reads rule levels (parts rule) (token class extra opens sample) ts a rest) p
+          (λ rule ts a rest. Reads rule levels (parts rule) (token class usage opens sample) ts a rest) p
           (cond c (unless o (t ∷ (front ++ r)) (opened readers (opens t) (front ++ r) >>= λ x mid. Took (t, x) mid))
           (Stop (blame t.symbol) (t ∷ (front ++ r)))) first after (t ∷ front)
       go true h None k s =
@@ -174,9 +174,9 @@ module _ (levels : ℕ) (readers : Readers) (parts : Rule → Parts) (part_after
           (length (front ++ r))
           (λ ts. leaves-opened readers readers_leave (opens t) ts)
           (λ f s x b u e. steady-opened readers readers_steady (opens t) f s x b u e)
-          (λ rule al ts x rest e. sound-opened levels readers (parts rule) (readers_sound rule al) (extra t) t
+          (λ rule al ts x rest e. sound-opened levels readers (parts rule) (readers_sound rule al) (usage t) t
           (opens t) k ts x rest e) (λ x ts. leaves_all ts)
-          (opened_completes (extra t) t (opens t) p after (covers t h) k)
+          (opened_completes (usage t) t (opens t) p after (covers t h) k)
           (λ q x. record {
             more = [];
             spelled = tt;
@@ -195,7 +195,7 @@ module _ (levels : ℕ) (readers : Readers) (parts : Rule → Parts) (part_after
             reads = λ close f rule al le fo.
                 let b = c.reads close f rule al le fo in
                 pair_reads rule (front ++ (c.more ++ close)) c.value close h
-                (al (record { opens = opens t; levels = levels; extra = extra t }) t (front ++ (c.more ++ close))
+                (al (record { opens = opens t; levels = levels; usage = usage t }) t (front ++ (c.more ++ close))
                 k) b.0 b.1 b.2 b.3;
           }
         where
@@ -213,11 +213,11 @@ module _ (levels : ℕ) (readers : Readers) (parts : Rule → Parts) (part_after
           given x (u ∷ f) s q = absurd cc
 
           pair_reads : (rule : Rule) (inner : List Token) (v : Token × Tree) (close : List Token)
-              → is_of class t ≡ true → rule (record { opens = opens t; levels = levels; extra = extra t }) (t ∷ inner)
+              → is_of class t ≡ true → rule (record { opens = opens t; levels = levels; usage = usage t }) (t ∷ inner)
               ≡ true → (x : Tree) (mid : List Token) → Opened (parts rule) (opens t) inner x mid → (v ≡ (t, x))
-              × (close ≡ mid) → Reads rule levels (parts rule) (token class extra opens sample) (t ∷ inner) v close
+              × (close ≡ mid) → Reads rule levels (parts rule) (token class usage opens sample) (t ∷ inner) v close
           pair_reads rule inner v close h r x mid o e =
-              subst (λ (w : Token × Tree). Reads rule levels (parts rule) (token class extra opens sample) (t ∷ inner)
+              subst (λ (w : Token × Tree). Reads rule levels (parts rule) (token class usage opens sample) (t ∷ inner)
               w close) (sym e.0) (
                 inner,
                 refl,
@@ -234,12 +234,12 @@ module _ (levels : ℕ) (readers : Readers) (parts : Rule → Parts) (part_after
             value = (t, c.value);
             starts = λ none close f. absurd cc;
             reads = λ close f rule al le fo.
-                subst (λ (x : List Token). Reads rule levels (parts rule) (token class extra opens sample)
+                subst (λ (x : List Token). Reads rule levels (parts rule) (token class usage opens sample)
                 (t ∷ (x ++ (c.more ++ close))) (t, c.value) close) (sym empty) (
                   c.more ++ close,
                   refl,
                   h,
-                  fo (record { opens = opens t; levels = levels; extra = extra t }) k,
+                  fo (record { opens = opens t; levels = levels; usage = usage t }) k,
                   c.reads close f rule al le,
                 );
           }
@@ -259,14 +259,14 @@ module _ (levels : ℕ) (readers : Readers) (parts : Rule → Parts) (part_after
       front r (omega arith) (run levels readers g (front ++ r)) refl sh
 
   -- a token and what follows it, which begins in a class that depends on the token
-  pub completes-then : {A : Type 0} (class : Token → Bool) (extra : Token → Extra) (opens : Token → Option Part)
+  pub completes-then : {A : Type 0} (class : Token → Bool) (usage : Token → TokenUse) (opens : Token → Option Part)
       (sample : Token) (s : Symbol) (h : Token × Tree → Grammar A) (first : Token → Bool)
       (other : Token → Token → Bool) (after : Token → Bool) → is_written s ≡ true
       → ((p : Position) → is_of class (placed p s) ≡ true) → ((p : Position) → first (placed p s) ≡ true)
       → ((t : Token) → is_of class t ≡ true → Covers (other t) (opens t))
       → ((x : Token × Tree) → is_of class x.0 ≡ true → Completes (h x) (other x.0) after)
-      → Completes (bind (token class extra opens sample) h) first after
-  completes-then {A} class extra opens sample s h first other after written good good_first covers next p [] r sh =
+      → Completes (bind (token class usage opens sample) h) first after
+  completes-then {A} class usage opens sample s h first other after written good good_first covers next p [] r sh =
       let t : Token = placed p s in
       let c = bare-both (λ rule ts x rest. Opened (parts rule) (opens t) ts x rest)
       (λ rule x ts y rest. Reads rule levels (parts rule) (h (t, x)) ts y rest) (next_word p s) (λ t. true)
@@ -285,15 +285,15 @@ module _ (levels : ℕ) (readers : Readers) (parts : Rule → Parts) (part_after
                 c.more ++ close,
                 refl,
                 good p,
-                le (record { opens = opens t; levels = levels; extra = extra t }) (t ∷ (c.more ++ close))
+                le (record { opens = opens t; levels = levels; usage = usage t }) (t ∷ (c.more ++ close))
                     (omega arith),
                 i.2,
               ),
               i.3,
             );
       }
-  completes-then {A} class extra opens sample s h first other after written good good_first covers next p (t ∷ front) r
-      sh = go (is_of class t) refl (bar (record { opens = opens t; levels = levels; extra = extra t }) t) refl sh
+  completes-then {A} class usage opens sample s h first other after written good good_first covers next p (t ∷ front) r
+      sh = go (is_of class t) refl (bar (record { opens = opens t; levels = levels; usage = usage t }) t) refl sh
     where
       f : Token × Tree → List Token → Outcome A
       f a mid = run levels readers (h a) mid
@@ -305,12 +305,12 @@ module _ (levels : ℕ) (readers : Readers) (parts : Rule → Parts) (part_after
       bind_again (Stop why rest) = refl
 
       go : (c : Bool) → is_of class t ≡ c → (o : Option SyntaxKind)
-          → bar (record { opens = opens t; levels = levels; extra = extra t }) t ≡ o
+          → bar (record { opens = opens t; levels = levels; usage = usage t }) t ≡ o
           → Shows {A = A} (cond c (unless o (t ∷ (front ++ r))
           (opened readers (opens t) (front ++ r) >>= λ x mid. Took (t, x) mid))
           (Stop (blame t.symbol) (t ∷ (front ++ r))) >>= λ a mid. run levels readers (h a) mid) r
           → Completion {A = A} (λ rule ts a rest.
-          Reads rule levels (parts rule) (bind (token class extra opens sample) h) ts a rest) p
+          Reads rule levels (parts rule) (bind (token class usage opens sample) h) ts a rest) p
           (cond c (unless o (t ∷ (front ++ r)) (opened readers (opens t) (front ++ r) >>= λ x mid. Took (t, x) mid))
           (Stop (blame t.symbol) (t ∷ (front ++ r))) >>= λ a mid. run levels readers (h a) mid) first after (t ∷ front)
       go true e None k s =
@@ -322,14 +322,14 @@ module _ (levels : ℕ) (readers : Readers) (parts : Rule → Parts) (part_after
           (length (front ++ r))
           (λ ts. leaves-opened readers readers_leave (opens t) ts)
           (λ f s x b u e. steady-opened readers readers_steady (opens t) f s x b u e)
-          (λ rule al ts x rest e. sound-opened levels readers (parts rule) (readers_sound rule al) (extra t) t
+          (λ rule al ts x rest e. sound-opened levels readers (parts rule) (readers_sound rule al) (usage t) t
           (opens t) k ts x rest e) (λ x ts. leaves levels readers readers_leave (h (t, x)) ts)
-          (opened_completes (extra t) t (opens t) p (other t) (covers t e) k)
+          (opened_completes (usage t) t (opens t) p (other t) (covers t e) k)
           (λ q x. starts_of (h (t, x)) (other t) after (next (t, x) e) q) (λ x f s le k2. next (t, x) e p f s k2)
           front r (omega arith) (opened readers (opens t) (front ++ r)) refl
           (subst (λ (o : Outcome A). Shows o r) same s) in
           subst (λ (o : Outcome A). Completion {A = A}
-          (λ rule ts a rest. Reads rule levels (parts rule) (bind (token class extra opens sample) h) ts a rest) p
+          (λ rule ts a rest. Reads rule levels (parts rule) (bind (token class usage opens sample) h) ts a rest) p
           o first after (t ∷ front)) (sym same)
           (record {
             more = c.more;
@@ -344,7 +344,7 @@ module _ (levels : ℕ) (readers : Readers) (parts : Rule → Parts) (part_after
                     front ++ (c.more ++ close),
                     refl,
                     e,
-                    al (record { opens = opens t; levels = levels; extra = extra t }) t (front ++ (c.more ++ close)) k,
+                    al (record { opens = opens t; levels = levels; usage = usage t }) t (front ++ (c.more ++ close)) k,
                     b.2,
                   ),
                   b.3,
@@ -363,7 +363,7 @@ module _ (levels : ℕ) (readers : Readers) (parts : Rule → Parts) (part_after
             starts = λ none close f. absurd cc;
             reads = λ close f rule al le fo.
                 let b = c.reads close f rule al le in
-                subst (λ (x : List Token). Reads rule levels (parts rule) (bind (token class extra opens sample) h)
+                subst (λ (x : List Token). Reads rule levels (parts rule) (bind (token class usage opens sample) h)
                 (t ∷ (x ++ (c.more ++ close))) c.value close) (sym empty) (
                   (t, b.0),
                   b.1,
@@ -371,7 +371,7 @@ module _ (levels : ℕ) (readers : Readers) (parts : Rule → Parts) (part_after
                     c.more ++ close,
                     refl,
                     e,
-                    fo (record { opens = opens t; levels = levels; extra = extra t }) k,
+                    fo (record { opens = opens t; levels = levels; usage = usage t }) k,
                     b.2,
                   ),
                   b.3,
@@ -432,7 +432,7 @@ module _ (levels : ℕ) (readers : Readers) (parts : Rule → Parts) (part_after
             reads = λ close k rule al le fo. inr (e, c.reads close k rule al le fo);
           }
 
-  module _ {A : Type 0} (class : A → Token → Bool) (extra : A → Token → Extra) (opens : A → Token → Option Part)
+  module _ {A : Type 0} (class : A → Token → Bool) (usage : A → Token → TokenUse) (opens : A → Token → Option Part)
       (step : Token → Tree → A → Grammar A) (other : Token → Token → Bool) (after : Token → Bool)
       (covers : (a : A) (t : Token) → is_of (class a) t ≡ true → Covers (other t) (opens a t))
       (step_completes : (t : Token) (x : Tree) (a : A) → is_of (class a) t ≡ true
@@ -445,7 +445,7 @@ module _ (levels : ℕ) (readers : Readers) (parts : Rule → Parts) (part_after
 
     abbrev Turn : Rule → A → Token → List Token → A → List Token → Type 0
     Turn rule a t inner y next =
-        (rule (record { opens = opens a t; levels = levels; extra = extra a t }) (t ∷ inner) ≡ true) × (x : Tree)
+        (rule (record { opens = opens a t; levels = levels; usage = usage a t }) (t ∷ inner) ≡ true) × (x : Tree)
         × (mid : List Token) × Opened (parts rule) (opens a t) inner x mid
         × Reads rule levels (parts rule) (step t x a) mid y next
 
@@ -453,7 +453,7 @@ module _ (levels : ℕ) (readers : Readers) (parts : Rule → Parts) (part_after
     go_on a t inner = opened readers (opens a t) inner >>= λ x mid. run levels readers (step t x a) mid
 
     abbrev runs : ℕ → A → List Token → Outcome A
-    runs n a ts = turns n class (λ a t. bar (record { opens = opens a t; levels = levels; extra = extra a t }) t)
+    runs n a ts = turns n class (λ a t. bar (record { opens = opens a t; levels = levels; usage = usage a t }) t)
         (λ a t inner. opened readers (opens a t) inner >>= λ x mid. run levels readers (step t x a) mid) a ts
 
     go_on_leaves : (a : A) (t : Token) (inner : List Token) → Leaves (rest_of (go_on a t inner)) inner
@@ -464,7 +464,7 @@ module _ (levels : ℕ) (readers : Readers) (parts : Rule → Parts) (part_after
 
     runs_leaves : (n : ℕ) (a : A) (ts : List Token) → Leaves (rest_of (runs n a ts)) ts
     runs_leaves n a ts = leaves-turns class
-        (λ a t. bar (record { opens = opens a t; levels = levels; extra = extra a t }) t)
+        (λ a t. bar (record { opens = opens a t; levels = levels; usage = usage a t }) t)
         (λ a t inner. opened readers (opens a t) inner >>= λ x mid. run levels readers (step t x a) mid) go_on_leaves n
         a ts
 
@@ -478,14 +478,14 @@ module _ (levels : ℕ) (readers : Readers) (parts : Rule → Parts) (part_after
         (λ y u c h l. steady levels readers readers_leave readers_steady (step t y a) (u ∷ c) r x b s l) k
 
     inside_sound : (rule : Rule) → Allows rule → (a : A) (t : Token)
-        → bar (record { opens = opens a t; levels = levels; extra = extra a t }) t ≡ None
+        → bar (record { opens = opens a t; levels = levels; usage = usage a t }) t ≡ None
         → (inner : List Token) (y : A) (next : List Token) → go_on a t inner ≡ Took y next
         → Inside rule a t inner y next
     inside_sound rule al a t k inner y next e =
         let s = bind_took (opened readers (opens a t) inner) (λ x mid. run levels readers (step t x a) mid) y next e in (
           s.0,
           s.1,
-          sound-opened levels readers (parts rule) (readers_sound rule al) (extra a t) t (opens a t) k inner
+          sound-opened levels readers (parts rule) (readers_sound rule al) (usage a t) t (opens a t) k inner
               s.0 s.1 s.2,
           sound rule al levels readers (parts rule) readers_leave (readers_sound rule al) (step t s.0 a)
               s.1 y next s.3,
@@ -499,7 +499,7 @@ module _ (levels : ℕ) (readers : Readers) (parts : Rule → Parts) (part_after
         (λ q x. starts_of (step t x a) (other t) after (step_completes t x a h) q)
 
     inside_completes : (p : Position) (a : A) (t : Token) → is_of (class a) t ≡ true
-        → bar (record { opens = opens a t; levels = levels; extra = extra a t }) t ≡ None → (front r : List Token)
+        → bar (record { opens = opens a t; levels = levels; usage = usage a t }) t ≡ None → (front r : List Token)
         → Shows (go_on a t (front ++ r)) r
         → Completion (λ rule inner y next. Inside rule a t inner y next) p (go_on a t (front ++ r)) (λ t. true) after
         front
@@ -510,9 +510,9 @@ module _ (levels : ℕ) (readers : Readers) (parts : Rule → Parts) (part_after
         (length (front ++ r))
         (λ ts. leaves-opened readers readers_leave (opens a t) ts)
         (λ f s x b u e. steady-opened readers readers_steady (opens a t) f s x b u e)
-        (λ rule al ts x rest e. sound-opened levels readers (parts rule) (readers_sound rule al) (extra a t) t
+        (λ rule al ts x rest e. sound-opened levels readers (parts rule) (readers_sound rule al) (usage a t) t
         (opens a t) k ts x rest e) (λ x ts. leaves levels readers readers_leave (step t x a) ts)
-        (opened_completes (extra a t) t (opens a t) p (other t) (covers a t h) k)
+        (opened_completes (usage a t) t (opens a t) p (other t) (covers a t h) k)
         (λ q x. starts_of (step t x a) (other t) after (step_completes t x a h) q)
         (λ x f s le k2. step_completes t x a h p f s k2)
         front r (omega arith) (opened readers (opens a t) (front ++ r)) refl s
@@ -531,11 +531,11 @@ module _ (levels : ℕ) (readers : Readers) (parts : Rule → Parts) (part_after
         }
     completes-runs p zero a (t ∷ front) r le sh = absurd (omega arith)
     completes-runs p (suc n) a (t ∷ front) r le sh =
-        go (is_of (class a) t) refl (bar (record { opens = opens a t; levels = levels; extra = extra a t }) t) refl sh
+        go (is_of (class a) t) refl (bar (record { opens = opens a t; levels = levels; usage = usage a t }) t) refl sh
         (λ x f r2 le2 k2. completes-runs p n x f r2 le2 k2)
       where
         go : (c : Bool) → is_of (class a) t ≡ c → (o : Option SyntaxKind)
-            → bar (record { opens = opens a t; levels = levels; extra = extra a t }) t ≡ o
+            → bar (record { opens = opens a t; levels = levels; usage = usage a t }) t ≡ o
             → Shows (cond c (unless o (t ∷ (front ++ r)) (go_on a t (front ++ r) >>= λ x mid. runs n x mid))
             (Took a (t ∷ (front ++ r)))) r
             → ((x : A) (f r2 : List Token) → length (f ++ r2) ≤ n → Shows (runs n x (f ++ r2)) r2
@@ -556,7 +556,7 @@ module _ (levels : ℕ) (readers : Readers) (parts : Rule → Parts) (part_after
                   let i = c1.reads close f rule al le2 in
                   subst (λ (x : List Token). Turns class (Turn rule) a (t ∷ (x ++ (c1.more ++ close))) c1.value close)
                   (sym empty)
-                  (turn h (fo (record { opens = opens a t; levels = levels; extra = extra a t }) k, i.0, i.1, i.2, i.3)
+                  (turn h (fo (record { opens = opens a t; levels = levels; usage = usage a t }) k, i.0, i.1, i.2, i.3)
                   (stop (apart after (class c1.value) (far c1.value) close f)));
             }
         go true h None k s again =
@@ -586,7 +586,7 @@ module _ (levels : ℕ) (readers : Readers) (parts : Rule → Parts) (part_after
                   let b = c.reads close f rule al le2 fo in
                   let i = b.2 in
                   turn h (
-                    al (record { opens = opens a t; levels = levels; extra = extra a t }) t
+                    al (record { opens = opens a t; levels = levels; usage = usage a t }) t
                         (front ++ (c.more ++ close)) k,
                     i.0,
                     i.1,
@@ -595,5 +595,5 @@ module _ (levels : ℕ) (readers : Readers) (parts : Rule → Parts) (part_after
                   ) b.3;
             }
 
-    pub completes-many : (a : A) → Completes (many class extra opens step a) after after
+    pub completes-many : (a : A) → Completes (many class usage opens step a) after after
     completes-many a p front r sh = completes-runs p (length (front ++ r)) a front r (omega arith) sh

@@ -70,11 +70,11 @@ blames-opened readers h (Some part) ts = h part ts
 pub blames-run : (levels : ℕ) (readers : Readers) → ReadersBlame readers
     → {A : Type 0} (g : Grammar A) (ts : List Token) → Blames (run levels readers g ts)
 blames-run levels readers h (give a) ts = tt
-blames-run levels readers h (token class extra opens sample) [] = refl
-blames-run levels readers h (token class extra opens sample) (t ∷ ts) =
-    blames-unless class (record { opens = opens t; levels = levels; extra = extra t }) t ts
+blames-run levels readers h (token class usage opens sample) [] = refl
+blames-run levels readers h (token class usage opens sample) (t ∷ ts) =
+    blames-unless class (record { opens = opens t; levels = levels; usage = usage t }) t ts
     (opened readers (opens t) ts >>= λ x rest. Took (t, x) rest) (Stop (blame t.symbol) (t ∷ ts)) (is_of class t)
-    refl (bar (record { opens = opens t; levels = levels; extra = extra t }) t) refl
+    refl (bar (record { opens = opens t; levels = levels; usage = usage t }) t) refl
     (blames-bind (opened readers (opens t) ts) (λ x rest. Took (t, x) rest) (blames-opened readers h (opens t) ts)
     (λ x rest. tt)) (inr refl)
 blames-run levels readers h (bind g f) ts =
@@ -83,8 +83,8 @@ blames-run levels readers h (bind g f) ts =
 blames-run levels readers h (when class g f) ts =
     blames-cond (begins class ts) (run levels readers g ts) (run levels readers f ts)
     (blames-run levels readers h g ts) (blames-run levels readers h f ts)
-blames-run levels readers h (many class extra opens step a) ts =
-    blames-turns class (λ a t. record { opens = opens a t; levels = levels; extra = extra a t })
+blames-run levels readers h (many class usage opens step a) ts =
+    blames-turns class (λ a t. record { opens = opens a t; levels = levels; usage = usage a t })
     (λ a t inner. opened readers (opens a t) inner >>= λ x mid. run levels readers (step t x a) mid)
     (λ a t inner. blames-bind (opened readers (opens a t) inner) (λ x mid. run levels readers (step t x a) mid)
     (blames-opened readers h (opens a t) inner) (λ x mid. blames-run levels readers h (step t x a) mid))
@@ -106,7 +106,7 @@ bar_limit false false true kind e = subst (λ (k : SyntaxKind). IsLimitKind k) (
 bar_limit false false false kind e = absurd cc
 
 limit_kind : (usage : Use) (t : Token) (kind : SyntaxKind) → bar usage t ≡ Some kind → IsLimitKind kind
-limit_kind usage t kind e = bar_limit (is_too_large usage.extra t) (is_too_deep usage) (is_ambiguous usage t) kind e
+limit_kind usage t kind e = bar_limit (is_too_large usage.usage t) (is_too_deep usage) (is_ambiguous usage t) kind e
 
 by_number : (n d a : Bool) → barred_by n d a ≡ Some BadNumber → n ≡ true
 by_number true d a e = refl
@@ -128,9 +128,9 @@ by_ambiguity false false false e = absurd cc
 
 -- a use that is refused for a reason breaks the limit that the reason names
 broken : (usage : Use) (t : Token) (kind : SyntaxKind) → bar usage t ≡ Some kind → breaks kind usage t ≡ true
-broken usage t BadNumber e = by_number (is_too_large usage.extra t) (is_too_deep usage) (is_ambiguous usage t) e
-broken usage t TooDeep e = by_depth (is_too_large usage.extra t) (is_too_deep usage) (is_ambiguous usage t) e
-broken usage t Ambiguous e = by_ambiguity (is_too_large usage.extra t) (is_too_deep usage) (is_ambiguous usage t) e
+broken usage t BadNumber e = by_number (is_too_large usage.usage t) (is_too_deep usage) (is_ambiguous usage t) e
+broken usage t TooDeep e = by_depth (is_too_large usage.usage t) (is_too_deep usage) (is_ambiguous usage t) e
+broken usage t Ambiguous e = by_ambiguity (is_too_large usage.usage t) (is_too_deep usage) (is_ambiguous usage t) e
 broken usage t kind e = absurd (limit_kind usage t kind e)
 
 number_free : (n d a : Bool) (kind : SyntaxKind) → barred_by n d a ≡ Some kind → 3 < rank kind → n ≡ false
@@ -158,11 +158,11 @@ ambiguity_free false false false kind e lt = refl
 unbroken : (usage : Use) (t : Token) (kind other : SyntaxKind) → bar usage t ≡ Some kind → rank other < rank kind
     → breaks other usage t ≡ false
 unbroken usage t kind BadNumber e lt =
-    number_free (is_too_large usage.extra t) (is_too_deep usage) (is_ambiguous usage t) kind e lt
+    number_free (is_too_large usage.usage t) (is_too_deep usage) (is_ambiguous usage t) kind e lt
 unbroken usage t kind TooDeep e lt =
-    depth_free (is_too_large usage.extra t) (is_too_deep usage) (is_ambiguous usage t) kind e lt
+    depth_free (is_too_large usage.usage t) (is_too_deep usage) (is_ambiguous usage t) kind e lt
 unbroken usage t kind Ambiguous e lt =
-    ambiguity_free (is_too_large usage.extra t) (is_too_deep usage) (is_ambiguous usage t) kind e lt
+    ambiguity_free (is_too_large usage.usage t) (is_too_deep usage) (is_ambiguous usage t) kind e lt
 unbroken usage t kind _ e lt = refl
 
 all_free : (n d a : Bool) → barred_by n d a ≡ None → (n ≡ false) × (d ≡ false) × (a ≡ false)
@@ -173,9 +173,9 @@ all_free false false false e = (refl, refl, refl)
 
 -- a use that the limits allow breaks none
 free : (usage : Use) (t : Token) (kind : SyntaxKind) → bar usage t ≡ None → breaks kind usage t ≡ false
-free usage t BadNumber e = (all_free (is_too_large usage.extra t) (is_too_deep usage) (is_ambiguous usage t) e).0
-free usage t TooDeep e = (all_free (is_too_large usage.extra t) (is_too_deep usage) (is_ambiguous usage t) e).1
-free usage t Ambiguous e = (all_free (is_too_large usage.extra t) (is_too_deep usage) (is_ambiguous usage t) e).2
+free usage t BadNumber e = (all_free (is_too_large usage.usage t) (is_too_deep usage) (is_ambiguous usage t) e).0
+free usage t TooDeep e = (all_free (is_too_large usage.usage t) (is_too_deep usage) (is_ambiguous usage t) e).1
+free usage t Ambiguous e = (all_free (is_too_large usage.usage t) (is_too_deep usage) (is_ambiguous usage t) e).2
 free usage t _ e = refl
 
 cond_same : (c : Bool) (b : Bool) → b ≡ true → cond c b true ≡ true

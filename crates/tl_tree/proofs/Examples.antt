@@ -207,7 +207,7 @@ ambiguous = refl
 
 -- x:x and on the next line (x)
 method_is_clear : reads (row 1 1 (Name ∷ Colon ∷ Name ∷ []) ++ row 2 1 (OpenParen ∷ CloseParen ∷ []))
-    ≡ chunk_of (t.Perform (p 1) (t.Method (p 2) (x 1) (x 3) none))
+    ≡ chunk_of (t.CallStatement (p 1) (t.Method (p 2) (x 1) (x 3) none))
 method_is_clear = refl
 
 -- a hundred blocks are open, and one more
@@ -259,9 +259,9 @@ more_statements :
     (t.Block
     (none & t.LocalFunction (p 1) (x 3) (t.Body none false (t.Block none)) & t.Local (p 7) (none & x 8 & x 10)
     (none & x 12)
-    & t.Perform (p 14) (t.Call (p 19) (t.Select (p 17) (t.Paren (p 14) (x 15)) (x 18))
+    & t.CallStatement (p 14) (t.Call (p 19) (t.Select (p 17) (t.Paren (p 14) (x 15)) (x 18))
     (none & t.Literal (p 19) (39 ∷ 39 ∷ [])))
-    & t.Perform (p 20) (t.Method (p 21) (x 20) (x 22) (none & t.Table (p 23) (none & x 24)))))
+    & t.CallStatement (p 20) (t.Method (p 21) (x 20) (x 22) (none & t.Table (p 23) (none & x 24)))))
 more_statements = refl
 
 -- return nil, false, true, #x, not x, function() end

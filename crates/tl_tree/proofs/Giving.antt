@@ -3,7 +3,7 @@ use Rattle.std.proofs.Common.{◌≡◌, ℕ, Bool, true, List, Option, Some, No
 use Rattle.std.proofs.lemmas.Bool.{and_from}
 use Rattle.tl_base.specs.declared.place.Place.{Place}
 use Rattle.tl_tree.specs.declared.symbol.Symbol.{Symbol}
-use Rattle.tl_tree.specs.declared.mode.Extra.{Extra}
+use Rattle.tl_tree.specs.declared.mode.TokenUse.{TokenUse}
 use Rattle.tl_tree.specs.Tokens.{Token}
 use Rattle.tl_tree.specs.Tree.{Tree, More, Nothing, Part, Expression, Operand, Concatenation, Arguments, Fields}
 use Rattle.tl_tree.specs.Tree.{Statements, FunctionBody, Entries, TerraExpression, TerraOperand, TerraArguments}
@@ -98,9 +98,9 @@ module _ {rule : Rule} {levels : ℕ} {parts : Parts} where
 
   module _ (kept : Kept parts) where
     -- a token of a class, and what it opens
-    pub gives_token : {class : Token → Bool} {extra : Token → Extra} (opens : Token → Option Part) {sample : Token}
+    pub gives_token : {class : Token → Bool} {usage : Token → TokenUse} (opens : Token → Option Part) {sample : Token}
         → Gives rule levels parts (λ (x : Token × Tree). (is_of class x.0 ≡ true) × OpenedHas (opens x.0) x.1)
-        (token class extra opens sample)
+        (token class usage opens sample)
     gives_token opens = record { all = λ ts b rest h. (h.2, opened_has parts kept (opens b.0) h.0 b.1 rest h.4) }
 
     pub gives_opening : (s : Symbol) (part : Part)
@@ -112,11 +112,11 @@ module _ {rule : Rule} {levels : ℕ} {parts : Parts} where
     gives_opening_at s part = record { all = λ ts b rest h. kept (part b.0.place) h.0 b.1 rest h.4 }
 
     -- a repetition whose turns keep something
-    pub gives_many : {A : Type 0} {P : A → Type 0} {class : A → Token → Bool} {extra : A → Token → Extra}
+    pub gives_many : {A : Type 0} {P : A → Type 0} {class : A → Token → Bool} {usage : A → Token → TokenUse}
         {opens : A → Token → Option Part} {step : Token → Tree → A → Grammar A} {a : A} → P a
         → ((t : Token) (x : Tree) (b : A) → P b → is_of (class b) t ≡ true → OpenedHas (opens b t) x
-        → Gives rule levels parts P (step t x b)) → Gives rule levels parts P (many class extra opens step a)
-    gives_many {A} {P} {class} {extra} {opens} {step} {a} p q =
+        → Gives rule levels parts P (step t x b)) → Gives rule levels parts P (many class usage opens step a)
+    gives_many {A} {P} {class} {usage} {opens} {step} {a} p q =
         record {
           all = λ ts b rest h.
               turns_keep P class _ (λ c t us x mid pc is this.

@@ -4,8 +4,8 @@ use Rattle.std.proofs.Common.{◌≡◌, ℕ, Bool, true, false, List, [], ◌�
 use Rattle.tl_lex.specs.Answers.{Position}
 use Rattle.tl_base.specs.declared.place.Place.{Place}
 use Rattle.tl_tree.specs.declared.symbol.Symbol.{Symbol}
-use Rattle.tl_tree.specs.declared.mode.Extra.{Extra}
-use Rattle.tl_tree.specs.declared.mode.Extra.TheVariants.{Plain}
+use Rattle.tl_tree.specs.declared.mode.TokenUse.{TokenUse}
+use Rattle.tl_tree.specs.declared.mode.TokenUse.TheVariants.{Plain}
 use Rattle.tl_tree.specs.Tokens.{Token, among, is, sample}
 use Rattle.tl_tree.specs.Tree.{Tree, Part}
 use Rattle.tl_tree.specs.Grammar.{Grammar, give, token, bind, when, many, Rule, Parts, is_of}
@@ -70,11 +70,11 @@ begins-when {levels} {parts} {A} {class} {g} {h} {first} {after} q far =
     record { starts = bare-when levels parts class g h (among first) (among after) q.starts far }
 
 pub begins-many : {levels : ℕ} {parts : Rule → Parts} {A : Type 0} {class : A → Token → Bool}
-    {extra : A → Token → Extra} {opens : A → Token → Option Part} {step : Token → Tree → A → Grammar A} {a : A}
+    {usage : A → Token → TokenUse} {opens : A → Token → Option Part} {step : Token → Tree → A → Grammar A} {a : A}
     {after : List Symbol} → ((b : A) → Apart after (class b))
-    → Begins levels parts (many class extra opens step a) after after
-begins-many {levels} {parts} {A} {class} {extra} {opens} {step} {a} {after} far =
-    record { starts = bare-many levels parts class extra opens step a (among after) far }
+    → Begins levels parts (many class usage opens step a) after after
+begins-many {levels} {parts} {A} {class} {usage} {opens} {step} {a} {after} far =
+    record { starts = bare-many levels parts class usage opens step a (among after) far }
 
 -- ---- from any front
 
@@ -173,20 +173,20 @@ module _ {part_after : Part → Token → Bool} {s : Setting part_after} where
   goes-open k part q good written covers = goes-open_at k (λ place. part) q good written (λ place. covers)
 
   -- a token of a class, with all its uses, and what follows it
-  pub goes-token : {A : Type 0} {class : Token → Bool} {extra : Token → Extra} {opens : Token → Option Part}
+  pub goes-token : {A : Type 0} {class : Token → Bool} {usage : Token → TokenUse} {opens : Token → Option Part}
       {h : Token × Tree → Grammar A} {after : List Symbol} (k : Symbol) (other : Token → List Symbol)
       → ((t : Token) → is_of class t ≡ true → CoveredBy s (among (other t)) (opens t))
       → ((x : Token × Tree) → is_of class x.0 ≡ true → Goes s (h x) (other x.0) after)
       → ((p : Position) → is_of class (placed p k) ≡ true) → is_written k ≡ true
-      → Goes s (bind (token class extra opens (sample k)) h) (one k) after
-  goes-token {A} {class} {extra} {opens} {h} {after} k other covers next good written =
+      → Goes s (bind (token class usage opens (sample k)) h) (one k) after
+  goes-token {A} {class} {usage} {opens} {h} {after} k other covers next good written =
       record {
         completes =
-            completes-then s.levels s.readers s.parts part_after s.leave s.steady s.sound s.bare s.below class extra
+            completes-then s.levels s.readers s.parts part_after s.leave s.steady s.sound s.bare s.below class usage
             opens (sample k) k h (among (one k)) (λ t. among (other t)) (among after) written good
             (λ p. among_one k p) covers
             (λ x e. (next x e).completes);
-        turned = turned-then s.deep class extra opens (sample k) k h (among (one k)) (λ t. among (other t))
+        turned = turned-then s.deep class usage opens (sample k) k h (among (one k)) (λ t. among (other t))
             (among after) written good (λ p. among_one k p)
             (λ t e. covering s (among (other t)) (opens t) (covers t e)) (λ x e. (next x e).turned);
       }
@@ -201,17 +201,17 @@ module _ {part_after : Part → Token → Bool} {s : Setting part_after} where
             turned-when s.deep class g h (among first) (among other) (among after) p.turned q.turned far;
       }
 
-  pub goes-many : {A : Type 0} {class : A → Token → Bool} {extra : A → Token → Extra} {opens : A → Token → Option Part}
+  pub goes-many : {A : Type 0} {class : A → Token → Bool} {usage : A → Token → TokenUse} {opens : A → Token → Option Part}
       {step : Token → Tree → A → Grammar A} {a : A} {after : List Symbol} (other : Token → List Symbol)
       → ((b : A) (t : Token) → is_of (class b) t ≡ true → CoveredBy s (among (other t)) (opens b t))
       → ((t : Token) (x : Tree) (b : A) → is_of (class b) t ≡ true → Goes s (step t x b) (other t) after)
-      → ((b : A) → Apart after (class b)) → Goes s (many class extra opens step a) after after
-  goes-many {A} {class} {extra} {opens} {step} {a} {after} other covers next far =
+      → ((b : A) → Apart after (class b)) → Goes s (many class usage opens step a) after after
+  goes-many {A} {class} {usage} {opens} {step} {a} {after} other covers next far =
       record {
         completes =
-            completes-many s.levels s.readers s.parts part_after s.leave s.steady s.sound s.bare s.below class extra
+            completes-many s.levels s.readers s.parts part_after s.leave s.steady s.sound s.bare s.below class usage
             opens step (λ t. among (other t)) (among after) covers
             (λ t x b e. (next t x b e).completes) far a;
-        turned = turned-many s.deep class extra opens step (λ t. among (other t)) (among after)
+        turned = turned-many s.deep class usage opens step (λ t. among (other t)) (among after)
             (λ b t e. covering s (among (other t)) (opens b t) (covers b t e)) (λ t x b e. (next t x b e).turned) far a;
       }

@@ -152,19 +152,19 @@ step_keeps items k standing clear (Some scope) e x s h =
       ]
     ]
 
-stays : (items : Items) (k : ℕ) (standing : Standing) → Clear items k standing → (x : ℕ) (s : Scope) → scope_in standing x ≡ Some s
+may_continue : (items : Items) (k : ℕ) (standing : Standing) → Clear items k standing → (x : ℕ) (s : Scope) → scope_in standing x ≡ Some s
     → scope_in (give_below items k standing) x ≡ Some s
-stays items zero standing clear x s h = h
-stays items (suc k) standing clear x s h =
+may_continue items zero standing clear x s h = h
+may_continue items (suc k) standing clear x s h =
     let o = scope_in standing k in
-    stays items k (stepped items k standing o) (step_clear items k standing clear o refl) x s (step_keeps items k standing clear o refl x s h)
+    may_continue items k (stepped items k standing o) (step_clear items k standing clear o refl) x s (step_keeps items k standing clear o refl x s h)
 
 -- nodes from the number before the limit on keep what is known of them
-settled : (items : Items) (k : ℕ) (standing : Standing) (x : ℕ) → k ≤ suc x → scope_in (give_below items k standing) x ≡ scope_in standing x
-settled items zero standing x le = refl
-settled items (suc k) standing x le =
+as_variable : (items : Items) (k : ℕ) (standing : Standing) (x : ℕ) → k ≤ suc x → scope_in (give_below items k standing) x ≡ scope_in standing x
+as_variable items zero standing x le = refl
+as_variable items (suc k) standing x le =
     let ps = parts_if_any items (record { 0 = k }) (scope_in standing k) in
-    settled items k (give k standing ps) x (omega (arith, le)) ∙ kept_behind k standing ps x (omega (arith, le))
+    as_variable items k (give k standing ps) x (omega (arith, le)) ∙ kept_behind k standing ps x (omega (arith, le))
 
 -- ---- each node
 
@@ -183,7 +183,7 @@ gives items k standing lt clear scope h =
     let ps = parts items (record { 0 = k }) scope in
     subst (λ o. AllKnown (give_below items k (stepped items k standing o)) ps) (sym h)
     (each_more (λ p. scope_in (give k standing ps) p.node.0 ≡ Some p.scope) (λ p. scope_in (give_below items k (give k standing ps)) p.node.0 ≡ Some p.scope)
-    (λ p e. stays items k (give k standing ps) (step_clear items k standing clear (Some scope) h) p.node.0 p.scope e) ps
+    (λ p e. may_continue items k (give k standing ps) (step_clear items k standing clear (Some scope) h) p.node.0 p.scope e) ps
     (all_given items here.0 k standing ps (omega (arith, lt)) (parts_rowed items (record { 0 = k }) scope here.0 here.1)))
 
 known : (items : Items) (k : ℕ) (standing : Standing) → k ≤ length standing → Clear items k standing → (n : ℕ) → n < k → (scope : Scope)
@@ -198,7 +198,7 @@ known items (suc k) standing le clear n lt scope h =
           let e : k ≡ n = omega (arith, at, lt) in
           subst (λ m. AllKnown (give_below items (suc k) standing) (parts items (record { 0 = m }) scope)) e
           (gives items k standing (omega (arith, le)) clear scope
-          (sym (settled items (suc k) standing k (omega arith)) ∙ subst (λ m. scope_in (give_below items (suc k) standing) m ≡ Some scope) (sym e) h))
+          (sym (as_variable items (suc k) standing k (omega arith)) ∙ subst (λ m. scope_in (give_below items (suc k) standing) m ≡ Some scope) (sym e) h))
     ]
 
 -- ---- from the root on
@@ -241,7 +241,7 @@ length_at_first root = length-set (replicate (suc root.0) None) root.0 (Some (ou
 root_known : (items : Items) → scope_at items (last_of items) ≡ Some (outermost (last_of items))
 root_known items =
     let root = last_of items in
-    settled items (suc root.0) (standing_at_first root) root.0 (omega arith)
+    as_variable items (suc root.0) (standing_at_first root) root.0 (omega arith)
     ∙ get_or-set_same (replicate (suc root.0) None) root.0 (Some (outermost root)) None (omega (arith, length-replicate {A = Option Scope} (suc root.0) None))
 
 each_at : (P : Part → Type 0) (before : List Part) (part : Part) (after : List Part) → Each P (before ++ part ∷ after) → P part

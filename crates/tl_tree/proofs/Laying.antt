@@ -17,7 +17,7 @@ use Rattle.tl_tree.specs.Item.{Item}
 use Rattle.tl_tree.specs.Item as kept
 use Rattle.tl_tree.specs.Tree.{Tree}
 use Rattle.tl_tree.specs.Tree as t
-use Rattle.tl_tree.specs.Nodes.{Laid, laid, lay, node, last, last_of, item_at, absent_item, if_any}
+use Rattle.tl_tree.specs.Nodes.{Laid, added, lay, node, last, last_of, item_at, absent_item, if_any}
 use Rattle.tl_tree.specs.Kinds as kinds
 use Rattle.tl_tree.specs.Kinds.{WellFormed, IsWellFormedBlock}
 use Rattle.tl_tree.specs.Children.{children_of, HasChildrenFirst, LaysChildrenFirst, IsLaidOutApart}
@@ -344,7 +344,7 @@ just l = record {
 
 -- ---- each tree
 
-lies : (a : Tree) (s : Slot) → Fits s a → WellFormed a → (front : List Item) → LiesIn s a front (laid a front)
+lies : (a : Tree) (s : Slot) → Fits s a → WellFormed a → (front : List Item) → LiesIn s a front (added a front)
 lies t.Nothing Many f w front = nothing Many [] refl (λ at. refl) front
 lies t.Nothing Any f w front = nothing Any None refl (λ at. refl) front
 lies (t.More earlier next) Many f w front =
@@ -410,8 +410,8 @@ lies (t.Assign place a b) One f w front =
     two Many Many (t.Assign place) (λ p q. kept.Statement place (statements.Assign p q)) (λ p q. refl) (λ at p q. refl)
     (lies a Many (kind.all kinds.is_target kind.target a w.0.0) w.0.1 front)
     (lies b Many (kind.all kinds.is_expression kind.expression b w.1.0) w.1.1 (lay a front))
-lies (t.Perform place a) One f w front =
-    one One (t.Perform place) (λ p. kept.Statement place (statements.Call p)) (λ p. refl) (λ at p. refl)
+lies (t.CallStatement place a) One f w front =
+    one One (t.CallStatement place) (λ p. kept.Statement place (statements.Call p)) (λ p. refl) (λ at p. refl)
     (lies a One (kind.call a w.0) w.1 front)
 lies (t.Do place a) One f w front =
     one One (t.Do place) (λ p. kept.Statement place (statements.Do p)) (λ p. refl) (λ at p. refl)
@@ -536,8 +536,8 @@ lies (t.TerraAssign place a b) One f w front =
     (λ at p q. refl)
     (lies a Many (kind.terra_targets a w.0.0) w.0.1 front)
     (lies b Many (kind.all kinds.is_terra_expression kind.terra_expression b w.1.0) w.1.1 (lay a front))
-lies (t.TerraPerform place a) One f w front =
-    one One (t.TerraPerform place) (λ p. kept.TerraStatement place (terra_statements.Call p)) (λ p. refl) (λ at p. refl)
+lies (t.TerraCallStatement place a) One f w front =
+    one One (t.TerraCallStatement place) (λ p. kept.TerraStatement place (terra_statements.Call p)) (λ p. refl) (λ at p. refl)
     (lies a One (kind.terra_call a w.0) w.1 front)
 lies (t.Splice place a) One f w front =
     one One (t.Splice place) (λ p. kept.TerraStatement place (terra_statements.Splice p)) (λ p. refl) (λ at p. refl)
@@ -631,7 +631,7 @@ lies _ _ f w front = absurd (false≢true f)
 
 -- ---- the laws
 
-well_laid : (a : Tree) → IsWellFormedBlock a → LiesIn One a [] (laid a [])
+well_laid : (a : Tree) → IsWellFormedBlock a → LiesIn One a [] (added a [])
 well_laid a h = lies a One (kind.block a h.0) h.1 []
 
 no_children : HasChildrenFirst []

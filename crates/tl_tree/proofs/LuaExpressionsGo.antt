@@ -4,14 +4,14 @@ use Rattle.tl_tree.specs.declared.symbol.Symbol.{Symbol}
 use Rattle.tl_tree.specs.declared.symbol.Symbol.TheVariants as symbols
 use Rattle.tl_tree.specs.declared.mode.Mode.{Mode}
 use Rattle.tl_tree.specs.declared.mode.Mode.TheVariants.{Plain, Variadic, Types}
-use Rattle.tl_tree.specs.declared.mode.Shape.{Shape}
-use Rattle.tl_tree.specs.declared.mode.Shape.TheVariants as shapes
+use Rattle.tl_tree.specs.declared.mode.OperandKind.{OperandKind}
+use Rattle.tl_tree.specs.declared.mode.OperandKind.TheVariants as operands
 use Rattle.tl_tree.specs.Tokens.{Token, among, is, sample}
 use Rattle.tl_tree.specs.Tree.{Tree, Expression, Arguments, Fields, FunctionBody, Entries, TerraExpression}
 use Rattle.tl_tree.specs.Tree.{TerraFunctionBody, QuotedCode}
 use Rattle.tl_tree.specs.Grammar.{Grammar, give, bind, Rule, Parts, is_of}
 use Rattle.tl_tree.specs.Forms.{sign, Chained, comparisons, additive, multiplicative}
-use Rattle.tl_tree.specs.LuaExpressions.{paren, base, suffix_symbols, stays, Suffix, InParens, InBrackets, Selects}
+use Rattle.tl_tree.specs.LuaExpressions.{paren, base, suffix_symbols, may_continue, Suffix, InParens, InBrackets, Selects}
 use Rattle.tl_tree.specs.LuaExpressions.{CallsMethod, WithTable, WithText, suffix_of, suffix_opens, arguments, suffix}
 use Rattle.tl_tree.specs.LuaExpressions.{suffixes, prefix, as_operand, is_varargs, function, table, struct_body}
 use Rattle.tl_tree.specs.LuaExpressions.{terra_symbols, begins_terra, terra_code, primary, operation, power}
@@ -48,14 +48,14 @@ module _ {levels : ℕ} {parts : Rule → Parts} where
   begins-base = begins-when (begins-next begins-name (λ n. begins-give))
       (apart_from only_name (one symbols.OpenParen) refl)
 
-  pub begins-prefix : {m : Mode} {left : ℕ} → Begins levels parts (prefix m left) only_name after_expression
-  begins-prefix {m} {left} =
+  pub begins-prefix : {m : Mode} {links : ℕ} → Begins levels parts (prefix m links) only_name after_expression
+  begins-prefix {m} {links} =
       begins-next begins-base (λ b.
-      begins-next (begins-many (λ c. apart_from_and after_expression suffix_symbols (stays m) refl))
+      begins-next (begins-many (λ c. apart_from_and after_expression suffix_symbols (may_continue m) refl))
       (λ a. begins-give))
 
-  begins-primary : {m : Mode} {left : ℕ} → Begins levels parts (primary m left) only_name after_expression
-  begins-primary {m} {left} =
+  begins-primary : {m : Mode} {links : ℕ} → Begins levels parts (primary m links) only_name after_expression
+  begins-primary {m} {links} =
       begins-when
       (begins-when
       (begins-when
@@ -73,35 +73,35 @@ module _ {levels : ℕ} {parts : Rule → Parts} where
       (apart_from only_name (one symbols.Literal) refl))
       (apart_from only_name (one symbols.Numeral) refl)
 
-  begins-power : {m : Mode} {left : ℕ} → Begins levels parts (power m left) only_name after_expression
+  begins-power : {m : Mode} {links : ℕ} → Begins levels parts (power m links) only_name after_expression
   begins-power = begins-next (begins-primary) (λ a. begins-right_operator operation symbols.Caret after_expression refl)
 
-  pub begins-unary : {m : Mode} {left : ℕ} → Begins levels parts (unary m left) only_name after_expression
+  pub begins-unary : {m : Mode} {links : ℕ} → Begins levels parts (unary m links) only_name after_expression
   begins-unary = begins-when (begins-power) (apart_from only_name prefix_symbols refl)
 
-  begins-product : {m : Mode} {left : ℕ} → Begins levels parts (product m left) only_name after_expression
+  begins-product : {m : Mode} {links : ℕ} → Begins levels parts (product m links) only_name after_expression
   begins-product {m} = begins-next (begins-unary)
       (λ a. begins-operators multiplicative (unary m) operation after_expression refl)
 
-  begins-sum : {m : Mode} {left : ℕ} → Begins levels parts (sum m left) only_name after_expression
+  begins-sum : {m : Mode} {links : ℕ} → Begins levels parts (sum m links) only_name after_expression
   begins-sum {m} = begins-next (begins-product)
       (λ a. begins-operators additive (product m) operation after_expression refl)
 
-  pub begins-concatenation : {m : Mode} {left : ℕ}
-      → Begins levels parts (concatenation m left) only_name after_expression
+  pub begins-concatenation : {m : Mode} {links : ℕ}
+      → Begins levels parts (concatenation m links) only_name after_expression
   begins-concatenation = begins-next (begins-sum)
       (λ a. begins-right_operator operation symbols.DoubleDot after_expression refl)
 
-  begins-comparison : {m : Mode} {left : ℕ} → Begins levels parts (comparison m left) only_name after_expression
+  begins-comparison : {m : Mode} {links : ℕ} → Begins levels parts (comparison m links) only_name after_expression
   begins-comparison {m} = begins-next (begins-concatenation)
       (λ a. begins-operators comparisons (concatenation m) operation after_expression refl)
 
-  begins-conjunction : {m : Mode} {left : ℕ} → Begins levels parts (conjunction m left) only_name after_expression
+  begins-conjunction : {m : Mode} {links : ℕ} → Begins levels parts (conjunction m links) only_name after_expression
   begins-conjunction {m} =
       begins-next (begins-comparison)
       (λ a. begins-operators (one symbols.And) (comparison m) operation after_expression refl)
 
-  begins-disjunction : {m : Mode} {left : ℕ} → Begins levels parts (disjunction m left) only_name after_expression
+  begins-disjunction : {m : Mode} {links : ℕ} → Begins levels parts (disjunction m links) only_name after_expression
   begins-disjunction {m} =
       begins-next (begins-conjunction)
       (λ a. begins-operators (one symbols.Or) (conjunction m) operation after_expression refl)
@@ -124,15 +124,15 @@ module _ {levels : ℕ} {parts : Rule → Parts} where
       begins-when (begins-bind (begins-expression) (λ e. begins-listed_behind (one symbols.CloseParen) refl) refl)
       (apart_from only_name (one symbols.CloseParen) refl)
 
-  begins-field_behind : (m : Mode) (shape : Shape) (e : Tree)
-      → Begins levels parts (field_behind m shape e) (one symbols.CloseBrace) (one symbols.CloseBrace)
-  begins-field_behind m shapes.Name e =
+  begins-field_behind : (m : Mode) (kind : OperandKind) (e : Tree)
+      → Begins levels parts (field_behind m kind e) (one symbols.CloseBrace) (one symbols.CloseBrace)
+  begins-field_behind m operands.Name e =
       begins-when begins-give (apart_from (one symbols.CloseBrace) (one symbols.Equal) refl)
   begins-field_behind m _ e = begins-give
 
   begins-field : {m : Mode} → Begins levels parts (field m) only_name (one symbols.CloseBrace)
   begins-field {m} = begins-when
-      (begins-bind (begins-chained_expression) (λ e. begins-field_behind m e.shape e.tree) refl)
+      (begins-bind (begins-chained_expression) (λ e. begins-field_behind m e.kind e.tree) refl)
       (apart_from only_name (one symbols.OpenBracket) refl)
 
   pub begins-fields : {m : Mode} → Begins levels parts (fields m) only_name (one symbols.CloseBrace)
@@ -194,18 +194,18 @@ module _ {s : Setting after_part} where
   goes-suffixes {m} {a} xs d =
       goes-many (λ t. suffix_first (suffix_of t.symbol) xs) (λ b t h. suffix_covers s m (suffix_of t.symbol) xs)
       (λ t x b h. goes-suffix m t x b (suffix_of t.symbol) xs)
-      (λ b. apart_from_and xs suffix_symbols (stays m) d)
+      (λ b. apart_from_and xs suffix_symbols (may_continue m) d)
 
-  goes-prefix : {m : Mode} {left : ℕ} → Goes s (prefix m left) only_name after_expression
+  goes-prefix : {m : Mode} {links : ℕ} → Goes s (prefix m links) only_name after_expression
   goes-prefix = goes-next goes-base (λ b. goes-next (goes-suffixes after_expression refl) (λ a. goes-give))
 
-  pub goes-as_operand : {left : ℕ} {x : Grammar Tree} {first xs : List Symbol} → Goes s x first xs
-      → Goes s (as_operand left x) first xs
+  pub goes-as_operand : {links : ℕ} {x : Grammar Tree} {first xs : List Symbol} → Goes s x first xs
+      → Goes s (as_operand links x) first xs
   goes-as_operand p = goes-next p (λ e. goes-give)
 
   -- a token alone, as an operand
-  pub goes-leaf : {left : ℕ} {f : Token × Tree → Tree} {xs : List Symbol} (k : Symbol) → is_of (is k) (sample k) ≡ true
-      → is_written k ≡ true → Goes s (as_operand left (bind (sign k) λ x. give (f x))) (one k) xs
+  pub goes-leaf : {links : ℕ} {f : Token × Tree → Tree} {xs : List Symbol} (k : Symbol) → is_of (is k) (sample k) ≡ true
+      → is_written k ≡ true → Goes s (as_operand links (bind (sign k) λ x. give (f x))) (one k) xs
   goes-leaf k good written = goes-as_operand (goes-closed k good written)
 
   goes-function : Goes s function (one symbols.Function) after_expression
@@ -236,8 +236,8 @@ module _ {s : Setting after_part} where
       (apart_from (one symbols.Backtick) (one symbols.Struct) refl))
       (apart_from (one symbols.Backtick) (one symbols.Terra) refl)
 
-  goes-primary : {m : Mode} {left : ℕ} → Goes s (primary m left) only_name after_expression
-  goes-primary {m} {left} =
+  goes-primary : {m : Mode} {links : ℕ} → Goes s (primary m links) only_name after_expression
+  goes-primary {m} {links} =
       goes-when (goes-as_operand
       (goes-token symbols.Numeral (λ t. after_expression) (λ t h. tt) (λ x h. goes-give) (λ p. refl) refl))
       (goes-when (goes-leaf symbols.Literal refl refl)
@@ -257,37 +257,37 @@ module _ {s : Setting after_part} where
       (apart_from only_name (one symbols.Literal) refl))
       (apart_from only_name (one symbols.Numeral) refl)
 
-  goes-power : {m : Mode} {left : ℕ} → Goes s (power m left) only_name after_expression
+  goes-power : {m : Mode} {links : ℕ} → Goes s (power m links) only_name after_expression
   goes-power = goes-next (goes-primary)
       (λ a. goes-right_operator operation symbols.Caret after_expression refl refl refl refl)
 
-  goes-unary : {m : Mode} {left : ℕ} → Goes s (unary m left) only_name after_expression
+  goes-unary : {m : Mode} {links : ℕ} → Goes s (unary m links) only_name after_expression
   goes-unary =
       goes-when (goes-token symbols.Minus (λ t. after_expression)
       (λ t h. within after_expression after_expression refl) (λ x h. goes-give) (λ p. refl) refl) (goes-power)
       (apart_from only_name prefix_symbols refl)
 
-  goes-product : {m : Mode} {left : ℕ} → Goes s (product m left) only_name after_expression
+  goes-product : {m : Mode} {links : ℕ} → Goes s (product m links) only_name after_expression
   goes-product {m} = goes-next (goes-unary)
       (λ a. goes-operators multiplicative (unary m) operation a after_expression (λ n. goes-unary) refl)
 
-  goes-sum : {m : Mode} {left : ℕ} → Goes s (sum m left) only_name after_expression
+  goes-sum : {m : Mode} {links : ℕ} → Goes s (sum m links) only_name after_expression
   goes-sum {m} = goes-next (goes-product)
       (λ a. goes-operators additive (product m) operation a after_expression (λ n. goes-product) refl)
 
-  goes-concatenation : {m : Mode} {left : ℕ} → Goes s (concatenation m left) only_name after_expression
+  goes-concatenation : {m : Mode} {links : ℕ} → Goes s (concatenation m links) only_name after_expression
   goes-concatenation = goes-next (goes-sum)
       (λ a. goes-right_operator operation symbols.DoubleDot after_expression refl refl refl refl)
 
-  goes-comparison : {m : Mode} {left : ℕ} → Goes s (comparison m left) only_name after_expression
+  goes-comparison : {m : Mode} {links : ℕ} → Goes s (comparison m links) only_name after_expression
   goes-comparison {m} = goes-next (goes-concatenation)
       (λ a. goes-operators comparisons (concatenation m) operation a after_expression (λ n. goes-concatenation) refl)
 
-  goes-conjunction : {m : Mode} {left : ℕ} → Goes s (conjunction m left) only_name after_expression
+  goes-conjunction : {m : Mode} {links : ℕ} → Goes s (conjunction m links) only_name after_expression
   goes-conjunction {m} = goes-next (goes-comparison)
       (λ a. goes-operators (one symbols.And) (comparison m) operation a after_expression (λ n. goes-comparison) refl)
 
-  goes-disjunction : {m : Mode} {left : ℕ} → Goes s (disjunction m left) only_name after_expression
+  goes-disjunction : {m : Mode} {links : ℕ} → Goes s (disjunction m links) only_name after_expression
   goes-disjunction {m} = goes-next (goes-conjunction)
       (λ a. goes-operators (one symbols.Or) (conjunction m) operation a after_expression (λ n. goes-conjunction) refl)
 
@@ -319,9 +319,9 @@ module _ {s : Setting after_part} where
       → Goes s (bind (expression m) λ v. give (f v)) only_name xs
   goes-value xs w = goes-bind (goes-expression) (λ v. goes-give) w
 
-  goes-field_behind : (m : Mode) (shape : Shape) (e : Tree)
-      → Goes s (field_behind m shape e) (one symbols.CloseBrace) (one symbols.CloseBrace)
-  goes-field_behind m shapes.Name e =
+  goes-field_behind : (m : Mode) (kind : OperandKind) (e : Tree)
+      → Goes s (field_behind m kind e) (one symbols.CloseBrace) (one symbols.CloseBrace)
+  goes-field_behind m operands.Name e =
       goes-when (goes-then symbols.Equal (λ y. goes-value (one symbols.CloseBrace) refl) refl refl) goes-give
       (apart_from (one symbols.CloseBrace) (one symbols.Equal) refl)
   goes-field_behind m _ e = goes-give
@@ -335,7 +335,7 @@ module _ {s : Setting after_part} where
 
   goes-field : {m : Mode} → Goes s (field m) only_name (one symbols.CloseBrace)
   goes-field {m} = goes-when (goes-keyed_field)
-      (goes-bind (goes-chained_expression) (λ e. goes-field_behind m e.shape e.tree) refl)
+      (goes-bind (goes-chained_expression) (λ e. goes-field_behind m e.kind e.tree) refl)
       (apart_from only_name (one symbols.OpenBracket) refl)
 
   pub goes-fields : {m : Mode} → Goes s (fields m) only_name (one symbols.CloseBrace)

@@ -6,8 +6,8 @@ use Rattle.tl_tree.specs.declared.symbol.Symbol.{Symbol}
 use Rattle.tl_tree.specs.declared.symbol.Symbol.TheVariants as symbols
 use Rattle.tl_tree.specs.declared.mode.Mode.{Mode}
 use Rattle.tl_tree.specs.declared.mode.Context.{Context}
-use Rattle.tl_tree.specs.declared.mode.Shape.{Shape}
-use Rattle.tl_tree.specs.declared.mode.Shape.TheVariants as shapes
+use Rattle.tl_tree.specs.declared.mode.OperandKind.{OperandKind}
+use Rattle.tl_tree.specs.declared.mode.OperandKind.TheVariants as operands
 use Rattle.tl_tree.specs.Symbols.{number_of, has, is_bad}
 use Rattle.tl_tree.specs.Tokens.{Token, among}
 use Rattle.tl_tree.specs.Tree.{Tree, Nothing, More, Name, Literal, Table, Part, Expression, Operand, Concatenation}
@@ -42,25 +42,25 @@ expression_field (trees.KeyedField key value) h = absurd (false≢true h)
 expression_field _ h = h
 
 -- what a shape says of its tree
-abbrev lua_fits : Shape → Tree → Bool
-lua_fits shapes.Name a = is_name a
-lua_fits shapes.Variable a = is_target a
-lua_fits shapes.Call a = is_call a
+abbrev lua_fits : OperandKind → Tree → Bool
+lua_fits operands.Name a = is_name a
+lua_fits operands.Variable a = is_target a
+lua_fits operands.Call a = is_call a
 lua_fits _ a = true
 
 -- an operand
 abbrev pub Lua : Chained → Type 0
-Lua a = (is_expression a.tree ≡ true) × (lua_fits a.shape a.tree ≡ true) × WellFormed a.tree
+Lua a = (is_expression a.tree ≡ true) × (lua_fits a.kind a.tree ≡ true) × WellFormed a.tree
 
 -- a name, a variable or a call, and not brackets alone
-abbrev is_applied : Shape → Bool
-is_applied shapes.Name = true
-is_applied shapes.Variable = true
-is_applied shapes.Call = true
+abbrev is_applied : OperandKind → Bool
+is_applied operands.Name = true
+is_applied operands.Variable = true
+is_applied operands.Call = true
 is_applied _ = false
 
 abbrev Applied : Chained → Type 0
-Applied a = Lua a × (is_applied a.shape ≡ true)
+Applied a = Lua a × (is_applied a.kind ≡ true)
 
 -- a target
 abbrev Settled : Chained → Type 0
@@ -102,7 +102,7 @@ module _ (rule : Rule) (levels : ℕ) (parts : Parts) (kept : Kept parts) where
   paren m = gives_bind (λ (x : Token × Tree). Has is_expression x.1)
       (gives_opening kept symbols.OpenParen (Expression m)) (λ x p. gives_then (λ y. gives_value (refl, refl, p)))
 
-  named_base : Of Applied (bind name λ n. give (chained n chain shapes.Name))
+  named_base : Of Applied (bind name λ n. give (chained n chain operands.Name))
   named_base = gives_bind (Has is_name) name_is (λ n p. gives_value ((name_expression n p.0, p.0, p.1), refl))
 
   base : (m : Mode) → Of Lua (lua.base m)
@@ -181,7 +181,7 @@ module _ (rule : Rule) (levels : ℕ) (parts : Parts) (kept : Kept parts) where
   binary : (ss : List Symbol) (x : ℕ → Grammar Chained) (a : Chained) → ((n : ℕ) → Of Lua (x n)) → Lua a
       → Of Lua (operators ss x lua.operation a)
   binary ss x a p q = gives_many kept q
-      (λ t y b r is o. gives_bind Lua (p (down b.left)) (λ d s. gives_value (refl, refl, ((r.0, r.2), (s.0, s.2)))))
+      (λ t y b r is o. gives_bind Lua (p (down b.links)) (λ d s. gives_value (refl, refl, ((r.0, r.2), (s.0, s.2)))))
 
   right : (s : Symbol) (part : Part) (a : Chained) → ((z : Tree) → PartHas part z → is_expression z ≡ true) → Lua a
       → Of Lua (right_operator s part lua.operation a)
@@ -229,17 +229,17 @@ module _ (rule : Rule) (levels : ℕ) (parts : Parts) (kept : Kept parts) where
 
   -- ---- fields and entries
 
-  field_behind : (m : Mode) (shape : Shape) (e : Tree) → is_expression e ≡ true → lua_fits shape e ≡ true
-      → WellFormed e → Of (Has is_field) (lua.field_behind m shape e)
-  field_behind m shapes.Name e p q w =
+  field_behind : (m : Mode) (kind : OperandKind) (e : Tree) → is_expression e ≡ true → lua_fits kind e ≡ true
+      → WellFormed e → Of (Has is_field) (lua.field_behind m kind e)
+  field_behind m operands.Name e p q w =
       gives_when (gives_then (λ y.
       gives_bind (Has is_expression) (expression m)
       (λ v r. gives_value (and_from (is_name e) (is_expression v) q r.0, (w, r.1)))))
       (gives_value (expression_field e p, w))
-  field_behind m shapes.Variable e p q w = gives_value (expression_field e p, w)
-  field_behind m shapes.Call e p q w = gives_value (expression_field e p, w)
-  field_behind m shapes.Escape e p q w = gives_value (expression_field e p, w)
-  field_behind m shapes.Other e p q w = gives_value (expression_field e p, w)
+  field_behind m operands.Variable e p q w = gives_value (expression_field e p, w)
+  field_behind m operands.Call e p q w = gives_value (expression_field e p, w)
+  field_behind m operands.Escape e p q w = gives_value (expression_field e p, w)
+  field_behind m operands.Other e p q w = gives_value (expression_field e p, w)
 
   field : (m : Mode) → Of (Has is_field) (lua.field m)
   field m =
@@ -248,7 +248,7 @@ module _ (rule : Rule) (levels : ℕ) (parts : Parts) (kept : Kept parts) where
       (λ k p. gives_then (λ y. gives_then (λ z.
       gives_bind (Has is_expression) (expression m)
       (λ v q. gives_value (and_from (is_expression k.1) (is_expression v) p.0 q.0, (p.1, q.1)))))))
-      (gives_bind Lua (chained_expression m) (λ e p. field_behind m e.shape e.tree p.0 p.1 p.2))
+      (gives_bind Lua (chained_expression m) (λ e p. field_behind m e.kind e.tree p.0 p.1 p.2))
 
   fields : (m : Mode) → Of (Has (are is_field)) (lua.fields m)
   fields m = gives_when (gives_value (refl, tt))
@@ -277,18 +277,18 @@ module _ (rule : Rule) (levels : ℕ) (parts : Parts) (kept : Kept parts) where
       index m _ t x a selects o p =
           gives_bind (Has is_name) name_is (λ n q. gives_value ((refl, refl, ((p.0, p.2), q)), refl))
 
-  settled : (m : Mode) (shape : Shape) (a : Chained) → Lua a → lua_fits shape a.tree ≡ true → is_applied shape ≡ true
-      → Of Settled (statements.settled m shape a)
-  settled m shapes.Call a p q r = to_variable m a p
-  settled m shapes.Name a p q r = gives_value (p, name_target a.tree q)
-  settled m shapes.Variable a p q r = gives_value (p, q)
-  settled m shapes.Escape a p q r = absurd (false≢true r)
-  settled m shapes.Other a p q r = absurd (false≢true r)
+  as_variable : (m : Mode) (kind : OperandKind) (a : Chained) → Lua a → lua_fits kind a.tree ≡ true → is_applied kind ≡ true
+      → Of Settled (statements.as_variable m kind a)
+  as_variable m operands.Call a p q r = to_variable m a p
+  as_variable m operands.Name a p q r = gives_value (p, name_target a.tree q)
+  as_variable m operands.Variable a p q r = gives_value (p, q)
+  as_variable m operands.Escape a p q r = absurd (false≢true r)
+  as_variable m operands.Other a p q r = absurd (false≢true r)
 
   variable_suffixes : (m : Mode) (a : Chained) → Settled a → Of Settled (statements.variable_suffixes m a)
   variable_suffixes m a p =
       gives_many kept p (λ t x b q is o.
-      gives_bind Applied (suffix m (lua.suffix_of t.symbol) t x b o q.0) (λ d r. settled m d.shape d r.0 r.0.1 r.1))
+      gives_bind Applied (suffix m (lua.suffix_of t.symbol) t x b o q.0) (λ d r. as_variable m d.kind d r.0 r.0.1 r.1))
 
   variable : (m : Mode) → Of (Has is_target) (statements.variable m)
   variable m =
@@ -297,7 +297,7 @@ module _ (rule : Rule) (levels : ℕ) (parts : Parts) (kept : Kept parts) where
       (λ d q. gives_bind Settled (variable_suffixes m d q) (λ a r. gives_value (r.1, r.0.2)))))
       (gives_bind (Has is_name) name_is
       (λ n p. gives_bind Settled
-      (variable_suffixes m (chained n chain shapes.Name) ((name_expression n p.0, p.0, p.1), name_target n p.0))
+      (variable_suffixes m (chained n chain operands.Name) ((name_expression n p.0, p.0, p.1), name_target n p.0))
       (λ a r. gives_value (r.1, r.0.2))))
 
   next_suffix : (m : Mode) (a : Chained) → Lua a → Of Applied (statements.next_suffix m a)
@@ -311,13 +311,13 @@ module _ (rule : Rule) (levels : ℕ) (parts : Parts) (kept : Kept parts) where
       (λ targets q. gives_then (λ y.
       gives_bind (Has (are is_expression)) (expressions m) (λ es r. gives_value (refl, (q, r)))))
 
-  call_or_assignment : (m : Mode) (t : Token) (shape : Shape) (e : Tree) → lua_fits shape e ≡ true
-      → is_applied shape ≡ true → WellFormed e → Of (Has is_statement) (statements.call_or_assignment m t shape e)
-  call_or_assignment m t shapes.Call e q r w = gives_value (refl, (q, w))
-  call_or_assignment m t shapes.Name e q r w = assignment m t e (name_target e q, w)
-  call_or_assignment m t shapes.Variable e q r w = assignment m t e (q, w)
-  call_or_assignment m t shapes.Escape e q r w = absurd (false≢true r)
-  call_or_assignment m t shapes.Other e q r w = absurd (false≢true r)
+  call_or_assignment : (m : Mode) (t : Token) (kind : OperandKind) (e : Tree) → lua_fits kind e ≡ true
+      → is_applied kind ≡ true → WellFormed e → Of (Has is_statement) (statements.call_or_assignment m t kind e)
+  call_or_assignment m t operands.Call e q r w = gives_value (refl, (q, w))
+  call_or_assignment m t operands.Name e q r w = assignment m t e (name_target e q, w)
+  call_or_assignment m t operands.Variable e q r w = assignment m t e (q, w)
+  call_or_assignment m t operands.Escape e q r w = absurd (false≢true r)
+  call_or_assignment m t operands.Other e q r w = absurd (false≢true r)
 
   -- ---- paths and parts of statements
 
@@ -404,12 +404,12 @@ module _ (rule : Rule) (levels : ℕ) (parts : Parts) (kept : Kept parts) where
   statement : (c : Context) (k : statements.Statement) (t : Token) (x : Tree)
       → OpenedHas (statements.statement_opens c k) x → Of (Has is_statement) (statements.statement c k t x)
   statement c statements.FromName t x o =
-      gives_bind Applied (applied c.mode (chained (Name t.place t.offset t.text) chain shapes.Name)
-      ((refl, refl, tt), refl)) (λ a p. call_or_assignment c.mode t a.shape a.tree p.0.1 p.1 p.0.2)
+      gives_bind Applied (applied c.mode (chained (Name t.place t.offset t.text) chain operands.Name)
+      ((refl, refl, tt), refl)) (λ a p. call_or_assignment c.mode t a.kind a.tree p.0.1 p.1 p.0.2)
   statement c statements.FromParen t x o =
       gives_then (λ y. gives_bind Applied
-      (next_suffix c.mode (chained (trees.Paren t.place x) chain shapes.Other) (refl, refl, o)) (λ b p.
-      gives_bind Applied (applied c.mode b p) (λ a q. call_or_assignment c.mode t a.shape a.tree q.0.1 q.1 q.0.2)))
+      (next_suffix c.mode (chained (trees.Paren t.place x) chain operands.Other) (refl, refl, o)) (λ b p.
+      gives_bind Applied (applied c.mode b p) (λ a q. call_or_assignment c.mode t a.kind a.tree q.0.1 q.1 q.0.2)))
   statement c statements.FromDo t x o = gives_then (λ y. gives_value (refl, o))
   statement c statements.FromWhile t x o =
       gives_bind (Has is_expression) (expression c.mode)

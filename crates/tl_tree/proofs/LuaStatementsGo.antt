@@ -6,14 +6,14 @@ use Rattle.tl_tree.specs.declared.symbol.Symbol.TheVariants as symbols
 use Rattle.tl_tree.specs.declared.mode.Mode.{Mode}
 use Rattle.tl_tree.specs.declared.mode.Mode.TheVariants.{Plain, Variadic, Types}
 use Rattle.tl_tree.specs.declared.mode.Context.{Context}
-use Rattle.tl_tree.specs.declared.mode.Shape.{Shape}
-use Rattle.tl_tree.specs.declared.mode.Shape.TheVariants as shapes
+use Rattle.tl_tree.specs.declared.mode.OperandKind.{OperandKind}
+use Rattle.tl_tree.specs.declared.mode.OperandKind.TheVariants as operands
 use Rattle.tl_tree.specs.Tokens.{Token, among}
 use Rattle.tl_tree.specs.Tree.{Tree, Statements, FunctionBody, TerraFunctionBody}
 use Rattle.tl_tree.specs.Grammar.{Rule, Parts, is_of}
 use Rattle.tl_tree.specs.Forms.{Chained}
-use Rattle.tl_tree.specs.LuaExpressions.{suffix_symbols, stays, is_suffix, suffix_of, begins_terra}
-use Rattle.tl_tree.specs.LuaStatements.{looped, fresh, next_suffix, call_symbols, index_symbols, to_variable, settled}
+use Rattle.tl_tree.specs.LuaExpressions.{suffix_symbols, may_continue, is_suffix, suffix_of, begins_terra}
+use Rattle.tl_tree.specs.LuaStatements.{looped, fresh, next_suffix, call_symbols, index_symbols, to_variable, as_variable}
 use Rattle.tl_tree.specs.LuaStatements.{variable_suffixes, variable, path_method, path, struct_path, loop, Statement}
 use Rattle.tl_tree.specs.LuaStatements.{FromName, FromParen, FromDo, FromWhile, FromRepeat, FromIf, FromFor}
 use Rattle.tl_tree.specs.LuaStatements.{FromFunction, FromLocal, FromReturn, FromBreak, FromTerra, FromStruct, FromEmit}
@@ -114,18 +114,18 @@ module _ {s : Setting after_part} where
       (λ t h. suffix_covers s m (suffix_of t.symbol) xs) (λ x h. goes-suffix m x.0 x.1 b (suffix_of x.0.symbol) xs)
       (dot_is_index m) refl)
 
-  goes-settled : (m : Mode) (shape : Shape) (a : Chained)
-      → Goes s (settled m shape a) after_variable (one symbols.Equal)
-  goes-settled m shapes.Call a = goes-within (goes-to_variable m a (one symbols.Equal)) refl refl
-  goes-settled m _ a = goes-within {first = one symbols.Equal} {after = one symbols.Equal} goes-give refl refl
+  goes-as_variable : (m : Mode) (kind : OperandKind) (a : Chained)
+      → Goes s (as_variable m kind a) after_variable (one symbols.Equal)
+  goes-as_variable m operands.Call a = goes-within (goes-to_variable m a (one symbols.Equal)) refl refl
+  goes-as_variable m _ a = goes-within {first = one symbols.Equal} {after = one symbols.Equal} goes-give refl refl
 
   goes-variable_suffixes : (m : Mode) (a : Chained)
       → Goes s (variable_suffixes m a) (one symbols.Equal) (one symbols.Equal)
   goes-variable_suffixes m a =
       goes-many (λ t. suffix_first (suffix_of t.symbol) after_variable)
       (λ b t h. suffix_covers s m (suffix_of t.symbol) after_variable)
-      (λ t x b h. goes-next (goes-suffix m t x b (suffix_of t.symbol) after_variable) (λ d. goes-settled m d.shape d))
-      (λ b. apart_from_and (one symbols.Equal) suffix_symbols (stays m) refl)
+      (λ t x b h. goes-next (goes-suffix m t x b (suffix_of t.symbol) after_variable) (λ d. goes-as_variable m d.kind d))
+      (λ b. apart_from_and (one symbols.Equal) suffix_symbols (may_continue m) refl)
 
   goes-variable : (m : Mode) → Goes s (variable m) only_name (one symbols.Equal)
   goes-variable m =
@@ -158,9 +158,9 @@ module _ {s : Setting after_part} where
       (λ targets. goes-then symbols.Equal
       (λ y. goes-next (goes-expressions after_block refl refl) (λ es. goes-give)) refl refl)
 
-  goes-call_or_assignment : (m : Mode) (t : Token) (shape : Shape) (e : Tree)
-      → Goes s (call_or_assignment m t shape e) after_prefix after_block
-  goes-call_or_assignment m t shapes.Call e =
+  goes-call_or_assignment : (m : Mode) (t : Token) (kind : OperandKind) (e : Tree)
+      → Goes s (call_or_assignment m t kind e) after_prefix after_block
+  goes-call_or_assignment m t operands.Call e =
       goes-within {first = after_block} {after = after_block} goes-give refl refl
   goes-call_or_assignment m t _ e = goes-within (goes-assignment m t e) refl refl
 
@@ -227,11 +227,11 @@ module _ {s : Setting after_part} where
   goes-statement : (c : Context) (f : Statement) (t : Token) (x : Tree)
       → Goes s (statement c f t x) (statement_first f) after_block
   goes-statement c FromName t x =
-      goes-next (goes-suffixes after_prefix refl) (λ a. goes-call_or_assignment c.mode t a.shape a.tree)
+      goes-next (goes-suffixes after_prefix refl) (λ a. goes-call_or_assignment c.mode t a.kind a.tree)
   goes-statement c FromParen t x =
       goes-then symbols.CloseParen
       (λ y. goes-next (goes-next_suffix c.mode _ after_prefix)
-      (λ b. goes-next (goes-suffixes after_prefix refl) (λ a. goes-call_or_assignment c.mode t a.shape a.tree)))
+      (λ b. goes-next (goes-suffixes after_prefix refl) (λ a. goes-call_or_assignment c.mode t a.kind a.tree)))
       refl refl
   goes-statement c FromDo t x = goes-closed symbols.End refl refl
   goes-statement c FromWhile t x = goes-bind (goes-expression) (λ e. goes-next (goes-loop c) (λ b. goes-give)) refl

@@ -4,7 +4,7 @@ use Rattle.std.proofs.Common.{◌≡◌, ℕ, Bool, true, false, List, [], ◌�
 use Rattle.std.proofs.Common.{◌∙◌, subst, append_assoc, arith, inl, inr, ◌⊎◌, length-append}
 use Rattle.tl_lex.specs.Answers.{Position}
 use Rattle.tl_tree.specs.declared.symbol.Symbol.{Symbol}
-use Rattle.tl_tree.specs.declared.mode.Extra.{Extra}
+use Rattle.tl_tree.specs.declared.mode.TokenUse.{TokenUse}
 use Rattle.tl_tree.specs.Tokens.{Token}
 use Rattle.tl_tree.specs.Tree.{Tree, Nothing, Part}
 use Rattle.tl_tree.specs.Grammar.{is_of, Grammar, give, token, bind, when, many, begins, Rule, Parts, Opened, Turns}
@@ -312,47 +312,47 @@ module _ {part_after : Part → Token → Bool} (d : Deep part_after) where
 
   pub leaving_of : {A : Type 0} (g : Grammar A) → Leaving (ReadsIn g)
   leaving_of (give a) ts x rest h = subst (λ (z : List Token). Leaves z ts) (sym h.1) (leaves_all ts)
-  leaving_of (token class extra opens sample) ts x rest h =
+  leaving_of (token class usage opens sample) ts x rest h =
       subst (λ (z : List Token). Leaves rest z) (sym h.1)
       (leaves_one class x.0 rest h.0 h.2 (opened_leaving (opens x.0) h.0 x.1 rest h.4))
   leaving_of (bind g k) ts x rest h =
       leaves_then rest h.1 ts (leaving_of g ts h.0 h.1 h.2) (leaving_of (k h.0) h.1 x rest h.3)
   leaving_of (when class g k) ts x rest (inl h) = leaving_of g ts x rest h.1
   leaving_of (when class g k) ts x rest (inr h) = leaving_of k ts x rest h.1
-  leaving_of (many class extra opens step a) ts x rest h =
+  leaving_of (many class usage opens step a) ts x rest h =
       leaving_turns class (λ a t inner y next.
-      (any (record { opens = opens a t; levels = d.levels; extra = extra a t }) (t ∷ inner) ≡ true) × (x : Tree)
+      (any (record { opens = opens a t; levels = d.levels; usage = usage a t }) (t ∷ inner) ≡ true) × (x : Tree)
       × (mid : List Token) × Opened d.inner (opens a t) inner x mid
       × Reads any d.levels d.inner (step t x a) mid y next)
       (λ a t inner y next q. leaves_then next q.2 inner (opened_leaving (opens a t) inner q.1 q.2 q.3)
       (leaving_of (step t q.1 a) q.2 y next q.4)) a ts x rest h
 
   -- a turn of a repetition
-  abbrev TurnIn : {A : Type 0} → (A → Token → Extra) → (A → Token → Option Part) → (Token → Tree → A → Grammar A) → A
+  abbrev TurnIn : {A : Type 0} → (A → Token → TokenUse) → (A → Token → Option Part) → (Token → Tree → A → Grammar A) → A
       → Token → Reading A
-  TurnIn extra opens step a t inner y next =
-      (any (record { opens = opens a t; levels = d.levels; extra = extra a t }) (t ∷ inner) ≡ true) × (x : Tree)
+  TurnIn usage opens step a t inner y next =
+      (any (record { opens = opens a t; levels = d.levels; usage = usage a t }) (t ∷ inner) ≡ true) × (x : Tree)
       × (mid : List Token) × Opened d.inner (opens a t) inner x mid
       × Reads any d.levels d.inner (step t x a) mid y next
 
-  abbrev TurnOut : {A : Type 0} → (A → Token → Extra) → (A → Token → Option Part) → (Token → Tree → A → Grammar A) → A
+  abbrev TurnOut : {A : Type 0} → (A → Token → TokenUse) → (A → Token → Option Part) → (Token → Tree → A → Grammar A) → A
       → Token → Reading A
-  TurnOut extra opens step a t inner y next =
-      (any (record { opens = opens a t; levels = d.levels; extra = extra a t }) (t ∷ inner) ≡ true) × (x : Tree)
+  TurnOut usage opens step a t inner y next =
+      (any (record { opens = opens a t; levels = d.levels; usage = usage a t }) (t ∷ inner) ≡ true) × (x : Tree)
       × (mid : List Token) × Opened d.outer (opens a t) inner x mid
       × Reads any d.levels d.outer (step t x a) mid y next
 
-  turn_leaving : {A : Type 0} (extra : A → Token → Extra) (opens : A → Token → Option Part)
-      (step : Token → Tree → A → Grammar A) (a : A) (t : Token) → Leaving (TurnIn extra opens step a t)
-  turn_leaving extra opens step a t inner y next q =
+  turn_leaving : {A : Type 0} (usage : A → Token → TokenUse) (opens : A → Token → Option Part)
+      (step : Token → Tree → A → Grammar A) (a : A) (t : Token) → Leaving (TurnIn usage opens step a t)
+  turn_leaving usage opens step a t inner y next q =
       leaves_then next q.2 inner (opened_leaving (opens a t) inner q.1 q.2 q.3)
       (leaving_of (step t q.1 a) q.2 y next q.4)
 
   pub keeping_of : {A : Type 0} (g : Grammar A) → Keeping (ReadsIn g) (ReadsOut g any)
   keeping_of (give v) front r x b t a h = (h.0, sym (same_back front r x b t (sym h.1)))
-  keeping_of (token class extra opens sample) [] r x b t a h =
-      absurd (not_longer (t ∷ (b ++ r)) r b t (leaving_of (token class extra opens sample) r a (t ∷ (b ++ r)) h) refl)
-  keeping_of (token class extra opens sample) (u ∷ f) r x b t a h =
+  keeping_of (token class usage opens sample) [] r x b t a h =
+      absurd (not_longer (t ∷ (b ++ r)) r b t (leaving_of (token class usage opens sample) r a (t ∷ (b ++ r)) h) refl)
+  keeping_of (token class usage opens sample) (u ∷ f) r x b t a h =
       let same = heads u a.0 (f ++ r) h.0 h.1 in (
         f ++ x,
         ap (λ (z : Token). z ∷ (f ++ x)) same.0,
@@ -368,8 +368,8 @@ module _ {part_after : Part → Token → Bool} (d : Deep part_after) where
       absurd (not_longer (t ∷ (b ++ r)) r b t (leaving_of (when class g k) r a (t ∷ (b ++ r)) h) refl)
   keeping_of (when class g k) (u ∷ f) r x b t a (inl h) = inl (h.0, keeping_of g (u ∷ f) r x b t a h.1)
   keeping_of (when class g k) (u ∷ f) r x b t a (inr h) = inr (h.0, keeping_of k (u ∷ f) r x b t a h.1)
-  keeping_of (many class extra opens step v) front r x b t a h =
-      keeping_turns class (TurnIn extra opens step) (turn_leaving extra opens step) (TurnOut extra opens step)
+  keeping_of (many class usage opens step v) front r x b t a h =
+      keeping_turns class (TurnIn usage opens step) (turn_leaving usage opens step) (TurnOut usage opens step)
       (λ v u f s y c w z q.
       let k =
       keeping_then (OpenedIn (opens v u)) (OpenedOut (opens v u) any) (λ o. ReadsIn (step u o v))
@@ -416,14 +416,14 @@ module _ {part_after : Part → Token → Bool} (d : Deep part_after) where
         absurd (never_behind t f r (subst (λ (z : List Token). Behind z r) h.1 k));
   }
 
-  pub turned-token : (class : Token → Bool) (extra : Token → Extra) (opens : Token → Option Part) (sample : Token)
+  pub turned-token : (class : Token → Bool) (usage : Token → TokenUse) (opens : Token → Option Part) (sample : Token)
       (k : Symbol) (first after : Token → Bool) → is_written k ≡ true
       → ((p : Position) → is_of class (placed p k) ≡ true) → ((p : Position) → first (placed p k) ≡ true)
       → ((t : Token) → is_of class t ≡ true → Covering d after (opens t))
-      → Turned d (token class extra opens sample) first after
-  turned-token class extra opens sample k first after written good good_first covers =
+      → Turned d (token class usage opens sample) first after
+  turned-token class usage opens sample k first after written good good_first covers =
       record {
-        starts = λ p. bare-opened d.levels (λ rule. d.outer) class extra opens sample k p first (λ t. true) after
+        starts = λ p. bare-opened d.levels (λ rule. d.outer) class usage opens sample k p first (λ t. true) after
             written (good p) (good_first p)
             (opened_bare d (opens (placed p k)) after (covers (placed p k) (good p)) (next_word p k));
         ends = λ p t f r a rest h n.
@@ -454,14 +454,14 @@ module _ {part_after : Part → Token → Bool} (d : Deep part_after) where
       }
 
   -- a token and what follows it, which begins in a class that depends on the token
-  pub turned-then : {A : Type 0} (class : Token → Bool) (extra : Token → Extra) (opens : Token → Option Part)
+  pub turned-then : {A : Type 0} (class : Token → Bool) (usage : Token → TokenUse) (opens : Token → Option Part)
       (sample : Token) (s : Symbol) (h : Token × Tree → Grammar A) (first : Token → Bool)
       (other : Token → Token → Bool) (after : Token → Bool) → is_written s ≡ true
       → ((p : Position) → is_of class (placed p s) ≡ true) → ((p : Position) → first (placed p s) ≡ true)
       → ((t : Token) → is_of class t ≡ true → Covering d (other t) (opens t))
       → ((x : Token × Tree) → is_of class x.0 ≡ true → Turned d (h x) (other x.0) after)
-      → Turned d (bind (token class extra opens sample) h) first after
-  turned-then {A} class extra opens sample s h first other after written good good_first covers next =
+      → Turned d (bind (token class usage opens sample) h) first after
+  turned-then {A} class usage opens sample s h first other after written good good_first covers next =
       record { starts = begins_at; ends = ends_at }
     where
       opened_then : (t : Token) → is_of class t ≡ true
@@ -471,7 +471,7 @@ module _ {part_after : Part → Token → Bool} (d : Deep part_after) where
           (λ x. ReadsOut d (h (t, x))) (other t) after (opened_leaving d (opens t)) (opened_keeping d (opens t))
           (opened_any d (opens t) (other t) (covers t e)) (λ x p. (next (t, x) e).starts p) (λ x. (next (t, x) e).ends)
 
-      begins_at : (p : Position) → Bare (ReadsOut d (bind (token class extra opens sample) h)) p first after
+      begins_at : (p : Position) → Bare (ReadsOut d (bind (token class usage opens sample) h)) p first after
       begins_at p =
           let t : Token = placed p s in
           let c = bare-both (OpenedOut d (opens t))
@@ -491,7 +491,7 @@ module _ {part_after : Part → Token → Bool} (d : Deep part_after) where
                     c.more ++ close,
                     refl,
                     good p,
-                    le (record { opens = opens t; levels = d.levels; extra = extra t }) (t ∷ (c.more ++ close))
+                    le (record { opens = opens t; levels = d.levels; usage = usage t }) (t ∷ (c.more ++ close))
                         (omega arith),
                     i.2,
                   ),
@@ -499,13 +499,13 @@ module _ {part_after : Part → Token → Bool} (d : Deep part_after) where
                 );
           }
 
-      ends_at : Ending (ReadsIn d (bind (token class extra opens sample) h))
-          (ReadsOut d (bind (token class extra opens sample) h) any) after
+      ends_at : Ending (ReadsIn d (bind (token class usage opens sample) h))
+          (ReadsOut d (bind (token class usage opens sample) h) any) after
       ends_at p t f r b rest q k = go q.0 q.2 q.3
         where
-          go : (x : Token × Tree) → ReadsIn d (token class extra opens sample) (t ∷ (f ++ r)) x q.1
+          go : (x : Token × Tree) → ReadsIn d (token class usage opens sample) (t ∷ (f ++ r)) x q.1
               → ReadsIn d (h x) q.1 b rest
-              → Ended (ReadsOut d (bind (token class extra opens sample) h) any) p after (t ∷ f)
+              → Ended (ReadsOut d (bind (token class usage opens sample) h) any) p after (t ∷ f)
           go x i j =
               let same = heads t x.0 (f ++ r) i.0 i.1 in
               let fine : is_of class t ≡ true = subst (λ (z : Token). is_of class z ≡ true) (sym same.0) i.2 in
@@ -538,21 +538,21 @@ module _ {part_after : Part → Token → Bool} (d : Deep part_after) where
           let e = c2.ends p t f r a rest q.1 k in
           record { more = e.more; spelled = e.spelled; value = e.value; reads = λ close n. inr (q.0, e.reads close n) }
 
-  pub turned-many : {A : Type 0} (class : A → Token → Bool) (extra : A → Token → Extra)
+  pub turned-many : {A : Type 0} (class : A → Token → Bool) (usage : A → Token → TokenUse)
       (opens : A → Token → Option Part) (step : Token → Tree → A → Grammar A) (other : Token → Token → Bool)
       (after : Token → Bool) → ((a : A) (t : Token) → is_of (class a) t ≡ true → Covering d (other t) (opens a t))
       → ((t : Token) (x : Tree) (a : A) → is_of (class a) t ≡ true → Turned d (step t x a) (other t) after)
       → ((a : A) (t : Token) → after t ≡ true → is_of (class a) t ≡ false) → (a : A)
-      → Turned d (many class extra opens step a) after after
-  turned-many {A} class extra opens step other after covers next far a =
+      → Turned d (many class usage opens step a) after after
+  turned-many {A} class usage opens step other after covers next far a =
       record {
-        starts = bare-many d.levels (λ rule. d.outer) class extra opens step a after far;
+        starts = bare-many d.levels (λ rule. d.outer) class usage opens step a after far;
         ends = λ p t f r b rest q k.
-            ending_turns class (TurnIn d extra opens step) (turn_leaving d extra opens step)
-            (TurnOut d extra opens step) turn_keeps after turn_ends far a (t ∷ (f ++ r)) b rest q p t f r refl k;
+            ending_turns class (TurnIn d usage opens step) (turn_leaving d usage opens step)
+            (TurnOut d usage opens step) turn_keeps after turn_ends far a (t ∷ (f ++ r)) b rest q p t f r refl k;
       }
     where
-      turn_keeps : (a : A) (t : Token) → Keeping (TurnIn d extra opens step a t) (TurnOut d extra opens step a t)
+      turn_keeps : (a : A) (t : Token) → Keeping (TurnIn d usage opens step a t) (TurnOut d usage opens step a t)
       turn_keeps v u f s y c w z q =
           let k =
           keeping_then (OpenedIn d (opens v u)) (OpenedOut d (opens v u) any) (λ o. ReadsIn d (step u o v))
@@ -562,7 +562,7 @@ module _ {part_after : Part → Token → Bool} (d : Deep part_after) where
           (refl, k.0, k.1, k.2, k.3)
 
       turn_ends : (a : A) (t : Token) → is_of (class a) t ≡ true
-          → EndingAny (TurnIn d extra opens step a t) (TurnOut d extra opens step a t) after
+          → EndingAny (TurnIn d usage opens step a t) (TurnOut d usage opens step a t) after
       turn_ends v u e p front r y rest q k =
           let c =
           ending_then (OpenedIn d (opens v u)) (OpenedOut d (opens v u) any) (λ o. ReadsIn d (step u o v))

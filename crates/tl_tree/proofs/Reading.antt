@@ -6,7 +6,7 @@ use Rattle.std.proofs.lemmas.List.{append_cancel_right}
 use Rattle.tl_tree.specs.Tokens.{Token}
 use Rattle.tl_lex.specs.declared.SyntaxKind.{SyntaxKind}
 use Rattle.tl_lex.specs.declared.SyntaxKind.TheVariants.{BadNumber, TooDeep, Ambiguous}
-use Rattle.tl_tree.specs.declared.mode.Extra.{Extra}
+use Rattle.tl_tree.specs.declared.mode.TokenUse.{TokenUse}
 use Rattle.tl_tree.specs.Symbols.{is_bad}
 use Rattle.tl_tree.specs.Tree.{Tree, Nothing, Part}
 use Rattle.tl_tree.specs.Grammar.{Use, bar, is_too_large, is_ambiguous, is_of, is_none_left, chain_too_long, Grammar}
@@ -117,19 +117,19 @@ leaves-opened readers h (Some part) ts = h part ts
 module _ (levels : ℕ) (readers : Readers) (readers_leave : ReadersLeave readers) where
   pub leaves : {A : Type 0} (g : Grammar A) (ts : List Token) → Leaves (rest_of (run levels readers g ts)) ts
   leaves (give a) ts = leaves_all ts
-  leaves (token class extra opens sample) [] = leaves_all []
-  leaves (token class extra opens sample) (t ∷ ts) =
+  leaves (token class usage opens sample) [] = leaves_all []
+  leaves (token class usage opens sample) (t ∷ ts) =
       leaves-taken class t ts (opened readers (opens t) ts >>= λ x rest. Took (t, x) rest)
       (Stop (blame t.symbol) (t ∷ ts)) (is_of class t) refl
-      (bar (record { opens = opens t; levels = levels; extra = extra t }) t)
+      (bar (record { opens = opens t; levels = levels; usage = usage t }) t)
       (leaves-bind (opened readers (opens t) ts) (λ x rest. Took (t, x) rest) ts
       (leaves-opened readers readers_leave (opens t) ts) (λ x rest. leaves_all rest)) (leaves_all (t ∷ ts))
   leaves (bind g h) ts = leaves-bind (run levels readers g ts) (λ a mid. run levels readers (h a) mid) ts (leaves g ts)
       (λ a mid. leaves (h a) mid)
   leaves (when class g h) ts =
       leaves-when (begins class ts) (run levels readers g ts) (run levels readers h ts) ts (leaves g ts) (leaves h ts)
-  leaves (many class extra opens step a) ts =
-      leaves-turns class (λ a t. bar (record { opens = opens a t; levels = levels; extra = extra a t }) t)
+  leaves (many class usage opens step a) ts =
+      leaves-turns class (λ a t. bar (record { opens = opens a t; levels = levels; usage = usage a t }) t)
       (λ a t inner. opened readers (opens a t) inner >>= λ x mid. run levels readers (step t x a) mid)
       (λ a t inner. leaves-bind (opened readers (opens a t) inner) (λ x mid. run levels readers (step t x a) mid) inner
       (leaves-opened readers readers_leave (opens a t) inner) (λ x mid. leaves (step t x a) mid))
@@ -151,12 +151,12 @@ no_level : (levels : ℕ) (c : Bool) → (is_none_left levels || c) ≡ false �
 no_level zero c h = absurd cc
 no_level (suc levels) c h = refl
 
-pub bar_levels : (part : Part) (levels : ℕ) (extra : Extra) (t : Token)
-    → bar (record { opens = Some part; levels = levels; extra = extra }) t ≡ None → is_none_left levels ≡ false
-bar_levels part levels extra t h =
-    no_level levels (chain_too_long extra)
-    (unless_both (is_too_large extra t) (is_none_left levels || chain_too_long extra)
-    (is_ambiguous (record { opens = Some part; levels = levels; extra = extra }) t) h)
+pub bar_levels : (part : Part) (levels : ℕ) (usage : TokenUse) (t : Token)
+    → bar (record { opens = Some part; levels = levels; usage = usage }) t ≡ None → is_none_left levels ≡ false
+bar_levels part levels usage t h =
+    no_level levels (chain_too_long usage)
+    (unless_both (is_too_large usage t) (is_none_left levels || chain_too_long usage)
+    (is_ambiguous (record { opens = Some part; levels = levels; usage = usage }) t) h)
 
 module _ {A : Type 0} (class : A → Token → Bool) (bars : A → Token → Option SyntaxKind)
     (step : A → Token → List Token → Outcome A) (Turn : A → Token → List Token → A → List Token → Type 0)
@@ -202,32 +202,32 @@ ReadersSound levels readers parts =
     → readers part ts ≡ Took x rest → parts part ts x rest
 
 pub sound-opened : (levels : ℕ) (readers : Readers) (parts : Parts) → ReadersSound levels readers parts
-    → (extra : Extra) (t : Token) (o : Option Part)
-    → bar (record { opens = o; levels = levels; extra = extra }) t ≡ None
+    → (usage : TokenUse) (t : Token) (o : Option Part)
+    → bar (record { opens = o; levels = levels; usage = usage }) t ≡ None
     → (ts : List Token) (x : Tree) (rest : List Token) → opened readers o ts ≡ Took x rest → Opened parts o ts x rest
-sound-opened levels readers parts h extra t None k ts x rest e = (cc, cc)
-sound-opened levels readers parts h extra t (Some part) k ts x rest e =
-    h (bar_levels part levels extra t k) part ts x rest e
+sound-opened levels readers parts h usage t None k ts x rest e = (cc, cc)
+sound-opened levels readers parts h usage t (Some part) k ts x rest e =
+    h (bar_levels part levels usage t k) part ts x rest e
 
 module _ (rule : Rule) (ok : Allows rule) (levels : ℕ) (readers : Readers) (parts : Parts)
     (readers_leave : ReadersLeave readers) (readers_sound : ReadersSound levels readers parts) where
-  sound-token : (class : Token → Bool) (extra : Token → Extra) (opens : Token → Option Part) (sample t : Token)
+  sound-token : (class : Token → Bool) (usage : Token → TokenUse) (opens : Token → Option Part) (sample t : Token)
       (ts : List Token) (b : Token × Tree) (rest : List Token) (c : Bool) → is_of class t ≡ c → (o : Option SyntaxKind)
-      → bar (record { opens = opens t; levels = levels; extra = extra t }) t ≡ o
+      → bar (record { opens = opens t; levels = levels; usage = usage t }) t ≡ o
       → cond c (unless o (t ∷ ts) (opened readers (opens t) ts >>= λ x mid. Took (t, x) mid))
       (Stop (blame t.symbol) (t ∷ ts)) ≡ Took b rest
-      → Reads rule levels parts (token class extra opens sample) (t ∷ ts) b rest
-  sound-token class extra opens sample t ts b rest true h None k e =
+      → Reads rule levels parts (token class usage opens sample) (t ∷ ts) b rest
+  sound-token class usage opens sample t ts b rest true h None k e =
       let s = bind_took (opened readers (opens t) ts) (λ x mid. Took (t, x) mid) b rest e in
       let inside : Opened parts (opens t) ts s.0 s.1 =
-      sound-opened levels readers parts readers_sound (extra t) t (opens t) k ts s.0 s.1 s.2 in
+      sound-opened levels readers parts readers_sound (usage t) t (opens t) k ts s.0 s.1 s.2 in
       let same : (t, s.0) ≡ b = took_value s.3 in
       let tail : s.1 ≡ rest = took_rest s.3 in
-      subst (λ (y : Token × Tree). Reads rule levels parts (token class extra opens sample) (t ∷ ts) y rest) same (
+      subst (λ (y : Token × Tree). Reads rule levels parts (token class usage opens sample) (t ∷ ts) y rest) same (
         ts,
         refl,
         h,
-        ok (record { opens = opens t; levels = levels; extra = extra t }) t ts k,
+        ok (record { opens = opens t; levels = levels; usage = usage t }) t ts k,
         subst (λ (r : List Token). Opened parts (opens t) ts s.0 r) tail inside,
       )
     where
@@ -236,16 +236,16 @@ module _ (rule : Rule) (ok : Allows rule) (levels : ℕ) (readers : Readers) (pa
 
       took_rest : {x y : Token × Tree} {p q : List Token} → Took x p ≡ Took y q → p ≡ q
       took_rest e = cc
-  sound-token class extra opens sample t ts b rest true h (Some why) k e = absurd cc
-  sound-token class extra opens sample t ts b rest false h o k e = absurd cc
+  sound-token class usage opens sample t ts b rest true h (Some why) k e = absurd cc
+  sound-token class usage opens sample t ts b rest false h o k e = absurd cc
 
   pub sound : {A : Type 0} (g : Grammar A) (ts : List Token) (b : A) (rest : List Token)
       → run levels readers g ts ≡ Took b rest → Reads rule levels parts g ts b rest
   sound (give a) ts b rest e = (cc, cc)
-  sound (token class extra opens sample) [] b rest e = absurd cc
-  sound (token class extra opens sample) (t ∷ ts) b rest e =
-      sound-token class extra opens sample t ts b rest (is_of class t) refl
-      (bar (record { opens = opens t; levels = levels; extra = extra t }) t) refl e
+  sound (token class usage opens sample) [] b rest e = absurd cc
+  sound (token class usage opens sample) (t ∷ ts) b rest e =
+      sound-token class usage opens sample t ts b rest (is_of class t) refl
+      (bar (record { opens = opens t; levels = levels; usage = usage t }) t) refl e
   sound (bind g h) ts b rest e =
       let s = bind_took (run levels readers g ts) (λ a mid. run levels readers (h a) mid) b rest e in
       (s.0, s.1, sound g ts s.0 s.1 s.2, sound (h s.0) s.1 b rest s.3)
@@ -254,10 +254,10 @@ module _ (rule : Rule) (ok : Allows rule) (levels : ℕ) (readers : Readers) (pa
         | inl p ↦ inl (p.0, sound g ts b rest p.1)
         | inr p ↦ inr (p.0, sound h ts b rest p.1)
       ]
-  sound (many class extra opens step a) ts b rest e =
-      sound-turns class (λ a t. bar (record { opens = opens a t; levels = levels; extra = extra a t }) t)
+  sound (many class usage opens step a) ts b rest e =
+      sound-turns class (λ a t. bar (record { opens = opens a t; levels = levels; usage = usage a t }) t)
       (λ a t inner. opened readers (opens a t) inner >>= λ x mid. run levels readers (step t x a) mid)
-      (λ a t inner y next. (rule (record { opens = opens a t; levels = levels; extra = extra a t }) (t ∷ inner) ≡ true)
+      (λ a t inner y next. (rule (record { opens = opens a t; levels = levels; usage = usage a t }) (t ∷ inner) ≡ true)
       × (x : Tree) × (mid : List Token) × Opened parts (opens a t) inner x mid
       × Reads rule levels parts (step t x a) mid y next)
       (λ a t inner. leaves-bind (opened readers (opens a t) inner) (λ x mid. run levels readers (step t x a) mid) inner
@@ -265,10 +265,10 @@ module _ (rule : Rule) (ok : Allows rule) (levels : ℕ) (readers : Readers) (pa
       (λ x mid. leaves levels readers readers_leave (step t x a) mid))
       (λ a t inner y next k e2.
       let s = bind_took (opened readers (opens a t) inner) (λ x mid. run levels readers (step t x a) mid) y next e2 in (
-        ok (record { opens = opens a t; levels = levels; extra = extra a t }) t inner k,
+        ok (record { opens = opens a t; levels = levels; usage = usage a t }) t inner k,
         s.0,
         s.1,
-        sound-opened levels readers parts readers_sound (extra a t) t (opens a t) k inner s.0 s.1 s.2,
+        sound-opened levels readers parts readers_sound (usage a t) t (opens a t) k inner s.0 s.1 s.2,
         sound (step t s.0 a) s.1 y next s.3,
       ))
       (length ts) a ts b rest (omega arith) e
@@ -335,41 +335,41 @@ ReadersComplete rule levels readers parts =
     → Answers rule x rest (readers part ts)
 
 complete-opened : (rule : Rule) (levels : ℕ) (readers : Readers) (parts : Parts)
-    → ReadersComplete rule levels readers parts → (extra : Extra) (t : Token) (o : Option Part)
-    → bar (record { opens = o; levels = levels; extra = extra }) t ≡ None
+    → ReadersComplete rule levels readers parts → (usage : TokenUse) (t : Token) (o : Option Part)
+    → bar (record { opens = o; levels = levels; usage = usage }) t ≡ None
     → (ts : List Token) (x : Tree) (rest : List Token) → Opened parts o ts x rest
     → Answers rule x rest (opened readers o ts)
-complete-opened rule levels readers parts h extra t None k ts x rest p = (p.0, p.1)
-complete-opened rule levels readers parts h extra t (Some part) k ts x rest p =
-    h (bar_levels part levels extra t k) part ts x rest p
+complete-opened rule levels readers parts h usage t None k ts x rest p = (p.0, p.1)
+complete-opened rule levels readers parts h usage t (Some part) k ts x rest p =
+    h (bar_levels part levels usage t k) part ts x rest p
 
 module _ (rule : Rule) (levels : ℕ) (readers : Readers) (parts : Parts) (readers_leave : ReadersLeave readers)
     (readers_complete : ReadersComplete rule levels readers parts) where
-  complete-token : (class : Token → Bool) (extra : Token → Extra) (opens : Token → Option Part) (sample : Token)
+  complete-token : (class : Token → Bool) (usage : Token → TokenUse) (opens : Token → Option Part) (sample : Token)
       (ts : List Token) (b : Token × Tree) (rest : List Token)
-      → Reads rule levels parts (token class extra opens sample) ts b rest
-      → Answers rule b rest (run levels readers (token class extra opens sample) ts)
-  complete-token class extra opens sample [] b rest p = absurd (nil_cons p.1)
+      → Reads rule levels parts (token class usage opens sample) ts b rest
+      → Answers rule b rest (run levels readers (token class usage opens sample) ts)
+  complete-token class usage opens sample [] b rest p = absurd (nil_cons p.1)
     where
       nil_cons : {t : Token} {ts : List Token} → ◌≡◌ {A = List Token} [] (t ∷ ts) → ⊥
       nil_cons e = cc
-  complete-token class extra opens sample (t ∷ ts) b rest p =
+  complete-token class usage opens sample (t ∷ ts) b rest p =
       let heads = cons_is t b.0 ts p.0 p.1 in
       let h : is_of class t ≡ true = subst (λ (x : Token). is_of class x ≡ true) (sym heads.0) p.2 in
-      let r : rule (record { opens = opens t; levels = levels; extra = extra t }) (t ∷ ts) ≡ true =
-      subst (λ (x : Token). rule (record { opens = opens x; levels = levels; extra = extra x }) (t ∷ ts) ≡ true)
+      let r : rule (record { opens = opens t; levels = levels; usage = usage t }) (t ∷ ts) ≡ true =
+      subst (λ (x : Token). rule (record { opens = opens x; levels = levels; usage = usage x }) (t ∷ ts) ≡ true)
       (sym heads.0) p.3 in
       let inside : Opened parts (opens t) ts b.1 rest =
       subst (λ (x : Token). Opened parts (opens x) ts b.1 rest) (sym heads.0)
       (subst (λ (i : List Token). Opened parts (opens b.0) i b.1 rest) (sym heads.1) p.4) in
-      let next = answers-unless rule (record { opens = opens t; levels = levels; extra = extra t }) t ts
+      let next = answers-unless rule (record { opens = opens t; levels = levels; usage = usage t }) t ts
       (opened readers (opens t) ts >>= λ x mid. Took (t, x) mid) b rest
-      (bar (record { opens = opens t; levels = levels; extra = extra t }) t) (good class t h) refl r
+      (bar (record { opens = opens t; levels = levels; usage = usage t }) t) (good class t h) refl r
       (λ k. answers-bind rule (opened readers (opens t) ts) (λ x mid. Took (t, x) mid) b.1 rest b rest
-      (complete-opened rule levels readers parts readers_complete (extra t) t (opens t) k ts b.1 rest inside)
+      (complete-opened rule levels readers parts readers_complete (usage t) t (opens t) k ts b.1 rest inside)
       (λ e. (pair_is b t heads.0, refl))) in
       subst (λ (c : Bool). Answers rule b rest
-      (cond c (unless (bar (record { opens = opens t; levels = levels; extra = extra t }) t) (t ∷ ts)
+      (cond c (unless (bar (record { opens = opens t; levels = levels; usage = usage t }) t) (t ∷ ts)
       (opened readers (opens t) ts >>= λ x mid. Took (t, x) mid)) (Stop (blame t.symbol) (t ∷ ts)))) (sym h) next
     where
       cons_is : (t u : Token) (ts us : List Token) → t ∷ ts ≡ u ∷ us → (t ≡ u) × (ts ≡ us)
@@ -381,7 +381,7 @@ module _ (rule : Rule) (levels : ℕ) (readers : Readers) (parts : Parts) (reade
   pub complete : {A : Type 0} (g : Grammar A) (ts : List Token) (b : A) (rest : List Token)
       → Reads rule levels parts g ts b rest → Answers rule b rest (run levels readers g ts)
   complete (give a) ts b rest p = p
-  complete (token class extra opens sample) ts b rest p = complete-token class extra opens sample ts b rest p
+  complete (token class usage opens sample) ts b rest p = complete-token class usage opens sample ts b rest p
   complete (bind g h) ts b rest p =
       answers-bind rule (run levels readers g ts) (λ a mid. run levels readers (h a) mid) p.0 p.1 b rest
       (complete g ts p.0 p.1 p.2) (λ e. complete (h p.0) p.1 b rest p.3)
@@ -392,21 +392,21 @@ module _ (rule : Rule) (levels : ℕ) (readers : Readers) (parts : Parts) (reade
         | inr q ↦ subst (λ (c : Bool). Answers rule b rest
             (cond c (run levels readers g ts) (run levels readers h ts))) (sym q.0) (complete h ts b rest q.1)
       ]
-  complete (many class extra opens step a) ts b rest p =
-      complete-turns rule class (λ a t. bar (record { opens = opens a t; levels = levels; extra = extra a t }) t)
+  complete (many class usage opens step a) ts b rest p =
+      complete-turns rule class (λ a t. bar (record { opens = opens a t; levels = levels; usage = usage a t }) t)
       (λ a t inner. opened readers (opens a t) inner >>= λ x mid. run levels readers (step t x a) mid)
-      (λ a t inner y next. (rule (record { opens = opens a t; levels = levels; extra = extra a t }) (t ∷ inner) ≡ true)
+      (λ a t inner y next. (rule (record { opens = opens a t; levels = levels; usage = usage a t }) (t ∷ inner) ≡ true)
       × (x : Tree) × (mid : List Token) × Opened parts (opens a t) inner x mid
       × Reads rule levels parts (step t x a) mid y next)
       (λ a t inner. leaves-bind (opened readers (opens a t) inner) (λ x mid. run levels readers (step t x a) mid) inner
       (leaves-opened readers readers_leave (opens a t) inner)
       (λ x mid. leaves levels readers readers_leave (step t x a) mid))
       (λ a t inner y next fine q.
-      answers-unless rule (record { opens = opens a t; levels = levels; extra = extra a t }) t inner
+      answers-unless rule (record { opens = opens a t; levels = levels; usage = usage a t }) t inner
       (opened readers (opens a t) inner >>= λ x mid. run levels readers (step t x a) mid) y next
-      (bar (record { opens = opens a t; levels = levels; extra = extra a t }) t) fine refl q.0
+      (bar (record { opens = opens a t; levels = levels; usage = usage a t }) t) fine refl q.0
       (λ k. answers-bind rule (opened readers (opens a t) inner) (λ x mid. run levels readers (step t x a) mid) q.1 q.2
-      y next (complete-opened rule levels readers parts readers_complete (extra a t) t (opens a t) k inner q.1 q.2
+      y next (complete-opened rule levels readers parts readers_complete (usage a t) t (opens a t) k inner q.1 q.2
       q.3) (λ e. complete (step t q.1 a) q.2 y next q.4)))
       (length ts) a ts b rest (omega arith) p
 
@@ -514,12 +514,12 @@ module _ (levels : ℕ) (readers : Readers) (readers_leave : ReadersLeave reader
       → rest_of (run levels readers g (front ++ r)) ≡ t ∷ (b ++ r)
       → run levels readers g (front ++ x) ≡ with_rest (t ∷ (b ++ x)) (run levels readers g (front ++ r))
   steady (give a) front r x b t e = ap (λ (l : List Token). Took a l) (same_back front r x b t e)
-  steady (token class extra opens sample) [] r x b t e =
-      absurd (not_longer (rest_of (run levels readers (token class extra opens sample) r)) r b t
-      (leaves levels readers readers_leave (token class extra opens sample) r) e)
-  steady (token class extra opens sample) (t0 ∷ f) r x b t e =
+  steady (token class usage opens sample) [] r x b t e =
+      absurd (not_longer (rest_of (run levels readers (token class usage opens sample) r)) r b t
+      (leaves levels readers readers_leave (token class usage opens sample) r) e)
+  steady (token class usage opens sample) (t0 ∷ f) r x b t e =
       steady-unless t0 f r x b t (is_of class t0)
-      (bar (record { opens = opens t0; levels = levels; extra = extra t0 }) t0)
+      (bar (record { opens = opens t0; levels = levels; usage = usage t0 }) t0)
       (opened readers (opens t0) (f ++ r) >>= λ y rest. Took (t0, y) rest)
       (opened readers (opens t0) (f ++ x) >>= λ y rest. Took (t0, y) rest) (Stop (blame t0.symbol) (t0 ∷ (f ++ r)))
       (Stop (blame t0.symbol) (t0 ∷ (f ++ x)))
@@ -541,8 +541,8 @@ module _ (levels : ℕ) (readers : Readers) (readers_leave : ReadersLeave reader
       steady-cond (is_of class t0) (run levels readers g (t0 ∷ (f ++ r))) (run levels readers h (t0 ∷ (f ++ r)))
       (run levels readers g (t0 ∷ (f ++ x))) (run levels readers h (t0 ∷ (f ++ x))) (t ∷ (b ++ r)) (t ∷ (b ++ x))
       (λ k. steady g (t0 ∷ f) r x b t k) (λ k. steady h (t0 ∷ f) r x b t k) e
-  steady (many class extra opens step a) front r x b t e =
-      steady-turns class (λ a t. bar (record { opens = opens a t; levels = levels; extra = extra a t }) t)
+  steady (many class usage opens step a) front r x b t e =
+      steady-turns class (λ a t. bar (record { opens = opens a t; levels = levels; usage = usage a t }) t)
       (λ a t inner. opened readers (opens a t) inner >>= λ x mid. run levels readers (step t x a) mid)
       (λ a t inner. leaves-bind (opened readers (opens a t) inner) (λ x mid. run levels readers (step t x a) mid) inner
       (leaves-opened readers readers_leave (opens a t) inner)

@@ -82,7 +82,7 @@ terra_powers = refl
 quote_with_value :
     reads (text (Return ∷ Quote ∷ Name ∷ OpenParen ∷ Name ∷ CloseParen ∷ In ∷ Name ∷ End ∷ []))
     ≡ returns (t.Quote (p 2)
-    (t.Quoted (t.Block (none & t.TerraPerform (p 3) (t.TerraCall (p 4) (x 3) (none & x 5)))) (t.Just (x 8))))
+    (t.Quoted (t.Block (none & t.TerraCallStatement (p 3) (t.TerraCall (p 4) (x 3) (none & x 5)))) (t.Just (x 8))))
 quote_with_value = refl
 
 -- return quote var x = x in x , x end
@@ -106,7 +106,7 @@ splices :
     (none & t.Splice (p 3) (t.Escape (p 3) (x 4))
     & t.Var (p 6) (none & t.Variable (p 7) (t.Escape (p 7) (x 8)) (t.Just (x 11)))
     (none & t.TerraSelect (p 14) (x 13) (t.Escape (p 15) (x 16)))
-    & t.TerraPerform (p 18) (t.TerraMethod (p 19) (x 18) (t.Escape (p 20) (x 21)) (none & x 24))))
+    & t.TerraCallStatement (p 18) (t.TerraMethod (p 19) (x 18) (t.Escape (p 20) (x 21)) (none & x 24))))
     t.Nothing))
 splices = refl
 

@@ -3,13 +3,13 @@ use Rattle.std.proofs.Common.{◌≡◌, ℕ, true, List, refl}
 use Rattle.tl_tree.specs.declared.symbol.Symbol.{Symbol}
 use Rattle.tl_tree.specs.declared.symbol.Symbol.TheVariants as symbols
 use Rattle.tl_tree.specs.declared.mode.Mode.TheVariants as modes
-use Rattle.tl_tree.specs.declared.mode.Shape.{Shape}
-use Rattle.tl_tree.specs.declared.mode.Shape.TheVariants as shapes
+use Rattle.tl_tree.specs.declared.mode.OperandKind.{OperandKind}
+use Rattle.tl_tree.specs.declared.mode.OperandKind.TheVariants as operands
 use Rattle.tl_tree.specs.Tokens.{Token, among}
 use Rattle.tl_tree.specs.Tree.{Tree, Expression, TerraExpression, TerraArguments}
 use Rattle.tl_tree.specs.Grammar.{Rule, Parts}
 use Rattle.tl_tree.specs.Forms.{Chained, comparisons, additive, multiplicative}
-use Rattle.tl_tree.specs.LuaExpressions.{stays}
+use Rattle.tl_tree.specs.LuaExpressions.{may_continue}
 use Rattle.tl_tree.specs.TerraExpressions.{escape, terra_name, terra_base, terra_suffix_symbols, TerraSuffix, InParens}
 use Rattle.tl_tree.specs.TerraExpressions.{InBrackets, Selects, CallsMethod, Constructs, terra_suffix_of}
 use Rattle.tl_tree.specs.TerraExpressions.{terra_suffix_opens, terra_suffix, terra_suffixes, terra_numerals}
@@ -40,7 +40,7 @@ module _ {levels : ℕ} {parts : Rule → Parts} where
       begins-when (begins-when (begins-next begins-name (λ n. begins-give))
       (apart_from only_name (one symbols.OpenBracket) refl)) (apart_from only_name (one symbols.OpenParen) refl)
 
-  begins-terra_primary : {left : ℕ} → Begins levels parts (terra_primary left) only_name after_expression
+  begins-terra_primary : {links : ℕ} → Begins levels parts (terra_primary links) only_name after_expression
   begins-terra_primary =
       begins-when
       (begins-when
@@ -49,42 +49,42 @@ module _ {levels : ℕ} {parts : Rule → Parts} where
       (begins-when
       (begins-next begins-terra_base
       (λ b. begins-next (begins-many
-      (λ c. apart_from_and after_expression terra_suffix_symbols (stays modes.Types) refl)) (λ a. begins-give)))
+      (λ c. apart_from_and after_expression terra_suffix_symbols (may_continue modes.Types) refl)) (λ a. begins-give)))
       (apart_from only_name (one symbols.True) refl))
       (apart_from only_name (one symbols.False) refl))
       (apart_from only_name (one symbols.Nil) refl))
       (apart_from only_name (one symbols.Literal) refl))
       (apart_from only_name terra_numerals refl)
 
-  begins-terra_unary : {left : ℕ} → Begins levels parts (terra_unary left) only_name after_expression
+  begins-terra_unary : {links : ℕ} → Begins levels parts (terra_unary links) only_name after_expression
   begins-terra_unary =
       begins-when (begins-next begins-terra_primary
       (λ a. begins-operators (one symbols.Caret) terra_exponent terra_operation after_expression refl))
       (apart_from only_name terra_prefix_symbols refl)
 
-  begins-terra_product : {left : ℕ} → Begins levels parts (terra_product left) only_name after_expression
+  begins-terra_product : {links : ℕ} → Begins levels parts (terra_product links) only_name after_expression
   begins-terra_product = begins-next begins-terra_unary
       (λ a. begins-operators multiplicative terra_unary terra_operation after_expression refl)
 
-  begins-terra_sum : {left : ℕ} → Begins levels parts (terra_sum left) only_name after_expression
+  begins-terra_sum : {links : ℕ} → Begins levels parts (terra_sum links) only_name after_expression
   begins-terra_sum = begins-next begins-terra_product
       (λ a. begins-operators additive terra_product terra_operation after_expression refl)
 
-  begins-terra_shift : {left : ℕ} → Begins levels parts (terra_shift left) only_name after_expression
+  begins-terra_shift : {links : ℕ} → Begins levels parts (terra_shift links) only_name after_expression
   begins-terra_shift = begins-next begins-terra_sum
       (λ a. begins-operators shifts terra_sum terra_operation after_expression refl)
 
-  begins-terra_comparison : {left : ℕ} → Begins levels parts (terra_comparison left) only_name after_expression
+  begins-terra_comparison : {links : ℕ} → Begins levels parts (terra_comparison links) only_name after_expression
   begins-terra_comparison =
       begins-next begins-terra_shift
       (λ a. begins-operators comparisons terra_shift terra_operation after_expression refl)
 
-  begins-terra_conjunction : {left : ℕ} → Begins levels parts (terra_conjunction left) only_name after_expression
+  begins-terra_conjunction : {links : ℕ} → Begins levels parts (terra_conjunction links) only_name after_expression
   begins-terra_conjunction =
       begins-next begins-terra_comparison
       (λ a. begins-operators (one symbols.And) terra_comparison terra_operation after_expression refl)
 
-  begins-terra_disjunction : {left : ℕ} → Begins levels parts (terra_disjunction left) only_name after_expression
+  begins-terra_disjunction : {links : ℕ} → Begins levels parts (terra_disjunction links) only_name after_expression
   begins-terra_disjunction =
       begins-next begins-terra_conjunction
       (λ a. begins-operators (one symbols.Or) terra_conjunction terra_operation after_expression refl)
@@ -100,15 +100,15 @@ module _ {levels : ℕ} {parts : Rule → Parts} where
       begins-when (begins-bind begins-terra_expression (λ e. begins-listed_behind (one symbols.CloseParen) refl) refl)
       (apart_from only_name (one symbols.CloseParen) refl)
 
-  begins-initialisers_behind : (shape : Shape) (e : Tree)
-      → Begins levels parts (initialisers_behind shape e) (one symbols.CloseBrace) (one symbols.CloseBrace)
-  begins-initialisers_behind shapes.Name e =
+  begins-initialisers_behind : (kind : OperandKind) (e : Tree)
+      → Begins levels parts (initialisers_behind kind e) (one symbols.CloseBrace) (one symbols.CloseBrace)
+  begins-initialisers_behind operands.Name e =
       begins-when begins-separated_behind (apart_from (one symbols.CloseBrace) (one symbols.Equal) refl)
   begins-initialisers_behind _ e = begins-separated_behind
 
   pub begins-initialisers : Begins levels parts initialisers only_name (one symbols.CloseBrace)
   begins-initialisers = begins-when
-      (begins-bind begins-terra_disjunction (λ e. begins-initialisers_behind e.shape e.tree) refl)
+      (begins-bind begins-terra_disjunction (λ e. begins-initialisers_behind e.kind e.tree) refl)
       (apart_from only_name (one symbols.CloseBrace) refl)
 
 -- ---- from any front
@@ -163,9 +163,9 @@ module _ {s : Setting after_part} where
       goes-many (λ t. terra_suffix_first (terra_suffix_of t.symbol))
       (λ b t h. terra_suffix_covers s (terra_suffix_of t.symbol))
       (λ t x b h. goes-terra_suffix (terra_suffix_of t.symbol) t x b xs)
-      (λ b. apart_from_and xs terra_suffix_symbols (stays modes.Types) d)
+      (λ b. apart_from_and xs terra_suffix_symbols (may_continue modes.Types) d)
 
-  goes-terra_primary : {left : ℕ} → Goes s (terra_primary left) only_name after_expression
+  goes-terra_primary : {links : ℕ} → Goes s (terra_primary links) only_name after_expression
   goes-terra_primary =
       goes-when (goes-as_operand
       (goes-token symbols.Numeral (λ t. after_expression) (λ t h. tt) (λ x h. goes-give) (λ p. refl) refl))
@@ -180,45 +180,45 @@ module _ {s : Setting after_part} where
       (apart_from only_name (one symbols.Literal) refl))
       (apart_from only_name terra_numerals refl)
 
-  goes-terra_prefixed : {left : ℕ} → Goes s (terra_prefixed left) (one symbols.Minus) after_expression
+  goes-terra_prefixed : {links : ℕ} → Goes s (terra_prefixed links) (one symbols.Minus) after_expression
   goes-terra_prefixed = goes-token symbols.Minus (λ t. after_expression)
       (λ t h. within after_expression after_expression refl) (λ x h. goes-give) (λ p. refl) refl
 
-  goes-terra_exponent : {left : ℕ} → Goes s (terra_exponent left) only_name after_expression
+  goes-terra_exponent : {links : ℕ} → Goes s (terra_exponent links) only_name after_expression
   goes-terra_exponent = goes-when goes-terra_prefixed goes-terra_primary
       (apart_from only_name terra_prefix_symbols refl)
 
-  goes-terra_power : {left : ℕ} → Goes s (terra_power left) only_name after_expression
+  goes-terra_power : {links : ℕ} → Goes s (terra_power links) only_name after_expression
   goes-terra_power = goes-next goes-terra_primary
       (λ a. goes-operators (one symbols.Caret) terra_exponent terra_operation a after_expression
       (λ n. goes-terra_exponent) refl)
 
-  goes-terra_unary : {left : ℕ} → Goes s (terra_unary left) only_name after_expression
+  goes-terra_unary : {links : ℕ} → Goes s (terra_unary links) only_name after_expression
   goes-terra_unary = goes-when goes-terra_prefixed goes-terra_power (apart_from only_name terra_prefix_symbols refl)
 
-  goes-terra_product : {left : ℕ} → Goes s (terra_product left) only_name after_expression
+  goes-terra_product : {links : ℕ} → Goes s (terra_product links) only_name after_expression
   goes-terra_product = goes-next goes-terra_unary
       (λ a. goes-operators multiplicative terra_unary terra_operation a after_expression (λ n. goes-terra_unary) refl)
 
-  goes-terra_sum : {left : ℕ} → Goes s (terra_sum left) only_name after_expression
+  goes-terra_sum : {links : ℕ} → Goes s (terra_sum links) only_name after_expression
   goes-terra_sum = goes-next goes-terra_product
       (λ a. goes-operators additive terra_product terra_operation a after_expression (λ n. goes-terra_product) refl)
 
-  goes-terra_shift : {left : ℕ} → Goes s (terra_shift left) only_name after_expression
+  goes-terra_shift : {links : ℕ} → Goes s (terra_shift links) only_name after_expression
   goes-terra_shift = goes-next goes-terra_sum
       (λ a. goes-operators shifts terra_sum terra_operation a after_expression (λ n. goes-terra_sum) refl)
 
-  goes-terra_comparison : {left : ℕ} → Goes s (terra_comparison left) only_name after_expression
+  goes-terra_comparison : {links : ℕ} → Goes s (terra_comparison links) only_name after_expression
   goes-terra_comparison = goes-next goes-terra_shift
       (λ a. goes-operators comparisons terra_shift terra_operation a after_expression (λ n. goes-terra_shift) refl)
 
-  goes-terra_conjunction : {left : ℕ} → Goes s (terra_conjunction left) only_name after_expression
+  goes-terra_conjunction : {links : ℕ} → Goes s (terra_conjunction links) only_name after_expression
   goes-terra_conjunction =
       goes-next goes-terra_comparison
       (λ a. goes-operators (one symbols.And) terra_comparison terra_operation a after_expression
       (λ n. goes-terra_comparison) refl)
 
-  goes-terra_disjunction : {left : ℕ} → Goes s (terra_disjunction left) only_name after_expression
+  goes-terra_disjunction : {links : ℕ} → Goes s (terra_disjunction links) only_name after_expression
   goes-terra_disjunction =
       goes-next goes-terra_conjunction
       (λ a. goes-operators (one symbols.Or) terra_conjunction terra_operation a after_expression
@@ -266,9 +266,9 @@ module _ {s : Setting after_part} where
   goes-positional_initialisers =
       goes-separated_behind {first = only_name} (goes-within goes-terra_expression refl refl) refl
 
-  goes-initialisers_behind : (shape : Shape) (e : Tree)
-      → Goes s (initialisers_behind shape e) (one symbols.CloseBrace) (one symbols.CloseBrace)
-  goes-initialisers_behind shapes.Name e =
+  goes-initialisers_behind : (kind : OperandKind) (e : Tree)
+      → Goes s (initialisers_behind kind e) (one symbols.CloseBrace) (one symbols.CloseBrace)
+  goes-initialisers_behind operands.Name e =
       goes-when (goes-then symbols.Equal
       (λ y. goes-bind goes-terra_expression (λ v. goes-separated_behind goes-named_initialiser refl) refl) refl
       refl) goes-positional_initialisers
@@ -277,5 +277,5 @@ module _ {s : Setting after_part} where
 
   pub goes-initialisers : Goes s initialisers only_name (one symbols.CloseBrace)
   goes-initialisers = goes-when goes-give
-      (goes-bind goes-terra_disjunction (λ e. goes-initialisers_behind e.shape e.tree) refl)
+      (goes-bind goes-terra_disjunction (λ e. goes-initialisers_behind e.kind e.tree) refl)
       (apart_from only_name (one symbols.CloseBrace) refl)

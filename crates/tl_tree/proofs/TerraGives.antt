@@ -5,8 +5,8 @@ use Rattle.tl_base.specs.declared.place.Place.{Place}
 use Rattle.tl_tree.specs.declared.symbol.Symbol.{Symbol}
 use Rattle.tl_tree.specs.declared.symbol.Symbol.TheVariants as symbols
 use Rattle.tl_tree.specs.declared.mode.Mode.TheVariants as modes
-use Rattle.tl_tree.specs.declared.mode.Shape.{Shape}
-use Rattle.tl_tree.specs.declared.mode.Shape.TheVariants as shapes
+use Rattle.tl_tree.specs.declared.mode.OperandKind.{OperandKind}
+use Rattle.tl_tree.specs.declared.mode.OperandKind.TheVariants as operands
 use Rattle.tl_tree.specs.declared.node.UnaryOperator.TheVariants as unaries
 use Rattle.tl_tree.specs.Tokens.{Token}
 use Rattle.tl_tree.specs.Tree.{Tree, Nothing, More, Name, Escape, Arm, NamedField, SpliceParameter, TerraUnary}
@@ -39,23 +39,23 @@ expression_initialiser (NamedField _ value) h = absurd (false≢true h)
 expression_initialiser _ h = h
 
 -- what a shape says of its tree
-abbrev terra_fits : Shape → Tree → Bool
-terra_fits shapes.Name a = is_name a
-terra_fits shapes.Call a = is_terra_call a
-terra_fits shapes.Escape a = is_escape a
+abbrev terra_fits : OperandKind → Tree → Bool
+terra_fits operands.Name a = is_name a
+terra_fits operands.Call a = is_terra_call a
+terra_fits operands.Escape a = is_escape a
 terra_fits _ a = true
 
 -- an operand
 abbrev pub Terra : Chained → Type 0
-Terra a = (is_terra_expression a.tree ≡ true) × (terra_fits a.shape a.tree ≡ true) × WellFormed a.tree
+Terra a = (is_terra_expression a.tree ≡ true) × (terra_fits a.kind a.tree ≡ true) × WellFormed a.tree
 
 -- a chain of suffixes that is no call can be assigned to
-abbrev may_assign : Shape → Tree → Bool
-may_assign shapes.Call a = true
+abbrev may_assign : OperandKind → Tree → Bool
+may_assign operands.Call a = true
 may_assign _ a = is_first_target a
 
 abbrev Suffixed : Chained → Type 0
-Suffixed a = Terra a × (may_assign a.shape a.tree ≡ true)
+Suffixed a = Terra a × (may_assign a.kind a.tree ≡ true)
 
 -- a name can be assigned to
 name_first : (a : Tree) → is_name a ≡ true → is_first_target a ≡ true
@@ -111,7 +111,7 @@ module _ (rule : Rule) (levels : ℕ) (parts : Parts) (kept : Kept parts) where
       (gives_opening kept symbols.OpenParen TerraExpression)
       (λ x p. gives_then (λ y. gives_value ((refl, refl, p), refl)))
 
-  escape_base : Of Suffixed (bind terra.escape λ e. give (chained e chain shapes.Escape))
+  escape_base : Of Suffixed (bind terra.escape λ e. give (chained e chain operands.Escape))
   escape_base =
       gives_bind (λ (e : Tree). (is_terra_expression e ≡ true) × (is_escape e ≡ true) × WellFormed e)
       (escaped (λ place e. give e) (λ place e p. gives_value (refl, refl, p)))
@@ -155,7 +155,7 @@ module _ (rule : Rule) (levels : ℕ) (parts : Parts) (kept : Kept parts) where
   binary : (ss : List Symbol) (x : ℕ → Grammar Chained) (a : Chained) → ((n : ℕ) → Of Terra (x n)) → Terra a
       → Of Terra (operators ss x terra.terra_operation a)
   binary ss x a p q = gives_many kept q
-      (λ t y b r is o. gives_bind Terra (p (down b.left)) (λ d s. gives_value (refl, refl, ((r.0, r.2), (s.0, s.2)))))
+      (λ t y b r is o. gives_bind Terra (p (down b.links)) (λ d s. gives_value (refl, refl, ((r.0, r.2), (s.0, s.2)))))
 
   terra_prefixed : (n : ℕ) → Of Terra (terra.terra_prefixed n)
   terra_prefixed n = gives_bind _ (gives_token kept (λ t. Some TerraOperand)) (λ x p. gives_value (refl, refl, p.1))
@@ -194,7 +194,7 @@ module _ (rule : Rule) (levels : ℕ) (parts : Parts) (kept : Kept parts) where
   binary_at : (ss : List Symbol) (x : ℕ → Grammar Chained) (a : Chained) → ((n : ℕ) → Of Terra (x n)) → BeginsWithAt a
       → Of BeginsWithAt (operators ss x terra.terra_operation a)
   binary_at ss x a p q = gives_many kept q
-      (λ t y b r is o. gives_bind Terra (p (down b.left))
+      (λ t y b r is o. gives_bind Terra (p (down b.links))
       (λ d s. gives_value ((refl, refl, ((r.0.0, r.0.2), (s.0, s.2))), r.1)))
 
   terra_expression_behind : (a : Chained) → BeginsWithAt a → Of BeginsWithAt (terra.terra_expression_behind a)
@@ -239,22 +239,22 @@ module _ (rule : Rule) (levels : ℕ) (parts : Parts) (kept : Kept parts) where
   positional_initialisers e p =
       gives_separated kept is_initialiser positional_initialiser (one_alone is_initialiser e (positional e p))
 
-  initialisers_behind : (shape : Shape) (e : Tree) → is_terra_expression e ≡ true → terra_fits shape e ≡ true
-      → WellFormed e → Of (Has (are is_initialiser)) (terra.initialisers_behind shape e)
-  initialisers_behind shapes.Name e p q w =
+  initialisers_behind : (kind : OperandKind) (e : Tree) → is_terra_expression e ≡ true → terra_fits kind e ≡ true
+      → WellFormed e → Of (Has (are is_initialiser)) (terra.initialisers_behind kind e)
+  initialisers_behind operands.Name e p q w =
       gives_when
       (gives_then (λ y. gives_bind (Has is_terra_expression) terra_expression
       (λ v r. gives_separated kept is_initialiser named_initialiser
       (one_alone is_initialiser (NamedField e v) (named e v (q, w) r)))))
       (positional_initialisers e (p, w))
-  initialisers_behind shapes.Variable e p q w = positional_initialisers e (p, w)
-  initialisers_behind shapes.Call e p q w = positional_initialisers e (p, w)
-  initialisers_behind shapes.Escape e p q w = positional_initialisers e (p, w)
-  initialisers_behind shapes.Other e p q w = positional_initialisers e (p, w)
+  initialisers_behind operands.Variable e p q w = positional_initialisers e (p, w)
+  initialisers_behind operands.Call e p q w = positional_initialisers e (p, w)
+  initialisers_behind operands.Escape e p q w = positional_initialisers e (p, w)
+  initialisers_behind operands.Other e p q w = positional_initialisers e (p, w)
 
   pub initialisers : Of (Has (are is_initialiser)) terra.initialisers
   initialisers = gives_when (gives_value (refl, tt))
-      (gives_bind Terra (terra_disjunction chain) (λ e p. initialisers_behind e.shape e.tree p.0 p.1 p.2))
+      (gives_bind Terra (terra_disjunction chain) (λ e p. initialisers_behind e.kind e.tree p.0 p.1 p.2))
 
   -- ---- assignments, calls and splices
 
@@ -271,19 +271,19 @@ module _ (rule : Rule) (levels : ℕ) (parts : Parts) (kept : Kept parts) where
       gives_bind (Has are_terra_targets) (targets_behind e p) (λ targets q. gives_then (λ y.
       gives_bind (Has (are is_terra_expression)) terra_expressions (λ es r. gives_value (refl, (q, r)))))
 
-  terra_simple_statement : (t : Token) (shape : Shape) (e : Tree) → terra_fits shape e ≡ true
-      → may_assign shape e ≡ true → WellFormed e
-      → Of (Has is_terra_statement) (terra_statements.terra_simple_statement t shape e)
-  terra_simple_statement t shapes.Call e q r w = gives_value (refl, (q, w))
-  terra_simple_statement t shapes.Escape e q r w = gives_when (terra_assignment t e (r, w)) (gives_value (refl, (q, w)))
-  terra_simple_statement t shapes.Name e q r w = terra_assignment t e (r, w)
-  terra_simple_statement t shapes.Variable e q r w = terra_assignment t e (r, w)
-  terra_simple_statement t shapes.Other e q r w = terra_assignment t e (r, w)
+  terra_simple_statement : (t : Token) (kind : OperandKind) (e : Tree) → terra_fits kind e ≡ true
+      → may_assign kind e ≡ true → WellFormed e
+      → Of (Has is_terra_statement) (terra_statements.terra_simple_statement t kind e)
+  terra_simple_statement t operands.Call e q r w = gives_value (refl, (q, w))
+  terra_simple_statement t operands.Escape e q r w = gives_when (terra_assignment t e (r, w)) (gives_value (refl, (q, w)))
+  terra_simple_statement t operands.Name e q r w = terra_assignment t e (r, w)
+  terra_simple_statement t operands.Variable e q r w = terra_assignment t e (r, w)
+  terra_simple_statement t operands.Other e q r w = terra_assignment t e (r, w)
 
   terra_simple_behind : (t : Token) (b : Chained) → Suffixed b
       → Of (Has is_terra_statement) (terra_statements.terra_simple_behind t b)
   terra_simple_behind t b p =
-      gives_bind Suffixed (terra_suffixes b p) (λ a q. terra_simple_statement t a.shape a.tree q.0.1 q.1 q.0.2)
+      gives_bind Suffixed (terra_suffixes b p) (λ a q. terra_simple_statement t a.kind a.tree q.0.1 q.1 q.0.2)
 
   -- ---- parts of statements
 
@@ -331,12 +331,12 @@ module _ (rule : Rule) (levels : ℕ) (parts : Parts) (kept : Kept parts) where
       → OpenedHas (terra_statements.terra_statement_opens k) x
       → Of (Has is_terra_statement) (terra_statements.terra_statement k t x)
   terra_statement terra_statements.FromName t x o =
-      terra_simple_behind t (chained (Name t.place t.offset t.text) chain shapes.Name) ((refl, refl, tt), refl)
+      terra_simple_behind t (chained (Name t.place t.offset t.text) chain operands.Name) ((refl, refl, tt), refl)
   terra_statement terra_statements.FromParen t x o =
-      gives_then (λ y. terra_simple_behind t (chained (TerraParen t.place x) chain shapes.Other)
+      gives_then (λ y. terra_simple_behind t (chained (TerraParen t.place x) chain operands.Other)
       ((refl, refl, o), refl))
   terra_statement terra_statements.FromBracket t x o =
-      gives_then (λ y. terra_simple_behind t (chained (Escape t.place x) chain shapes.Escape) ((refl, refl, o), refl))
+      gives_then (λ y. terra_simple_behind t (chained (Escape t.place x) chain operands.Escape) ((refl, refl, o), refl))
   terra_statement terra_statements.FromAt t x o =
       gives_bind BeginsWithAt (terra_expression_behind (operand chain (TerraUnary t.place unaries.Dereference x))
       ((refl, refl, o), refl)) (λ a p.

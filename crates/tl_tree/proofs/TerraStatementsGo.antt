@@ -4,8 +4,8 @@ use Rattle.tl_base.specs.declared.place.Place.{Place}
 use Rattle.tl_tree.specs.declared.symbol.Symbol.{Symbol}
 use Rattle.tl_tree.specs.declared.symbol.Symbol.TheVariants as symbols
 use Rattle.tl_tree.specs.declared.mode.Mode.TheVariants as modes
-use Rattle.tl_tree.specs.declared.mode.Shape.{Shape}
-use Rattle.tl_tree.specs.declared.mode.Shape.TheVariants as shapes
+use Rattle.tl_tree.specs.declared.mode.OperandKind.{OperandKind}
+use Rattle.tl_tree.specs.declared.mode.OperandKind.TheVariants as operands
 use Rattle.tl_tree.specs.Tokens.{Token, among}
 use Rattle.tl_tree.specs.Tree.{Tree, Expression, TerraStatements}
 use Rattle.tl_tree.specs.Grammar.{Rule, Parts}
@@ -105,11 +105,11 @@ module _ {s : Setting after_part} where
       (λ targets. goes-then symbols.Equal
       (λ y. goes-next (goes-terra_expressions after_block refl refl) (λ es. goes-give)) refl refl)
 
-  goes-terra_simple_statement : (t : Token) (shape : Shape) (e : Tree)
-      → Goes s (terra_simple_statement t shape e) after_simple after_block
-  goes-terra_simple_statement t shapes.Call e =
+  goes-terra_simple_statement : (t : Token) (kind : OperandKind) (e : Tree)
+      → Goes s (terra_simple_statement t kind e) after_simple after_block
+  goes-terra_simple_statement t operands.Call e =
       goes-within {first = after_block} {after = after_block} goes-give refl refl
-  goes-terra_simple_statement t shapes.Escape e =
+  goes-terra_simple_statement t operands.Escape e =
       goes-within {first = after_block} {after = after_block}
       (goes-when (goes-terra_assignment t e) goes-give
       (apart_from after_block (symbols.Equal ∷ symbols.Comma ∷ []) refl)) refl refl
@@ -117,7 +117,7 @@ module _ {s : Setting after_part} where
 
   goes-terra_simple_behind : (t : Token) (b : Chained) → Goes s (terra_simple_behind t b) after_simple after_block
   goes-terra_simple_behind t b =
-      goes-next (goes-terra_suffixes b after_simple refl) (λ a. goes-terra_simple_statement t a.shape a.tree)
+      goes-next (goes-terra_suffixes b after_simple refl) (λ a. goes-terra_simple_statement t a.kind a.tree)
 
   goes-written_type : (xs : List Symbol) → subset xs after_expression ≡ true → disjoint xs (one symbols.Colon) ≡ true
       → Goes s written_type xs xs

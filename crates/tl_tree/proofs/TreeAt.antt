@@ -52,7 +52,7 @@ module _ (at : NodeId → Tree) where
 
   abbrev of_statement : Place → lua_statement.Statement → Tree
   of_statement place (statements.Assign targets es) = t.Assign place (list targets) (list es)
-  of_statement place (statements.Call call) = t.Perform place (at call)
+  of_statement place (statements.Call call) = t.CallStatement place (at call)
   of_statement place (statements.Do block) = t.Do place (at block)
   of_statement place (statements.While e block) = t.While place (at e) (at block)
   of_statement place (statements.Repeat block e) = t.Repeat place (at block) (at e)
@@ -89,7 +89,7 @@ module _ (at : NodeId → Tree) where
 
   abbrev of_terra_statement : Place → terra_statement.TerraStatement → Tree
   of_terra_statement place (terra_statements.Assign targets es) = t.TerraAssign place (list targets) (list es)
-  of_terra_statement place (terra_statements.Call call) = t.TerraPerform place (at call)
+  of_terra_statement place (terra_statements.Call call) = t.TerraCallStatement place (at call)
   of_terra_statement place (terra_statements.Splice escape) = t.Splice place (at escape)
   of_terra_statement place (terra_statements.Do block) = t.TerraDo place (at block)
   of_terra_statement place (terra_statements.While e block) = t.TerraWhile place (at e) (at block)

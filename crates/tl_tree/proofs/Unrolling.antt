@@ -4,7 +4,7 @@ use Rattle.std.proofs.Common.{None, refl, ap, ◌∙◌, subst, arith}
 use Rattle.tl_tree.specs.Tokens.{Token}
 use Rattle.tl_tree.specs.Tree.{Tree, Part}
 use Rattle.tl_lex.specs.declared.SyntaxKind.{SyntaxKind}
-use Rattle.tl_tree.specs.declared.mode.Extra.{Extra}
+use Rattle.tl_tree.specs.declared.mode.TokenUse.{TokenUse}
 use Rattle.tl_tree.specs.Grammar.{Grammar, many, begins, is_of, bar, Outcome, Took, Stop, ◌>>=◌, unless, Readers}
 use Rattle.tl_tree.specs.Grammar.{opened, turns, run, Table, below}
 use Rattle.tl_tree.proofs.Reading.{rest_of, Leaves, leaves_all, leaves_length, leaves, leaves-bind, leaves-opened}
@@ -43,15 +43,15 @@ module _ {A : Type 0} (class : A → Token → Bool) (bars : A → Token → Opt
 
 module _ (levels : ℕ) (readers : Readers) (readers_leave : ReadersLeave readers) where
   -- one turn
-  pub many_turn : {A : Type 0} (class : A → Token → Bool) (extra : A → Token → Extra) (opens : A → Token → Option Part)
+  pub many_turn : {A : Type 0} (class : A → Token → Bool) (usage : A → Token → TokenUse) (opens : A → Token → Option Part)
       (step : Token → Tree → A → Grammar A) (a : A) (t : Token) (ts : List Token) → is_of (class a) t ≡ true
-      → bar (record { opens = opens a t; levels = levels; extra = extra a t }) t ≡ None
-      → run levels readers (many class extra opens step a) (t ∷ ts)
+      → bar (record { opens = opens a t; levels = levels; usage = usage a t }) t ≡ None
+      → run levels readers (many class usage opens step a) (t ∷ ts)
       ≡ (opened readers (opens a t) ts >>= λ x mid. run levels readers (step t x a) mid
-      >>= λ y next. run levels readers (many class extra opens step y) next)
-  many_turn {A} class extra opens step a t ts h k =
+      >>= λ y next. run levels readers (many class usage opens step y) next)
+  many_turn {A} class usage opens step a t ts h k =
       let bars : A → Token → Option SyntaxKind =
-      λ a t. bar (record { opens = opens a t; levels = levels; extra = extra a t }) t in
+      λ a t. bar (record { opens = opens a t; levels = levels; usage = usage a t }) t in
       let go_on : A → Token → List Token → Outcome A =
       λ a t inner. opened readers (opens a t) inner >>= λ x mid. run levels readers (step t x a) mid in
       let left : (a : A) (t : Token) (inner : List Token) → Leaves (rest_of (go_on a t inner)) inner =
@@ -59,41 +59,41 @@ module _ (levels : ℕ) (readers : Readers) (readers_leave : ReadersLeave reader
       inner (leaves-opened readers readers_leave (opens a t) inner)
       (λ x mid. leaves levels readers readers_leave (step t x a) mid) in
       let next : Outcome A = go_on a t ts >>= λ y mid. turns (length ts) class bars go_on y mid in
-      let e1 : run levels readers (many class extra opens step a) (t ∷ ts) ≡ unless (bars a t) (t ∷ ts) next =
+      let e1 : run levels readers (many class usage opens step a) (t ∷ ts) ≡ unless (bars a t) (t ∷ ts) next =
       ap (λ (c : Bool). cond c (unless (bars a t) (t ∷ ts) next) (Took a (t ∷ ts))) h in
       let e2 : unless (bars a t) (t ∷ ts) next ≡ next = ap (λ (o : Option SyntaxKind). unless o (t ∷ ts) next) k in
-      let e3 : next ≡ (go_on a t ts >>= λ y mid. run levels readers (many class extra opens step y) mid) =
+      let e3 : next ≡ (go_on a t ts >>= λ y mid. run levels readers (many class usage opens step y) mid) =
       bind_same (go_on a t ts) (λ y mid. turns (length ts) class bars go_on y mid)
-      (λ y mid. run levels readers (many class extra opens step y) mid)
+      (λ y mid. run levels readers (many class usage opens step y) mid)
       (λ y mid e. turns_fuel class bars go_on left (length ts) (length mid) y mid
       (leaves_length mid ts (subst (λ (o : Outcome A). Leaves (rest_of o) ts) e (left a t ts))) (omega arith)) in
       e1 ∙ e2 ∙ e3 ∙ bind_again (opened readers (opens a t) ts) (λ x mid. run levels readers (step t x a) mid)
-      (λ y next. run levels readers (many class extra opens step y) next)
+      (λ y next. run levels readers (many class usage opens step y) next)
 
   -- the limits end it
-  pub many_barred : {A : Type 0} (class : A → Token → Bool) (extra : A → Token → Extra)
+  pub many_barred : {A : Type 0} (class : A → Token → Bool) (usage : A → Token → TokenUse)
       (opens : A → Token → Option Part) (step : Token → Tree → A → Grammar A) (a : A) (t : Token) (ts : List Token)
       (why : SyntaxKind) → is_of (class a) t ≡ true
-      → bar (record { opens = opens a t; levels = levels; extra = extra a t }) t ≡ Some why
-      → run levels readers (many class extra opens step a) (t ∷ ts) ≡ Stop why (t ∷ ts)
-  many_barred {A} class extra opens step a t ts why h k =
+      → bar (record { opens = opens a t; levels = levels; usage = usage a t }) t ≡ Some why
+      → run levels readers (many class usage opens step a) (t ∷ ts) ≡ Stop why (t ∷ ts)
+  many_barred {A} class usage opens step a t ts why h k =
       let bars : A → Token → Option SyntaxKind =
-      λ a t. bar (record { opens = opens a t; levels = levels; extra = extra a t }) t in
+      λ a t. bar (record { opens = opens a t; levels = levels; usage = usage a t }) t in
       let go_on : A → Token → List Token → Outcome A =
       λ a t inner. opened readers (opens a t) inner >>= λ x mid. run levels readers (step t x a) mid in
       let next : Outcome A = go_on a t ts >>= λ y mid. turns (length ts) class bars go_on y mid in
-      let e1 : run levels readers (many class extra opens step a) (t ∷ ts) ≡ unless (bars a t) (t ∷ ts) next =
+      let e1 : run levels readers (many class usage opens step a) (t ∷ ts) ≡ unless (bars a t) (t ∷ ts) next =
       ap (λ (c : Bool). cond c (unless (bars a t) (t ∷ ts) next) (Took a (t ∷ ts))) h in
       e1 ∙ ap (λ (o : Option SyntaxKind). unless o (t ∷ ts) next) k
 
   -- another token ends it
-  pub many_ends : {A : Type 0} (class : A → Token → Bool) (extra : A → Token → Extra) (opens : A → Token → Option Part)
+  pub many_ends : {A : Type 0} (class : A → Token → Bool) (usage : A → Token → TokenUse) (opens : A → Token → Option Part)
       (step : Token → Tree → A → Grammar A) (a : A) (ts : List Token) → begins (class a) ts ≡ false
-      → run levels readers (many class extra opens step a) ts ≡ Took a ts
-  many_ends class extra opens step a [] h = refl
-  many_ends {A} class extra opens step a (t ∷ ts) h =
+      → run levels readers (many class usage opens step a) ts ≡ Took a ts
+  many_ends class usage opens step a [] h = refl
+  many_ends {A} class usage opens step a (t ∷ ts) h =
       let bars : A → Token → Option SyntaxKind =
-      λ a t. bar (record { opens = opens a t; levels = levels; extra = extra a t }) t in
+      λ a t. bar (record { opens = opens a t; levels = levels; usage = usage a t }) t in
       let go_on : A → Token → List Token → Outcome A =
       λ a t inner. opened readers (opens a t) inner >>= λ x mid. run levels readers (step t x a) mid in
       let next : Outcome A = go_on a t ts >>= λ y mid. turns (length ts) class bars go_on y mid in

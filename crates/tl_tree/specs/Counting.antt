@@ -33,7 +33,7 @@ nodes_of (t.Quote place quoted) = 1 + nodes_of quoted
 nodes_of (t.Backtick place e) = 1 + nodes_of e
 -- statements of Lua code
 nodes_of (t.Assign place targets es) = 1 + nodes_of targets + nodes_of es
-nodes_of (t.Perform place call) = 1 + nodes_of call
+nodes_of (t.CallStatement place call) = 1 + nodes_of call
 nodes_of (t.Do place block) = 1 + nodes_of block
 nodes_of (t.While place e block) = 1 + nodes_of e + nodes_of block
 nodes_of (t.Repeat place block e) = 1 + nodes_of block + nodes_of e
@@ -67,7 +67,7 @@ nodes_of (t.TerraMethod place a name arguments) = 1 + nodes_of a + (nodes_of nam
 nodes_of (t.Construct place a initialisers) = 1 + nodes_of a + nodes_of initialisers
 -- statements of Terra code
 nodes_of (t.TerraAssign place targets es) = 1 + nodes_of targets + nodes_of es
-nodes_of (t.TerraPerform place call) = 1 + nodes_of call
+nodes_of (t.TerraCallStatement place call) = 1 + nodes_of call
 nodes_of (t.Splice place escape) = nodes_of escape
 nodes_of (t.TerraDo place block) = 1 + nodes_of block
 nodes_of (t.TerraWhile place e block) = 1 + nodes_of e + nodes_of block

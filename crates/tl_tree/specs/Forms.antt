@@ -3,9 +3,9 @@ use Rattle.std.specs.Prelude.{ℕ, List, [], ◌∷◌, Some, None}
 use Rattle.tl_base.specs.declared.place.Place.{Place}
 use Rattle.tl_tree.specs.declared.symbol.Symbol.{Symbol}
 use Rattle.tl_tree.specs.declared.symbol.Symbol.TheVariants as symbols
-use Rattle.tl_tree.specs.declared.mode.Extra.TheVariants.{Plain, Continues}
-use Rattle.tl_tree.specs.declared.mode.Shape.{Shape}
-use Rattle.tl_tree.specs.declared.mode.Shape.TheVariants as shapes
+use Rattle.tl_tree.specs.declared.mode.TokenUse.TheVariants.{Plain, Continues}
+use Rattle.tl_tree.specs.declared.mode.OperandKind.{OperandKind}
+use Rattle.tl_tree.specs.declared.mode.OperandKind.TheVariants as operands
 use Rattle.tl_tree.specs.declared.node.BinaryOperator.{BinaryOperator}
 use Rattle.tl_tree.specs.declared.node.BinaryOperator.TheVariants as binary
 use Rattle.tl_tree.specs.declared.node.UnaryOperator.{UnaryOperator}
@@ -80,19 +80,19 @@ chain = 1000
 -- A tree, how many more tokens may continue its chain, and what the tree is, as far as what follows depends on it.
 pub record Chained : Type 0 where
   pub tree : Tree
-  pub left : ℕ
-  pub shape : Shape
+  pub links : ℕ
+  pub kind : OperandKind
 
-abbrev pub chained : Tree → ℕ → Shape → Chained
-chained tree left shape = record { tree = tree; left = left; shape = shape }
+abbrev pub chained : Tree → ℕ → OperandKind → Chained
+chained tree links kind = record { tree = tree; links = links; kind = kind }
 
 -- an operand of a chain of operators
 abbrev pub operand : ℕ → Tree → Chained
-operand left tree = chained tree left shapes.Other
+operand links tree = chained tree links operands.Other
 
 -- the same tree in another chain
 abbrev pub in_chain : ℕ → Chained → Chained
-in_chain left a = chained a.tree left a.shape
+in_chain links a = chained a.tree links a.kind
 
 -- ---- operators
 
@@ -139,14 +139,14 @@ multiplicative = symbols.Star ∷ symbols.Slash ∷ symbols.Percent ∷ []
 -- tree; an operand is read in the chain that goes on.
 abbrev pub operators : List Symbol → (ℕ → Grammar Chained) → (Token → Tree → Tree → Tree) → Chained → Grammar Chained
 operators ss x make a =
-    many (λ a t. among ss t) (λ a t. Continues a.left) (λ a t. None)
-    (λ t y a. bind (x (down a.left)) λ b. give (operand b.left (make t a.tree b.tree))) a
+    many (λ a t. among ss t) (λ a t. Continues a.links) (λ a t. None)
+    (λ t y a. bind (x (down a.links)) λ b. give (operand b.links (make t a.tree b.tree))) a
 
 -- An operator that groups to the right, with the part that is its right operand, behind a left operand; or the operand
 -- alone.
 abbrev pub right_operator : Symbol → Part → (Token → Tree → Tree → Tree) → Chained → Grammar Chained
 right_operator s part make a =
     when (is s)
-    (bind (token (is s) (λ t. Continues a.left) (λ t. Some part) (sample s)) λ x.
-    give (operand (down a.left) (make x.0 a.tree x.1)))
+    (bind (token (is s) (λ t. Continues a.links) (λ t. Some part) (sample s)) λ x.
+    give (operand (down a.links) (make x.0 a.tree x.1)))
     (give a)

@@ -79,7 +79,7 @@ is_path _ = false
 
 abbrev pub is_statement : Tree → Bool
 is_statement (t.Assign place targets es) = true
-is_statement (t.Perform place call) = true
+is_statement (t.CallStatement place call) = true
 is_statement (t.Do place block) = true
 is_statement (t.While place e block) = true
 is_statement (t.Repeat place block e) = true
@@ -184,7 +184,7 @@ is_initialiser a = is_terra_expression a
 
 abbrev pub is_terra_statement : Tree → Bool
 is_terra_statement (t.TerraAssign place targets es) = true
-is_terra_statement (t.TerraPerform place call) = true
+is_terra_statement (t.TerraCallStatement place call) = true
 is_terra_statement (t.Splice place escape) = true
 is_terra_statement (t.TerraDo place block) = true
 is_terra_statement (t.TerraWhile place e block) = true
@@ -256,7 +256,7 @@ WellFormed (t.Backtick place e) = child is_terra_expression e (WellFormed e)
 -- statements of Lua code
 WellFormed (t.Assign place targets es) =
     child (are is_target) targets (WellFormed targets) × child (are is_expression) es (WellFormed es)
-WellFormed (t.Perform place call) = child is_call call (WellFormed call)
+WellFormed (t.CallStatement place call) = child is_call call (WellFormed call)
 WellFormed (t.Do place block) = child is_block block (WellFormed block)
 WellFormed (t.While place e block) = child is_expression e (WellFormed e) × child is_block block (WellFormed block)
 WellFormed (t.Repeat place block e) = child is_block block (WellFormed block) × child is_expression e (WellFormed e)
@@ -307,7 +307,7 @@ WellFormed (t.Construct place a initialisers) =
 -- statements of Terra code
 WellFormed (t.TerraAssign place targets es) =
     child are_terra_targets targets (WellFormed targets) × child (are is_terra_expression) es (WellFormed es)
-WellFormed (t.TerraPerform place call) = child is_terra_call call (WellFormed call)
+WellFormed (t.TerraCallStatement place call) = child is_terra_call call (WellFormed call)
 WellFormed (t.Splice place escape) = child is_escape escape (WellFormed escape)
 WellFormed (t.TerraDo place block) = child is_terra_block block (WellFormed block)
 WellFormed (t.TerraWhile place e block) =

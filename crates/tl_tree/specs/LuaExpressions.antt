@@ -4,10 +4,10 @@ use Rattle.tl_tree.specs.declared.symbol.Symbol.{Symbol}
 use Rattle.tl_tree.specs.declared.symbol.Symbol.TheVariants as symbols
 use Rattle.tl_tree.specs.declared.mode.Mode.{Mode}
 use Rattle.tl_tree.specs.declared.mode.Mode.TheVariants.{Variadic, Types}
-use Rattle.tl_tree.specs.declared.mode.Extra.{Extra}
-use Rattle.tl_tree.specs.declared.mode.Extra.TheVariants.{Plain, Continues, Calls, LuaNumber}
-use Rattle.tl_tree.specs.declared.mode.Shape.{Shape}
-use Rattle.tl_tree.specs.declared.mode.Shape.TheVariants as shapes
+use Rattle.tl_tree.specs.declared.mode.TokenUse.{TokenUse}
+use Rattle.tl_tree.specs.declared.mode.TokenUse.TheVariants.{Plain, Continues, Calls, LuaNumber}
+use Rattle.tl_tree.specs.declared.mode.OperandKind.{OperandKind}
+use Rattle.tl_tree.specs.declared.mode.OperandKind.TheVariants as operands
 use Rattle.tl_tree.specs.Tokens.{Token, among, is, sample}
 use Rattle.tl_tree.specs.Tree.{Tree, Nothing, More, Name, Numeral, Literal, Nil, False, True, Varargs, Function, Table}
 use Rattle.tl_tree.specs.Tree.{Binary, Unary, Paren, Index, Select, Call, Method, NamedField, KeyedField, TerraFunction}
@@ -24,11 +24,11 @@ use Rattle.tl_tree.specs.Forms.{operators, right_operator}
 abbrev pub paren : Mode → Grammar Chained
 paren m =
     bind (opening symbols.OpenParen (Expression m)) λ x. bind (sign symbols.CloseParen) λ y.
-    give (chained (Paren x.0.place x.1) chain shapes.Other)
+    give (chained (Paren x.0.place x.1) chain operands.Other)
 
 -- Name | "(" exp ")"
 abbrev pub base : Mode → Grammar Chained
-base m = when (is symbols.OpenParen) (paren m) (bind name λ n. give (chained n chain shapes.Name))
+base m = when (is symbols.OpenParen) (paren m) (bind name λ n. give (chained n chain operands.Name))
 
 -- the tokens that follow a prefix expression, and belong to it
 abbrev pub suffix_symbols : List Symbol
@@ -36,12 +36,12 @@ suffix_symbols = symbols.OpenParen ∷ symbols.OpenBracket ∷ symbols.Dot ∷ s
     ∷ symbols.Literal ∷ []
 
 -- In a type of Terra code, a `[` that is first on its line begins a statement.
-abbrev pub stays : Mode → Token → Bool
-stays Types t = not (is symbols.OpenBracket t && t.first_on_line)
-stays _ t = true
+abbrev pub may_continue : Mode → Token → Bool
+may_continue Types t = not (is symbols.OpenBracket t && t.first_on_line)
+may_continue _ t = true
 
 abbrev pub is_suffix : Mode → Token → Bool
-is_suffix m t = among suffix_symbols t && stays m t
+is_suffix m t = among suffix_symbols t && may_continue m t
 
 -- what a suffix is, by its first token
 pub data Suffix : Type 0 where
@@ -63,15 +63,15 @@ suffix_opens m WithTable = Some (Fields m)
 suffix_opens m _ = None
 
 -- A "(" behind a prefix expression is ambiguous where it is first on its line.
-abbrev pub suffix_extra : Chained → Token → Extra
-suffix_extra a t = if is symbols.OpenParen t then Calls a.left else Continues a.left
+abbrev pub suffix_use : Chained → Token → TokenUse
+suffix_use a t = if is symbols.OpenParen t then Calls a.links else Continues a.links
 
 -- a call, an index or a selection behind a prefix expression
 abbrev pub called : Chained → Tree → Chained
-called a tree = chained tree (down a.left) shapes.Call
+called a tree = chained tree (down a.links) operands.Call
 
 abbrev pub indexed : Chained → Tree → Chained
-indexed a tree = chained tree (down a.left) shapes.Variable
+indexed a tree = chained tree (down a.links) operands.Variable
 
 -- "(" [exps] ")" | table | Text, behind a method's name
 abbrev pub arguments : Mode → Grammar Tree
@@ -95,26 +95,26 @@ suffix m WithText t x a = give (called a (Call t.place a.tree (More Nothing (Lit
 
 abbrev pub suffixes : Mode → Chained → Grammar Chained
 suffixes m a =
-    many (λ b t. is_suffix m t) (λ b t. suffix_extra b t) (λ b t. suffix_opens m (suffix_of t.symbol))
+    many (λ b t. is_suffix m t) (λ b t. suffix_use b t) (λ b t. suffix_opens m (suffix_of t.symbol))
     (λ t x b. suffix m (suffix_of t.symbol) t x b) a
 
 -- prefix = var | call | "(" exp ")", as an operand
 abbrev pub prefix : Mode → ℕ → Grammar Chained
-prefix m left = bind (base m) λ b. bind (suffixes m b) λ a. give (in_chain left a)
+prefix m links = bind (base m) λ b. bind (suffixes m b) λ a. give (in_chain links a)
 
 -- ---- other operands
 
 abbrev pub as_operand : ℕ → Grammar Tree → Grammar Chained
-as_operand left x = bind x λ e. give (operand left e)
+as_operand links x = bind x λ e. give (operand links e)
 
 abbrev pub nil : Grammar Tree
 nil = bind (sign symbols.Nil) λ x. give (Nil x.0.place)
 
-abbrev pub no : Grammar Tree
-no = bind (sign symbols.False) λ x. give (False x.0.place)
+abbrev pub constant_false : Grammar Tree
+constant_false = bind (sign symbols.False) λ x. give (False x.0.place)
 
-abbrev pub yes : Grammar Tree
-yes = bind (sign symbols.True) λ x. give (True x.0.place)
+abbrev pub constant_true : Grammar Tree
+constant_true = bind (sign symbols.True) λ x. give (True x.0.place)
 
 -- A numeral in Lua code has no suffix, and a limit.
 abbrev pub number : Grammar Tree
@@ -182,52 +182,52 @@ abbrev pub prefix_symbols : List Symbol
 prefix_symbols = symbols.Not ∷ symbols.Hash ∷ symbols.Minus ∷ symbols.Ampersand ∷ []
 
 abbrev pub primary : Mode → ℕ → Grammar Chained
-primary m left =
-    when (is symbols.Numeral) (as_operand left number)
-    (when (is symbols.Literal) (as_operand left literal)
-    (when (is symbols.Nil) (as_operand left nil)
-    (when (is symbols.False) (as_operand left no)
-    (when (is symbols.True) (as_operand left yes)
-    (when (is_varargs m) (as_operand left varargs)
-    (when (is symbols.Function) (as_operand left function)
-    (when (is symbols.OpenBrace) (as_operand left (table m))
-    (when begins_terra (as_operand left (terra_code m))
-    (prefix m left)))))))))
+primary m links =
+    when (is symbols.Numeral) (as_operand links number)
+    (when (is symbols.Literal) (as_operand links literal)
+    (when (is symbols.Nil) (as_operand links nil)
+    (when (is symbols.False) (as_operand links constant_false)
+    (when (is symbols.True) (as_operand links constant_true)
+    (when (is_varargs m) (as_operand links varargs)
+    (when (is symbols.Function) (as_operand links function)
+    (when (is symbols.OpenBrace) (as_operand links (table m))
+    (when begins_terra (as_operand links (terra_code m))
+    (prefix m links)))))))))
 
 -- ---- operators, one definition for each level of precedence
 
 -- `^` binds more than a prefix operator on its left, and less than one on its right.
 abbrev pub power : Mode → ℕ → Grammar Chained
-power m left = bind (primary m left) λ a. right_operator symbols.Caret (Operand m) operation a
+power m links = bind (primary m links) λ a. right_operator symbols.Caret (Operand m) operation a
 
 abbrev pub unary : Mode → ℕ → Grammar Chained
-unary m left =
+unary m links =
     when (among prefix_symbols)
     (bind (token (among prefix_symbols) (λ t. Plain) (λ t. Some (Operand m)) (sample symbols.Minus)) λ x.
-    give (operand left (Unary x.0.place (unary_of x.0.symbol) x.1)))
-    (power m left)
+    give (operand links (Unary x.0.place (unary_of x.0.symbol) x.1)))
+    (power m links)
 
 -- `*` `/` `%`
 abbrev pub product : Mode → ℕ → Grammar Chained
-product m left = bind (unary m left) λ a. operators multiplicative (unary m) operation a
+product m links = bind (unary m links) λ a. operators multiplicative (unary m) operation a
 
 -- `+` `-`
 abbrev pub sum : Mode → ℕ → Grammar Chained
-sum m left = bind (product m left) λ a. operators additive (product m) operation a
+sum m links = bind (product m links) λ a. operators additive (product m) operation a
 
 -- `..`
 abbrev pub concatenation : Mode → ℕ → Grammar Chained
-concatenation m left = bind (sum m left) λ a. right_operator symbols.DoubleDot (Concatenation m) operation a
+concatenation m links = bind (sum m links) λ a. right_operator symbols.DoubleDot (Concatenation m) operation a
 
 -- `<` `>` `<=` `>=` `~=` `==`
 abbrev pub comparison : Mode → ℕ → Grammar Chained
-comparison m left = bind (concatenation m left) λ a. operators comparisons (concatenation m) operation a
+comparison m links = bind (concatenation m links) λ a. operators comparisons (concatenation m) operation a
 
 abbrev pub conjunction : Mode → ℕ → Grammar Chained
-conjunction m left = bind (comparison m left) λ a. operators (symbols.And ∷ []) (comparison m) operation a
+conjunction m links = bind (comparison m links) λ a. operators (symbols.And ∷ []) (comparison m) operation a
 
 abbrev pub disjunction : Mode → ℕ → Grammar Chained
-disjunction m left = bind (conjunction m left) λ a. operators (symbols.Or ∷ []) (conjunction m) operation a
+disjunction m links = bind (conjunction m links) λ a. operators (symbols.Or ∷ []) (conjunction m) operation a
 
 -- `->`
 abbrev pub chained_expression : Mode → Grammar Chained
@@ -255,8 +255,8 @@ abbrev pub arguments_of : Mode → Grammar Tree
 arguments_of m = when (is symbols.CloseParen) (give Nothing) (expressions m)
 
 -- A name alone before "=" names a field.
-abbrev pub field_behind : Mode → Shape → Tree → Grammar Tree
-field_behind m shapes.Name e =
+abbrev pub field_behind : Mode → OperandKind → Tree → Grammar Tree
+field_behind m operands.Name e =
     when (is symbols.Equal) (bind (sign symbols.Equal) λ y. bind (expression m) λ v. give (NamedField e v)) (give e)
 field_behind m _ e = give e
 
@@ -269,7 +269,7 @@ keyed_field m =
 
 -- field = "[" exp "]" "=" exp | Name "=" exp | exp
 abbrev pub field : Mode → Grammar Tree
-field m = when (is symbols.OpenBracket) (keyed_field m) (bind (chained_expression m) λ e. field_behind m e.shape e.tree)
+field m = when (is symbols.OpenBracket) (keyed_field m) (bind (chained_expression m) λ e. field_behind m e.kind e.tree)
 
 -- [field {("," | ";") field} ["," | ";"]], up to a "}"
 abbrev pub fields : Mode → Grammar Tree

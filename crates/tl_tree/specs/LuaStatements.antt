@@ -6,18 +6,18 @@ use Rattle.tl_tree.specs.declared.symbol.Symbol.TheVariants as symbols
 use Rattle.tl_tree.specs.declared.mode.Mode.{Mode}
 use Rattle.tl_tree.specs.declared.mode.Mode.TheVariants as modes
 use Rattle.tl_tree.specs.declared.mode.Context.{Context}
-use Rattle.tl_tree.specs.declared.mode.Extra.TheVariants.{Plain}
-use Rattle.tl_tree.specs.declared.mode.Shape.{Shape}
-use Rattle.tl_tree.specs.declared.mode.Shape.TheVariants as shapes
+use Rattle.tl_tree.specs.declared.mode.TokenUse.TheVariants.{Plain}
+use Rattle.tl_tree.specs.declared.mode.OperandKind.{OperandKind}
+use Rattle.tl_tree.specs.declared.mode.OperandKind.TheVariants as operands
 use Rattle.tl_tree.specs.Tokens.{Token, among, is, sample}
-use Rattle.tl_tree.specs.Tree.{Tree, Nothing, More, Just, Name, Paren, Assign, Perform, Do, While, Repeat, If}
+use Rattle.tl_tree.specs.Tree.{Tree, Nothing, More, Just, Name, Paren, Assign, CallStatement, Do, While, Repeat, If}
 use Rattle.tl_tree.specs.Tree.{NumericFor, GenericFor, DefineFunction, LocalFunction, Local, Return, Break, DefineTerra}
 use Rattle.tl_tree.specs.Tree.{DeclareTerra, LocalTerra, LocalDeclareTerra, DefineStruct, LocalStruct, Emit, Block, Arm}
 use Rattle.tl_tree.specs.Tree.{Body, Path, Part, Expression, Statements, FunctionBody, TerraFunctionBody}
 use Rattle.tl_tree.specs.Grammar.{Grammar, give, token, bind, when, many}
 use Rattle.tl_tree.specs.Forms.{sign, opening, opening_at, listed_behind, name, names, path_names, semicolon, chain}
 use Rattle.tl_tree.specs.Forms.{Chained, chained}
-use Rattle.tl_tree.specs.LuaExpressions.{paren, is_suffix, suffix_of, suffix_opens, suffix_extra, suffix, suffixes}
+use Rattle.tl_tree.specs.LuaExpressions.{paren, is_suffix, suffix_of, suffix_opens, suffix_use, suffix, suffixes}
 use Rattle.tl_tree.specs.LuaExpressions.{struct_body, begins_terra, expression, expressions}
 
 -- ---- contexts
@@ -35,7 +35,7 @@ fresh m = record { mode = m; in_loop = false; emits = false }
 -- one suffix behind a prefix expression
 abbrev pub next_suffix : Mode → Chained → Grammar Chained
 next_suffix m a =
-    bind (token (is_suffix m) (λ t. suffix_extra a t) (λ t. suffix_opens m (suffix_of t.symbol)) (sample symbols.Dot))
+    bind (token (is_suffix m) (λ t. suffix_use a t) (λ t. suffix_opens m (suffix_of t.symbol)) (sample symbols.Dot))
     λ x.
     suffix m (suffix_of x.0.symbol) x.0 x.1 a
 
@@ -50,29 +50,29 @@ index_symbols = symbols.OpenBracket ∷ symbols.Dot ∷ []
 -- Calls and then an index, which make a variable of what is none.
 abbrev pub to_variable : Mode → Chained → Grammar Chained
 to_variable m a =
-    bind (many (λ b t. among call_symbols t && is_suffix m t) (λ b t. suffix_extra b t)
+    bind (many (λ b t. among call_symbols t && is_suffix m t) (λ b t. suffix_use b t)
     (λ b t. suffix_opens m (suffix_of t.symbol)) (λ t x b. suffix m (suffix_of t.symbol) t x b) a) λ b.
-    bind (token (λ t. among index_symbols t && is_suffix m t) (λ t. suffix_extra b t)
+    bind (token (λ t. among index_symbols t && is_suffix m t) (λ t. suffix_use b t)
     (λ t. suffix_opens m (suffix_of t.symbol)) (sample symbols.Dot)) λ x.
     suffix m (suffix_of x.0.symbol) x.0 x.1 b
 
 -- A call is no variable.
-abbrev pub settled : Mode → Shape → Chained → Grammar Chained
-settled m shapes.Call a = to_variable m a
-settled m _ a = give a
+abbrev pub as_variable : Mode → OperandKind → Chained → Grammar Chained
+as_variable m operands.Call a = to_variable m a
+as_variable m _ a = give a
 
 -- suffixes behind a variable, of which the last is no call
 abbrev pub variable_suffixes : Mode → Chained → Grammar Chained
 variable_suffixes m a =
-    many (λ b t. is_suffix m t) (λ b t. suffix_extra b t) (λ b t. suffix_opens m (suffix_of t.symbol))
-    (λ t x b. bind (suffix m (suffix_of t.symbol) t x b) λ d. settled m d.shape d) a
+    many (λ b t. is_suffix m t) (λ b t. suffix_use b t) (λ b t. suffix_opens m (suffix_of t.symbol))
+    (λ t x b. bind (suffix m (suffix_of t.symbol) t x b) λ d. as_variable m d.kind d) a
 
 -- var = Name | prefix "[" exp "]" | prefix "." Name
 abbrev pub variable : Mode → Grammar Tree
 variable m =
     when (is symbols.OpenParen)
     (bind (paren m) λ b. bind (to_variable m b) λ d. bind (variable_suffixes m d) λ a. give a.tree)
-    (bind name λ n. bind (variable_suffixes m (chained n chain shapes.Name)) λ a. give a.tree)
+    (bind name λ n. bind (variable_suffixes m (chained n chain operands.Name)) λ a. give a.tree)
 
 -- ---- paths and loops
 
@@ -194,8 +194,8 @@ assignment m t e =
     bind (expressions m) λ es. give (Assign t.place targets es)
 
 -- A call alone is a statement; a variable is assigned to.
-abbrev pub call_or_assignment : Mode → Token → Shape → Tree → Grammar Tree
-call_or_assignment m t shapes.Call e = give (Perform t.place e)
+abbrev pub call_or_assignment : Mode → Token → OperandKind → Tree → Grammar Tree
+call_or_assignment m t operands.Call e = give (CallStatement t.place e)
 call_or_assignment m t _ e = assignment m t e
 
 -- ---- parts of statements
@@ -266,12 +266,12 @@ begins_local_terra t = among (symbols.Terra ∷ symbols.Struct ∷ []) t
 -- what a statement has behind its first token and what that opens
 abbrev pub statement : Context → Statement → Token → Tree → Grammar Tree
 statement c FromName t x =
-    bind (suffixes c.mode (chained (Name t.place t.offset t.text) chain shapes.Name)) λ a.
-    call_or_assignment c.mode t a.shape a.tree
+    bind (suffixes c.mode (chained (Name t.place t.offset t.text) chain operands.Name)) λ a.
+    call_or_assignment c.mode t a.kind a.tree
 statement c FromParen t x =
-    bind (sign symbols.CloseParen) λ y. bind (next_suffix c.mode (chained (Paren t.place x) chain shapes.Other)) λ b.
+    bind (sign symbols.CloseParen) λ y. bind (next_suffix c.mode (chained (Paren t.place x) chain operands.Other)) λ b.
     bind (suffixes c.mode b) λ a.
-    call_or_assignment c.mode t a.shape a.tree
+    call_or_assignment c.mode t a.kind a.tree
 statement c FromDo t x = bind (sign symbols.End) λ y. give (Do t.place x)
 statement c FromWhile t x = bind (expression c.mode) λ e. bind (loop c) λ b. give (While t.place e b)
 statement c FromRepeat t x = bind (sign symbols.Until) λ y. bind (expression c.mode) λ e. give (Repeat t.place x e)

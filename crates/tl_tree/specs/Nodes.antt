@@ -13,11 +13,12 @@ use Rattle.tl_tree.specs.Item.{Item}
 use Rattle.tl_tree.specs.Item as kept
 use Rattle.tl_tree.specs.Tree.{Tree, Nothing, More, Just, Name, Numeral, Literal, Nil, False, True, Varargs, Function}
 use Rattle.tl_tree.specs.Tree.{Table, Binary, Unary, Paren, Index, Select, Call, Method, TerraFunction, Struct, Quote}
-use Rattle.tl_tree.specs.Tree.{Backtick, Assign, Perform, Do, While, Repeat, If, NumericFor, GenericFor, DefineFunction}
+use Rattle.tl_tree.specs.Tree.{Backtick, Assign, CallStatement, Do, While, Repeat, If, NumericFor, GenericFor}
+use Rattle.tl_tree.specs.Tree.{DefineFunction}
 use Rattle.tl_tree.specs.Tree.{LocalFunction, Local, DefineTerra, DeclareTerra, LocalTerra, LocalDeclareTerra}
 use Rattle.tl_tree.specs.Tree.{DefineStruct, LocalStruct, Emit, Return, Break, TerraNil, TerraFalse, TerraTrue}
 use Rattle.tl_tree.specs.Tree.{TerraBinary, TerraUnary, TerraParen, Escape, TerraIndex, TerraSelect, TerraCall}
-use Rattle.tl_tree.specs.Tree.{TerraMethod, Construct, TerraAssign, TerraPerform, Splice, TerraDo, TerraWhile}
+use Rattle.tl_tree.specs.Tree.{TerraMethod, Construct, TerraAssign, TerraCallStatement, Splice, TerraDo, TerraWhile}
 use Rattle.tl_tree.specs.Tree.{TerraRepeat, TerraIf, TerraFor, Var, EscapeBlock, TerraReturn, TerraBreak, Block, Arm}
 use Rattle.tl_tree.specs.Tree.{Body, Path, NamedField, KeyedField, Entry, Quoted, TerraBody, Parameter, SpliceParameter}
 use Rattle.tl_tree.specs.Tree.{Variable}
@@ -57,198 +58,199 @@ if_any x = first_if_any x.numbers
 abbrev pub node : List Item → Item → Laid
 node items item = record { items = items ++ item ∷ []; numbers = [] }
 
-abbrev pub laid : Tree → List Item → Laid
-laid Nothing items = record { items = items; numbers = [] }
-laid (More before next) items =
-    let x = laid before items in let y = laid next x.items in
+abbrev pub added : Tree → List Item → Laid
+added Nothing items = record { items = items; numbers = [] }
+added (More before next) items =
+    let x = added before items in let y = added next x.items in
     record { items = y.items; numbers = x.numbers ++ last y ∷ [] }
-laid (Just a) items = let x = laid a items in record { items = x.items; numbers = last x ∷ [] }
-laid (Name place offset text) items = node items (kept.Name place offset text)
-laid (Numeral place text) items = node items (kept.Numeral place text)
-laid (Literal place text) items = node items (kept.Literal place text)
+added (Just a) items = let x = added a items in record { items = x.items; numbers = last x ∷ [] }
+added (Name place offset text) items = node items (kept.Name place offset text)
+added (Numeral place text) items = node items (kept.Numeral place text)
+added (Literal place text) items = node items (kept.Literal place text)
 -- expressions of Lua code
-laid (Nil place) items = node items (kept.Expression place expressions.Nil)
-laid (False place) items = node items (kept.Expression place expressions.False)
-laid (True place) items = node items (kept.Expression place expressions.True)
-laid (Varargs place) items = node items (kept.Expression place expressions.Varargs)
-laid (Function place a) items =
-    let x = laid a items in node x.items (kept.Expression place (expressions.Function (last x)))
-laid (Table place a) items =
-    let x = laid a items in node x.items (kept.Expression place (expressions.Table x.numbers))
-laid (Binary place op a b) items =
-    let x = laid a items in let y = laid b x.items in
+added (Nil place) items = node items (kept.Expression place expressions.Nil)
+added (False place) items = node items (kept.Expression place expressions.False)
+added (True place) items = node items (kept.Expression place expressions.True)
+added (Varargs place) items = node items (kept.Expression place expressions.Varargs)
+added (Function place a) items =
+    let x = added a items in node x.items (kept.Expression place (expressions.Function (last x)))
+added (Table place a) items =
+    let x = added a items in node x.items (kept.Expression place (expressions.Table x.numbers))
+added (Binary place op a b) items =
+    let x = added a items in let y = added b x.items in
     node y.items (kept.Expression place (expressions.Binary op (last x) (last y)))
-laid (Unary place op a) items =
-    let x = laid a items in node x.items (kept.Expression place (expressions.Unary op (last x)))
-laid (Paren place a) items =
-    let x = laid a items in node x.items (kept.Expression place (expressions.Paren (last x)))
-laid (Index place a b) items =
-    let x = laid a items in let y = laid b x.items in
+added (Unary place op a) items =
+    let x = added a items in node x.items (kept.Expression place (expressions.Unary op (last x)))
+added (Paren place a) items =
+    let x = added a items in node x.items (kept.Expression place (expressions.Paren (last x)))
+added (Index place a b) items =
+    let x = added a items in let y = added b x.items in
     node y.items (kept.Expression place (expressions.Index (last x) (last y)))
-laid (Select place a b) items =
-    let x = laid a items in let y = laid b x.items in
+added (Select place a b) items =
+    let x = added a items in let y = added b x.items in
     node y.items (kept.Expression place (expressions.Select (last x) (last y)))
-laid (Call place a b) items =
-    let x = laid a items in let y = laid b x.items in
+added (Call place a b) items =
+    let x = added a items in let y = added b x.items in
     node y.items (kept.Expression place (expressions.Call (last x) y.numbers))
-laid (Method place a b c) items =
-    let x = laid a items in let y = laid b x.items in let z = laid c y.items in
+added (Method place a b c) items =
+    let x = added a items in let y = added b x.items in let z = added c y.items in
     node z.items (kept.Expression place (expressions.Method (last x) (last y) z.numbers))
-laid (TerraFunction place a) items =
-    let x = laid a items in node x.items (kept.Expression place (expressions.Terra (last x)))
-laid (Struct place a) items =
-    let x = laid a items in node x.items (kept.Expression place (expressions.Struct x.numbers))
-laid (Quote place a) items =
-    let x = laid a items in node x.items (kept.Expression place (expressions.Quote (last x)))
-laid (Backtick place a) items =
-    let x = laid a items in node x.items (kept.Expression place (expressions.Backtick (last x)))
+added (TerraFunction place a) items =
+    let x = added a items in node x.items (kept.Expression place (expressions.Terra (last x)))
+added (Struct place a) items =
+    let x = added a items in node x.items (kept.Expression place (expressions.Struct x.numbers))
+added (Quote place a) items =
+    let x = added a items in node x.items (kept.Expression place (expressions.Quote (last x)))
+added (Backtick place a) items =
+    let x = added a items in node x.items (kept.Expression place (expressions.Backtick (last x)))
 -- statements of Lua code
-laid (Assign place a b) items =
-    let x = laid a items in let y = laid b x.items in
+added (Assign place a b) items =
+    let x = added a items in let y = added b x.items in
     node y.items (kept.Statement place (statements.Assign x.numbers y.numbers))
-laid (Perform place a) items = let x = laid a items in node x.items (kept.Statement place (statements.Call (last x)))
-laid (Do place a) items = let x = laid a items in node x.items (kept.Statement place (statements.Do (last x)))
-laid (While place a b) items =
-    let x = laid a items in let y = laid b x.items in
+added (CallStatement place a) items =
+    let x = added a items in node x.items (kept.Statement place (statements.Call (last x)))
+added (Do place a) items = let x = added a items in node x.items (kept.Statement place (statements.Do (last x)))
+added (While place a b) items =
+    let x = added a items in let y = added b x.items in
     node y.items (kept.Statement place (statements.While (last x) (last y)))
-laid (Repeat place a b) items =
-    let x = laid a items in let y = laid b x.items in
+added (Repeat place a b) items =
+    let x = added a items in let y = added b x.items in
     node y.items (kept.Statement place (statements.Repeat (last x) (last y)))
-laid (If place a b) items =
-    let x = laid a items in let y = laid b x.items in
+added (If place a b) items =
+    let x = added a items in let y = added b x.items in
     node y.items (kept.Statement place (statements.If x.numbers (if_any y)))
-laid (NumericFor place a b c d e) items =
-    let x = laid a items in let y = laid b x.items in let z = laid c y.items in let u = laid d z.items in let v =
-    laid e u.items in node v.items
+added (NumericFor place a b c d e) items =
+    let x = added a items in let y = added b x.items in let z = added c y.items in let u = added d z.items in let v =
+    added e u.items in node v.items
     (kept.Statement place (statements.NumericFor (last x) (last y) (last z) (if_any u) (last v)))
-laid (GenericFor place a b c) items =
-    let x = laid a items in let y = laid b x.items in let z = laid c y.items in
+added (GenericFor place a b c) items =
+    let x = added a items in let y = added b x.items in let z = added c y.items in
     node z.items (kept.Statement place (statements.GenericFor x.numbers y.numbers (last z)))
-laid (DefineFunction place a b) items =
-    let x = laid a items in let y = laid b x.items in
+added (DefineFunction place a b) items =
+    let x = added a items in let y = added b x.items in
     node y.items (kept.Statement place (statements.Function (last x) (last y)))
-laid (LocalFunction place a b) items =
-    let x = laid a items in let y = laid b x.items in
+added (LocalFunction place a b) items =
+    let x = added a items in let y = added b x.items in
     node y.items (kept.Statement place (statements.LocalFunction (last x) (last y)))
-laid (Local place a b) items =
-    let x = laid a items in let y = laid b x.items in
+added (Local place a b) items =
+    let x = added a items in let y = added b x.items in
     node y.items (kept.Statement place (statements.Local x.numbers y.numbers))
-laid (DefineTerra place a b) items =
-    let x = laid a items in let y = laid b x.items in
+added (DefineTerra place a b) items =
+    let x = added a items in let y = added b x.items in
     node y.items (kept.Statement place (statements.Terra (last x) (last y)))
-laid (DeclareTerra place a b) items =
-    let x = laid a items in let y = laid b x.items in
+added (DeclareTerra place a b) items =
+    let x = added a items in let y = added b x.items in
     node y.items (kept.Statement place (statements.DeclareTerra (last x) (last y)))
-laid (LocalTerra place word a b) items =
-    let x = laid a items in let y = laid b x.items in
+added (LocalTerra place word a b) items =
+    let x = added a items in let y = added b x.items in
     node y.items (kept.Statement place (statements.LocalTerra word (last x) (last y)))
-laid (LocalDeclareTerra place word a b) items =
-    let x = laid a items in let y = laid b x.items in
+added (LocalDeclareTerra place word a b) items =
+    let x = added a items in let y = added b x.items in
     node y.items (kept.Statement place (statements.LocalDeclareTerra word (last x) (last y)))
-laid (DefineStruct place a b) items =
-    let x = laid a items in let y = laid b x.items in
+added (DefineStruct place a b) items =
+    let x = added a items in let y = added b x.items in
     node y.items (kept.Statement place (statements.Struct (last x) y.numbers))
-laid (LocalStruct place word a b) items =
-    let x = laid a items in let y = laid b x.items in
+added (LocalStruct place word a b) items =
+    let x = added a items in let y = added b x.items in
     node y.items (kept.Statement place (statements.LocalStruct word (last x) y.numbers))
-laid (Emit place a) items = let x = laid a items in node x.items (kept.Statement place (statements.Emit (last x)))
-laid (Return place a) items =
-    let x = laid a items in node x.items (kept.Statement place (statements.Return x.numbers))
-laid (Break place) items = node items (kept.Statement place statements.Break)
+added (Emit place a) items = let x = added a items in node x.items (kept.Statement place (statements.Emit (last x)))
+added (Return place a) items =
+    let x = added a items in node x.items (kept.Statement place (statements.Return x.numbers))
+added (Break place) items = node items (kept.Statement place statements.Break)
 -- expressions of Terra code
-laid (TerraNil place) items = node items (kept.TerraExpression place terra_expressions.Nil)
-laid (TerraFalse place) items = node items (kept.TerraExpression place terra_expressions.False)
-laid (TerraTrue place) items = node items (kept.TerraExpression place terra_expressions.True)
-laid (TerraBinary place op a b) items =
-    let x = laid a items in let y = laid b x.items in
+added (TerraNil place) items = node items (kept.TerraExpression place terra_expressions.Nil)
+added (TerraFalse place) items = node items (kept.TerraExpression place terra_expressions.False)
+added (TerraTrue place) items = node items (kept.TerraExpression place terra_expressions.True)
+added (TerraBinary place op a b) items =
+    let x = added a items in let y = added b x.items in
     node y.items (kept.TerraExpression place (terra_expressions.Binary op (last x) (last y)))
-laid (TerraUnary place op a) items =
-    let x = laid a items in node x.items (kept.TerraExpression place (terra_expressions.Unary op (last x)))
-laid (TerraParen place a) items =
-    let x = laid a items in node x.items (kept.TerraExpression place (terra_expressions.Paren (last x)))
-laid (Escape place a) items =
-    let x = laid a items in node x.items (kept.TerraExpression place (terra_expressions.Escape (last x)))
-laid (TerraIndex place a b) items =
-    let x = laid a items in let y = laid b x.items in
+added (TerraUnary place op a) items =
+    let x = added a items in node x.items (kept.TerraExpression place (terra_expressions.Unary op (last x)))
+added (TerraParen place a) items =
+    let x = added a items in node x.items (kept.TerraExpression place (terra_expressions.Paren (last x)))
+added (Escape place a) items =
+    let x = added a items in node x.items (kept.TerraExpression place (terra_expressions.Escape (last x)))
+added (TerraIndex place a b) items =
+    let x = added a items in let y = added b x.items in
     node y.items (kept.TerraExpression place (terra_expressions.Index (last x) (last y)))
-laid (TerraSelect place a b) items =
-    let x = laid a items in let y = laid b x.items in
+added (TerraSelect place a b) items =
+    let x = added a items in let y = added b x.items in
     node y.items (kept.TerraExpression place (terra_expressions.Select (last x) (last y)))
-laid (TerraCall place a b) items =
-    let x = laid a items in let y = laid b x.items in
+added (TerraCall place a b) items =
+    let x = added a items in let y = added b x.items in
     node y.items (kept.TerraExpression place (terra_expressions.Call (last x) y.numbers))
-laid (TerraMethod place a b c) items =
-    let x = laid a items in let y = laid b x.items in let z = laid c y.items in
+added (TerraMethod place a b c) items =
+    let x = added a items in let y = added b x.items in let z = added c y.items in
     node z.items (kept.TerraExpression place (terra_expressions.Method (last x) (last y) z.numbers))
-laid (Construct place a b) items =
-    let x = laid a items in let y = laid b x.items in
+added (Construct place a b) items =
+    let x = added a items in let y = added b x.items in
     node y.items (kept.TerraExpression place (terra_expressions.Construct (last x) y.numbers))
 -- statements of Terra code
-laid (TerraAssign place a b) items =
-    let x = laid a items in let y = laid b x.items in
+added (TerraAssign place a b) items =
+    let x = added a items in let y = added b x.items in
     node y.items (kept.TerraStatement place (terra_statements.Assign x.numbers y.numbers))
-laid (TerraPerform place a) items =
-    let x = laid a items in node x.items (kept.TerraStatement place (terra_statements.Call (last x)))
-laid (Splice place a) items =
-    let x = laid a items in node x.items (kept.TerraStatement place (terra_statements.Splice (last x)))
-laid (TerraDo place a) items =
-    let x = laid a items in node x.items (kept.TerraStatement place (terra_statements.Do (last x)))
-laid (TerraWhile place a b) items =
-    let x = laid a items in let y = laid b x.items in
+added (TerraCallStatement place a) items =
+    let x = added a items in node x.items (kept.TerraStatement place (terra_statements.Call (last x)))
+added (Splice place a) items =
+    let x = added a items in node x.items (kept.TerraStatement place (terra_statements.Splice (last x)))
+added (TerraDo place a) items =
+    let x = added a items in node x.items (kept.TerraStatement place (terra_statements.Do (last x)))
+added (TerraWhile place a b) items =
+    let x = added a items in let y = added b x.items in
     node y.items (kept.TerraStatement place (terra_statements.While (last x) (last y)))
-laid (TerraRepeat place a b) items =
-    let x = laid a items in let y = laid b x.items in
+added (TerraRepeat place a b) items =
+    let x = added a items in let y = added b x.items in
     node y.items (kept.TerraStatement place (terra_statements.Repeat (last x) (last y)))
-laid (TerraIf place a b) items =
-    let x = laid a items in let y = laid b x.items in
+added (TerraIf place a b) items =
+    let x = added a items in let y = added b x.items in
     node y.items (kept.TerraStatement place (terra_statements.If x.numbers (if_any y)))
-laid (TerraFor place a b c d e) items =
-    let x = laid a items in let y = laid b x.items in let z = laid c y.items in let u = laid d z.items in let v =
-    laid e u.items in node v.items
+added (TerraFor place a b c d e) items =
+    let x = added a items in let y = added b x.items in let z = added c y.items in let u = added d z.items in let v =
+    added e u.items in node v.items
     (kept.TerraStatement place (terra_statements.For (last x) (last y) (last z) (if_any u) (last v)))
-laid (Var place a b) items =
-    let x = laid a items in let y = laid b x.items in
+added (Var place a b) items =
+    let x = added a items in let y = added b x.items in
     node y.items (kept.TerraStatement place (terra_statements.Var x.numbers y.numbers))
-laid (EscapeBlock place a) items =
-    let x = laid a items in node x.items (kept.TerraStatement place (terra_statements.Escape (last x)))
-laid (TerraReturn place a) items =
-    let x = laid a items in node x.items (kept.TerraStatement place (terra_statements.Return x.numbers))
-laid (TerraBreak place) items = node items (kept.TerraStatement place terra_statements.Break)
+added (EscapeBlock place a) items =
+    let x = added a items in node x.items (kept.TerraStatement place (terra_statements.Escape (last x)))
+added (TerraReturn place a) items =
+    let x = added a items in node x.items (kept.TerraStatement place (terra_statements.Return x.numbers))
+added (TerraBreak place) items = node items (kept.TerraStatement place terra_statements.Break)
 -- what is within these
-laid (Block a) items = let x = laid a items in node x.items (kept.Piece (pieces.Block x.numbers))
-laid (Arm a b) items =
-    let x = laid a items in let y = laid b x.items in node y.items (kept.Piece (pieces.Arm (last x) (last y)))
-laid (Body a flag b) items =
-    let x = laid a items in let y = laid b x.items in node y.items (kept.Piece (pieces.Body x.numbers flag (last y)))
-laid (Path a b) items =
-    let x = laid a items in let y = laid b x.items in node y.items (kept.Piece (pieces.Path x.numbers (if_any y)))
-laid (NamedField a b) items =
-    let x = laid a items in let y = laid b x.items in node y.items (kept.Piece (pieces.NamedField (last x) (last y)))
-laid (KeyedField a b) items =
-    let x = laid a items in let y = laid b x.items in node y.items (kept.Piece (pieces.KeyedField (last x) (last y)))
-laid (Entry a b) items =
-    let x = laid a items in let y = laid b x.items in node y.items (kept.Piece (pieces.Entry (last x) (last y)))
-laid (Quoted a b) items =
-    let x = laid a items in let y = laid b x.items in node y.items (kept.Piece (pieces.Quoted (last x) (if_any y)))
-laid (TerraBody place a b c) items =
-    let x = laid a items in let y = laid b x.items in let z = laid c y.items in
+added (Block a) items = let x = added a items in node x.items (kept.Piece (pieces.Block x.numbers))
+added (Arm a b) items =
+    let x = added a items in let y = added b x.items in node y.items (kept.Piece (pieces.Arm (last x) (last y)))
+added (Body a flag b) items =
+    let x = added a items in let y = added b x.items in node y.items (kept.Piece (pieces.Body x.numbers flag (last y)))
+added (Path a b) items =
+    let x = added a items in let y = added b x.items in node y.items (kept.Piece (pieces.Path x.numbers (if_any y)))
+added (NamedField a b) items =
+    let x = added a items in let y = added b x.items in node y.items (kept.Piece (pieces.NamedField (last x) (last y)))
+added (KeyedField a b) items =
+    let x = added a items in let y = added b x.items in node y.items (kept.Piece (pieces.KeyedField (last x) (last y)))
+added (Entry a b) items =
+    let x = added a items in let y = added b x.items in node y.items (kept.Piece (pieces.Entry (last x) (last y)))
+added (Quoted a b) items =
+    let x = added a items in let y = added b x.items in node y.items (kept.Piece (pieces.Quoted (last x) (if_any y)))
+added (TerraBody place a b c) items =
+    let x = added a items in let y = added b x.items in let z = added c y.items in
     node z.items (kept.Piece (pieces.TerraBody place x.numbers (if_any y) (last z)))
-laid (Parameter place a b) items =
-    let x = laid a items in let y = laid b x.items in
+added (Parameter place a b) items =
+    let x = added a items in let y = added b x.items in
     node y.items (kept.Piece (pieces.Parameter place (last x) (last y)))
-laid (SpliceParameter place a) items = let x = laid a items in
+added (SpliceParameter place a) items = let x = added a items in
     node x.items (kept.Piece (pieces.SpliceParameter place (last x)))
-laid (Variable place a b) items =
-    let x = laid a items in let y = laid b x.items in
+added (Variable place a b) items =
+    let x = added a items in let y = added b x.items in
     node y.items (kept.Piece (pieces.Variable place (last x) (if_any y)))
 
 -- the nodes so far, with those of a tree behind them
 abbrev pub lay : Tree → List Item → List Item
-lay tree items = (laid tree items).items
+lay tree items = (added tree items).items
 
 -- the numbers of the trees of a list
 abbrev pub numbers : Tree → List Item → List NodeId
-numbers tree items = (laid tree items).numbers
+numbers tree items = (added tree items).numbers
 
 -- what stands for nodes that a tree has not
 abbrev pub absent_item : Item

@@ -27,19 +27,19 @@ pub data Turns {A : Type 0} (class : A → Token → Bool) (Turn : A → Token �
 -- The grammar reads the tokens up to the rest, as this value. So many levels are left.
 abbrev pub Reads : {A : Type 0} → Rule → ℕ → Parts → Grammar A → List Token → A → List Token → Type 0
 Reads rule levels parts (give a) ts b rest = (b ≡ a) × (rest ≡ ts)
-Reads rule levels parts (token class extra opens sample) ts b rest =
+Reads rule levels parts (token class usage opens sample) ts b rest =
     (inner : List Token) × (ts ≡ b.0 ∷ inner) × (is_of class b.0 ≡ true)
-    × (rule (record { opens = opens b.0; levels = levels; extra = extra b.0 }) ts ≡ true)
+    × (rule (record { opens = opens b.0; levels = levels; usage = usage b.0 }) ts ≡ true)
     × Opened parts (opens b.0) inner b.1 rest
 Reads rule levels parts (bind {A} g h) ts b rest =
     (a : A) × (mid : List Token) × Reads rule levels parts g ts a mid × Reads rule levels parts (h a) mid b rest
 Reads rule levels parts (when class g h) ts b rest =
     ((begins class ts ≡ true) × Reads rule levels parts g ts b rest)
     ⊎ ((begins class ts ≡ false) × Reads rule levels parts h ts b rest)
-Reads rule levels parts (many class extra opens step a) ts b rest =
+Reads rule levels parts (many class usage opens step a) ts b rest =
     Turns class
     (λ a t inner y next.
-    (rule (record { opens = opens a t; levels = levels; extra = extra a t }) (t ∷ inner) ≡ true) × (x : Tree)
+    (rule (record { opens = opens a t; levels = levels; usage = usage a t }) (t ∷ inner) ≡ true) × (x : Tree)
     × (mid : List Token) × Opened parts (opens a t) inner x mid × Reads rule levels parts (step t x a) mid y next)
     a ts b rest
 

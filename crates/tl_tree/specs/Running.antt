@@ -51,16 +51,16 @@ turns (suc fuel) class bars step a (t ∷ ts) =
 
 abbrev pub run : {A : Type 0} → ℕ → Readers → Grammar A → List Token → Outcome A
 run levels readers (give a) ts = Took a ts
-run levels readers (token class extra opens sample) [] = Stop why.Unexpected []
-run levels readers (token class extra opens sample) (t ∷ ts) =
+run levels readers (token class usage opens sample) [] = Stop why.Unexpected []
+run levels readers (token class usage opens sample) (t ∷ ts) =
     if is_of class t then
-    unless (bar (record { opens = opens t; levels = levels; extra = extra t }) t) (t ∷ ts)
+    unless (bar (record { opens = opens t; levels = levels; usage = usage t }) t) (t ∷ ts)
     (opened readers (opens t) ts >>= λ x rest. Took (t, x) rest)
     else Stop (blame t.symbol) (t ∷ ts)
 run levels readers (bind g h) ts = run levels readers g ts >>= λ a mid. run levels readers (h a) mid
 run levels readers (when class g h) ts = if begins class ts then run levels readers g ts else run levels readers h ts
-run levels readers (many class extra opens step a) ts =
-    turns (length ts) class (λ a t. bar (record { opens = opens a t; levels = levels; extra = extra a t }) t)
+run levels readers (many class usage opens step a) ts =
+    turns (length ts) class (λ a t. bar (record { opens = opens a t; levels = levels; usage = usage a t }) t)
     (λ a t inner. opened readers (opens a t) inner >>= λ x mid. run levels readers (step t x a) mid) a ts
 
 -- ---- parts within parts

@@ -4,9 +4,9 @@ use Rattle.tl_base.specs.declared.place.Place.{Place}
 use Rattle.tl_tree.specs.declared.symbol.Symbol.{Symbol}
 use Rattle.tl_tree.specs.declared.symbol.Symbol.TheVariants as symbols
 use Rattle.tl_tree.specs.declared.mode.Mode.TheVariants as modes
-use Rattle.tl_tree.specs.declared.mode.Extra.TheVariants.{Plain, TerraNumber}
-use Rattle.tl_tree.specs.declared.mode.Shape.{Shape}
-use Rattle.tl_tree.specs.declared.mode.Shape.TheVariants as shapes
+use Rattle.tl_tree.specs.declared.mode.TokenUse.TheVariants.{Plain, TerraNumber}
+use Rattle.tl_tree.specs.declared.mode.OperandKind.{OperandKind}
+use Rattle.tl_tree.specs.declared.mode.OperandKind.TheVariants as operands
 use Rattle.tl_tree.specs.Tokens.{Token, among, is, sample}
 use Rattle.tl_tree.specs.Tree.{Tree, Nothing, More, Numeral, NamedField, TerraNil, TerraFalse, TerraTrue, TerraBinary}
 use Rattle.tl_tree.specs.Tree.{TerraUnary, TerraParen, Escape, TerraIndex, TerraSelect, TerraCall, TerraMethod}
@@ -14,7 +14,7 @@ use Rattle.tl_tree.specs.Tree.{Construct, Part, Expression, TerraExpression, Ter
 use Rattle.tl_tree.specs.Grammar.{Grammar, give, token, bind, when, many, down}
 use Rattle.tl_tree.specs.Forms.{sign, opening, listed, separated_behind, name, chain, Chained, chained, operand}
 use Rattle.tl_tree.specs.Forms.{in_chain, binary_of, unary_of, comparisons, additive, multiplicative, operators}
-use Rattle.tl_tree.specs.LuaExpressions.{stays, suffix_extra, called, indexed, as_operand, literal}
+use Rattle.tl_tree.specs.LuaExpressions.{may_continue, suffix_use, called, indexed, as_operand, literal}
 
 -- ---- names, and what may follow them
 
@@ -35,14 +35,14 @@ terra_name = when (is symbols.OpenBracket) escape name
 abbrev pub terra_paren : Grammar Chained
 terra_paren =
     bind (opening symbols.OpenParen TerraExpression) λ x. bind (sign symbols.CloseParen) λ y.
-    give (chained (TerraParen x.0.place x.1) chain shapes.Other)
+    give (chained (TerraParen x.0.place x.1) chain operands.Other)
 
 -- Name | "[" exp "]" | "(" texp ")"
 abbrev pub terra_base : Grammar Chained
 terra_base =
     when (is symbols.OpenParen) terra_paren
-    (when (is symbols.OpenBracket) (bind escape λ e. give (chained e chain shapes.Escape))
-    (bind name λ n. give (chained n chain shapes.Name)))
+    (when (is symbols.OpenBracket) (bind escape λ e. give (chained e chain operands.Escape))
+    (bind name λ n. give (chained n chain operands.Name)))
 
 -- the tokens that follow a `tsuf`, and belong to it
 abbrev pub terra_suffix_symbols : List Symbol
@@ -50,7 +50,7 @@ terra_suffix_symbols = symbols.OpenParen ∷ symbols.OpenBracket ∷ symbols.Dot
 
 -- A `[` that is first on its line begins a statement.
 abbrev pub is_terra_suffix : Token → Bool
-is_terra_suffix t = among terra_suffix_symbols t && stays modes.Types t
+is_terra_suffix t = among terra_suffix_symbols t && may_continue modes.Types t
 
 -- what a suffix is, by its first token
 pub data TerraSuffix : Type 0 where
@@ -79,27 +79,27 @@ terra_suffix CallsMethod t x a =
     bind terra_name λ n. bind (opening symbols.OpenParen TerraArguments) λ es. bind (sign symbols.CloseParen) λ y.
     give (called a (TerraMethod t.place a.tree n es.1))
 terra_suffix Constructs t x a =
-    bind (sign symbols.CloseBrace) λ y. give (chained (Construct t.place a.tree x) (down a.left) shapes.Other)
+    bind (sign symbols.CloseBrace) λ y. give (chained (Construct t.place a.tree x) (down a.links) operands.Other)
 
 abbrev pub terra_suffixes : Chained → Grammar Chained
 terra_suffixes a =
-    many (λ b t. is_terra_suffix t) (λ b t. suffix_extra b t) (λ b t. terra_suffix_opens (terra_suffix_of t.symbol))
+    many (λ b t. is_terra_suffix t) (λ b t. suffix_use b t) (λ b t. terra_suffix_opens (terra_suffix_of t.symbol))
     (λ t x b. terra_suffix (terra_suffix_of t.symbol) t x b) a
 
 -- a `tsuf`, as an operand
 abbrev pub terra_prefix : ℕ → Grammar Chained
-terra_prefix left = bind terra_base λ b. bind (terra_suffixes b) λ a. give (in_chain left a)
+terra_prefix links = bind terra_base λ b. bind (terra_suffixes b) λ a. give (in_chain links a)
 
 -- ---- other operands
 
 abbrev pub terra_nil : Grammar Tree
 terra_nil = bind (sign symbols.Nil) λ x. give (TerraNil x.0.place)
 
-abbrev pub terra_no : Grammar Tree
-terra_no = bind (sign symbols.False) λ x. give (TerraFalse x.0.place)
+abbrev pub terra_false : Grammar Tree
+terra_false = bind (sign symbols.False) λ x. give (TerraFalse x.0.place)
 
-abbrev pub terra_yes : Grammar Tree
-terra_yes = bind (sign symbols.True) λ x. give (TerraTrue x.0.place)
+abbrev pub terra_true : Grammar Tree
+terra_true = bind (sign symbols.True) λ x. give (TerraTrue x.0.place)
 
 abbrev pub terra_numerals : List Symbol
 terra_numerals = symbols.Numeral ∷ symbols.LongNumeral ∷ symbols.UnsignedNumeral ∷ []
@@ -110,13 +110,13 @@ terra_number = bind (token (among terra_numerals) (λ t. TerraNumber) (λ t. Non
     give (Numeral x.0.place x.0.text)
 
 abbrev pub terra_primary : ℕ → Grammar Chained
-terra_primary left =
-    when (among terra_numerals) (as_operand left terra_number)
-    (when (is symbols.Literal) (as_operand left literal)
-    (when (is symbols.Nil) (as_operand left terra_nil)
-    (when (is symbols.False) (as_operand left terra_no)
-    (when (is symbols.True) (as_operand left terra_yes)
-    (terra_prefix left)))))
+terra_primary links =
+    when (among terra_numerals) (as_operand links terra_number)
+    (when (is symbols.Literal) (as_operand links literal)
+    (when (is symbols.Nil) (as_operand links terra_nil)
+    (when (is symbols.False) (as_operand links terra_false)
+    (when (is symbols.True) (as_operand links terra_true)
+    (terra_prefix links)))))
 
 -- ---- operators, one definition for each level of precedence
 
@@ -129,48 +129,48 @@ terra_prefix_symbols = symbols.Not ∷ symbols.Minus ∷ symbols.At ∷ symbols.
 
 -- a prefix operator with its operand
 abbrev pub terra_prefixed : ℕ → Grammar Chained
-terra_prefixed left =
+terra_prefixed links =
     bind (token (among terra_prefix_symbols) (λ t. Plain) (λ t. Some TerraOperand) (sample symbols.Minus)) λ x.
-    give (operand left (TerraUnary x.0.place (unary_of x.0.symbol) x.1))
+    give (operand links (TerraUnary x.0.place (unary_of x.0.symbol) x.1))
 
 -- the right operand of `^`
 abbrev pub terra_exponent : ℕ → Grammar Chained
-terra_exponent left = when (among terra_prefix_symbols) (terra_prefixed left) (terra_primary left)
+terra_exponent links = when (among terra_prefix_symbols) (terra_prefixed links) (terra_primary links)
 
 -- `^` groups to the left.
 abbrev pub terra_power : ℕ → Grammar Chained
-terra_power left = bind (terra_primary left) λ a.
+terra_power links = bind (terra_primary links) λ a.
     operators (symbols.Caret ∷ []) (λ n. terra_exponent n) terra_operation a
 
 abbrev pub terra_unary : ℕ → Grammar Chained
-terra_unary left = when (among terra_prefix_symbols) (terra_prefixed left) (terra_power left)
+terra_unary links = when (among terra_prefix_symbols) (terra_prefixed links) (terra_power links)
 
 -- `*` `/` `%`
 abbrev pub terra_product : ℕ → Grammar Chained
-terra_product left = bind (terra_unary left) λ a. operators multiplicative (λ n. terra_unary n) terra_operation a
+terra_product links = bind (terra_unary links) λ a. operators multiplicative (λ n. terra_unary n) terra_operation a
 
 -- `+` `-`
 abbrev pub terra_sum : ℕ → Grammar Chained
-terra_sum left = bind (terra_product left) λ a. operators additive (λ n. terra_product n) terra_operation a
+terra_sum links = bind (terra_product links) λ a. operators additive (λ n. terra_product n) terra_operation a
 
 abbrev pub shifts : List Symbol
 shifts = symbols.DoubleLess ∷ symbols.DoubleGreater ∷ []
 
 -- `<<` `>>`
 abbrev pub terra_shift : ℕ → Grammar Chained
-terra_shift left = bind (terra_sum left) λ a. operators shifts (λ n. terra_sum n) terra_operation a
+terra_shift links = bind (terra_sum links) λ a. operators shifts (λ n. terra_sum n) terra_operation a
 
 -- `<` `>` `<=` `>=` `~=` `==`
 abbrev pub terra_comparison : ℕ → Grammar Chained
-terra_comparison left = bind (terra_shift left) λ a. operators comparisons (λ n. terra_shift n) terra_operation a
+terra_comparison links = bind (terra_shift links) λ a. operators comparisons (λ n. terra_shift n) terra_operation a
 
 abbrev pub terra_conjunction : ℕ → Grammar Chained
-terra_conjunction left =
-    bind (terra_comparison left) λ a. operators (symbols.And ∷ []) (λ n. terra_comparison n) terra_operation a
+terra_conjunction links =
+    bind (terra_comparison links) λ a. operators (symbols.And ∷ []) (λ n. terra_comparison n) terra_operation a
 
 abbrev pub terra_disjunction : ℕ → Grammar Chained
-terra_disjunction left =
-    bind (terra_conjunction left) λ a. operators (symbols.Or ∷ []) (λ n. terra_conjunction n) terra_operation a
+terra_disjunction links =
+    bind (terra_conjunction links) λ a. operators (symbols.Or ∷ []) (λ n. terra_conjunction n) terra_operation a
 
 -- an expression whose first operand of these operators is read
 abbrev pub terra_expression_behind : Chained → Grammar Chained
@@ -207,8 +207,8 @@ abbrev pub positional_initialisers : Tree → Grammar Tree
 positional_initialisers e = separated_behind terra_expression (More Nothing e)
 
 -- The initialisers behind a first expression: all are named where that is a name alone before "=", and else none is.
-abbrev pub initialisers_behind : Shape → Tree → Grammar Tree
-initialisers_behind shapes.Name e =
+abbrev pub initialisers_behind : OperandKind → Tree → Grammar Tree
+initialisers_behind operands.Name e =
     when (is symbols.Equal)
     (bind (sign symbols.Equal) λ y. bind terra_expression λ v.
     separated_behind named_initialiser (More Nothing (NamedField e v)))
@@ -218,4 +218,4 @@ initialisers_behind _ e = positional_initialisers e
 -- [init {("," | ";") init} ["," | ";"]], up to a "}"
 abbrev pub initialisers : Grammar Tree
 initialisers = when (is symbols.CloseBrace) (give Nothing)
-    (bind (terra_disjunction chain) λ e. initialisers_behind e.shape e.tree)
+    (bind (terra_disjunction chain) λ e. initialisers_behind e.kind e.tree)

@@ -5,13 +5,13 @@ use Rattle.tl_tree.specs.declared.symbol.Symbol.{Symbol}
 use Rattle.tl_tree.specs.declared.symbol.Symbol.TheVariants as symbols
 use Rattle.tl_tree.specs.declared.mode.Mode.TheVariants as modes
 use Rattle.tl_tree.specs.declared.mode.Context.{Context}
-use Rattle.tl_tree.specs.declared.mode.Extra.TheVariants.{Plain}
-use Rattle.tl_tree.specs.declared.mode.Shape.{Shape}
-use Rattle.tl_tree.specs.declared.mode.Shape.TheVariants as shapes
+use Rattle.tl_tree.specs.declared.mode.TokenUse.TheVariants.{Plain}
+use Rattle.tl_tree.specs.declared.mode.OperandKind.{OperandKind}
+use Rattle.tl_tree.specs.declared.mode.OperandKind.TheVariants as operands
 use Rattle.tl_tree.specs.declared.node.UnaryOperator.TheVariants as unary
 use Rattle.tl_tree.specs.Tokens.{Token, among, is}
 use Rattle.tl_tree.specs.Tree.{Tree, Nothing, More, Just, Name, TerraUnary, TerraParen, Escape, TerraAssign}
-use Rattle.tl_tree.specs.Tree.{TerraPerform, Splice, TerraDo, TerraWhile, TerraRepeat, TerraIf, TerraFor, Var}
+use Rattle.tl_tree.specs.Tree.{TerraCallStatement, Splice, TerraDo, TerraWhile, TerraRepeat, TerraIf, TerraFor, Var}
 use Rattle.tl_tree.specs.Tree.{EscapeBlock, TerraReturn, TerraBreak, Block, Arm, Quoted, TerraBody, Parameter}
 use Rattle.tl_tree.specs.Tree.{SpliceParameter, Variable, Part, Expression, Statements, TerraExpression, TerraOperand}
 use Rattle.tl_tree.specs.Tree.{TerraStatements}
@@ -33,9 +33,9 @@ terra_assignment t e =
     give (TerraAssign t.place targets es)
 
 -- A call alone is a statement, Lua code in brackets may be one, and all others are assigned to.
-abbrev pub terra_simple_statement : Token → Shape → Tree → Grammar Tree
-terra_simple_statement t shapes.Call e = give (TerraPerform t.place e)
-terra_simple_statement t shapes.Escape e =
+abbrev pub terra_simple_statement : Token → OperandKind → Tree → Grammar Tree
+terra_simple_statement t operands.Call e = give (TerraCallStatement t.place e)
+terra_simple_statement t operands.Escape e =
     when (among (symbols.Equal ∷ symbols.Comma ∷ [])) (terra_assignment t e) (give (Splice t.place e))
 terra_simple_statement t _ e = terra_assignment t e
 
@@ -140,15 +140,15 @@ terra_statement_opens _ = None
 -- The first target of an assignment is a `tsuf`, or an expression that begins with `@`. Here the rest of the statement
 -- behind the first part of that `tsuf`.
 abbrev pub terra_simple_behind : Token → Chained → Grammar Tree
-terra_simple_behind t b = bind (terra_suffixes b) λ a. terra_simple_statement t a.shape a.tree
+terra_simple_behind t b = bind (terra_suffixes b) λ a. terra_simple_statement t a.kind a.tree
 
 -- what a statement has behind its first token and what that opens
 abbrev pub terra_statement : TerraStatement → Token → Tree → Grammar Tree
-terra_statement FromName t x = terra_simple_behind t (chained (Name t.place t.offset t.text) chain shapes.Name)
+terra_statement FromName t x = terra_simple_behind t (chained (Name t.place t.offset t.text) chain operands.Name)
 terra_statement FromParen t x =
-    bind (sign symbols.CloseParen) λ y. terra_simple_behind t (chained (TerraParen t.place x) chain shapes.Other)
+    bind (sign symbols.CloseParen) λ y. terra_simple_behind t (chained (TerraParen t.place x) chain operands.Other)
 terra_statement FromBracket t x =
-    bind (sign symbols.CloseBracket) λ y. terra_simple_behind t (chained (Escape t.place x) chain shapes.Escape)
+    bind (sign symbols.CloseBracket) λ y. terra_simple_behind t (chained (Escape t.place x) chain operands.Escape)
 terra_statement FromAt t x =
     bind (terra_expression_behind (operand chain (TerraUnary t.place unary.Dereference x))) λ a.
     terra_assignment t a.tree

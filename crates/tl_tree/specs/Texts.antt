@@ -42,8 +42,8 @@ HasOneTextAnswer text = (x : TextAnswer) × SaysOf text x × ((y : TextAnswer) �
 -- limits aside. That text is UTF-8 where this is.
 abbrev pub TextGoesOn : {A : Type 0} → Language A → List ℕ → List Token → Type 0
 TextGoesOn {A} Reads text front =
-    (begun left other : List ℕ) × (more : List Token) × (tree : A)
-    × (text ≡ begun ++ left) × (IsUtf8 text → IsUtf8 (begun ++ other)) × (tokens_of begun ≡ front)
+    (begun unread other : List ℕ) × (more : List Token) × (tree : A)
+    × (text ≡ begun ++ unread) × (IsUtf8 text → IsUtf8 (begun ++ other)) × (tokens_of begun ≡ front)
     × (tokens_of (begun ++ other) ≡ front ++ more) × Reads any (front ++ more) tree
 
 -- Where some list of tokens that begins with those that a text begins with is read, the text goes on behind them.

@@ -49,7 +49,7 @@ pub data Tree : Type 0 where
   -- the targets and the expressions
   Assign : Place → Tree → Tree → Tree
   -- a call that is a statement
-  Perform : Place → Tree → Tree
+  CallStatement : Place → Tree → Tree
   Do : Place → Tree → Tree
   -- the condition and the block
   While : Place → Tree → Tree → Tree
@@ -100,7 +100,7 @@ pub data Tree : Type 0 where
   -- the targets and the expressions
   TerraAssign : Place → Tree → Tree → Tree
   -- a call that is a statement
-  TerraPerform : Place → Tree → Tree
+  TerraCallStatement : Place → Tree → Tree
   -- Lua code in `[` and `]` that is a statement
   Splice : Place → Tree → Tree
   TerraDo : Place → Tree → Tree

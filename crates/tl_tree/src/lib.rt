@@ -13,7 +13,7 @@ mod spelling;
 pub mod symbol;
 pub mod tree;
 
-pub use mode::{Context, Extra, Mode, Shape};
+pub use mode::{Context, Mode, OperandKind, TokenUse};
 pub use node::{
     BinaryOperator, Expression, Node, NodeList, Piece, Statement, TerraExpression, TerraStatement,
     UnaryOperator,

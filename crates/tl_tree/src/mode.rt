@@ -24,7 +24,7 @@ pub struct Context {
 
 /// What a token does besides opening a level of nesting.
 #[derive(Clone, Copy, PartialEq, Eq)]
-pub enum Extra {
+pub enum TokenUse {
     Plain,
     /// It continues a chain, which so many tokens may continue.
     Continues(u32),
@@ -38,7 +38,7 @@ pub enum Extra {
 
 /// What an expression is, as far as what may follow depends on it.
 #[derive(Clone, Copy, PartialEq, Eq)]
-pub enum Shape {
+pub enum OperandKind {
     /// A name alone.
     Name,
     /// An index or a selection.

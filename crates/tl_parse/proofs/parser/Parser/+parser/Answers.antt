@@ -1,23 +1,23 @@
 use Rattle.std.proofs.Common.{◌≡◌, ℕ, ◌<◌, ◌≤◌, arith, sym, ap, subst, ◌∙◌, cond, Bool, List, length}
 use Rattle.tl_tree.specs.declared.symbol.Symbol.TheVariants as symbols
-use Rattle.tl_tree.specs.declared.mode.Shape.{Shape}
+use Rattle.tl_tree.specs.declared.mode.OperandKind.{OperandKind}
 use Rattle.tl_tree.specs.Tokens.{Token}
 use Rattle.tl_tree.specs.Item.{Item}
-use Rattle.tl_tree.specs.Nodes.{laid}
+use Rattle.tl_tree.specs.Nodes.{added}
 use Rattle.tl_tree.specs.Tree.{Tree, Nothing, More, Block}
 use Rattle.tl_tree.specs.Grammar.{Outcome, Took, ◌>>=◌, down}
 use Rattle.tl_tree.specs.Forms.{Chained, chained}
 use Rattle.tl_tree.specs.LuaStatements.{Sequence, sequence}
-use Rattle.tl_parse.specs.Parsing.{token_of, placed, tokens_left, items_of}
-use Rattle.tl_parse.specs.Expressions.{Suffixed, attached, shape_of, suffixes_at, field_at, fields_at, more_fields_at, suffix_at, next_field_at, more_if}
-use Rattle.tl_parse.specs.Lists.{next_element_at, more_elements_at, elements_at}
-use Rattle.tl_parse.specs.Ranks.{rank_at}
-use Rattle.tl_parse.specs.Statements.{arms_at, more_arms_at, next_arm_at}
-use Rattle.tl_parse.specs.TerraExpressions.{TerraSuffixed, terra_attached, terra_shape_of, terra_suffixes_at, terra_applied_at, terra_suffix_at, next_initialiser_at, more_initialisers_at}
-use Rattle.tl_parse.specs.TerraExpressions.{terra_more_at, terra_binary_at}
-use Rattle.tl_parse.specs.TerraStatements.{terra_assignment_at}
-use Rattle.tl_parse.specs.Blocks.{more_statements_at, next_statement_at}
-use Rattle.tl_parse.specs.Entries.{more_entries_at, entry_at}
+use Rattle.tl_parse.specs.Views.Parsing.{token_of, placed, tokens_left, items_of}
+use Rattle.tl_parse.specs.Views.Expressions.{Suffixed, attached, kind_of, suffixes_at, field_at, fields_at, more_fields_at, suffix_at, next_field_at, more_if}
+use Rattle.tl_parse.specs.Views.Lists.{next_element_at, more_elements_at, elements_at}
+use Rattle.tl_parse.specs.Views.Ranks.{rank_at}
+use Rattle.tl_parse.specs.Views.Statements.{arms_at, more_arms_at, next_arm_at}
+use Rattle.tl_parse.specs.Views.TerraExpressions.{TerraSuffixed, terra_attached, terra_kind_of, terra_suffixes_at, terra_applied_at, terra_suffix_at, next_initialiser_at, more_initialisers_at}
+use Rattle.tl_parse.specs.Views.TerraExpressions.{terra_more_at, terra_binary_at}
+use Rattle.tl_parse.specs.Views.TerraStatements.{terra_assignment_at}
+use Rattle.tl_parse.specs.Views.Blocks.{more_statements_at, next_statement_at}
+use Rattle.tl_parse.specs.Views.Entries.{more_entries_at, entry_at}
 use Rattle.tl_parse.specs.declared.parser.Code.TheVariants as codes
 use Rattle.tl_parse.specs.declared.parser.Element.TheVariants as elements
 use Rattle.tl_parse.proofs.Choosing.{chosen, chosen_suffix, chosen_terra_suffix, chosen_fails, suffix_is, suffix_others, terra_suffix_is, terra_suffix_others, simple_is, simple_others, statement_is, statement_others, terra_statement_is, terra_statement_others}
@@ -40,7 +40,7 @@ use Rattle.tl_parse.proofs.parser.Parser.+parser.Goals as goal
 
 pub applied-more-smaller : goal.applied-more-smaller
 applied-more-smaller t c =
-    suffix_shorter c.args.levels c.args.mode c.more.a.left c.in-Ok-suffix.ensures.ok.suffix (tokens_left c.more.self) (tokens_left c.suffix.new.self) (sym c.next_is_suffix-in-more.ensures ∙ c.more-test.true) c.in-Ok-suffix.ensures.ok.took
+    suffix_shorter c.args.levels c.args.mode c.more.a.links c.in-Ok-suffix.ensures.ok.suffix (tokens_left c.more.self) (tokens_left c.suffix.new.self) (sym c.next_is_suffix-in-more.ensures ∙ c.more-test.true) c.in-Ok-suffix.ensures.ok.took
 
 pub binary-more-smaller : goal.binary-more-smaller
 binary-more-smaller t c =
@@ -53,13 +53,13 @@ binary-more-smaller t c =
     let most : c.args.ranks ≤ 6 = c.requires in
     let small : rank < 6 = omega arith in
     subst (λ (ts : List Token). length ts < length (tokens_left c.more.self)) (sym c.in-Ok-operation.ensures.ok.pushed.rest)
-    (one_more_shorter c.args.levels rank c.args.mode c.more.a.left (operator_with (token_of x.0) (chained o.tree x.1.left x.1.shape)) (tokens_left c.more.self) (tokens_left c.one_more.new.self) small o.took)
+    (one_more_shorter c.args.levels rank c.args.mode c.more.a.links (operator_with (token_of x.0) (chained o.tree x.1.links x.1.kind)) (tokens_left c.more.self) (tokens_left c.one_more.new.self) small o.took)
 
 pub call_or_assignment-more-init : goal.call_or_assignment-more-init
 call_or_assignment-more-init t c =
     let a = c.in-Ok.ensures.ok in
     let x = c.in-Ok.x in
-    listing_first c.args.self.now c.applied.new.self _ _ a.tree x.node c.in-Ok-one_node.x (targets_begin c.args.levels c.args.mode (tokens_left c.args.self.now) (tokens_left c.applied.new.self) a.tree x.left x.shape a.took (sym c.is_call.ensures ∙ c.if-is_call.false))
+    listing_first c.args.self.now c.applied.new.self _ _ a.tree x.node c.in-Ok-one_node.x (targets_begin c.args.levels c.args.mode (tokens_left c.args.self.now) (tokens_left c.applied.new.self) a.tree x.links x.kind a.took (sym c.is_call.ensures ∙ c.if-is_call.false))
     a.finish a.items a.is_last c.in-Ok-one_node.ensures.ok
 
 pub call_or_assignment-more-preserved : goal.call_or_assignment-more-preserved
@@ -73,7 +73,7 @@ for_statement-more-init t c =
     let s = c.in-Ok.ensures.ok in
     let n = c.in-Ok-name.ensures.ok in
     listing_first c.args.self.now c.name.new.self _ _ n.tree c.in-Ok-name.x c.in-Ok-one_node.x (names_begin c.args.levels c.args.context (tokens_left c.args.self.now) (tokens_left c.take.new.self) (tokens_left c.name.new.self) (placed s.token c.in-Ok.x) n.tree s.took n.took (sym c.next_is.ensures ∙ c.if-next_is.false))
-    (n.finish ∙ s.finish) (n.items ∙ ap (λ (i : List Item). (laid n.tree i).items) s.items) n.is_last c.in-Ok-one_node.ensures.ok
+    (n.finish ∙ s.finish) (n.items ∙ ap (λ (i : List Item). (added n.tree i).items) s.items) n.is_last c.in-Ok-one_node.ensures.ok
 
 pub for_statement-more-preserved : goal.for_statement-more-preserved
 for_statement-more-preserved t c =
@@ -108,14 +108,14 @@ terra_function_body-returns-in-Err-block-clause-err t c =
 
 pub terra_applied-more-smaller : goal.terra_applied-more-smaller
 terra_applied-more-smaller t c =
-    terra_suffix_shorter c.args.levels c.more.a.left c.in-Ok-terra_suffix.ensures.ok.suffix (tokens_left c.more.self) (tokens_left c.terra_suffix.new.self) (sym c.next_is_terra_suffix.ensures ∙ c.more-test.true) c.in-Ok-terra_suffix.ensures.ok.took
+    terra_suffix_shorter c.args.levels c.more.a.links c.in-Ok-terra_suffix.ensures.ok.suffix (tokens_left c.more.self) (tokens_left c.terra_suffix.new.self) (sym c.next_is_terra_suffix.ensures ∙ c.more-test.true) c.in-Ok-terra_suffix.ensures.ok.took
 
 pub terra_binary-more-smaller : goal.terra_binary-more-smaller
 terra_binary-more-smaller t c =
     let o = c.in-Ok-terra_one_more.ensures.ok in
     let x = c.in-Ok-terra_one_more.x in
     subst (λ (ts : List Token). length ts < length (tokens_left c.more.self)) (sym c.in-Ok-terra_operation.ensures.ok.pushed.rest)
-    (terra_operation_shorter c.args.levels c.args.precedence c.more.a.left (operator_with (token_of x.0) (chained o.tree x.1.left x.1.shape)) (tokens_left c.more.self) (tokens_left c.terra_one_more.new.self) o.took)
+    (terra_operation_shorter c.args.levels c.args.precedence c.more.a.links (operator_with (token_of x.0) (chained o.tree x.1.links x.1.kind)) (tokens_left c.more.self) (tokens_left c.terra_one_more.new.self) o.took)
 
 pub elements-more-init : goal.elements-more-init
 unfolding elements_at
@@ -153,10 +153,10 @@ applied-more-preserved t c =
     record {
       tree = made;
       goes_on =
-          i.goes_on ∙ suffixes_go c.args.levels c.args.mode i.tree c.more.a.left c.more.a.shape (tokens_left c.more.self) (sym c.next_is_suffix-in-more.ensures ∙ c.more-test.true)
-          ∙ ap (λ (o : Outcome Suffixed). o >>= λ s rest. suffixes_at c.args.levels c.args.mode (chained (attached s i.tree) (down c.more.a.left) (shape_of s)) rest) s.took
-          ∙ ap (λ (left : ℕ). suffixes_at c.args.levels c.args.mode (chained made left (shape_of s.suffix)) rest) (sym s.left)
-          ∙ ap (λ (shape : Shape). suffixes_at c.args.levels c.args.mode (chained made r.left shape) rest) (sym s.shape);
+          i.goes_on ∙ suffixes_go c.args.levels c.args.mode i.tree c.more.a.links c.more.a.kind (tokens_left c.more.self) (sym c.next_is_suffix-in-more.ensures ∙ c.more-test.true)
+          ∙ ap (λ (o : Outcome Suffixed). o >>= λ s rest. suffixes_at c.args.levels c.args.mode (chained (attached s i.tree) (down c.more.a.links) (kind_of s)) rest) s.took
+          ∙ ap (λ (links : ℕ). suffixes_at c.args.levels c.args.mode (chained made links (kind_of s.suffix)) rest) (sym s.links)
+          ∙ ap (λ (kind : OperandKind). suffixes_at c.args.levels c.args.mode (chained made r.links kind) rest) (sym s.kind);
       finish = s.finish ∙ i.finish;
       items = s.items i.tree (items_of c.args.self.now) i.items i.is_last;
       is_last = s.is_last;
@@ -172,17 +172,17 @@ terra_applied-more-preserved t c =
     record {
       tree = made;
       goes_on =
-          i.goes_on ∙ terra_suffixes_go c.args.levels i.tree c.more.a.left c.more.a.shape (tokens_left c.more.self) (sym c.next_is_terra_suffix.ensures ∙ c.more-test.true)
-          ∙ ap (λ (o : Outcome TerraSuffixed). o >>= λ s rest. terra_suffixes_at c.args.levels (chained (terra_attached s i.tree) (down c.more.a.left) (terra_shape_of s)) rest) s.took
-          ∙ ap (λ (left : ℕ). terra_suffixes_at c.args.levels (chained made left (terra_shape_of s.suffix)) rest) (sym s.left)
-          ∙ ap (λ (shape : Shape). terra_suffixes_at c.args.levels (chained made r.left shape) rest) (sym s.shape);
+          i.goes_on ∙ terra_suffixes_go c.args.levels i.tree c.more.a.links c.more.a.kind (tokens_left c.more.self) (sym c.next_is_terra_suffix.ensures ∙ c.more-test.true)
+          ∙ ap (λ (o : Outcome TerraSuffixed). o >>= λ s rest. terra_suffixes_at c.args.levels (chained (terra_attached s i.tree) (down c.more.a.links) (terra_kind_of s)) rest) s.took
+          ∙ ap (λ (links : ℕ). terra_suffixes_at c.args.levels (chained made links (terra_kind_of s.suffix)) rest) (sym s.links)
+          ∙ ap (λ (kind : OperandKind). terra_suffixes_at c.args.levels (chained made r.links kind) rest) (sym s.kind);
       finish = s.finish ∙ i.finish;
       items = s.items i.tree (items_of c.args.self.now) i.items i.is_last;
       is_last = s.is_last;
     }
 
 pub binary-more-init : goal.binary-more-init
-binary-more-init t c = binding_first c.args.levels c.args.ranks c.args.mode c.args.left c.args.self.now c.unary.new.self c.in-Ok.x c.in-Ok.ensures.ok
+binary-more-init t c = binding_first c.args.levels c.args.ranks c.args.mode c.args.links c.args.self.now c.unary.new.self c.in-Ok.x c.in-Ok.ensures.ok
 
 pub terra_binary-more-init : goal.terra_binary-more-init
 unfolding terra_binary_at
@@ -231,7 +231,7 @@ block-more-preserved t c =
           ∙ ap (λ (o : Outcome Sequence). o >>= λ a rest. Took (Block a.statements) rest)
           (block_goes c.args.levels c.args.block i.tree c.more.ended (tokens_left c.more.self) (sym c.next_goes_on.ensures ∙ c.more-test.true) ∙ ap (λ (o : Outcome Sequence). o >>= λ s rest. more_statements_at c.args.levels c.args.block (More i.tree s.statements) s.ended rest) s.took);
       finish = s.finish ∙ i.finish;
-      items = s.items ∙ ap (λ (x : List Item). (laid s.tree x).items) i.items;
+      items = s.items ∙ ap (λ (x : List Item). (added s.tree x).items) i.items;
       list = numbers_next c.args.self.now c.more.self _ i.tree s.tree c.in-Ok.x.0 c.more.list c.add.new.list i.items i.list s.items s.is_last c.in-Ok-add.ensures.ok;
     }
 
@@ -267,7 +267,7 @@ binary-more-preserved t c =
     c.requires (sym c.next_is_ranked.ensures ∙ c.more-test.true) c.next_rank-rank.ensures c.rank_behind-from.ensures c.more.invariant c.in-Ok-one_more.ensures.ok c.in-Ok-operation.ensures.ok
 
 pub binary-returns-in-Err-clause-err : goal.binary-returns-in-Err-clause-err
-binary-returns-in-Err-clause-err t c = binding_none c.args.levels c.args.ranks c.args.mode c.args.left c.args.self.now c.in-Err.e c.in-Err.ensures.err
+binary-returns-in-Err-clause-err t c = binding_none c.args.levels c.args.ranks c.args.mode c.args.links c.args.self.now c.in-Err.e c.in-Err.ensures.err
 
 pub binary-returns-in-Err-one_more-clause-err : goal.binary-returns-in-Err-one_more-clause-err
 binary-returns-in-Err-one_more-clause-err t c =
@@ -418,17 +418,17 @@ terra_simple_statement-returns-in-Err-next_element-clause-err t c =
 pub applied-returns-in-Err-suffix-clause-err : goal.applied-returns-in-Err-suffix-clause-err
 applied-returns-in-Err-suffix-clause-err t c =
     let i = c.more.invariant in
-    let x = suffix_at c.args.levels c.args.mode c.more.a.left (tokens_left c.more.self) in
-    let f : Suffixed → List Token → Outcome Chained = λ s rest. suffixes_at c.args.levels c.args.mode (chained (attached s i.tree) (down c.more.a.left) (shape_of s)) rest in
-    fails_from c.args.self.now c.more.self _ (x >>= f) c.in-Err-suffix.e (i.goes_on ∙ suffixes_go c.args.levels c.args.mode i.tree c.more.a.left c.more.a.shape (tokens_left c.more.self) (sym c.next_is_suffix-in-more.ensures ∙ c.more-test.true)) i.finish
+    let x = suffix_at c.args.levels c.args.mode c.more.a.links (tokens_left c.more.self) in
+    let f : Suffixed → List Token → Outcome Chained = λ s rest. suffixes_at c.args.levels c.args.mode (chained (attached s i.tree) (down c.more.a.links) (kind_of s)) rest in
+    fails_from c.args.self.now c.more.self _ (x >>= f) c.in-Err-suffix.e (i.goes_on ∙ suffixes_go c.args.levels c.args.mode i.tree c.more.a.links c.more.a.kind (tokens_left c.more.self) (sym c.next_is_suffix-in-more.ensures ∙ c.more-test.true)) i.finish
     (fails_bind c.more.self x f c.in-Err-suffix.e c.in-Err-suffix.ensures.err)
 
 pub terra_applied-returns-in-Err-terra_suffix-clause-err : goal.terra_applied-returns-in-Err-terra_suffix-clause-err
 terra_applied-returns-in-Err-terra_suffix-clause-err t c =
     let i = c.more.invariant in
-    let x = terra_suffix_at c.args.levels c.more.a.left (tokens_left c.more.self) in
-    let f : TerraSuffixed → List Token → Outcome Chained = λ s rest. terra_suffixes_at c.args.levels (chained (terra_attached s i.tree) (down c.more.a.left) (terra_shape_of s)) rest in
-    fails_from c.args.self.now c.more.self _ (x >>= f) c.in-Err-terra_suffix.e (i.goes_on ∙ terra_suffixes_go c.args.levels i.tree c.more.a.left c.more.a.shape (tokens_left c.more.self) (sym c.next_is_terra_suffix.ensures ∙ c.more-test.true)) i.finish
+    let x = terra_suffix_at c.args.levels c.more.a.links (tokens_left c.more.self) in
+    let f : TerraSuffixed → List Token → Outcome Chained = λ s rest. terra_suffixes_at c.args.levels (chained (terra_attached s i.tree) (down c.more.a.links) (terra_kind_of s)) rest in
+    fails_from c.args.self.now c.more.self _ (x >>= f) c.in-Err-terra_suffix.e (i.goes_on ∙ terra_suffixes_go c.args.levels i.tree c.more.a.links c.more.a.kind (tokens_left c.more.self) (sym c.next_is_terra_suffix.ensures ∙ c.more-test.true)) i.finish
     (fails_bind c.more.self x f c.in-Err-terra_suffix.e c.in-Err-terra_suffix.ensures.err)
 
 pub block-more-smaller : goal.block-more-smaller
@@ -639,67 +639,67 @@ terra_statement-returns-in_default t c =
     record { ok = chosen _ _ _ same c.terra_simple_statement.ensures.ok; err = chosen_fails _ _ same c.terra_simple_statement.ensures.err }
 
 pub suffix-returns-in-OpenParen-clause-ok : goal.suffix-returns-in-OpenParen-clause-ok
-suffix-returns-in-OpenParen-clause-ok t c = chosen_suffix _ _ _ _ (suffix_is c.args.levels c.args.mode c.args.a.left symbols.OpenParen _ c.in-OpenParen.ensures) c.call_suffix.ensures.ok
+suffix-returns-in-OpenParen-clause-ok t c = chosen_suffix _ _ _ _ (suffix_is c.args.levels c.args.mode c.args.a.links symbols.OpenParen _ c.in-OpenParen.ensures) c.call_suffix.ensures.ok
 
 pub suffix-returns-in-OpenParen-clause-err : goal.suffix-returns-in-OpenParen-clause-err
-suffix-returns-in-OpenParen-clause-err t c = chosen_fails _ _ (suffix_is c.args.levels c.args.mode c.args.a.left symbols.OpenParen _ c.in-OpenParen.ensures) c.call_suffix.ensures.err
+suffix-returns-in-OpenParen-clause-err t c = chosen_fails _ _ (suffix_is c.args.levels c.args.mode c.args.a.links symbols.OpenParen _ c.in-OpenParen.ensures) c.call_suffix.ensures.err
 
 pub suffix-returns-in-OpenBracket-clause-ok : goal.suffix-returns-in-OpenBracket-clause-ok
-suffix-returns-in-OpenBracket-clause-ok t c = chosen_suffix _ _ _ _ (suffix_is c.args.levels c.args.mode c.args.a.left symbols.OpenBracket _ c.in-OpenBracket.ensures) c.index_suffix.ensures.ok
+suffix-returns-in-OpenBracket-clause-ok t c = chosen_suffix _ _ _ _ (suffix_is c.args.levels c.args.mode c.args.a.links symbols.OpenBracket _ c.in-OpenBracket.ensures) c.index_suffix.ensures.ok
 
 pub suffix-returns-in-OpenBracket-clause-err : goal.suffix-returns-in-OpenBracket-clause-err
-suffix-returns-in-OpenBracket-clause-err t c = chosen_fails _ _ (suffix_is c.args.levels c.args.mode c.args.a.left symbols.OpenBracket _ c.in-OpenBracket.ensures) c.index_suffix.ensures.err
+suffix-returns-in-OpenBracket-clause-err t c = chosen_fails _ _ (suffix_is c.args.levels c.args.mode c.args.a.links symbols.OpenBracket _ c.in-OpenBracket.ensures) c.index_suffix.ensures.err
 
 pub suffix-returns-in-Dot-clause-ok : goal.suffix-returns-in-Dot-clause-ok
-suffix-returns-in-Dot-clause-ok t c = chosen_suffix _ _ _ _ (suffix_is c.args.levels c.args.mode c.args.a.left symbols.Dot _ c.in-Dot.ensures) c.select_suffix.ensures.ok
+suffix-returns-in-Dot-clause-ok t c = chosen_suffix _ _ _ _ (suffix_is c.args.levels c.args.mode c.args.a.links symbols.Dot _ c.in-Dot.ensures) c.select_suffix.ensures.ok
 
 pub suffix-returns-in-Dot-clause-err : goal.suffix-returns-in-Dot-clause-err
-suffix-returns-in-Dot-clause-err t c = chosen_fails _ _ (suffix_is c.args.levels c.args.mode c.args.a.left symbols.Dot _ c.in-Dot.ensures) c.select_suffix.ensures.err
+suffix-returns-in-Dot-clause-err t c = chosen_fails _ _ (suffix_is c.args.levels c.args.mode c.args.a.links symbols.Dot _ c.in-Dot.ensures) c.select_suffix.ensures.err
 
 pub suffix-returns-in-Colon-clause-ok : goal.suffix-returns-in-Colon-clause-ok
-suffix-returns-in-Colon-clause-ok t c = chosen_suffix _ _ _ _ (suffix_is c.args.levels c.args.mode c.args.a.left symbols.Colon _ c.in-Colon.ensures) c.method_suffix.ensures.ok
+suffix-returns-in-Colon-clause-ok t c = chosen_suffix _ _ _ _ (suffix_is c.args.levels c.args.mode c.args.a.links symbols.Colon _ c.in-Colon.ensures) c.method_suffix.ensures.ok
 
 pub suffix-returns-in-Colon-clause-err : goal.suffix-returns-in-Colon-clause-err
-suffix-returns-in-Colon-clause-err t c = chosen_fails _ _ (suffix_is c.args.levels c.args.mode c.args.a.left symbols.Colon _ c.in-Colon.ensures) c.method_suffix.ensures.err
+suffix-returns-in-Colon-clause-err t c = chosen_fails _ _ (suffix_is c.args.levels c.args.mode c.args.a.links symbols.Colon _ c.in-Colon.ensures) c.method_suffix.ensures.err
 
 pub suffix-returns-in-OpenBrace-clause-ok : goal.suffix-returns-in-OpenBrace-clause-ok
-suffix-returns-in-OpenBrace-clause-ok t c = chosen_suffix _ _ _ _ (suffix_is c.args.levels c.args.mode c.args.a.left symbols.OpenBrace _ c.in-OpenBrace.ensures) c.table_suffix.ensures.ok
+suffix-returns-in-OpenBrace-clause-ok t c = chosen_suffix _ _ _ _ (suffix_is c.args.levels c.args.mode c.args.a.links symbols.OpenBrace _ c.in-OpenBrace.ensures) c.table_suffix.ensures.ok
 
 pub suffix-returns-in-OpenBrace-clause-err : goal.suffix-returns-in-OpenBrace-clause-err
-suffix-returns-in-OpenBrace-clause-err t c = chosen_fails _ _ (suffix_is c.args.levels c.args.mode c.args.a.left symbols.OpenBrace _ c.in-OpenBrace.ensures) c.table_suffix.ensures.err
+suffix-returns-in-OpenBrace-clause-err t c = chosen_fails _ _ (suffix_is c.args.levels c.args.mode c.args.a.links symbols.OpenBrace _ c.in-OpenBrace.ensures) c.table_suffix.ensures.err
 
 pub suffix-returns-in_default : goal.suffix-returns-in_default
 suffix-returns-in_default t c =
     let d = c.in_default in
-    let same = suffix_is c.args.levels c.args.mode c.args.a.left c.next_symbol.result _ c.next_symbol.ensures ∙ suffix_others c.args.levels c.args.mode c.args.a.left c.next_symbol.result _ d.not-OpenParen d.not-OpenBracket d.not-Dot d.not-Colon d.not-OpenBrace in
+    let same = suffix_is c.args.levels c.args.mode c.args.a.links c.next_symbol.result _ c.next_symbol.ensures ∙ suffix_others c.args.levels c.args.mode c.args.a.links c.next_symbol.result _ d.not-OpenParen d.not-OpenBracket d.not-Dot d.not-Colon d.not-OpenBrace in
     record { ok = chosen_suffix _ _ _ _ same c.literal_suffix.ensures.ok; err = chosen_fails _ _ same c.literal_suffix.ensures.err }
 
 pub terra_suffix-returns-in-OpenParen-clause-ok : goal.terra_suffix-returns-in-OpenParen-clause-ok
-terra_suffix-returns-in-OpenParen-clause-ok t c = chosen_terra_suffix _ _ _ _ (terra_suffix_is c.args.levels c.args.a.left symbols.OpenParen _ c.in-OpenParen.ensures) c.terra_call_suffix.ensures.ok
+terra_suffix-returns-in-OpenParen-clause-ok t c = chosen_terra_suffix _ _ _ _ (terra_suffix_is c.args.levels c.args.a.links symbols.OpenParen _ c.in-OpenParen.ensures) c.terra_call_suffix.ensures.ok
 
 pub terra_suffix-returns-in-OpenParen-clause-err : goal.terra_suffix-returns-in-OpenParen-clause-err
-terra_suffix-returns-in-OpenParen-clause-err t c = chosen_fails _ _ (terra_suffix_is c.args.levels c.args.a.left symbols.OpenParen _ c.in-OpenParen.ensures) c.terra_call_suffix.ensures.err
+terra_suffix-returns-in-OpenParen-clause-err t c = chosen_fails _ _ (terra_suffix_is c.args.levels c.args.a.links symbols.OpenParen _ c.in-OpenParen.ensures) c.terra_call_suffix.ensures.err
 
 pub terra_suffix-returns-in-OpenBracket-clause-ok : goal.terra_suffix-returns-in-OpenBracket-clause-ok
-terra_suffix-returns-in-OpenBracket-clause-ok t c = chosen_terra_suffix _ _ _ _ (terra_suffix_is c.args.levels c.args.a.left symbols.OpenBracket _ c.in-OpenBracket.ensures) c.terra_index_suffix.ensures.ok
+terra_suffix-returns-in-OpenBracket-clause-ok t c = chosen_terra_suffix _ _ _ _ (terra_suffix_is c.args.levels c.args.a.links symbols.OpenBracket _ c.in-OpenBracket.ensures) c.terra_index_suffix.ensures.ok
 
 pub terra_suffix-returns-in-OpenBracket-clause-err : goal.terra_suffix-returns-in-OpenBracket-clause-err
-terra_suffix-returns-in-OpenBracket-clause-err t c = chosen_fails _ _ (terra_suffix_is c.args.levels c.args.a.left symbols.OpenBracket _ c.in-OpenBracket.ensures) c.terra_index_suffix.ensures.err
+terra_suffix-returns-in-OpenBracket-clause-err t c = chosen_fails _ _ (terra_suffix_is c.args.levels c.args.a.links symbols.OpenBracket _ c.in-OpenBracket.ensures) c.terra_index_suffix.ensures.err
 
 pub terra_suffix-returns-in-Dot-clause-ok : goal.terra_suffix-returns-in-Dot-clause-ok
-terra_suffix-returns-in-Dot-clause-ok t c = chosen_terra_suffix _ _ _ _ (terra_suffix_is c.args.levels c.args.a.left symbols.Dot _ c.in-Dot.ensures) c.terra_select_suffix.ensures.ok
+terra_suffix-returns-in-Dot-clause-ok t c = chosen_terra_suffix _ _ _ _ (terra_suffix_is c.args.levels c.args.a.links symbols.Dot _ c.in-Dot.ensures) c.terra_select_suffix.ensures.ok
 
 pub terra_suffix-returns-in-Dot-clause-err : goal.terra_suffix-returns-in-Dot-clause-err
-terra_suffix-returns-in-Dot-clause-err t c = chosen_fails _ _ (terra_suffix_is c.args.levels c.args.a.left symbols.Dot _ c.in-Dot.ensures) c.terra_select_suffix.ensures.err
+terra_suffix-returns-in-Dot-clause-err t c = chosen_fails _ _ (terra_suffix_is c.args.levels c.args.a.links symbols.Dot _ c.in-Dot.ensures) c.terra_select_suffix.ensures.err
 
 pub terra_suffix-returns-in-Colon-clause-ok : goal.terra_suffix-returns-in-Colon-clause-ok
-terra_suffix-returns-in-Colon-clause-ok t c = chosen_terra_suffix _ _ _ _ (terra_suffix_is c.args.levels c.args.a.left symbols.Colon _ c.in-Colon.ensures) c.terra_method_suffix.ensures.ok
+terra_suffix-returns-in-Colon-clause-ok t c = chosen_terra_suffix _ _ _ _ (terra_suffix_is c.args.levels c.args.a.links symbols.Colon _ c.in-Colon.ensures) c.terra_method_suffix.ensures.ok
 
 pub terra_suffix-returns-in-Colon-clause-err : goal.terra_suffix-returns-in-Colon-clause-err
-terra_suffix-returns-in-Colon-clause-err t c = chosen_fails _ _ (terra_suffix_is c.args.levels c.args.a.left symbols.Colon _ c.in-Colon.ensures) c.terra_method_suffix.ensures.err
+terra_suffix-returns-in-Colon-clause-err t c = chosen_fails _ _ (terra_suffix_is c.args.levels c.args.a.links symbols.Colon _ c.in-Colon.ensures) c.terra_method_suffix.ensures.err
 
 pub terra_suffix-returns-in_default : goal.terra_suffix-returns-in_default
 terra_suffix-returns-in_default t c =
     let d = c.in_default in
-    let same = terra_suffix_is c.args.levels c.args.a.left c.next_symbol.result _ c.next_symbol.ensures ∙ terra_suffix_others c.args.levels c.args.a.left c.next_symbol.result _ d.not-OpenParen d.not-OpenBracket d.not-Dot d.not-Colon in
+    let same = terra_suffix_is c.args.levels c.args.a.links c.next_symbol.result _ c.next_symbol.ensures ∙ terra_suffix_others c.args.levels c.args.a.links c.next_symbol.result _ d.not-OpenParen d.not-OpenBracket d.not-Dot d.not-Colon in
     record { ok = chosen_terra_suffix _ _ _ _ same c.construct_suffix.ensures.ok; err = chosen_fails _ _ same c.construct_suffix.ensures.err }

@@ -3,21 +3,21 @@ use Rattle.tl_tree.specs.declared.symbol.Symbol.TheVariants as symbols
 use Rattle.tl_tree.specs.Tokens.{Token}
 use Rattle.tl_tree.specs.Tree.{Tree, Fields, Assign, GenericFor, Initialisers, Entries}
 use Rattle.tl_tree.specs.Grammar.{Took, ◌>>=◌}
-use Rattle.tl_parse.specs.Parsing.{tokens_left}
-use Rattle.tl_parse.specs.Using.{part_at}
-use Rattle.tl_parse.specs.Expressions.{applied_at, binary_at, more_fields_at}
+use Rattle.tl_parse.specs.Views.Parsing.{tokens_left}
+use Rattle.tl_parse.specs.Views.Using.{part_at}
+use Rattle.tl_parse.specs.Views.Expressions.{applied_at, binary_at, more_fields_at}
 use Rattle.tl_parse.specs.declared.parser.Code.TheVariants as codes
 use Rattle.tl_parse.specs.declared.parser.Element.TheVariants as elements
-use Rattle.tl_parse.specs.Going.{Binding, Applying, Listing, Sequencing}
-use Rattle.tl_parse.specs.Statements.{first_place, call_or_assignment_at, arms_at, more_arms_at, for_at, generic_at}
-use Rattle.tl_parse.specs.Paths.{more_names_at}
-use Rattle.tl_parse.specs.TerraExpressions.{terra_binary_at, terra_applied_at}
-use Rattle.tl_parse.specs.TerraExpressions.{more_initialisers_at}
-use Rattle.tl_parse.specs.Entries.{more_entries_at}
-use Rattle.tl_parse.specs.TerraGoing.{TerraBinding, TerraApplying, terra_rank_of}
-use Rattle.tl_parse.specs.Lists.{elements_at, more_elements_at, expressions_behind_at}
-use Rattle.tl_parse.specs.TerraStatements.{terra_simple_statement_at, terra_assignment_at}
-use Rattle.tl_parse.specs.Codes.{statements_in}
+use Rattle.tl_parse.specs.Views.Going.{Binding, Applying, Listing, Sequencing}
+use Rattle.tl_parse.specs.Views.Statements.{first_place, call_or_assignment_at, arms_at, more_arms_at, for_at, generic_at}
+use Rattle.tl_parse.specs.Views.Paths.{more_names_at}
+use Rattle.tl_parse.specs.Views.TerraExpressions.{terra_binary_at, terra_applied_at}
+use Rattle.tl_parse.specs.Views.TerraExpressions.{more_initialisers_at}
+use Rattle.tl_parse.specs.Views.Entries.{more_entries_at}
+use Rattle.tl_parse.specs.Views.TerraGoing.{TerraBinding, TerraApplying, terra_rank_of}
+use Rattle.tl_parse.specs.Views.Lists.{elements_at, more_elements_at, expressions_behind_at}
+use Rattle.tl_parse.specs.Views.TerraStatements.{terra_simple_statement_at, terra_assignment_at}
+use Rattle.tl_parse.specs.Views.Codes.{statements_in}
 use Rattle.tl_parse.proofs.parser.Parser.+parser.Given as goal
 
 abbrev pub decreases-applied : goal.decreases-applied
@@ -186,7 +186,7 @@ abbrev pub decreases-binary : goal.decreases-binary
 decreases-binary l = 64 * l.levels + (2 * l.ranks + 18)
 
 abbrev pub invariant-binary-more : goal.invariant-binary-more
-invariant-binary-more l = Binding l.fn.levels l.from l.fn.ranks l.fn.mode l.fn.self l.self (binary_at l.fn.levels l.fn.ranks l.fn.mode l.fn.left (tokens_left l.fn.self)) l.a
+invariant-binary-more l = Binding l.fn.levels l.from l.fn.ranks l.fn.mode l.fn.self l.self (binary_at l.fn.levels l.fn.ranks l.fn.mode l.fn.links (tokens_left l.fn.self)) l.a
 
 abbrev pub decreases-binary-more : goal.decreases-binary-more
 decreases-binary-more l = length (tokens_left l.self)
@@ -336,7 +336,7 @@ abbrev pub decreases-terra_binary : goal.decreases-terra_binary
 decreases-terra_binary l = 64 * l.levels + (terra_rank_of l.precedence + 2)
 
 abbrev pub invariant-terra_binary-more : goal.invariant-terra_binary-more
-invariant-terra_binary-more l = TerraBinding l.fn.levels l.fn.precedence l.fn.self l.self (terra_binary_at l.fn.levels l.fn.precedence l.fn.left (tokens_left l.fn.self)) l.a
+invariant-terra_binary-more l = TerraBinding l.fn.levels l.fn.precedence l.fn.self l.self (terra_binary_at l.fn.levels l.fn.precedence l.fn.links (tokens_left l.fn.self)) l.a
 
 abbrev pub decreases-terra_binary-more : goal.decreases-terra_binary-more
 decreases-terra_binary-more l = length (tokens_left l.self)

@@ -2,8 +2,8 @@ use Rattle.std.proofs.Common.{List, ap, sym, ◌∙◌}
 use Rattle.tl_tree.specs.Tokens.{Token}
 use Rattle.tl_tree.specs.Tree.{Tree, Nothing, More}
 use Rattle.tl_tree.specs.Grammar.{Outcome, ◌>>=◌}
-use Rattle.tl_parse.specs.Parsing.{tokens_left}
-use Rattle.tl_parse.specs.Paths.{names_at, next_name_at, more_names_at}
+use Rattle.tl_parse.specs.Views.Parsing.{tokens_left}
+use Rattle.tl_parse.specs.Views.Paths.{names_at, next_name_at, more_names_at}
 use Rattle.tl_parse.proofs.Failing.{fails_bind}
 use Rattle.tl_parse.proofs.Looping.{listing_first, listing_next, listing_fails}
 use Rattle.tl_parse.proofs.StatementTurns.{names_go, name_shorter}

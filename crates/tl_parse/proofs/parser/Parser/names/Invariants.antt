@@ -1,9 +1,9 @@
 use Rattle.std.proofs.Common.{List, length}
 use Rattle.tl_tree.specs.Tokens.{Token}
 use Rattle.tl_tree.specs.Tree.{Tree}
-use Rattle.tl_parse.specs.Parsing.{tokens_left}
-use Rattle.tl_parse.specs.Paths.{names_at, more_names_at}
-use Rattle.tl_parse.specs.Going.{Listing}
+use Rattle.tl_parse.specs.Views.Parsing.{tokens_left}
+use Rattle.tl_parse.specs.Views.Paths.{names_at, more_names_at}
+use Rattle.tl_parse.specs.Views.Going.{Listing}
 use Rattle.tl_parse.proofs.parser.Parser.names.Given as goal
 
 abbrev pub invariant-more : goal.invariant-more

@@ -1,8 +1,8 @@
 use Rattle.std.proofs.Common.{true, refl, sym, ◌∙◌}
 use Rattle.tl_tree.specs.Tokens.{is}
-use Rattle.tl_tree.specs.declared.mode.Extra.TheVariants.{Plain}
-use Rattle.tl_parse.specs.Parsing.{tokens_left}
-use Rattle.tl_parse.specs.Using.{open_at}
+use Rattle.tl_tree.specs.declared.mode.TokenUse.TheVariants.{Plain}
+use Rattle.tl_parse.specs.Views.Parsing.{tokens_left}
+use Rattle.tl_parse.specs.Views.Using.{open_at}
 use Rattle.tl_parse.proofs.Taking.{taken_place, barred_there, refused_there, next_of, level_left}
 use Rattle.tl_parse.proofs.parser.Parser.open.Goals as goal
 

@@ -1,7 +1,7 @@
 use Rattle.std.proofs.Common.{length}
-use Rattle.tl_parse.specs.Parsing.{tokens_left}
-use Rattle.tl_parse.specs.Statements.{parameters_at}
-use Rattle.tl_parse.specs.Going.{Naming}
+use Rattle.tl_parse.specs.Views.Parsing.{tokens_left}
+use Rattle.tl_parse.specs.Views.Statements.{parameters_at}
+use Rattle.tl_parse.specs.Views.Going.{Naming}
 use Rattle.tl_parse.proofs.parser.Parser.parameters.Given as goal
 
 abbrev pub invariant-more : goal.invariant-more

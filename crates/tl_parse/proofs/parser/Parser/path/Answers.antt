@@ -3,8 +3,8 @@ use Rattle.tl_tree.specs.declared.symbol.Symbol.TheVariants as symbols
 use Rattle.tl_tree.specs.Tokens.{Token}
 use Rattle.tl_tree.specs.Tree.{Tree, Nothing, More, Path}
 use Rattle.tl_tree.specs.Grammar.{Outcome, Took, ◌>>=◌}
-use Rattle.tl_parse.specs.Parsing.{tokens_left}
-use Rattle.tl_parse.specs.Paths.{path_at, path_names_at, path_method_at, behind_sign_at}
+use Rattle.tl_parse.specs.Views.Parsing.{tokens_left}
+use Rattle.tl_parse.specs.Views.Paths.{path_at, path_names_at, path_method_at, behind_sign_at}
 use Rattle.tl_parse.proofs.Failing.{fails_bind}
 use Rattle.tl_parse.proofs.Looping.{listing_first, listing_next, listing_fails}
 use Rattle.tl_parse.proofs.StatementTurns.{path_goes, path_ends, path_shorter}

@@ -2,9 +2,9 @@ use Rattle.std.proofs.Common.{List, length}
 use Rattle.tl_tree.specs.Tokens.{Token}
 use Rattle.tl_tree.specs.Tree.{Tree, Path}
 use Rattle.tl_tree.specs.Grammar.{Took, ◌>>=◌}
-use Rattle.tl_parse.specs.Parsing.{tokens_left}
-use Rattle.tl_parse.specs.Paths.{path_at, path_names_at, path_method_at}
-use Rattle.tl_parse.specs.Going.{Listing}
+use Rattle.tl_parse.specs.Views.Parsing.{tokens_left}
+use Rattle.tl_parse.specs.Views.Paths.{path_at, path_names_at, path_method_at}
+use Rattle.tl_parse.specs.Views.Going.{Listing}
 use Rattle.tl_parse.proofs.parser.Parser.path.Given as goal
 
 abbrev pub invariant-more : goal.invariant-more

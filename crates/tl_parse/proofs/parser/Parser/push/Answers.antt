@@ -1,6 +1,6 @@
 use Rattle.std.proofs.Common.{refl, arith}
 use Rattle.std.proofs.lemmas.Grind.{common_steps}
-use Rattle.tl_parse.specs.Parsing.{tokens_left, end_of, items_of}
+use Rattle.tl_parse.specs.Views.Parsing.{tokens_left, end_of, items_of}
 use Rattle.tl_parse.proofs.parser.Parser.push.Goals as goal
 
 pub returns-clause-ok : goal.returns-clause-ok

@@ -2,10 +2,10 @@ use Rattle.std.proofs.Common.{List, length}
 use Rattle.tl_tree.specs.Tokens.{Token}
 use Rattle.tl_tree.specs.Tree.{Tree, Nothing, Path}
 use Rattle.tl_tree.specs.Grammar.{Took, ◌>>=◌}
-use Rattle.tl_parse.specs.Parsing.{tokens_left}
-use Rattle.tl_parse.specs.Paths.{path_names_at}
-use Rattle.tl_parse.specs.TerraDefinitions.{struct_path_at}
-use Rattle.tl_parse.specs.Going.{Listing}
+use Rattle.tl_parse.specs.Views.Parsing.{tokens_left}
+use Rattle.tl_parse.specs.Views.Paths.{path_names_at}
+use Rattle.tl_parse.specs.Views.TerraDefinitions.{struct_path_at}
+use Rattle.tl_parse.specs.Views.Going.{Listing}
 use Rattle.tl_parse.proofs.parser.Parser.struct_path.Given as goal
 
 abbrev pub invariant-more : goal.invariant-more

@@ -1,5 +1,5 @@
 use Rattle.std.proofs.Common.{sym, ◌∙◌}
-use Rattle.tl_parse.specs.Using.{number_at}
+use Rattle.tl_parse.specs.Views.Using.{number_at}
 use Rattle.tl_parse.proofs.Numbers.{taken_number, barred_number}
 use Rattle.tl_parse.proofs.parser.Parser.take_number.Goals as goal
 

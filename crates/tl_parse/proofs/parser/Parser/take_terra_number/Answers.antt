@@ -1,7 +1,7 @@
 use Rattle.std.proofs.Common.{ℕ, sym, ap, ◌∙◌}
 use Rattle.std.specs.Prelude.{nat_lt}
 use Rattle.tl_tree.specs.Numbers.{value_of}
-use Rattle.tl_parse.specs.TerraExpressions.{terra_number_at}
+use Rattle.tl_parse.specs.Views.TerraExpressions.{terra_number_at}
 use Rattle.tl_parse.proofs.TerraNumbers.{taken_terra_number, barred_terra_number}
 use Rattle.tl_parse.proofs.parser.Parser.take_terra_number.Goals as goal
 

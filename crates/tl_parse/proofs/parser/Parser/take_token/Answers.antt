@@ -1,8 +1,8 @@
 use Rattle.std.proofs.Common.{false, refl, sym, ◌∙◌}
 use Rattle.tl_tree.specs.Tokens.{is}
-use Rattle.tl_tree.specs.declared.mode.Extra.TheVariants.{Plain}
-use Rattle.tl_parse.specs.Parsing.{tokens_left}
-use Rattle.tl_parse.specs.Using.{sign_at}
+use Rattle.tl_tree.specs.declared.mode.TokenUse.TheVariants.{Plain}
+use Rattle.tl_parse.specs.Views.Parsing.{tokens_left}
+use Rattle.tl_parse.specs.Views.Using.{sign_at}
 use Rattle.tl_parse.proofs.Taking.{taken, barred_there, refused_there, next_of}
 use Rattle.tl_parse.proofs.parser.Parser.take_token.Goals as goal
 

@@ -7,8 +7,8 @@ use Rattle.tl_tree.specs.Tokens.{Token, is}
 use Rattle.tl_tree.specs.Tree.{Tree, TerraFunction, Struct, Quote, Backtick, Entries, QuotedCode}
 use Rattle.tl_tree.specs.Tree.{TerraExpression}
 use Rattle.tl_tree.specs.Grammar.{Outcome, Took, ◌>>=◌, begins}
-use Rattle.tl_parse.specs.Using.{part_at, sign_at, open_at}
-use Rattle.tl_parse.specs.Codes.{opened_terra_body_at}
+use Rattle.tl_parse.specs.Views.Using.{part_at, sign_at, open_at}
+use Rattle.tl_parse.specs.Views.Codes.{opened_terra_body_at}
 
 unfoldable pub terra_function_at : ℕ → List Token → Outcome Tree
 terra_function_at levels ts =

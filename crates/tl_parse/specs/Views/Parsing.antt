@@ -9,7 +9,7 @@ use Rattle.tl_tree.specs.Symbols.{is_bad}
 use Rattle.tl_tree.specs.Tokens.{Token, tokens_in, place_of}
 use Rattle.tl_tree.specs.Tree.{Tree}
 use Rattle.tl_tree.specs.Item.{Item}
-use Rattle.tl_tree.specs.Nodes.{item_of, laid, last_of, if_any}
+use Rattle.tl_tree.specs.Nodes.{item_of, added, last_of, if_any}
 use Rattle.tl_tree.specs.Grammar.{Outcome, Took, Stop, blame}
 use Rattle.tl_tree.specs.Forms.{Chained, chained}
 use Rattle.tl_tree.specs.declared.node.Node.{Node}
@@ -113,15 +113,15 @@ pub record TookTree (old new : Parser) (o : Outcome Tree) (number : NodeId) : Ty
   pub tree : Tree
   pub took : o ≡ Took tree (tokens_left new)
   pub finish : end_of new ≡ end_of old
-  pub items : items_of new ≡ (laid tree (items_of old)).items
+  pub items : items_of new ≡ (added tree (items_of old)).items
   pub is_last : number ≡ last_of (items_of new)
 
 -- the same of an operand or of a prefix expression, with how many more tokens may continue its chain
 pub record TookOperand (old new : Parser) (o : Outcome Chained) (r : operands.Operand) : Type 0 where
   pub tree : Tree
-  pub took : o ≡ Took (chained tree r.left r.shape) (tokens_left new)
+  pub took : o ≡ Took (chained tree r.links r.kind) (tokens_left new)
   pub finish : end_of new ≡ end_of old
-  pub items : items_of new ≡ (laid tree (items_of old)).items
+  pub items : items_of new ≡ (added tree (items_of old)).items
   pub is_last : r.node ≡ last_of (items_of new)
 
 -- the same of a list
@@ -129,16 +129,16 @@ pub record TookList (old new : Parser) (o : Outcome Tree) (numbers : List NodeId
   pub tree : Tree
   pub took : o ≡ Took tree (tokens_left new)
   pub finish : end_of new ≡ end_of old
-  pub items : items_of new ≡ (laid tree (items_of old)).items
-  pub list : numbers ≡ (laid tree (items_of old)).numbers
+  pub items : items_of new ≡ (added tree (items_of old)).items
+  pub list : numbers ≡ (added tree (items_of old)).numbers
 
 -- the same of a tree where there may be none
 pub record TookOption (old new : Parser) (o : Outcome Tree) (number : Option NodeId) : Type 0 where
   pub tree : Tree
   pub took : o ≡ Took tree (tokens_left new)
   pub finish : end_of new ≡ end_of old
-  pub items : items_of new ≡ (laid tree (items_of old)).items
-  pub is_any : number ≡ if_any (laid tree (items_of old))
+  pub items : items_of new ≡ (added tree (items_of old)).items
+  pub is_any : number ≡ if_any (added tree (items_of old))
 
 -- nothing is read but tokens
 pub record TookNone (old new : Parser) (o : Outcome (Option Tree)) : Type 0 where
@@ -150,7 +150,7 @@ pub record TookSome (old new : Parser) (o : Outcome (Option Tree)) (number : Nod
   pub tree : Tree
   pub took : o ≡ Took (Some tree) (tokens_left new)
   pub finish : end_of new ≡ end_of old
-  pub items : items_of new ≡ (laid tree (items_of old)).items
+  pub items : items_of new ≡ (added tree (items_of old)).items
   pub is_last : number ≡ last_of (items_of new)
 
 -- a tree, or none

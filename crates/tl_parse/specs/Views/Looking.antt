@@ -5,8 +5,8 @@ use Rattle.tl_lex.specs.declared.token.Token as lexed
 use Rattle.tl_lex.specs.Lexing as lexing
 use Rattle.tl_tree.specs.Tokens as tokens
 use Rattle.tl_tree.specs.Tokens.{Token, tokens_of, finish_of}
-use Rattle.tl_parse.specs.Using.{is_end}
-use Rattle.tl_parse.specs.Parsing.{token_of, tokens_left, end_of, items_of}
+use Rattle.tl_parse.specs.Views.Using.{is_end}
+use Rattle.tl_parse.specs.Views.Parsing.{token_of, tokens_left, end_of, items_of}
 use Rattle.tl_parse.specs.declared.parser.Parser.{Parser}
 use Rattle.tl_parse.specs.declared.parser.Next as code
 

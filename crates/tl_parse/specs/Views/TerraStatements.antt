@@ -4,23 +4,23 @@ use Rattle.tl_base.specs.declared.place.Place.{Place}
 use Rattle.tl_tree.specs.declared.symbol.Symbol.{Symbol}
 use Rattle.tl_tree.specs.declared.symbol.Symbol.TheVariants as symbols
 use Rattle.tl_tree.specs.declared.mode.Mode.TheVariants as modes
-use Rattle.tl_tree.specs.declared.mode.Shape.{Shape}
-use Rattle.tl_tree.specs.declared.mode.Shape.TheVariants as shapes
+use Rattle.tl_tree.specs.declared.mode.OperandKind.{OperandKind}
+use Rattle.tl_tree.specs.declared.mode.OperandKind.TheVariants as operands
 use Rattle.tl_tree.specs.Tokens.{Token, among, is}
-use Rattle.tl_tree.specs.Tree.{Tree, Nothing, More, Name, TerraAssign, TerraPerform, Splice}
+use Rattle.tl_tree.specs.Tree.{Tree, Nothing, More, Name, TerraAssign, TerraCallStatement, Splice}
 use Rattle.tl_tree.specs.Tree.{TerraFor, Var, EscapeBlock, TerraBreak}
 use Rattle.tl_tree.specs.Tree.{Quoted, TerraBody, Parameter, SpliceParameter, Variable}
 use Rattle.tl_tree.specs.Tree.{Statements, TerraExpression, TerraStatements}
 use Rattle.tl_tree.specs.Grammar.{Outcome, Took, ◌>>=◌, begins}
 use Rattle.tl_tree.specs.Forms.{Chained, chained, chain}
 use Rattle.tl_tree.specs.TerraStatements as terra
-use Rattle.tl_parse.specs.Using.{symbol_at, part_at, sign_at, open_at}
-use Rattle.tl_parse.specs.Statements.{first_place, is_call, do_at, while_at, repeat_at, if_at, return_at}
-use Rattle.tl_parse.specs.TerraExpressions.{escape_at, terra_name_at}
-use Rattle.tl_parse.specs.TerraExpressions.{terra_applied_at}
-use Rattle.tl_parse.specs.Lists.{more_elements_at, elements_at, expressions_behind_at}
-use Rattle.tl_parse.specs.Statements.{initial_values_at, numeric_at}
-use Rattle.tl_parse.specs.Codes.{expression_behind_at, optional_expression_at}
+use Rattle.tl_parse.specs.Views.Using.{symbol_at, part_at, sign_at, open_at}
+use Rattle.tl_parse.specs.Views.Statements.{first_place, is_call, do_at, while_at, repeat_at, if_at, return_at}
+use Rattle.tl_parse.specs.Views.TerraExpressions.{escape_at, terra_name_at}
+use Rattle.tl_parse.specs.Views.TerraExpressions.{terra_applied_at}
+use Rattle.tl_parse.specs.Views.Lists.{more_elements_at, elements_at, expressions_behind_at}
+use Rattle.tl_parse.specs.Views.Statements.{initial_values_at, numeric_at}
+use Rattle.tl_parse.specs.Views.Codes.{expression_behind_at, optional_expression_at}
 use Rattle.tl_parse.specs.declared.parser.Code.TheVariants as codes
 use Rattle.tl_parse.specs.declared.parser.Element.TheVariants as elements
 use Rattle.tl_parse.specs.declared.parser.BlockCode.TheVariants as block_codes
@@ -51,15 +51,15 @@ terra_variable_at levels ts = placed_name_at levels ts >>= λ p a. written_type_
 
 -- ---- assignments, calls and splices
 
-abbrev pub is_escape : Shape → Bool
-is_escape shapes.Escape = true
+abbrev pub is_escape : OperandKind → Bool
+is_escape operands.Escape = true
 is_escape _ = false
 
 -- the first expression of a statement that no word begins
 unfoldable pub terra_target_at : ℕ → List Token → Outcome Chained
 terra_target_at levels ts =
     if begins (is symbols.At) ts then (part_at levels TerraExpression ts
-    >>= λ e rest. Took (chained e chain shapes.Other) rest) else terra_applied_at levels ts
+    >>= λ e rest. Took (chained e chain operands.Other) rest) else terra_applied_at levels ts
 
 -- more targets and the values behind a list of targets
 unfoldable pub terra_assignment_at : ℕ → Place → Tree → List Token → Outcome Tree
@@ -72,8 +72,8 @@ assignment_symbols = symbols.Equal ∷ symbols.Comma ∷ []
 
 abbrev pub terra_statement_behind_at : ℕ → Place → Chained → List Token → Outcome Tree
 terra_statement_behind_at levels place a ts =
-    if is_call a.shape then Took (TerraPerform place a.tree) ts
-    else (if is_escape a.shape && not (begins (among assignment_symbols) ts) then Took (Splice place a.tree) ts
+    if is_call a.kind then Took (TerraCallStatement place a.tree) ts
+    else (if is_escape a.kind && not (begins (among assignment_symbols) ts) then Took (Splice place a.tree) ts
     else terra_assignment_at levels place (More Nothing a.tree) ts)
 
 unfoldable pub terra_simple_statement_at : ℕ → List Token → Outcome Tree

@@ -2,16 +2,16 @@
 use Rattle.std.specs.Prelude.{ℕ, List, if◌then◌else◌, None}
 use Rattle.tl_tree.specs.declared.symbol.Symbol.TheVariants as symbols
 use Rattle.tl_tree.specs.declared.mode.Mode.{Mode}
-use Rattle.tl_tree.specs.declared.mode.Extra.TheVariants.{Plain}
+use Rattle.tl_tree.specs.declared.mode.TokenUse.TheVariants.{Plain}
 use Rattle.tl_tree.specs.Tokens.{Token, among, is}
 use Rattle.tl_tree.specs.Tree.{Tree, Nothing, More, Name, Entry}
 use Rattle.tl_tree.specs.Grammar.{Grammar, Outcome, Took, ◌>>=◌, give, bind, many, begins}
 use Rattle.tl_tree.specs.Forms.{sign, separator}
 use Rattle.tl_tree.specs.LuaExpressions as lua
-use Rattle.tl_parse.specs.Using.{reading, sign_among_at}
-use Rattle.tl_parse.specs.Codes.{expression_behind_at}
+use Rattle.tl_parse.specs.Views.Using.{reading, sign_among_at}
+use Rattle.tl_parse.specs.Views.Codes.{expression_behind_at}
 use Rattle.tl_parse.specs.declared.parser.Code.TheVariants as codes
-use Rattle.tl_parse.specs.Expressions.{name_at, separators}
+use Rattle.tl_parse.specs.Views.Expressions.{name_at, separators}
 
 -- a separator if one follows
 unfoldable pub separator_at : List Token → Outcome Tree

@@ -5,9 +5,9 @@ use Rattle.tl_base.specs.declared.place.Place.{Place}
 use Rattle.tl_tree.specs.declared.symbol.Symbol.{Symbol}
 use Rattle.tl_tree.specs.declared.symbol.Symbol.TheVariants as symbols
 use Rattle.tl_tree.specs.declared.mode.Mode.TheVariants as modes
-use Rattle.tl_tree.specs.declared.mode.Extra.TheVariants.{TerraNumber}
-use Rattle.tl_tree.specs.declared.mode.Shape.{Shape}
-use Rattle.tl_tree.specs.declared.mode.Shape.TheVariants as shapes
+use Rattle.tl_tree.specs.declared.mode.TokenUse.TheVariants.{TerraNumber}
+use Rattle.tl_tree.specs.declared.mode.OperandKind.{OperandKind}
+use Rattle.tl_tree.specs.declared.mode.OperandKind.TheVariants as operands
 use Rattle.tl_tree.specs.declared.node.TerraExpression as nodes
 use Rattle.tl_tree.specs.declared.node.TerraExpression.TheVariants as expressions
 use Rattle.tl_tree.specs.Tokens.{Token, among, is}
@@ -19,11 +19,12 @@ use Rattle.tl_tree.specs.Forms.{separated_behind, Chained, chained, chain, opera
 use Rattle.tl_tree.specs.Forms.{comparisons, additive, multiplicative, operators}
 use Rattle.tl_tree.specs.TerraExpressions as terra
 use Rattle.tl_tree.specs.TerraExpressions.{terra_numerals, terra_prefix_symbols, shifts}
-use Rattle.tl_parse.specs.Using.{symbol_at, reading, part_at, used, sign_at, open_at, prefix_at, operator_at, raise_at}
-use Rattle.tl_parse.specs.Using.{call_at}
-use Rattle.tl_parse.specs.Using.{sign_among_at}
-use Rattle.tl_parse.specs.Codes.{expression_behind_at}
-use Rattle.tl_parse.specs.Expressions.{name_at, literal_at, is_name, separators}
+use Rattle.tl_parse.specs.Views.Using.{symbol_at, reading, part_at, used, sign_at, open_at, prefix_at, operator_at}
+use Rattle.tl_parse.specs.Views.Using.{raise_at}
+use Rattle.tl_parse.specs.Views.Using.{call_at}
+use Rattle.tl_parse.specs.Views.Using.{sign_among_at}
+use Rattle.tl_parse.specs.Views.Codes.{expression_behind_at}
+use Rattle.tl_parse.specs.Views.Expressions.{name_at, literal_at, is_name, separators}
 use Rattle.tl_parse.specs.declared.parser.Code.TheVariants as codes
 use Rattle.tl_parse.specs.declared.terra_expressions.TerraPrecedence.{TerraPrecedence}
 use Rattle.tl_parse.specs.declared.terra_expressions.TerraPrecedence.TheVariants as precedences
@@ -43,14 +44,14 @@ unfoldable pub terra_paren_at : ℕ → List Token → Outcome Chained
 terra_paren_at levels ts =
     open_at symbols.OpenParen levels ts >>= λ t a. part_at (levels - 1) TerraExpression a >>= λ x b.
     sign_at symbols.CloseParen b >>= λ y rest.
-    Took (chained (TerraParen t.place x) chain shapes.Other) rest
+    Took (chained (TerraParen t.place x) chain operands.Other) rest
 
 unfoldable pub terra_base_at : ℕ → List Token → Outcome Chained
 terra_base_at levels ts =
     if begins (is symbols.OpenParen) ts then terra_paren_at levels ts
     else (if begins (is symbols.OpenBracket) ts then (escape_at levels ts
-    >>= λ e rest. Took (chained e chain shapes.Escape) rest)
-    else (name_at ts >>= λ n rest. Took (chained n chain shapes.Name) rest))
+    >>= λ e rest. Took (chained e chain operands.Escape) rest)
+    else (name_at ts >>= λ n rest. Took (chained n chain operands.Name) rest))
 
 -- a suffix without what is before it: the arguments of a call, a key, a name, a method's name and arguments, or
 -- initialisers, each with its place
@@ -65,47 +66,47 @@ terra_attached (Selects place x) a = TerraSelect place a x
 terra_attached (Constructs place x) a = Construct place a x
 terra_attached (CallsMethod place n x) a = TerraMethod place a n x
 
-abbrev pub terra_shape_of : TerraSuffixed → Shape
-terra_shape_of (Indexes place x) = shapes.Variable
-terra_shape_of (Selects place x) = shapes.Variable
-terra_shape_of (Constructs place x) = shapes.Other
-terra_shape_of _ = shapes.Call
+abbrev pub terra_kind_of : TerraSuffixed → OperandKind
+terra_kind_of (Indexes place x) = operands.Variable
+terra_kind_of (Selects place x) = operands.Variable
+terra_kind_of (Constructs place x) = operands.Other
+terra_kind_of _ = operands.Call
 
 unfoldable pub terra_call_suffix_at : ℕ → ℕ → List Token → Outcome TerraSuffixed
-terra_call_suffix_at levels left ts =
-    call_at levels left ts >>= λ t a. part_at (levels - 1) TerraArguments a >>= λ x b. sign_at symbols.CloseParen b
+terra_call_suffix_at levels links ts =
+    call_at levels links ts >>= λ t a. part_at (levels - 1) TerraArguments a >>= λ x b. sign_at symbols.CloseParen b
     >>= λ y rest. Took (Calls t.place x) rest
 
 unfoldable pub terra_index_suffix_at : ℕ → ℕ → List Token → Outcome TerraSuffixed
-terra_index_suffix_at levels left ts =
-    raise_at symbols.OpenBracket levels left ts >>= λ t a. part_at (levels - 1) TerraExpression a >>= λ x b.
+terra_index_suffix_at levels links ts =
+    raise_at symbols.OpenBracket levels links ts >>= λ t a. part_at (levels - 1) TerraExpression a >>= λ x b.
     sign_at symbols.CloseBracket b >>= λ y rest. Took (Indexes t.place x) rest
 
 unfoldable pub terra_select_suffix_at : ℕ → ℕ → List Token → Outcome TerraSuffixed
-terra_select_suffix_at levels left ts = operator_at (symbols.Dot ∷ []) left ts >>= λ t a. terra_name_at levels a
+terra_select_suffix_at levels links ts = operator_at (symbols.Dot ∷ []) links ts >>= λ t a. terra_name_at levels a
     >>= λ n rest. Took (Selects t.place n) rest
 
 unfoldable pub terra_method_suffix_at : ℕ → ℕ → List Token → Outcome TerraSuffixed
-terra_method_suffix_at levels left ts =
-    operator_at (symbols.Colon ∷ []) left ts >>= λ t a. terra_name_at levels a >>= λ n b.
+terra_method_suffix_at levels links ts =
+    operator_at (symbols.Colon ∷ []) links ts >>= λ t a. terra_name_at levels a >>= λ n b.
     open_at symbols.OpenParen levels b >>= λ u c. part_at (levels - 1) TerraArguments c >>= λ x d.
     sign_at symbols.CloseParen d >>= λ y rest. Took (CallsMethod t.place n x) rest
 
 unfoldable pub construct_suffix_at : ℕ → ℕ → List Token → Outcome TerraSuffixed
-construct_suffix_at levels left ts =
-    raise_at symbols.OpenBrace levels left ts >>= λ t a. part_at (levels - 1) Initialisers a >>= λ x b.
+construct_suffix_at levels links ts =
+    raise_at symbols.OpenBrace levels links ts >>= λ t a. part_at (levels - 1) Initialisers a >>= λ x b.
     sign_at symbols.CloseBrace b >>= λ y rest. Took (Constructs t.place x) rest
 
 -- a suffix whose first token has this symbol
 abbrev pub terra_suffix_from : ℕ → ℕ → Symbol → List Token → Outcome TerraSuffixed
-terra_suffix_from levels left symbols.OpenParen ts = terra_call_suffix_at levels left ts
-terra_suffix_from levels left symbols.OpenBracket ts = terra_index_suffix_at levels left ts
-terra_suffix_from levels left symbols.Dot ts = terra_select_suffix_at levels left ts
-terra_suffix_from levels left symbols.Colon ts = terra_method_suffix_at levels left ts
-terra_suffix_from levels left _ ts = construct_suffix_at levels left ts
+terra_suffix_from levels links symbols.OpenParen ts = terra_call_suffix_at levels links ts
+terra_suffix_from levels links symbols.OpenBracket ts = terra_index_suffix_at levels links ts
+terra_suffix_from levels links symbols.Dot ts = terra_select_suffix_at levels links ts
+terra_suffix_from levels links symbols.Colon ts = terra_method_suffix_at levels links ts
+terra_suffix_from levels links _ ts = construct_suffix_at levels links ts
 
 unfoldable pub terra_suffix_at : ℕ → ℕ → List Token → Outcome TerraSuffixed
-terra_suffix_at levels left ts = terra_suffix_from levels left (symbol_at ts) ts
+terra_suffix_at levels links ts = terra_suffix_from levels links (symbol_at ts) ts
 
 unfoldable pub terra_suffixes_at : ℕ → Chained → List Token → Outcome Chained
 terra_suffixes_at levels a ts = reading levels (terra.terra_suffixes a) ts
@@ -154,22 +155,22 @@ terra_simple_symbols =
     ∷ symbols.False ∷ symbols.True ∷ []
 
 unfoldable pub terra_primary_at : ℕ → ℕ → List Token → Outcome Chained
-terra_primary_at levels left ts =
-    if begins (among terra_simple_symbols) ts then (terra_simple_at ts >>= λ e rest. Took (operand left e) rest)
-    else (terra_applied_at levels ts >>= λ a rest. Took (in_chain left a) rest)
+terra_primary_at levels links ts =
+    if begins (among terra_simple_symbols) ts then (terra_simple_at ts >>= λ e rest. Took (operand links e) rest)
+    else (terra_applied_at levels ts >>= λ a rest. Took (in_chain links a) rest)
 
 -- ---- operators
 
 -- a prefix operator with its operand
 unfoldable pub terra_prefixed_at : ℕ → ℕ → List Token → Outcome Chained
-terra_prefixed_at levels left ts =
+terra_prefixed_at levels links ts =
     prefix_at terra_prefix_symbols levels ts >>= λ t a. part_at (levels - 1) TerraOperand a
-    >>= λ x rest. Took (operand left (TerraUnary t.place (unary_of t.symbol) x)) rest
+    >>= λ x rest. Took (operand links (TerraUnary t.place (unary_of t.symbol) x)) rest
 
 -- the right operand of `^`
 unfoldable pub terra_exponent_at : ℕ → ℕ → List Token → Outcome Chained
-terra_exponent_at levels left ts = if begins (among terra_prefix_symbols) ts then terra_prefixed_at levels left ts
-    else terra_primary_at levels left ts
+terra_exponent_at levels links ts = if begins (among terra_prefix_symbols) ts then terra_prefixed_at levels links ts
+    else terra_primary_at levels links ts
 
 -- the operators of a precedence
 abbrev pub terra_symbols_of : TerraPrecedence → List Symbol
@@ -183,42 +184,42 @@ terra_symbols_of precedences.Disjunction = symbols.Or ∷ []
 
 -- their right operands
 abbrev pub terra_inner_of : TerraPrecedence → ℕ → Grammar Chained
-terra_inner_of precedences.Power left = terra.terra_exponent left
-terra_inner_of precedences.Product left = terra.terra_unary left
-terra_inner_of precedences.Sum left = terra.terra_product left
-terra_inner_of precedences.Shift left = terra.terra_sum left
-terra_inner_of precedences.Comparison left = terra.terra_shift left
-terra_inner_of precedences.Conjunction left = terra.terra_comparison left
-terra_inner_of precedences.Disjunction left = terra.terra_conjunction left
+terra_inner_of precedences.Power links = terra.terra_exponent links
+terra_inner_of precedences.Product links = terra.terra_unary links
+terra_inner_of precedences.Sum links = terra.terra_product links
+terra_inner_of precedences.Shift links = terra.terra_sum links
+terra_inner_of precedences.Comparison links = terra.terra_shift links
+terra_inner_of precedences.Conjunction links = terra.terra_comparison links
+terra_inner_of precedences.Disjunction links = terra.terra_conjunction links
 
 unfoldable pub terra_inner_at : ℕ → TerraPrecedence → ℕ → List Token → Outcome Chained
-terra_inner_at levels p left ts = reading levels (terra_inner_of p left) ts
+terra_inner_at levels p links ts = reading levels (terra_inner_of p links) ts
 
 -- Their first operands are the same, but for that of `^`, which has no prefix operator.
 unfoldable pub terra_first_at : ℕ → TerraPrecedence → ℕ → List Token → Outcome Chained
-terra_first_at levels precedences.Power left ts = terra_primary_at levels left ts
-terra_first_at levels precedences.Product left ts = terra_inner_at levels precedences.Product left ts
-terra_first_at levels precedences.Sum left ts = terra_inner_at levels precedences.Sum left ts
-terra_first_at levels precedences.Shift left ts = terra_inner_at levels precedences.Shift left ts
-terra_first_at levels precedences.Comparison left ts = terra_inner_at levels precedences.Comparison left ts
-terra_first_at levels precedences.Conjunction left ts = terra_inner_at levels precedences.Conjunction left ts
-terra_first_at levels precedences.Disjunction left ts = terra_inner_at levels precedences.Disjunction left ts
+terra_first_at levels precedences.Power links ts = terra_primary_at levels links ts
+terra_first_at levels precedences.Product links ts = terra_inner_at levels precedences.Product links ts
+terra_first_at levels precedences.Sum links ts = terra_inner_at levels precedences.Sum links ts
+terra_first_at levels precedences.Shift links ts = terra_inner_at levels precedences.Shift links ts
+terra_first_at levels precedences.Comparison links ts = terra_inner_at levels precedences.Comparison links ts
+terra_first_at levels precedences.Conjunction links ts = terra_inner_at levels precedences.Conjunction links ts
+terra_first_at levels precedences.Disjunction links ts = terra_inner_at levels precedences.Disjunction links ts
 
 unfoldable pub terra_more_at : ℕ → TerraPrecedence → Chained → List Token → Outcome Chained
-terra_more_at levels p a ts = reading levels (operators (terra_symbols_of p) (λ left.
-    terra_inner_of p left) terra.terra_operation a) ts
+terra_more_at levels p a ts = reading levels (operators (terra_symbols_of p) (λ links.
+    terra_inner_of p links) terra.terra_operation a) ts
 
 -- an operator and its right operand
 unfoldable pub terra_one_more_at : ℕ → TerraPrecedence → ℕ → List Token → Outcome (Token × Chained)
-terra_one_more_at levels p left ts = operator_at (terra_symbols_of p) left ts >>= λ t a.
-    terra_inner_at levels p (down left) a >>= λ b rest. Took (t, b) rest
+terra_one_more_at levels p links ts = operator_at (terra_symbols_of p) links ts >>= λ t a.
+    terra_inner_at levels p (down links) a >>= λ b rest. Took (t, b) rest
 
 unfoldable pub terra_binary_at : ℕ → TerraPrecedence → ℕ → List Token → Outcome Chained
-terra_binary_at levels p left ts = terra_first_at levels p left ts >>= λ a rest. terra_more_at levels p a rest
+terra_binary_at levels p links ts = terra_first_at levels p links ts >>= λ a rest. terra_more_at levels p a rest
 
 unfoldable pub terra_unary_at : ℕ → ℕ → List Token → Outcome Chained
-terra_unary_at levels left ts = if begins (among terra_prefix_symbols) ts then terra_prefixed_at levels left ts
-    else terra_binary_at levels precedences.Power left ts
+terra_unary_at levels links ts = if begins (among terra_prefix_symbols) ts then terra_prefixed_at levels links ts
+    else terra_binary_at levels precedences.Power links ts
 
 -- ---- initialisers
 
@@ -246,7 +247,7 @@ next_initialiser_at levels named ts =
 -- The first initialiser, and whether it is named: a name alone before "=" is.
 abbrev pub initialiser_behind_at : ℕ → Chained → List Token → Outcome (Tree × Bool)
 initialiser_behind_at levels e ts =
-    if is_name e.shape then (if begins (is symbols.Equal) ts
+    if is_name e.kind then (if begins (is symbols.Equal) ts
     then (expression_behind_at levels symbols.Equal codes.Terra ts
     >>= λ v rest. Took (NamedField e.tree v, true) rest)
     else Took (e.tree, false) ts)

@@ -6,8 +6,8 @@ use Rattle.tl_tree.specs.Tokens.{Token, is}
 use Rattle.tl_tree.specs.Tree.{Tree, Nothing, More, Just, Name, Path}
 use Rattle.tl_tree.specs.Grammar.{Outcome, Took, ◌>>=◌, begins}
 use Rattle.tl_tree.specs.Forms.{name, listed_behind, path_names}
-use Rattle.tl_parse.specs.Using.{reading, sign_at}
-use Rattle.tl_parse.specs.Expressions.{name_at}
+use Rattle.tl_parse.specs.Views.Using.{reading, sign_at}
+use Rattle.tl_parse.specs.Views.Expressions.{name_at}
 
 unfoldable pub more_names_at : ℕ → Tree → List Token → Outcome Tree
 more_names_at levels before ts = reading levels (listed_behind name before) ts

@@ -7,11 +7,11 @@ use Rattle.tl_tree.specs.Tokens.{Token, is}
 use Rattle.tl_tree.specs.Tree.{Tree, Nothing, More, Path, DefineTerra, DeclareTerra, LocalTerra, LocalDeclareTerra}
 use Rattle.tl_tree.specs.Tree.{DefineStruct, LocalStruct}
 use Rattle.tl_tree.specs.Grammar.{Outcome, Took, ◌>>=◌, begins}
-use Rattle.tl_parse.specs.Using.{sign_at}
-use Rattle.tl_parse.specs.Codes.{expression_behind_at, opened_terra_body_at}
-use Rattle.tl_parse.specs.Expressions.{name_at}
-use Rattle.tl_parse.specs.Paths.{path_names_at, path_at}
-use Rattle.tl_parse.specs.TerraCode.{struct_body_at}
+use Rattle.tl_parse.specs.Views.Using.{sign_at}
+use Rattle.tl_parse.specs.Views.Codes.{expression_behind_at, opened_terra_body_at}
+use Rattle.tl_parse.specs.Views.Expressions.{name_at}
+use Rattle.tl_parse.specs.Views.Paths.{path_names_at, path_at}
+use Rattle.tl_parse.specs.Views.TerraCode.{struct_body_at}
 use Rattle.tl_parse.specs.declared.parser.Code.TheVariants as codes
 
 -- the path of a struct, which has no method

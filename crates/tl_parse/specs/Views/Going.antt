@@ -5,15 +5,15 @@ use Rattle.tl_tree.specs.declared.mode.Mode.{Mode}
 use Rattle.tl_tree.specs.Tokens.{Token}
 use Rattle.tl_tree.specs.Tree.{Tree, Block}
 use Rattle.tl_tree.specs.Item.{Item}
-use Rattle.tl_tree.specs.Nodes.{laid, last, last_of, if_any}
+use Rattle.tl_tree.specs.Nodes.{added, last, last_of, if_any}
 use Rattle.tl_tree.specs.Grammar.{Outcome, Took, ◌>>=◌, down}
 use Rattle.tl_tree.specs.Forms.{Chained, chained}
 use Rattle.tl_tree.specs.LuaStatements.{Sequence, sequence, Parameters, parameters_of}
-use Rattle.tl_parse.specs.Statements.{Numeric, Generic, more_parameters_at}
-use Rattle.tl_parse.specs.Blocks.{more_statements_at}
+use Rattle.tl_parse.specs.Views.Statements.{Numeric, Generic, more_parameters_at}
+use Rattle.tl_parse.specs.Views.Blocks.{more_statements_at}
 use Rattle.tl_parse.specs.declared.statements.Numeric as code_statements
-use Rattle.tl_parse.specs.Parsing.{token_of, tokens_left, items_of, end_of}
-use Rattle.tl_parse.specs.Expressions.{Suffixed, attached, shape_of, suffixes_at, ranks_at}
+use Rattle.tl_parse.specs.Views.Parsing.{token_of, tokens_left, items_of, end_of}
+use Rattle.tl_parse.specs.Views.Expressions.{Suffixed, attached, kind_of, suffixes_at, ranks_at}
 use Rattle.tl_parse.specs.declared.parser.Parser.{Parser}
 use Rattle.tl_parse.specs.declared.parser.Next as code
 use Rattle.tl_parse.specs.declared.parser.BlockCode.{BlockCode}
@@ -22,9 +22,9 @@ use Rattle.tl_parse.specs.declared.parser.Operand.{Operand}
 -- an operator and its right operand
 pub record TookOperation (old new : Parser) (o : Outcome (Token × Chained)) (t : code.Next) (r : Operand) : Type 0 where
   pub tree : Tree
-  pub took : o ≡ Took (token_of t, chained tree r.left r.shape) (tokens_left new)
+  pub took : o ≡ Took (token_of t, chained tree r.links r.kind) (tokens_left new)
   pub finish : end_of new ≡ end_of old
-  pub items : items_of new ≡ (laid tree (items_of old)).items
+  pub items : items_of new ≡ (added tree (items_of old)).items
   pub is_last : r.node ≡ last_of (items_of new)
 
 -- A suffix is added to what is before it, whose nodes were laid last.
@@ -32,10 +32,10 @@ pub record TookSuffix (old new : Parser) (o : Outcome Suffixed) (a r : Operand) 
   pub suffix : Suffixed
   pub took : o ≡ Took suffix (tokens_left new)
   pub finish : end_of new ≡ end_of old
-  pub left : r.left ≡ down a.left
-  pub shape : r.shape ≡ shape_of suffix
-  pub items : (tree : Tree) (before : List Item) → items_of old ≡ (laid tree before).items
-      → a.node ≡ last_of (items_of old) → items_of new ≡ (laid (attached suffix tree) before).items
+  pub links : r.links ≡ down a.links
+  pub kind : r.kind ≡ kind_of suffix
+  pub items : (tree : Tree) (before : List Item) → items_of old ≡ (added tree before).items
+      → a.node ≡ last_of (items_of old) → items_of new ≡ (added (attached suffix tree) before).items
   pub is_last : r.node ≡ last_of (items_of new)
 
 -- An operand and operators behind it are a tree so far, and the operators of the ranks from this one on, before that
@@ -43,17 +43,17 @@ pub record TookSuffix (old new : Parser) (o : Outcome Suffixed) (a r : Operand) 
 pub record Binding (levels rank end : ℕ) (m : Mode) (start now : Parser) (o : Outcome Chained)
     (a : Operand) : Type 0 where
   pub tree : Tree
-  pub goes_on : o ≡ ranks_at levels (end - rank) rank m (chained tree a.left a.shape) (tokens_left now)
+  pub goes_on : o ≡ ranks_at levels (end - rank) rank m (chained tree a.links a.kind) (tokens_left now)
   pub finish : end_of now ≡ end_of start
-  pub items : items_of now ≡ (laid tree (items_of start)).items
+  pub items : items_of now ≡ (added tree (items_of start)).items
   pub is_last : a.node ≡ last_of (items_of now)
 
 -- a prefix expression so far
 pub record Applying (levels : ℕ) (m : Mode) (start now : Parser) (o : Outcome Chained) (a : Operand) : Type 0 where
   pub tree : Tree
-  pub goes_on : o ≡ suffixes_at levels m (chained tree a.left a.shape) (tokens_left now)
+  pub goes_on : o ≡ suffixes_at levels m (chained tree a.links a.kind) (tokens_left now)
   pub finish : end_of now ≡ end_of start
-  pub items : items_of now ≡ (laid tree (items_of start)).items
+  pub items : items_of now ≡ (added tree (items_of start)).items
   pub is_last : a.node ≡ last_of (items_of now)
 
 -- a list so far
@@ -62,8 +62,8 @@ pub record Listing (start now : Parser) (o : Outcome Tree) (more : Tree → List
   pub tree : Tree
   pub goes_on : o ≡ more tree (tokens_left now)
   pub finish : end_of now ≡ end_of start
-  pub items : items_of now ≡ (laid tree (items_of start)).items
-  pub list : numbers ≡ (laid tree (items_of start)).numbers
+  pub items : items_of now ≡ (added tree (items_of start)).items
+  pub list : numbers ≡ (added tree (items_of start)).numbers
 
 -- ---- statements
 
@@ -73,10 +73,11 @@ pub record TookNumeric (old new : Parser) (o : Outcome Numeric) (r : code_statem
   pub took : o ≡ Took trees (tokens_left new)
   pub finish : end_of new ≡ end_of old
   pub items : items_of new
-      ≡ (laid trees.block (laid trees.step (laid trees.limit (laid trees.from (items_of old)).items).items).items).items
-  pub from_is : r.from ≡ last (laid trees.from (items_of old))
-  pub limit_is : r.limit ≡ last (laid trees.limit (laid trees.from (items_of old)).items)
-  pub step_is : r.step ≡ if_any (laid trees.step (laid trees.limit (laid trees.from (items_of old)).items).items)
+      ≡ (added trees.block
+      (added trees.step (added trees.limit (added trees.from (items_of old)).items).items).items).items
+  pub from_is : r.from ≡ last (added trees.from (items_of old))
+  pub limit_is : r.limit ≡ last (added trees.limit (added trees.from (items_of old)).items)
+  pub step_is : r.step ≡ if_any (added trees.step (added trees.limit (added trees.from (items_of old)).items).items)
   pub block_is : r.block ≡ last_of (items_of new)
 
 -- what a generic `for` has behind its names
@@ -84,8 +85,8 @@ pub record TookGeneric (old new : Parser) (o : Outcome Generic) (values : List N
   pub trees : Generic
   pub took : o ≡ Took trees (tokens_left new)
   pub finish : end_of new ≡ end_of old
-  pub items : items_of new ≡ (laid trees.block (laid trees.values (items_of old)).items).items
-  pub values_are : values ≡ (laid trees.values (items_of old)).numbers
+  pub items : items_of new ≡ (added trees.block (added trees.values (items_of old)).items).items
+  pub values_are : values ≡ (added trees.values (items_of old)).numbers
   pub block_is : block ≡ last_of (items_of new)
 
 -- the names of parameters, and whether `...` is one more
@@ -94,23 +95,23 @@ pub record TookParameters (old new : Parser) (o : Outcome Parameters) (numbers :
   pub tree : Tree
   pub took : o ≡ Took (parameters_of tree variadic) (tokens_left new)
   pub finish : end_of new ≡ end_of old
-  pub items : items_of new ≡ (laid tree (items_of old)).items
-  pub list : numbers ≡ (laid tree (items_of old)).numbers
+  pub items : items_of new ≡ (added tree (items_of old)).items
+  pub list : numbers ≡ (added tree (items_of old)).numbers
 
 -- parameters so far, of which none is `...`
 pub record Naming (levels : ℕ) (start now : Parser) (o : Outcome Parameters) (numbers : List NodeId) : Type 0 where
   pub tree : Tree
   pub goes_on : o ≡ more_parameters_at levels tree false (tokens_left now)
   pub finish : end_of now ≡ end_of start
-  pub items : items_of now ≡ (laid tree (items_of start)).items
-  pub list : numbers ≡ (laid tree (items_of start)).numbers
+  pub items : items_of now ≡ (added tree (items_of start)).items
+  pub list : numbers ≡ (added tree (items_of start)).numbers
 
 -- a statement, and whether it ends its block
 pub record TookStatement (old new : Parser) (o : Outcome Sequence) (number : NodeId) (ends : Bool) : Type 0 where
   pub tree : Tree
   pub took : o ≡ Took (sequence tree ends) (tokens_left new)
   pub finish : end_of new ≡ end_of old
-  pub items : items_of new ≡ (laid tree (items_of old)).items
+  pub items : items_of new ≡ (added tree (items_of old)).items
   pub is_last : number ≡ last_of (items_of new)
 
 -- the statements of a block so far
@@ -120,5 +121,5 @@ pub record Sequencing (levels : ℕ) (block : BlockCode) (start now : Parser) (o
   pub goes_on : o ≡ (more_statements_at levels block tree ended (tokens_left now)
       >>= λ a rest. Took (Block a.statements) rest)
   pub finish : end_of now ≡ end_of start
-  pub items : items_of now ≡ (laid tree (items_of start)).items
-  pub list : numbers ≡ (laid tree (items_of start)).numbers
+  pub items : items_of now ≡ (added tree (items_of start)).items
+  pub list : numbers ≡ (added tree (items_of start)).numbers

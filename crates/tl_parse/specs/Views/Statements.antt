@@ -6,25 +6,26 @@ use Rattle.tl_tree.specs.declared.symbol.Symbol.{Symbol}
 use Rattle.tl_tree.specs.declared.symbol.Symbol.TheVariants as symbols
 use Rattle.tl_tree.specs.declared.mode.Mode.{Mode}
 use Rattle.tl_tree.specs.declared.mode.Context.{Context}
-use Rattle.tl_tree.specs.declared.mode.Extra.TheVariants.{Plain}
-use Rattle.tl_tree.specs.declared.mode.Shape.{Shape}
-use Rattle.tl_tree.specs.declared.mode.Shape.TheVariants as shapes
+use Rattle.tl_tree.specs.declared.mode.TokenUse.TheVariants.{Plain}
+use Rattle.tl_tree.specs.declared.mode.OperandKind.{OperandKind}
+use Rattle.tl_tree.specs.declared.mode.OperandKind.TheVariants as operands
 use Rattle.tl_tree.specs.Tokens.{Token, among, is}
-use Rattle.tl_tree.specs.Tree.{Tree, Nothing, More, Just, Assign, Perform, NumericFor}
+use Rattle.tl_tree.specs.Tree.{Tree, Nothing, More, Just, Assign, CallStatement, NumericFor}
 use Rattle.tl_tree.specs.Tree.{GenericFor, DefineFunction, LocalFunction, Local, Emit, Break, Arm}
 use Rattle.tl_tree.specs.Tree.{Body, Expression, Statements}
 use Rattle.tl_tree.specs.Grammar.{Grammar, many, Outcome, Took, ◌>>=◌, begins, unexpected}
 use Rattle.tl_tree.specs.LuaStatements as lua
 use Rattle.tl_tree.specs.LuaStatements.{fresh, Parameters, parameters_of, body_mode}
-use Rattle.tl_parse.specs.Using.{symbol_at, reading, part_at, sign_at, open_at}
-use Rattle.tl_parse.specs.Lists.{more_elements_at, expressions_at, expressions_behind_at}
-use Rattle.tl_parse.specs.Expressions.{name_at, applied_at}
-use Rattle.tl_parse.specs.Paths.{more_names_at, names_at, path_at}
-use Rattle.tl_parse.specs.TerraDefinitions.{define_terra_at, define_struct_at, local_terra_at}
-use Rattle.tl_parse.specs.Codes.{expression_in, expression_behind_at, optional_expression_at, code_of, statements_in}
-use Rattle.tl_parse.specs.Codes.{arms_of}
-use Rattle.tl_parse.specs.Codes.{opened_body_at, looped_code, first_symbols, do_of, while_of, repeat_of, if_of}
-use Rattle.tl_parse.specs.Codes.{return_of}
+use Rattle.tl_parse.specs.Views.Using.{symbol_at, reading, part_at, sign_at, open_at}
+use Rattle.tl_parse.specs.Views.Lists.{more_elements_at, expressions_at, expressions_behind_at}
+use Rattle.tl_parse.specs.Views.Expressions.{name_at, applied_at}
+use Rattle.tl_parse.specs.Views.Paths.{more_names_at, names_at, path_at}
+use Rattle.tl_parse.specs.Views.TerraDefinitions.{define_terra_at, define_struct_at, local_terra_at}
+use Rattle.tl_parse.specs.Views.Codes.{expression_in, expression_behind_at, optional_expression_at, code_of}
+use Rattle.tl_parse.specs.Views.Codes.{statements_in}
+use Rattle.tl_parse.specs.Views.Codes.{arms_of}
+use Rattle.tl_parse.specs.Views.Codes.{opened_body_at, looped_code, first_symbols, do_of, while_of, repeat_of, if_of}
+use Rattle.tl_parse.specs.Views.Codes.{return_of}
 use Rattle.tl_parse.specs.declared.parser.Code.{Code}
 use Rattle.tl_parse.specs.declared.parser.Code.TheVariants as codes
 use Rattle.tl_parse.specs.declared.parser.Element.TheVariants as elements
@@ -39,24 +40,24 @@ first_place (t ∷ ts) = t.place
 -- ---- targets
 
 -- what isn't a variable
-abbrev pub is_unsettled : Shape → Bool
-is_unsettled shapes.Call = true
-is_unsettled shapes.Other = true
-is_unsettled _ = false
+abbrev pub is_no_variable : OperandKind → Bool
+is_no_variable operands.Call = true
+is_no_variable operands.Other = true
+is_no_variable _ = false
 
 -- a prefix expression that is a variable
 unfoldable pub variable_at : ℕ → Mode → List Token → Outcome Tree
 variable_at levels m ts = applied_at levels m false ts >>= λ a rest.
-    if is_unsettled a.shape then unexpected rest else Took a.tree rest
+    if is_no_variable a.kind then unexpected rest else Took a.tree rest
 
-abbrev pub is_call : Shape → Bool
-is_call shapes.Call = true
+abbrev pub is_call : OperandKind → Bool
+is_call operands.Call = true
 is_call _ = false
 
 unfoldable pub call_or_assignment_at : ℕ → Mode → List Token → Outcome Tree
 call_or_assignment_at levels m ts =
     applied_at levels m true ts >>= λ a b.
-    if is_call a.shape then Took (Perform (first_place ts) a.tree) b
+    if is_call a.kind then Took (CallStatement (first_place ts) a.tree) b
     else (more_elements_at levels (elements.Target m) (More Nothing a.tree) b >>= λ targets c.
     expressions_behind_at levels symbols.Equal (codes.Lua m) c
     >>= λ es rest. Took (Assign (first_place ts) targets es) rest)

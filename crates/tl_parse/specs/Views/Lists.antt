@@ -8,8 +8,8 @@ use Rattle.tl_tree.specs.Grammar.{Grammar, Outcome, ◌>>=◌}
 use Rattle.tl_tree.specs.Forms.{listed_behind}
 use Rattle.tl_tree.specs.LuaStatements as lua
 use Rattle.tl_tree.specs.TerraStatements as terra
-use Rattle.tl_parse.specs.Using.{reading, sign_at}
-use Rattle.tl_parse.specs.Codes.{expression_of}
+use Rattle.tl_parse.specs.Views.Using.{reading, sign_at}
+use Rattle.tl_parse.specs.Views.Codes.{expression_of}
 use Rattle.tl_parse.specs.declared.parser.Code.{Code}
 use Rattle.tl_parse.specs.declared.parser.Element.{Element}
 use Rattle.tl_parse.specs.declared.parser.Element.TheVariants as elements

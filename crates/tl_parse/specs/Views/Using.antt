@@ -6,8 +6,8 @@ use Rattle.tl_lex.specs.declared.TokenKind.TheVariants as kinds
 use Rattle.tl_lex.specs.declared.SyntaxKind.TheVariants as why
 use Rattle.tl_tree.specs.declared.symbol.Symbol.{Symbol}
 use Rattle.tl_tree.specs.declared.symbol.Symbol.TheVariants as symbols
-use Rattle.tl_tree.specs.declared.mode.Extra.{Extra}
-use Rattle.tl_tree.specs.declared.mode.Extra.TheVariants.{Plain, Continues, Calls, LuaNumber, TerraNumber}
+use Rattle.tl_tree.specs.declared.mode.TokenUse.{TokenUse}
+use Rattle.tl_tree.specs.declared.mode.TokenUse.TheVariants.{Plain, Continues, Calls, LuaNumber, TerraNumber}
 use Rattle.tl_tree.specs.Tokens.{Token, among, is}
 use Rattle.tl_tree.specs.Tree.{Tree, Part, FunctionBody}
 use Rattle.tl_tree.specs.Grammar.{Grammar, Outcome, Took, Stop, blame, run, below, bar, is_of, unless, calls}
@@ -33,24 +33,24 @@ is_end kinds.End = true
 is_end _ = false
 
 -- the limits on a token that opens a level or doesn't
-abbrev pub barred : Bool → ℕ → Extra → Token → Option SyntaxKind
-barred opens levels extra t = bar (record {
+abbrev pub barred : Bool → ℕ → TokenUse → Token → Option SyntaxKind
+barred opens levels usage t = bar (record {
   opens = if opens then Some FunctionBody
       else None;
   levels = levels;
-  extra = extra;
+  usage = usage;
 }) t
 
 -- what the limits say of a use of a token that is first on its line or isn't
-abbrev pub bar_of : Bool → ℕ → Extra → Bool → Option SyntaxKind
-bar_of opens levels extra first =
-    if (opens && (levels == 0)) || chain_too_long extra then Some why.TooDeep else (if calls extra && first then
+abbrev pub bar_of : Bool → ℕ → TokenUse → Bool → Option SyntaxKind
+bar_of opens levels usage first =
+    if (opens && (levels == 0)) || chain_too_long usage then Some why.TooDeep else (if calls usage && first then
     Some why.Ambiguous else None)
 
 -- A token of a class, which may open a level where so many are left, and what else it does.
-unfoldable pub used : (Token → Bool) → Bool → ℕ → Extra → List Token → Outcome Token
-used class opens levels extra [] = Stop why.Unexpected []
-used class opens levels extra (t ∷ ts) = if is_of class t then unless (barred opens levels extra t) (t ∷ ts) (Took t ts)
+unfoldable pub used : (Token → Bool) → Bool → ℕ → TokenUse → List Token → Outcome Token
+used class opens levels usage [] = Stop why.Unexpected []
+used class opens levels usage (t ∷ ts) = if is_of class t then unless (barred opens levels usage t) (t ∷ ts) (Took t ts)
     else Stop (blame t.symbol) (t ∷ ts)
 
 -- a token with this symbol
@@ -71,21 +71,21 @@ prefix_at ss levels ts = used (among ss) true levels Plain ts
 
 -- the same where it continues a chain
 unfoldable pub operator_at : List Symbol → ℕ → List Token → Outcome Token
-operator_at ss left ts = used (among ss) false 0 (Continues left) ts
+operator_at ss links ts = used (among ss) false 0 (Continues links) ts
 
 -- a token with this symbol that opens a level and continues a chain
 unfoldable pub raise_at : Symbol → ℕ → ℕ → List Token → Outcome Token
-raise_at s levels left ts = used (is s) true levels (Continues left) ts
+raise_at s levels links ts = used (is s) true levels (Continues links) ts
 
 -- a bracket that calls what is before it
 unfoldable pub call_at : ℕ → ℕ → List Token → Outcome Token
-call_at levels left ts = used (is symbols.OpenParen) true levels (Calls left) ts
+call_at levels links ts = used (is symbols.OpenParen) true levels (Calls links) ts
 
 -- a number of Lua code
 unfoldable pub number_at : List Token → Outcome Token
 number_at ts = used (is symbols.Numeral) false 0 LuaNumber ts
 
-abbrev pub is_number : Extra → Bool
+abbrev pub is_number : TokenUse → Bool
 is_number LuaNumber = true
 is_number TerraNumber = true
 is_number _ = false

@@ -2,10 +2,10 @@
 use Rattle.std.specs.Prelude.{ℕ, nat_le, nat_lt, Bool, false, ◌==◌, ◌&&◌, List, [], ◌∷◌, if◌then◌else◌}
 use Rattle.tl_tree.specs.declared.symbol.Symbol.{Symbol}
 use Rattle.tl_tree.specs.declared.symbol.Symbol.TheVariants as symbols
-use Rattle.tl_tree.specs.declared.mode.Extra.TheVariants.{Continues}
+use Rattle.tl_tree.specs.declared.mode.TokenUse.TheVariants.{Continues}
 use Rattle.tl_tree.specs.Tokens.{Token}
 use Rattle.tl_tree.specs.Grammar.{Outcome}
-use Rattle.tl_parse.specs.Using.{used}
+use Rattle.tl_parse.specs.Views.Using.{used}
 
 -- The rank of the operator that a token is. Tokens that are none, and `->`, stand behind all ranks.
 abbrev pub rank_of : Symbol → ℕ
@@ -39,7 +39,7 @@ is_of_rank rank t = rank_of t.symbol == rank
 
 -- an operator of this rank, which continues a chain
 unfoldable pub ranked_at : ℕ → ℕ → List Token → Outcome Token
-ranked_at rank left ts = used (is_of_rank rank) false 0 (Continues left) ts
+ranked_at rank links ts = used (is_of_rank rank) false 0 (Continues links) ts
 
 -- The rank from which it goes on behind an operator and its right operand: operators that group to the left may follow
 -- one another, and what follows `..` belongs to its right operand.

@@ -14,7 +14,7 @@ use Rattle.tl_tree.specs.LuaExpressions as lua
 use Rattle.tl_tree.specs.LuaStatements as statements
 use Rattle.tl_tree.specs.TerraExpressions as terra
 use Rattle.tl_tree.specs.TerraStatements as terra_statements
-use Rattle.tl_parse.specs.Using.{part_at, sign_at, open_at}
+use Rattle.tl_parse.specs.Views.Using.{part_at, sign_at, open_at}
 use Rattle.tl_parse.specs.declared.parser.Code.{Code}
 use Rattle.tl_parse.specs.declared.parser.Code.TheVariants as codes
 use Rattle.tl_parse.specs.declared.parser.BlockCode.{BlockCode}

@@ -2,16 +2,16 @@
 use Rattle.std.specs.Prelude.{ℕ, Bool, false, not, ◌&&◌, List, [], ◌∷◌, if◌then◌else◌}
 use Rattle.tl_tree.specs.declared.symbol.Symbol.{Symbol}
 use Rattle.tl_tree.specs.declared.symbol.Symbol.TheVariants as symbols
-use Rattle.tl_tree.specs.declared.mode.Extra.TheVariants.{Plain}
+use Rattle.tl_tree.specs.declared.mode.TokenUse.TheVariants.{Plain}
 use Rattle.tl_tree.specs.Tokens.{Token, among, is}
 use Rattle.tl_tree.specs.Tree.{Tree, Nothing, More, Block}
 use Rattle.tl_tree.specs.Grammar.{Grammar, give, bind, many, Outcome, Took, ◌>>=◌, begins}
 use Rattle.tl_tree.specs.Forms.{semicolon}
 use Rattle.tl_tree.specs.LuaStatements.{Sequence, sequence}
-use Rattle.tl_parse.specs.Using.{reading, sign_at}
-use Rattle.tl_parse.specs.Codes.{begins_statement, statement_opens, statement_behind, ends_block}
-use Rattle.tl_parse.specs.Statements.{statement_at}
-use Rattle.tl_parse.specs.TerraStatements.{terra_statement_at}
+use Rattle.tl_parse.specs.Views.Using.{reading, sign_at}
+use Rattle.tl_parse.specs.Views.Codes.{begins_statement, statement_opens, statement_behind, ends_block}
+use Rattle.tl_parse.specs.Views.Statements.{statement_at}
+use Rattle.tl_parse.specs.Views.TerraStatements.{terra_statement_at}
 use Rattle.tl_parse.specs.declared.parser.BlockCode.{BlockCode}
 use Rattle.tl_parse.specs.declared.parser.BlockCode.TheVariants as block_codes
 
