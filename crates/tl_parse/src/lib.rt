@@ -20,6 +20,7 @@ macro_rules! pass {
     };
 }
 
+mod ahead;
 pub mod chunk;
 pub mod error;
 mod expressions;
