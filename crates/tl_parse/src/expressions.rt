@@ -84,6 +84,7 @@ fn is_other(kind: OperandKind) -> bool
 impl<'a> Parser<'a> {
     /// Name
     #[tactic(auto, using(crate::proofs::Failing::failing), unfolding(crate::specs::Views::Expressions::name_at))]
+    #[inline(always)]
     pub(crate) fn name(&mut self) -> Result<NodeId, SyntaxError>
         ensures ok { IfOk result (λ r. TookTree self.old self.new (name_at (tokens_left self.old)) r) }
         ensures err { IfErr result (λ e. Fails self.old (name_at (tokens_left self.old)) e) }
@@ -150,6 +151,7 @@ impl<'a> Parser<'a> {
     /// sign exp, or sign texp
     #[cycle(parser)]
     #[tactic(auto, using(crate::proofs::Failing::failing), unfolding(crate::specs::Views::Codes::expression_behind_at))]
+    #[inline(always)]
     pub(crate) fn expression_behind(
         &mut self,
         symbol: Symbol,
@@ -418,7 +420,6 @@ impl<'a> Parser<'a> {
     /// prefix = var | call | "(" exp ")"; where it is to be `bare`, brackets alone are none
     #[cycle(parser)]
     #[tactic(auto, using(crate::proofs::Turns::suffixes), unfolding(crate::specs::Views::Expressions::applied_at))]
-    #[inline(always)]
     pub(crate) fn applied(
         &mut self,
         mode: Mode,

@@ -28,6 +28,7 @@ impl<'a> Parser<'a> {
     /// "," element
     #[cycle(parser)]
     #[tactic(auto, using(crate::proofs::Failing::failing), unfolding(crate::specs::Views::Lists::next_element_at))]
+    #[inline(always)]
     pub(crate) fn next_element(&mut self, kind: Element, levels: u32) -> Result<NodeId, SyntaxError>
         ensures ok { IfOk result (λ r. TookTree self.old self.new (next_element_at levels kind (tokens_left self.old)) r) }
         ensures err { IfErr result (λ e. Fails self.old (next_element_at levels kind (tokens_left self.old)) e) }
@@ -55,6 +56,7 @@ impl<'a> Parser<'a> {
     /// sign exps, or sign texps
     #[cycle(parser)]
     #[tactic(auto, using(crate::proofs::Failing::failing), unfolding(crate::specs::Views::Lists::expressions_behind_at))]
+    #[inline(always)]
     pub(crate) fn expressions_behind(
         &mut self,
         symbol: Symbol,

@@ -163,6 +163,7 @@ fn fresh(variadic: bool) -> Context
 impl<'a> Parser<'a> {
     /// "," Name
     #[tactic(auto, using(crate::proofs::Failing::failing), unfolding(crate::specs::Views::Paths::next_name_at))]
+    #[inline(always)]
     fn next_name(&mut self) -> Result<NodeId, SyntaxError>
         ensures ok { IfOk result (λ r. TookTree self.old self.new (next_name_at (tokens_left self.old)) r) }
         ensures err { IfErr result (λ e. Fails self.old (next_name_at (tokens_left self.old)) e) }

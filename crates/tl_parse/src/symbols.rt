@@ -161,6 +161,7 @@ pub(crate) fn is_statement(symbol: Symbol) -> bool
 }
 
 /// Whether one of the symbols has this number.
+#[inline(always)]
 pub(crate) fn has(symbols: &[Symbol], number: u8) -> bool
     ensures { result ≡ spec.has symbols.now number }
 {

@@ -424,6 +424,7 @@ impl<'a> Parser<'a> {
     /// operator texp | texp "^" texp
     #[cycle(parser)]
     #[tactic(auto, using(crate::proofs::Failing::failing), unfolding(crate::specs::Views::TerraExpressions::terra_unary_at))]
+    #[inline(always)]
     fn terra_unary(&mut self, levels: u32, links: u32) -> Result<Operand, SyntaxError>
         ensures ok { IfOk result (λ r. TookOperand self.old self.new (terra_unary_at levels links (tokens_left self.old)) r) }
         ensures err { IfErr result (λ e. Fails self.old (terra_unary_at levels links (tokens_left self.old)) e) }
