@@ -1,12 +1,12 @@
 -- Plans that go on behind a conversion: what is behind it is what its end goes on with, so a frame may wait for it.
-use Rattle.std.proofs.Common.{refl}
+use Rattle.std.proofs.Common.{refl, List, [], ◌∷◌}
 use Rattle.std.specs.Prelude.{if◌then◌else◌}
+use Rattle.tl_base.specs.declared.ids.TermId.{TermId}
 use Rattle.tl_base.specs.declared.ids.TypeId.{TypeId}
 use Rattle.tl_base.specs.declared.place.Place.{Place}
 use Rattle.tl_base.specs.Layer.{state}
 use Rattle.tl_base.specs.Plan.{run}
-use Rattle.terra_term.specs.declared.refusal.RefusalKind.TheVariants.{Mismatch, NotPlace, NotBuilt}
-use Rattle.terra_term.specs.declared.operators.Operation.TheVariants as operations
+use Rattle.terra_term.specs.declared.refusal.RefusalKind.TheVariants.{Mismatch, NotPlace, CallbackRaised}
 use Rattle.terra_term.specs.declared.operators.Constant.TheVariants as constants
 use Rattle.terra_term.specs.declared.typed.TypedExpression.TheVariants as te
 use Rattle.terra_term.specs.declared.typed.Typed.TheVariants as typed_kinds
@@ -14,22 +14,31 @@ use Rattle.terra_term.specs.Held.{next_typed}
 use Rattle.terra_term.specs.WellTyped.{points_in}
 use Rattle.terra_types.specs.Making.{same_type}
 use Rattle.lua_value.specs.declared.value.Value.{Value}
+use Rattle.lua_value.specs.declared.value.Value.TheVariants as values
+use Rattle.lua_table.specs.Cells.{first_value}
 use Rattle.lua_value.specs.Values.{is_nil}
 use Rattle.check_cast.specs.declared.conversion.Conv.{Conv}
 use Rattle.check_cast.specs.declared.conversion.Conv.TheVariants as conv
 use Rattle.exotype.specs.World.{StageState}
+use Rattle.exotype.specs.declared.became.Became.{Became}
+use Rattle.exotype.specs.declared.became.Became.TheVariants as became
+use Rattle.exotype.specs.Becoming.{term_of, with_term_of, spliced_nodes}
 use Rattle.check_model.specs.declared.job.BodyJob.{BodyJob}
+use Rattle.check_model.specs.declared.job.BodyJob.TheVariants as jobs
+use Rattle.check_model.specs.declared.question.CheckAnswer.{CheckAnswer}
+use Rattle.check_model.specs.declared.question.CheckAnswer.TheVariants as answers
 use Rattle.check_model.specs.declared.made.Made.{Made}
 use Rattle.check_model.specs.declared.end.PartEnd.{PartEnd}
+use Rattle.check_model.specs.declared.end.PartEnd.TheVariants as ends
 use Rattle.check_model.specs.declared.rule.Mode.{Mode}
 use Rattle.check_model.specs.declared.rule.Mode.TheVariants.{Implicit}
 use Rattle.check_model.specs.declared.site.Site.{Site}
 use Rattle.check_model.specs.Typing.{form_in, made_of}
-use Rattle.check_model.specs.Plans.{BodyPlan, give, refuse, make, as_value, on_made}
-use Rattle.check_model.specs.Converting as converting
+use Rattle.check_model.specs.Plans.{BodyPlan, give, refuse, make, as_value, on_made, on_values, on_became, typing, calling, quoting, in_place}
 use Rattle.check_model.specs.Converting.{convert, converted, by_conv, cast_to, conv_of, takes_type, is_same, fit}
-use Rattle.check_expr.specs.Steps.{with_node}
-use Rattle.check_model.proofs.Composing.{BodyCourse, IsWith, going_on_passes, if_then, as_value_then}
+use Rattle.check_expr.specs.Asking.{next_value, with_quoted}
+use Rattle.check_expr.specs.Steps.{with_node, with_stage}
+use Rattle.check_model.proofs.Composing.{BodyCourse, IsWith, going_on_passes, if_then, paid_then, then_twice, as_value_then}
 
 -- what a plan with something behind it does: the plan that only gives, and then what is behind it
 abbrev pub Continues : (BodyJob → BodyCourse) → ((Made → BodyPlan) → BodyPlan) → (Made → BodyPlan) → Type 0
@@ -40,11 +49,82 @@ pub value_continues : (f : BodyJob → BodyCourse) (m : Made) (site : Site) (go 
 value_continues f m site go =
     as_value_then f m site (go m) (give m) (λ r. run f (on_made r go)) (going_on_passes f go) (λ s l. refl)
 
+-- ---- values that are typed in place of a node
+
+-- what waits for an end
+abbrev going : (BodyJob → BodyCourse) → (Made → BodyPlan) → PartEnd → BodyCourse
+going f go r = run f (on_made r go)
+
+made_continues : (f : BodyJob → BodyCourse) (r : PartEnd) (go first last : Made → BodyPlan)
+    → ((m : Made) → IsWith f (first m) (last m) (going f go)) → IsWith f (on_made r first) (on_made r last) (going f go)
+made_continues f (ends.Made m) go first last each = each m
+made_continues f (ends.Stated id result) go first last each = λ s l. refl
+made_continues f (ends.Refused why) go first last each = λ s l. refl
+made_continues f (ends.Answered a) go first last each = λ s l. refl
+
+typing_continues : (f : BodyJob → BodyCourse) (t : TermId) (site : Site) (go first last : Made → BodyPlan)
+    → ((m : Made) → IsWith f (first m) (last m) (going f go)) → IsWith f (typing t site first) (typing t site last) (going f go)
+typing_continues f t site go first last each s l =
+    then_twice (f (jobs.Expression t site) s l) (λ r. run f (on_made r first)) (λ r. run f (on_made r last)) (going f go)
+    (λ r s2 l2. made_continues f r go first last each s2 l2)
+
+became_continues : (f : BodyJob → BodyCourse) (b : Became) (at : Place) (site : Site) (go first last : Made → BodyPlan)
+    → ((m : Made) → IsWith f (first m) (last m) (going f go))
+    → IsWith f (on_became b at site (λ t. typing t site first)) (on_became b at site (λ t. typing t site last)) (going f go)
+became_continues f (became.Term t) at site go first last each = typing_continues f t site go first last each
+became_continues f (became.Refused fault) at site go first last each = λ s l. refl
+
+in_place_continues : (f : BodyJob → BodyCourse) (v : Value) (at : Place) (site : Site) (go first last : Made → BodyPlan)
+    → ((m : Made) → IsWith f (first m) (last m) (going f go))
+    → IsWith f (in_place v at site first) (in_place v at site last) (going f go)
+in_place_continues f v at site go first last each s l =
+    let w = s.world.stage in
+    paid_then (spliced_nodes w v) s
+    (λ t. run f (on_became (term_of w v) at site (λ x. typing x site first)) (state (with_stage t.world (with_term_of w v at)) t.left) l)
+    (λ t. run f (on_became (term_of w v) at site (λ x. typing x site last)) (state (with_stage t.world (with_term_of w v at)) t.left) l)
+    (going f go)
+    (λ t. became_continues f (term_of w v) at site go first last each (state (with_stage t.world (with_term_of w v at)) t.left) l)
+
+-- a value that is typed in place of a node, and what is behind it
+pub placed_continues : (f : BodyJob → BodyCourse) (v : Value) (at : Place) (site : Site) (go : Made → BodyPlan)
+    → Continues f (in_place v at site) go
+placed_continues f v at site go = in_place_continues f v at site go go give (λ m s l. refl)
+
+-- ---- conversions
+
+-- what `__cast` gave must have the type
+abbrev of_type : Made → TypeId → Site → (Made → BodyPlan) → Made → BodyPlan
+of_type m to site go r = if same_type r.of to then as_value r site (go r) else refuse Mismatch m.at site
+
+cast_given : (f : BodyJob → BodyCourse) (a : CheckAnswer) (m : Made) (to : TypeId) (site : Site) (go : Made → BodyPlan)
+    → IsWith f (on_values a (λ v. in_place v m.at site (of_type m to site go)) (refuse CallbackRaised m.at site))
+    (on_values a (λ v. in_place v m.at site (of_type m to site give)) (refuse CallbackRaised m.at site)) (going f go)
+cast_given f (answers.Values vs) m to site go =
+    in_place_continues f (first_value vs) m.at site go (of_type m to site go) (of_type m to site give)
+    (λ r. if_then f (same_type r.of to) (as_value r site (go r)) (refuse Mismatch m.at site) (as_value r site (give r))
+    (refuse Mismatch m.at site) (going f go) (value_continues f r site go) (λ s l. refl))
+cast_given f answers.Go m to site go = λ s l. refl
+cast_given f (answers.Raise v place) m to site go = λ s l. refl
+cast_given f (answers.Result t) m to site go = λ s l. refl
+cast_given f (answers.Refused r) m to site go = λ s l. refl
+cast_given f answers.Done m to site go = λ s l. refl
+cast_given f (answers.NoLayout kind) m to site go = λ s l. refl
+
+cast_asked : (f : BodyJob → BodyCourse) (h : Value) (vs : List Value) (m : Made) (to : TypeId) (site : Site) (go : Made → BodyPlan)
+    → IsWith f (calling h vs m.at site (λ v. in_place v m.at site (of_type m to site go)))
+    (calling h vs m.at site (λ v. in_place v m.at site (of_type m to site give))) (going f go)
+cast_asked f h vs m to site go s [] = refl
+cast_asked f h vs m to site go s (a ∷ l) = cast_given f a.answer m to site go a.state l
+
 cast_continues : (f : BodyJob → BodyCourse) (h : Value) (m : Made) (to : TypeId) (site : Site) (go : Made → BodyPlan)
     → Continues f (cast_to h m to site) go
 cast_continues f h m to site go =
-    if_then f (is_nil h) (refuse Mismatch m.at site) (refuse NotBuilt m.at site) (refuse Mismatch m.at site) (refuse NotBuilt m.at site)
-    (λ r. run f (on_made r go)) (λ s l. refl) (λ s l. refl)
+    let asked : (Made → BodyPlan) → BodyPlan =
+    λ k. quoting m (λ q.
+    calling h (values.TerraType m.of ∷ values.TerraType to ∷ q ∷ []) m.at site (λ v. in_place v m.at site (of_type m to site k))) in
+    if_then f (is_nil h) (refuse Mismatch m.at site) (asked go) (refuse Mismatch m.at site) (asked give) (going f go) (λ s l. refl)
+    (λ s l. cast_asked f h (values.TerraType m.of ∷ values.TerraType to ∷ next_value s.world ∷ []) m to site go
+    (state (with_quoted s.world m) s.left) l)
 
 by_conv_continues : (f : BodyJob → BodyCourse) (c : Conv) (w : StageState) (m : Made) (to : TypeId) (site : Site) (go : Made → BodyPlan)
     → Continues f (by_conv c w m to site) go

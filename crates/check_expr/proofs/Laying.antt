@@ -17,7 +17,6 @@ use Rattle.check_model.specs.Plans.{reading, refuse, give, on_layout, laid_out, 
 use Rattle.check_expr.specs.declared.frame.BodyFrame.{BodyFrame}
 use Rattle.check_expr.specs.declared.frame.BodyFrame.TheVariants as frames
 use Rattle.check_expr.specs.declared.frame.LaidThen.{LaidThen}
-use Rattle.check_expr.specs.declared.frame.LaidThen.TheVariants as of_layout
 use Rattle.check_expr.specs.Frames.{laid_then}
 use Rattle.check_expr.specs.Steps.{Goes}
 use Rattle.check_expr.proofs.Doing.{returns, bounces, asks, chosen}

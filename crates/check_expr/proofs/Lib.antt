@@ -3,6 +3,10 @@ pub mod Keeping
 pub mod Doing
 pub mod Composing
 pub mod Making
+-- What asks Lua.
+pub mod Answering
+-- What is kept of methods.
+pub mod Settling
 -- What is behind a conversion or a value.
 pub mod Behind
 -- Conversions that change nothing.
@@ -35,3 +39,9 @@ pub mod Defining
 pub mod Conditions
 -- The expressions that terms are.
 pub mod Expressing
+-- What is ahead in a typed quote.
+pub mod Naming
+pub mod Branching
+pub mod Scoping
+pub mod Ahead
+pub mod Walking

@@ -12,7 +12,8 @@ use Rattle.terra_types.specs.Opening.{boolean, uint64, int64, unit}
 use Rattle.terra_types.specs.Layouts.{entries_of, entry_named}
 use Rattle.terra_types.specs.declared.layout.Laid.{Laid}
 use Rattle.terra_types.specs.Making.{same_type}
-use Rattle.terra_term.specs.declared.refusal.RefusalKind.TheVariants.{Mismatch, BadOperand, NotPlace, TooWide, NotBuilt}
+use Rattle.lua_value.specs.declared.value.Value.{Value}
+use Rattle.terra_term.specs.declared.refusal.RefusalKind.TheVariants.{Mismatch, BadOperand, NotPlace, TooWide, CallbackRaised}
 use Rattle.terra_term.specs.declared.operators.Operation.{Operation}
 use Rattle.terra_term.specs.declared.operators.Operation.TheVariants as operations
 use Rattle.terra_term.specs.declared.operators.Constant.TheVariants as constants
@@ -22,7 +23,6 @@ use Rattle.terra_term.specs.declared.term.Initialiser.{Initialiser}
 use Rattle.terra_term.specs.declared.term.Initialiser.TheVariants.{Positional, Named}
 use Rattle.terra_term.specs.declared.typed.TypedExpression.TheVariants as te
 use Rattle.terra_term.specs.declared.typed.TypedStatement.TheVariants as ts
-use Rattle.terra_term.specs.declared.typed.Typed.TheVariants as typed_kinds
 use Rattle.terra_term.specs.WellTyped.{widest, integer_form}
 use Rattle.check_model.specs.declared.site.Site.{Site}
 use Rattle.check_model.specs.declared.made.Made.{Made}
@@ -32,16 +32,15 @@ use Rattle.check_model.specs.declared.end.PartEnd.TheVariants as ends
 use Rattle.check_model.specs.declared.end.BodyEnd.{BodyEnd}
 use Rattle.check_model.specs.declared.question.BodyQuestion.{BodyQuestion}
 use Rattle.check_model.specs.declared.question.CheckAnswer.{CheckAnswer}
-use Rattle.check_model.specs.declared.question.CheckAnswer.TheVariants as answers
-use Rattle.check_model.specs.declared.job.Operand.{Operand}
 use Rattle.check_model.specs.Typing.{TypingState, form_in, struct_of, bytes_in, with_variable, with_variables}
 use Rattle.check_model.specs.Plans.{BodyPlan, reading, refuse, give, gives, states, on_made, on_stated, typing}
-use Rattle.check_model.specs.Plans.{as_value, on_layout, is_wide, leaving, ids_of, operands}
+use Rattle.check_model.specs.Plans.{as_value, on_layout, is_wide, leaving, ids_of, on_values, calling, quoting, quotes_of, in_place}
 use Rattle.check_model.specs.declared.rule.Mode.TheVariants.{Implicit, Explicit}
 use Rattle.check_model.specs.Converting.{convert}
 use Rattle.check_model.specs.Calls.{argument, arguments, on_result, call_value}
 use Rattle.check_model.specs.Operators.{binary_plan, unary_plan, both}
-use Rattle.check_model.specs.Expressions.{method_plan, select_plan, index_plan, entry_or, into}
+use Rattle.exotype.specs.declared.property.Known.TheVariants as known
+use Rattle.check_model.specs.Expressions.{method_plan, call_method, settling, select_plan, index_plan, entry_or, into}
 use Rattle.check_model.specs.Expressions.{constructed, initialised, statements}
 use Rattle.check_model.specs.Statements.{block, values_for, value_for, names_for, declaring, typing_all, targets}
 use Rattle.check_model.specs.Statements.{converting_all, integers, meet_of, all_to, counting, else_plan, return_value}
@@ -58,6 +57,9 @@ use Rattle.check_expr.specs.declared.frame.MeetFrame.{MeetFrame}
 use Rattle.check_expr.specs.declared.frame.Target.{Target}
 use Rattle.check_expr.specs.declared.frame.Target.TheVariants as called
 use Rattle.check_expr.specs.declared.frame.CallFrame.{CallFrame}
+use Rattle.check_expr.specs.declared.frame.QuotesFrame.{QuotesFrame}
+use Rattle.check_expr.specs.declared.frame.AskedThen.{AskedThen}
+use Rattle.check_expr.specs.declared.frame.AskedThen.TheVariants as of_lua
 use Rattle.check_expr.specs.declared.frame.InitialFrame.{InitialFrame}
 use Rattle.check_expr.specs.declared.frame.Initials.{Initials}
 use Rattle.check_expr.specs.declared.frame.VarFrame.{VarFrame}
@@ -92,6 +94,11 @@ called_with f result ids = gives f.node.source f.node.at result (te.Operate (ope
 -- the operands that are left
 abbrev pub operands_from : CallFrame → Bool → List TermId → TypeId → BodyPlan
 operands_from f fitting ids result = arguments fitting f.operands f.types f.node.at f.node.site ids (called_with f result)
+
+-- the operands that are left of those of which Lua code is given typed quotes, and its call
+abbrev pub quotes_from : QuotesFrame → List Value → BodyPlan
+quotes_from f values =
+    quotes_of f.operands f.site values (λ given. calling f.handler given f.at f.site (λ v. in_place v f.at f.site give))
 
 abbrev pub values_from : InitialFrame → List ℕ → List TermId → BodyPlan
 values_from f offsets ids = into f.entries f.values f.node.at f.node.site offsets ids (constructed f.of f.node.at f.node.source)
@@ -182,9 +189,10 @@ with_made (of_made.Right op x n) y = reading (λ w. binary_plan w op x y n.at n.
 with_made (of_made.MeetLeft f b) x = convert Implicit b f.meet f.node.site (λ y. meet_right f x y)
 with_made (of_made.MeetRight f x) y = meet_right f x y
 with_made (of_made.Callee os at source site) m = call_value m os at source site
-with_made (of_made.Operand os at site) m = operands os site (refuse NotBuilt at site)
+with_made (of_made.Quoted f) m = quoting m (λ q. quotes_from f (f.values ++ q ∷ []))
 with_made (of_made.Cast to n) m = convert Explicit m to n.site (λ r. give (record r { source = n.source }))
 with_made (of_made.Recast source) r = give (record r { source = source })
+with_made (of_made.OfType to at site) r = if same_type r.of to then as_value r site (give r) else refuse Mismatch at site
 with_made (of_made.Argument p f result) m =
     argument f.fitting m p f.node.at f.node.site (λ r. operands_from f false (f.ids ++ r.id ∷ []) result)
 with_made (of_made.Fitted f result) r = operands_from f false (f.ids ++ r.id ∷ []) result
@@ -248,6 +256,23 @@ laid_then (of_layout.New of values n) site =
 laid_then (of_layout.Name name f) site = names_from f (f.named ++ name ∷ [])
 laid_then (of_layout.Parameter p f) site = Read (λ w. Write (with_variable w p.symbol p.of) (parameters_from f))
 
+-- ---- answers of Lua code
+
+-- how what asked goes on with the value that was given, and where Lua code raised
+abbrev pub given_then : AskedThen → Value → BodyPlan
+given_then (of_lua.InPlace at site) v = in_place v at site give
+given_then (of_lua.Cast to at site) v = in_place v at site (λ r. with_made (of_made.OfType to at site) r)
+given_then (of_lua.Method s name o args n) v =
+    settling s name (known.Value v) (call_method v s o name args n.at n.source n.site)
+
+abbrev pub raised_then : AskedThen → BodyPlan
+raised_then (of_lua.InPlace at site) = refuse CallbackRaised at site
+raised_then (of_lua.Cast to at site) = refuse CallbackRaised at site
+raised_then (of_lua.Method s name o args n) = settling s name (known.Refused CallbackRaised) (refuse CallbackRaised n.at n.site)
+
+abbrev pub asked_then : AskedThen → CheckAnswer → BodyPlan
+asked_then next a = on_values a (λ v. given_then next v) (raised_then next)
+
 -- ---- ends
 
 -- what is no answer to a question comes to no frame that waits for one
@@ -261,6 +286,7 @@ after (frames.Doing f) r = on_made r (λ m. with_doing f m)
 after (frames.Block f) r = on_stated r (λ id result. block_from f result (f.ids ++ id ∷ []))
 after (frames.Laid at site next) r = on_answer r (λ a. on_layout a at site (laid_then next site))
 after (frames.Result g f) r = on_answer r (λ a. on_result a f.node.at f.node.site (λ result. operands_from f f.fitting f.ids result))
+after (frames.Asked next) r = on_answer r (λ a. asked_then next a)
 after (frames.Function f base) r = close_function f base r
 
 -- the end that an answer gives

@@ -14,5 +14,9 @@ pub mod Functions
 pub mod Forms
 -- What is called without being typed.
 pub mod Callees
+-- What asks Lua.
+pub mod Asking
 -- Comparisons with `nil`.
 pub mod Retyping
+-- What is ahead in a typed quote, and what that does with names.
+pub mod Quoted

@@ -1,32 +1,34 @@
 // Calls: of functions, primitives, macros, types and `sizeof`, and of typed values.
 
-ghost use Rattle.std.specs.Prelude.{◌≡◌, ℕ, List, [], ◌∷◌, ◌++◌, false, IfOk, OnOk};
+ghost use Rattle.std.specs.Prelude.{◌≡◌, ℕ, [], ◌∷◌, ◌++◌, false, IfOk, OnOk};
 ghost use Rattle.check_model.specs.Calls as models;
 ghost use Rattle.check_model.specs.Plans as plans;
 ghost use Rattle.check_model.specs.Converting as converting;
-ghost use Rattle.check_model.specs.Typing.{TypingState, expression_at, function_at};
-ghost use Rattle.check_expr.specs.Callees.{callee_in, named_plan, ready_if, only_of};
+ghost use Rattle.check_model.specs.Typing.{expression_at, function_at};
+ghost use Rattle.lua_table.specs.Heap.{macro_at};
+ghost use Rattle.check_expr.specs.Callees.{callee_in, named_plan, ready_if, only_of, by_handler};
 ghost use Rattle.check_expr.specs.Frames.{operands_from, operation_of, on_answer, called_with};
 ghost use Rattle.check_expr.specs.Keeping.{KeepsTyping};
 ghost use Rattle.check_expr.specs.Steps.{Goes, Does};
 
+use crate::asking::{Spliced, quotes_left, splice};
 use crate::converting::{convert, fit};
-use crate::frame::{BodyFrame, CallFrame, LaidThen, MadeFrame, Target};
+use crate::frame::{BodyFrame, CallFrame, LaidThen, MadeFrame, QuotesFrame, Target};
 use crate::known::{parameter_types, result_type};
 use crate::layouts::lay_out;
 use crate::loops::UNIT;
-use crate::nodes::{gives, pointer_to, refuse, without_lua};
-use crate::reading::{metamethod, place_of};
+use crate::nodes::{gives, pointer_to, refuse};
+use crate::reading::{macro_function, metamethod, place_of};
 use crate::step::{BodyStep, Node};
 use check_model::rest::Rest;
 use check_model::{
     BodyJob, BodyQuestion, CheckAnswer, KnownResult, Made, Mode, Operand, OperandList, PartEnd,
-    Site, Typing,
+    Typing,
 };
 use exotype::World;
-use lua_value::Primitive;
+use lua_value::{Primitive, Value};
 use terra_term::{Expression, Operation, RefusalKind, Term, TermList, TypedExpression};
-use tl_base::{Budget, FnId, List, NoMemory, Place, Step, TermId, TypeId};
+use tl_base::{Budget, FnId, List, MacroId, NoMemory, Step, TermId, TypeId};
 
 /// The types that primitives name, which are there from the begin.
 const INT64: TypeId = TypeId(3);
@@ -38,7 +40,7 @@ const UINT8: TypeId = TypeId(4);
 pub enum Callee {
     Function(FnId),
     Primitive(Primitive),
-    Macro,
+    Macro(MacroId),
     Type(TypeId),
     SizeOf,
     /// Anything else, which is typed and then called.
@@ -53,7 +55,7 @@ pub fn callee_of(world: &World, term: TermId) -> Callee
         Some(Term::Expression(_, expression)) => match expression {
             Expression::Function(f) => Callee::Function(*f),
             Expression::Primitive(primitive) => Callee::Primitive(*primitive),
-            Expression::Macro(_) => Callee::Macro,
+            Expression::Macro(id) => Callee::Macro(*id),
             Expression::Type(of) => Callee::Type(*of),
             Expression::SizeOf => Callee::SizeOf,
             _ => Callee::Value,
@@ -86,8 +88,8 @@ pub fn call_named(
             let step = call_primitive(frames, typing, primitive, operands, fitting, node)?;
             Ok(step)
         }
-        Callee::Macro => {
-            let step = macro_operands(frames, operands, node.at, node.site)?;
+        Callee::Macro(id) => {
+            let step = call_macro(frames, typing, id, operands, node)?;
             Ok(step)
         }
         Callee::Type(of) => {
@@ -444,25 +446,28 @@ fn call_by(
     Ok(step)
 }
 
-/// Types the operands of a macro; Lua isn't asked for it yet.
-pub fn macro_operands(
+/// Calls the function of a macro with typed quotes of the operands.
+fn call_macro(
     frames: &mut Vec<BodyFrame>,
+    typing: &Typing,
+    id: MacroId,
     operands: Rest<Operand>,
-    at: Place,
-    site: Site,
+    node: Node,
 ) -> Result<BodyStep, NoMemory>
-    ensures means { IfOk result (λ step. (w : TypingState) (left : ℕ) →
-        Goes frames.old.items (plans.operands operands site (plans.refuse RefusalKind.NotBuilt at site))
-        w left frames.new.items step w left) }
+    ensures means { IfOk result (λ step. (left : ℕ) →
+        Goes frames.old.items
+        (models.call_macro (Value.Closure (macro_at typing.now.stage.heap id)) operands node.at node.site)
+        typing.now left frames.new.items step typing.now left) }
 {
-    let mut operands = operands;
-    'operands: while let Some(operand) = operands.take() {
-        if let Operand::Untyped(term) = operand {
-            frames.push(BodyFrame::Made(MadeFrame::Operand(operands, at, site)))?;
-            return Ok(Step::Enter(BodyJob::Expression(term, site)));
-        }
-    }
-    Ok(refuse(RefusalKind::NotBuilt, at, site))
+    let frame = QuotesFrame {
+        handler: Value::Closure(macro_function(&typing.world, id)),
+        operands,
+        values: List::new(typing.world.store.allocator()),
+        at: node.at,
+        site: node.site,
+    };
+    let step = quotes_left(frames, frame)?;
+    Ok(step)
 }
 
 /// Converts the only operand to a type.
@@ -578,7 +583,7 @@ fn size_of_term(
     }
 }
 
-/// Calls the term that a method became: by its name, or as it is typed.
+/// Calls the term that a value became: by its name, or as it is typed.
 pub fn call_term(
     frames: &mut Vec<BodyFrame>,
     typing: &mut Typing,
@@ -606,13 +611,92 @@ pub fn call_term(
     }
 }
 
-/// Calls a typed expression: a struct by `__apply`, for which Lua isn't asked yet.
-pub fn call_value(typing: &Typing, made: Made, at: Place, site: Site) -> BodyStep
-    ensures means { (operands : List Operand) (source : TermId) (left : ℕ) →
-        Does (models.call_value made operands at source site) typing.now left result typing.now left }
+/// Calls the term that a value becomes.
+pub fn call_becoming(
+    frames: &mut Vec<BodyFrame>,
+    typing: &mut Typing,
+    budget: &mut Budget,
+    value: Value,
+    operands: Vec<Operand>,
+    fitting: bool,
+    node: Node,
+) -> Result<BodyStep, NoMemory>
+    ensures means { IfOk result (λ step.
+        Goes frames.old.items
+        (plans.becoming value node.at node.site
+        (λ t. models.call_term t operands.items node.at fitting node.source node.site))
+        typing.old budget.old frames.new.items step typing.new budget.new) }
+    ensures kept { OnOk result (KeepsTyping typing.old typing.new) }
+{
+    let spliced = splice(typing, budget, value, node.at, node.site)?;
+    match spliced {
+        Spliced::Term(term) => {
+            let step = call_term(frames, typing, budget, term, operands, fitting, node)?;
+            Ok(step)
+        }
+        Spliced::Ended(step) => Ok(step),
+    }
+}
+
+/// Calls a metamethod with these operands; where there is none, the node is refused so.
+pub fn call_handler(
+    frames: &mut Vec<BodyFrame>,
+    typing: &mut Typing,
+    budget: &mut Budget,
+    handler: Value,
+    kind: RefusalKind,
+    operands: Vec<Operand>,
+    node: Node,
+) -> Result<BodyStep, NoMemory>
+    ensures means { IfOk result (λ step.
+        Goes frames.old.items (by_handler handler kind operands.items node.at node.source node.site)
+        typing.old budget.old frames.new.items step typing.new budget.new) }
+    ensures kept { OnOk result (KeepsTyping typing.old typing.new) }
+{
+    if handler.is_nil() {
+        Ok(refuse(kind, node.at, node.site))
+    } else {
+        let step = call_becoming(frames, typing, budget, handler, operands, false, node)?;
+        Ok(step)
+    }
+}
+
+/// Calls a typed expression: a struct by `__apply`.
+pub fn call_value(
+    frames: &mut Vec<BodyFrame>,
+    typing: &mut Typing,
+    budget: &mut Budget,
+    made: Made,
+    operands: OperandList,
+    node: Node,
+) -> Result<BodyStep, NoMemory>
+    ensures means { IfOk result (λ step.
+        Goes frames.old.items (models.call_value made operands node.at node.source node.site)
+        typing.old budget.old frames.new.items step typing.new budget.new) }
+    ensures kept { OnOk result (KeepsTyping typing.old typing.new) }
 {
     let handler = metamethod(&typing.world, made.of, b"__apply");
-    without_lua(handler, RefusalKind::NotCallable, at, site)
+    let operands = behind(typing, made, operands.as_slice())?;
+    let step = call_handler(
+        frames,
+        typing,
+        budget,
+        handler,
+        RefusalKind::NotCallable,
+        operands,
+        node,
+    )?;
+    Ok(step)
+}
+
+/// Operands behind one that is typed.
+fn behind(typing: &Typing, made: Made, operands: &[Operand]) -> Result<Vec<Operand>, NoMemory>
+    ensures { IfOk result (λ all. all.items ≡ plans.ready made ∷ operands.now) }
+{
+    let mut all = List::new(typing.world.store.allocator());
+    all.push(Operand::Typed(made))?;
+    all.push_all(operands)?;
+    Ok(all.into_vec())
 }
 
 /// Operands that are yet to be typed, behind the receiver, where there is one.

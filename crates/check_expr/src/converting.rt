@@ -5,16 +5,19 @@ ghost use Rattle.check_model.specs.Converting as models;
 ghost use Rattle.check_model.specs.Plans as plans;
 ghost use Rattle.check_model.specs.Plans.{give};
 ghost use Rattle.check_model.specs.Structs as structs;
+ghost use Rattle.check_expr.specs.Frames as waiting;
 ghost use Rattle.check_expr.specs.Keeping.{KeepsTyping};
 ghost use Rattle.check_expr.specs.Steps.{Goes, Does};
 
-use crate::frame::BodyFrame;
+use crate::asking::{ask, two_values};
+use crate::frame::{AskedThen, BodyFrame, MadeFrame};
 use crate::layouts::as_value;
-use crate::nodes::{gives, make, refuse, without_lua};
+use crate::nodes::{gives, make, new_quote, refuse};
 use crate::reading::{is_nil, is_pointer, metamethod_of_either, points_to};
 use crate::step::BodyStep;
 use check_cast::{Conv, explicit, implicit};
 use check_model::{Made, Mode, Site, Typing};
+use lua_value::{Value, Values};
 use terra_term::{Constant, Operation, RefusalKind, TermList, TypedExpression};
 use tl_base::{List, NoMemory, Place, TermId, TypeId};
 
@@ -98,7 +101,10 @@ fn by_conversion(
                 Ok(refuse(RefusalKind::NotPlace, made.at, site))
             }
         }
-        Conv::No => Ok(cast(typing, made, to, site)),
+        Conv::No => {
+            let step = cast(frames, typing, made, to, site)?;
+            Ok(step)
+        }
         _ => {
             let list = one(typing, made.id)?;
             let form = TypedExpression::Operate(Operation::Convert, list);
@@ -123,14 +129,58 @@ fn remade(
     Ok(step)
 }
 
-/// An expression that is converted by `__cast` alone.
-fn cast(typing: &Typing, made: Made, to: TypeId, site: Site) -> BodyStep
-    ensures means { (left : ℕ) →
-        Does (models.cast_to (structs.metamethod_of_either typing.now.stage made.of to (codes "__cast")) made to site give)
-        typing.now left result typing.now left }
+/// Converts an expression by `__cast`, which is asked.
+fn cast(
+    frames: &mut Vec<BodyFrame>,
+    typing: &mut Typing,
+    made: Made,
+    to: TypeId,
+    site: Site,
+) -> Result<BodyStep, NoMemory>
+    ensures means { IfOk result (λ step. (left : ℕ) →
+        Goes frames.old.items
+        (models.cast_to (structs.metamethod_of_either typing.old.stage made.of to (codes "__cast")) made to site give)
+        typing.old left frames.new.items step typing.new left) }
+    ensures kept { OnOk result (KeepsTyping typing.old typing.new) }
 {
     let handler = metamethod_of_either(&typing.world, made.of, to, b"__cast");
-    without_lua(handler, RefusalKind::Mismatch, made.at, site)
+    if handler.is_nil() {
+        return Ok(refuse(RefusalKind::Mismatch, made.at, site));
+    }
+    let quote = new_quote(typing, made)?;
+    let arguments = cast_values(typing, made.of, to, quote)?;
+    let then = AskedThen::Cast(to, made.at, site);
+    let step = ask(frames, handler, arguments, made.at, then)?;
+    Ok(step)
+}
+
+/// What `__cast` is called with: both types, and a quote of the expression.
+fn cast_values(typing: &Typing, from: TypeId, to: TypeId, quote: Value) -> Result<Values, NoMemory>
+    ensures { IfOk result (λ list. list ≡ Value.TerraType from ∷ Value.TerraType to ∷ quote ∷ []) }
+{
+    let mut arguments = two_values(typing, Value::TerraType(from), Value::TerraType(to))?;
+    arguments.push(quote)?;
+    Ok(arguments)
+}
+
+/// Uses what `__cast` gave for a node at this place as a value; it must have the type.
+pub fn value_of_type(
+    frames: &mut Vec<BodyFrame>,
+    typing: &Typing,
+    to: TypeId,
+    at: Place,
+    site: Site,
+    made: Made,
+) -> Result<BodyStep, NoMemory>
+    ensures means { IfOk result (λ step. (left : ℕ) →
+        Goes frames.old.items (waiting.with_made (MadeFrame.OfType to at site) made)
+        typing.now left frames.new.items step typing.now left) }
+{
+    if made.of.0 == to.0 {
+        as_value(frames, typing, made, site)
+    } else {
+        Ok(refuse(RefusalKind::Mismatch, at, site))
+    }
 }
 
 /// Makes a receiver fit the first parameter: it is passed as it is, by address or by target, or else converted.

@@ -1,9 +1,10 @@
 // Entries and elements of aggregates.
 
-ghost use Rattle.std.specs.Prelude.{◌≡◌, ℕ, IfOk, OnOk, if◌then◌else◌};
+ghost use Rattle.std.specs.Prelude.{◌≡◌, ℕ, codes, IfOk, OnOk, if◌then◌else◌};
 ghost use Rattle.check_model.specs.Expressions as models;
 ghost use Rattle.terra_term.specs.WellTyped.{integer_form};
 ghost use Rattle.check_model.specs.Plans as plans;
+ghost use Rattle.check_model.specs.Structs as structs;
 ghost use Rattle.check_model.specs.Typing as typings;
 ghost use Rattle.terra_types.specs.Layouts.{entries_of, entry_named};
 ghost use Rattle.check_expr.specs.Forms.{elements_in};
@@ -11,14 +12,16 @@ ghost use Rattle.check_expr.specs.Frames.{laid_then, extracted};
 ghost use Rattle.check_expr.specs.Keeping.{KeepsTyping};
 ghost use Rattle.check_expr.specs.Steps.{Goes, Does};
 
+use crate::asking::{ask, two_values};
 use crate::converting::one;
-use crate::frame::{BodyFrame, LaidThen, MadeFrame};
+use crate::frame::{AskedThen, BodyFrame, LaidThen, MadeFrame};
 use crate::layouts::{as_value, lay_out};
-use crate::nodes::{gives, refuse, without_lua};
+use crate::nodes::{gives, new_quote, refuse};
 use crate::reading::{is_integer, is_struct, metamethod, struct_of};
 use crate::step::{BodyStep, Node};
 use check_model::{Made, Typing};
 use exotype::World;
+use lua_value::Value;
 use terra_term::{Operation, RefusalKind, TypedExpression};
 use terra_types::{Laid, TypeForm};
 use tl_base::{NoMemory, TextId, TypeId};
@@ -77,10 +80,36 @@ pub fn with_entry(
             Ok(step)
         }
         None => {
-            let handler = metamethod(&typing.world, of, b"__entrymissing");
-            Ok(without_lua(handler, RefusalKind::NoField, node.at, node.site))
+            let step = missing_entry(frames, typing, of, object, field, node)?;
+            Ok(step)
         }
     }
+}
+
+/// An entry that isn't there, for which `__entrymissing` is asked.
+fn missing_entry(
+    frames: &mut Vec<BodyFrame>,
+    typing: &mut Typing,
+    of: TypeId,
+    object: Made,
+    field: TextId,
+    node: Node,
+) -> Result<BodyStep, NoMemory>
+    ensures means { IfOk result (λ step. (left : ℕ) →
+        Goes frames.old.items
+        (models.missing_entry (structs.metamethod typing.old.stage of (codes "__entrymissing")) object field node.at node.site)
+        typing.old left frames.new.items step typing.new left) }
+    ensures kept { OnOk result (KeepsTyping typing.old typing.new) }
+{
+    let handler = metamethod(&typing.world, of, b"__entrymissing");
+    if handler.is_nil() {
+        return Ok(refuse(RefusalKind::NoField, node.at, node.site));
+    }
+    let object = new_quote(typing, object)?;
+    let arguments = two_values(typing, Value::Text(field), object)?;
+    let then = AskedThen::InPlace(node.at, node.site);
+    let step = ask(frames, handler, arguments, node.at, then)?;
+    Ok(step)
 }
 
 /// An entry of a place, of a pointer's target, or of a value.

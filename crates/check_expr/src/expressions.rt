@@ -16,6 +16,7 @@ use crate::frame::{BlockThen, BodyFrame, Initials, MadeFrame};
 use crate::layouts::as_value;
 use crate::nodes::{gives, refuse};
 use crate::operators::BOOL;
+use crate::quoted::typed_quote;
 use crate::step::{BodyStep, Node};
 use check_model::rest::Rest;
 use check_model::{BodyJob, Made, OperandList, Site, Typing};
@@ -99,7 +100,11 @@ pub fn expression(
                 Expression::Type(_) => Ok(refuse(RefusalKind::BadOperand, node.at, site)),
                 Expression::Macro(_) => Ok(refuse(RefusalKind::BadOperand, node.at, site)),
                 Expression::SizeOf => Ok(refuse(RefusalKind::BadOperand, node.at, site)),
-                Expression::Typed(_, _) => Ok(refuse(RefusalKind::NotBuilt, node.at, site)),
+                Expression::Typed(source, made) => {
+                    let (source, made) = (*source, *made);
+                    let step = typed_quote(typing, budget, source, made, site)?;
+                    Ok(step)
+                }
                 Expression::Unary(op, operand) => {
                     let operand = *operand;
                     frames.push(BodyFrame::Made(MadeFrame::Unary(*op, node)))?;

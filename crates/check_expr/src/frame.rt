@@ -3,7 +3,7 @@
 use crate::step::Node;
 use check_model::rest::Rest;
 use check_model::{Made, Operand, OperandList, Site};
-use lua_value::Primitive;
+use lua_value::{Primitive, Value, Values};
 use terra_term::{TermList, TypedExpression, TypedName, UnaryOperator, VarName};
 use terra_types::Laid;
 use terra_words::BinaryOperator;
@@ -22,6 +22,8 @@ pub enum BodyFrame {
     Laid(Place, Site, LaidThen),
     /// It goes on with the result type of a function that is called.
     Result(FnId, CallFrame),
+    /// It goes on with the answer of Lua code.
+    Asked(AskedThen),
     /// It goes on however the body of this function ended, before which there were so many variables.
     Function(FnId, u64),
 }
@@ -41,12 +43,14 @@ pub enum MadeFrame {
     MeetRight(MeetFrame, Made),
     /// What is called.
     Callee(OperandList, Place, TermId, Site),
-    /// An operand of a macro, with those behind it.
-    Operand(Rest<Operand>, Place, Site),
+    /// An operand of a call of Lua code, which is given a typed quote of it.
+    Quoted(QuotesFrame),
     /// What is converted to a type by a cast.
     Cast(TypeId, Node),
     /// What a cast gave.
     Recast(TermId),
+    /// What `__cast` gave for a node at this place, which must have this type.
+    OfType(TypeId, Place, Site),
     /// An argument, with the type of its parameter.
     Argument(TypeId, CallFrame, TypeId),
     /// An argument, converted.
@@ -130,6 +134,16 @@ pub struct CallFrame {
     pub ids: List<TermId>,
     pub fitting: bool,
     pub node: Node,
+}
+
+/// A call of Lua code with typed quotes: the value that is called, the operands that are left, and the arguments before.
+#[derive(Drop)]
+pub struct QuotesFrame {
+    pub handler: Value,
+    pub operands: Rest<Operand>,
+    pub values: Values,
+    pub at: Place,
+    pub site: Site,
 }
 
 /// A constructor: the entries and the values that are left, and the offsets and values before.
@@ -273,6 +287,17 @@ pub enum LaidThen {
     Name(TypedName, NamesFrame),
     /// A parameter has the type.
     Parameter(TypedName, ParametersFrame),
+}
+
+/// What is done with the answer of Lua code.
+#[derive(Drop)]
+pub enum AskedThen {
+    /// The value that it gave is typed in the place of the node that asked.
+    InPlace(Place, Site),
+    /// The same, for a conversion to this type.
+    Cast(TypeId, Place, Site),
+    /// The value is the method of this struct under this name: it is kept, and called on this object.
+    Method(TypeId, TextId, Made, Rest<TermId>, Node),
 }
 
 /// A function at its parameters: those that are left, all of them as they are in its typed term, and its statements.

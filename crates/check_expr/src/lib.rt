@@ -11,6 +11,7 @@
 //! as one that is asked for, with the answer `Done`; so no step calls itself.
 #![tactic(auto)]
 
+pub mod asking;
 pub mod assigning;
 pub mod blocks;
 pub mod body;
@@ -28,6 +29,7 @@ pub mod machine;
 pub mod methods;
 pub mod nodes;
 pub mod operators;
+pub mod quoted;
 pub mod reading;
 pub mod statements;
 pub mod step;

@@ -7,9 +7,11 @@ ghost use Rattle.check_expr.specs.Frames.{body_rules, is_go};
 ghost use Rattle.check_expr.specs.Keeping.{KeepsTyping};
 ghost use Rattle.check_expr.specs.Steps.{Goes};
 
+use crate::asking::{after_asked, quoted};
 use crate::blocks::after_statement;
-use crate::calls::{after_result, argument, call_value, cast_made, fitted, macro_operands};
+use crate::calls::{after_result, argument, call_value, cast_made, fitted};
 use crate::constructing::{initial, initialised};
+use crate::converting::value_of_type;
 use crate::entries::{extract, index, select};
 use crate::expressions::{expression, let_end, let_value};
 use crate::frame::{BodyFrame, DoingFrame, MadeFrame};
@@ -19,7 +21,7 @@ use crate::methods::call_method;
 use crate::nodes::states;
 use crate::operators::{binary, both, meet_next, unary};
 use crate::statements::{perform, return_value, returned, statement};
-use crate::step::BodyStep;
+use crate::step::{BodyStep, Node};
 use crate::{assigning, loops, variables};
 use check_model::{BodyEnd, BodyJob, BodyQuestion, CheckAnswer, Made, PartEnd, Typing};
 use terra_term::TypedStatement;
@@ -44,7 +46,7 @@ fn with_made(
 {
     match frame {
         MadeFrame::Unary(op, node) => {
-            let step = unary(typing, op, made, node)?;
+            let step = unary(frames, typing, budget, op, made, node)?;
             Ok(step)
         }
         MadeFrame::Left(op, right, node) => {
@@ -52,7 +54,7 @@ fn with_made(
             Ok(Step::Enter(BodyJob::Expression(right, node.site)))
         }
         MadeFrame::Right(op, left, node) => {
-            let step = binary(frames, typing, op, left, made, node)?;
+            let step = binary(frames, typing, budget, op, left, made, node)?;
             Ok(step)
         }
         MadeFrame::MeetLeft(frame, right) => {
@@ -63,9 +65,13 @@ fn with_made(
             let step = both(typing, frame.op, frame.of, left, made, frame.node)?;
             Ok(step)
         }
-        MadeFrame::Callee(_, at, _, site) => Ok(call_value(typing, made, at, site)),
-        MadeFrame::Operand(operands, at, site) => {
-            let step = macro_operands(frames, operands, at, site)?;
+        MadeFrame::Callee(operands, at, source, site) => {
+            let node = Node { source, at, site };
+            let step = call_value(frames, typing, budget, made, operands, node)?;
+            Ok(step)
+        }
+        MadeFrame::Quoted(frame) => {
+            let step = quoted(frames, typing, frame, made)?;
             Ok(step)
         }
         MadeFrame::Cast(to, node) => {
@@ -73,6 +79,10 @@ fn with_made(
             Ok(step)
         }
         MadeFrame::Recast(source) => Ok(Step::Return(PartEnd::Made(Made { source, ..made }))),
+        MadeFrame::OfType(to, at, site) => {
+            let step = value_of_type(frames, typing, to, at, site, made)?;
+            Ok(step)
+        }
         MadeFrame::Argument(parameter, frame, of) => {
             let step = argument(frames, typing, parameter, frame, of, made)?;
             Ok(step)
@@ -329,6 +339,10 @@ impl Machine for Steps {
             }
             BodyFrame::Result(_, frame) => {
                 let step = after_result(frames, world, frame, end)?;
+                Ok(step)
+            }
+            BodyFrame::Asked(then) => {
+                let step = after_asked(frames, world, budget, then, end)?;
                 Ok(step)
             }
             BodyFrame::Function(f, base) => Ok(close(world, f, base, end)),

@@ -1,14 +1,15 @@
 // Typed nodes, and the ends of plans.
 
-ghost use Rattle.std.specs.Prelude.{◌≡◌, ℕ, IfOk, OnOk};
-ghost use Rattle.terra_term.specs.Held.{next_typed, with_typed};
+ghost use Rattle.std.specs.Prelude.{◌≡◌, ℕ, length, IfOk, OnOk};
+ghost use Rattle.lua_value.specs.declared.value.Value.TheVariants as values;
+ghost use Rattle.terra_term.specs.Held.{next_typed, with_typed, next_quote, with_quote, QuotesTyped};
 ghost use Rattle.terra_term.specs.declared.typed.Typed.TheVariants as typed_kinds;
 ghost use Rattle.exotype.specs.Becoming as becoming;
 ghost use Rattle.exotype.specs.Types.{pointer_id, with_pointer};
 ghost use Rattle.exotype.specs.World.{with_store};
 ghost use Rattle.check_model.specs.Plans as plans;
 ghost use Rattle.check_model.specs.Typing.{TypingState, is_place_form, made_of};
-ghost use Rattle.check_expr.specs.Callees as callees;
+ghost use Rattle.check_expr.specs.Asking.{next_value, with_quoted};
 ghost use Rattle.check_expr.specs.Keeping.{KeepsStage, KeepsTyping};
 ghost use Rattle.check_expr.specs.Steps.{Does, with_node, with_stage};
 
@@ -16,11 +17,11 @@ use crate::step::BodyStep;
 use check_model::{Made, PartEnd, Site, Typing};
 use exotype::{Became, World};
 use lua_value::Value;
-use terra_term::{Refusal, RefusalKind, Typed, TypedExpression, TypedStatement};
+use terra_term::{Quote, Refusal, RefusalKind, Typed, TypedExpression, TypedStatement};
 use tl_base::{NoMemory, Place, Step, TermId, TypeId};
 
 /// Whether an expression is a place.
-fn is_place(form: &TypedExpression) -> bool
+pub fn is_place(form: &TypedExpression) -> bool
     ensures { result ≡ is_place_form form.now }
 {
     match form {
@@ -73,6 +74,33 @@ pub fn term_of(typing: &mut Typing, value: Value, at: Place) -> Result<Became, N
 {
     let became = typing.world.term_of(value, at)?;
     Ok(became)
+}
+
+/// Makes a typed quote of an expression. What was typed is in the store, but no frame says so of what it keeps: so this looks, and
+/// what isn't there, to which no staging comes, ends as want of memory does.
+pub fn new_quote(typing: &mut Typing, made: Made) -> Result<Value, NoMemory>
+    ensures value { IfOk result (λ value. value ≡ next_value typing.old) }
+    ensures ok { OnOk result (typing.new ≡ with_quoted typing.old made) }
+    ensures kept { OnOk result (KeepsTyping typing.old typing.new) }
+{
+    match typing.world.store.typed(made.id) {
+        Some(_) => {
+            let value = add_quote(&mut typing.world, Quote::Typed(made.source, made.id))?;
+            Ok(value)
+        }
+        None => Err(NoMemory),
+    }
+}
+
+/// Adds a quote to the store.
+fn add_quote(world: &mut World, quote: Quote) -> Result<Value, NoMemory>
+    requires { QuotesTyped (length world.old.store.typed) quote }
+    ensures value { IfOk result (λ value. value ≡ values.Quote (next_quote world.old.store)) }
+    ensures ok { OnOk result (world.new ≡ with_store world.old (with_quote world.old.store quote)) }
+    ensures kept { OnOk result (KeepsStage world.old world.new) }
+{
+    let id = world.store.new_quote(quote)?;
+    Ok(Value::Quote(id))
 }
 
 /// Makes a typed expression of a term.
@@ -138,15 +166,4 @@ pub fn refuse(kind: RefusalKind, at: Place, site: Site) -> BodyStep
         place: at,
         function: site.function,
     }))
-}
-
-/// The end where a rule wants a metamethod: this refusal where there is none. Lua isn't asked for it yet.
-pub fn without_lua(handler: Value, kind: RefusalKind, at: Place, site: Site) -> BodyStep
-    ensures means { (w : TypingState) (left : ℕ) → Does (callees.without_lua handler kind at site) w left result w left }
-{
-    if handler.is_nil() {
-        refuse(kind, at, site)
-    } else {
-        refuse(RefusalKind::NotBuilt, at, site)
-    }
 }

@@ -13,23 +13,24 @@ ghost use Rattle.check_expr.specs.Retyping.{retyped_as, with_retyped};
 ghost use Rattle.check_expr.specs.Keeping.{KeepsTyping};
 ghost use Rattle.check_expr.specs.Steps.{Goes, Does};
 
+use crate::calls::{call_handler, untyped};
 use crate::converting::{convert, one, two};
 use crate::frame::{BodyFrame, LaidThen, MadeFrame, MeetFrame};
 use crate::layouts::lay_out;
-use crate::nodes::{gives, make, pointer_to, refuse, without_lua};
+use crate::nodes::{gives, make, pointer_to, refuse};
 use crate::reading::{
     bytes, is_bool, is_integer, is_nil, is_struct, is_value_of, metamethod, metamethod_of_either,
     target,
 };
 use crate::step::{BodyStep, Node};
 use check_cast::meet;
-use check_model::{Made, Mode, Rule, Typing};
+use check_model::{Made, Mode, Operand, Rule, Typing};
 use exotype::World;
 use lua_value::Value;
 use terra_term::{Constant, Operation, RefusalKind, TypedExpression, UnaryOperator};
 use terra_types::TypeForm;
 use terra_words::BinaryOperator;
-use tl_base::{NoMemory, TermId, TypeId};
+use tl_base::{Budget, NoMemory, TermId, TypeId};
 
 /// The type bool, which is there from the begin.
 pub const BOOL: TypeId = TypeId(8);
@@ -170,23 +171,37 @@ fn operator_metamethod(world: &World, op: BinaryOperator, left: TypeId, right: T
 pub fn binary(
     frames: &mut Vec<BodyFrame>,
     typing: &mut Typing,
+    budget: &mut Budget,
     op: BinaryOperator,
     left: Made,
     right: Made,
     node: Node,
 ) -> Result<BodyStep, NoMemory>
-    ensures means { IfOk result (λ step. (units : ℕ) →
+    ensures means { IfOk result (λ step.
         Goes frames.old.items (models.binary_plan typing.old.stage op left right node.at node.source node.site)
-        typing.old units frames.new.items step typing.new units) }
+        typing.old budget.old frames.new.items step typing.new budget.new) }
     ensures kept { OnOk result (KeepsTyping typing.old typing.new) }
 {
     if is_any_struct(&typing.world, left.of, right.of) {
         let handler = operator_metamethod(&typing.world, op, left.of, right.of);
-        return Ok(without_lua(handler, RefusalKind::BadOperand, node.at, node.site));
+        let operands = both_typed(typing, left, right)?;
+        let kind = RefusalKind::BadOperand;
+        let step = call_handler(frames, typing, budget, handler, kind, operands, node)?;
+        return Ok(step);
     }
     let rule = rule_of(&typing.world, op, left.of, right.of);
     let step = by_rule(frames, typing, rule, op, left, right, node)?;
     Ok(step)
+}
+
+/// Two typed operands.
+fn both_typed(typing: &Typing, left: Made, right: Made) -> Result<Vec<Operand>, NoMemory>
+    ensures { IfOk result (λ operands. operands.items ≡ plans.ready left ∷ plans.ready right ∷ []) }
+{
+    let mut operands = Vec::new(typing.world.store.allocator());
+    operands.push(Operand::Typed(left))?;
+    operands.push(Operand::Typed(right))?;
+    Ok(operands)
 }
 
 /// A binary operator that works so.
@@ -514,14 +529,17 @@ fn retyped(typing: &mut Typing, is_nil: bool, made: Made, other: Made) -> Result
 
 /// A unary operator on a typed operand.
 pub fn unary(
+    frames: &mut Vec<BodyFrame>,
     typing: &mut Typing,
+    budget: &mut Budget,
     op: UnaryOperator,
     made: Made,
     node: Node,
 ) -> Result<BodyStep, NoMemory>
-    ensures means { IfOk result (λ step. (units : ℕ) →
-        Does (models.unary_plan typing.old.stage op (form_in typing.old.stage made.of) made node.at node.source node.site)
-        typing.old units step typing.new units) }
+    ensures means { IfOk result (λ step.
+        Goes frames.old.items
+        (models.unary_plan typing.old.stage op (form_in typing.old.stage made.of) made node.at node.source node.site)
+        typing.old budget.old frames.new.items step typing.new budget.new) }
     ensures kept { OnOk result (KeepsTyping typing.old typing.new) }
 {
     match op {
@@ -538,8 +556,8 @@ pub fn unary(
                 let step = operated(typing, Operation::Negate, made, node)?;
                 Ok(step)
             } else {
-                let handler = metamethod(&typing.world, made.of, b"__unm");
-                Ok(without_lua(handler, RefusalKind::BadOperand, node.at, node.site))
+                let step = by_own(frames, typing, budget, b"__unm", made, node)?;
+                Ok(step)
             }
         }
         UnaryOperator::Not => {
@@ -547,11 +565,33 @@ pub fn unary(
                 let step = operated(typing, Operation::Not, made, node)?;
                 Ok(step)
             } else {
-                let handler = metamethod(&typing.world, made.of, b"__not");
-                Ok(without_lua(handler, RefusalKind::BadOperand, node.at, node.site))
+                let step = by_own(frames, typing, budget, b"__not", made, node)?;
+                Ok(step)
             }
         }
     }
+}
+
+/// A unary operator by the metamethod of its operand for this event.
+fn by_own(
+    frames: &mut Vec<BodyFrame>,
+    typing: &mut Typing,
+    budget: &mut Budget,
+    event: &[u8],
+    made: Made,
+    node: Node,
+) -> Result<BodyStep, NoMemory>
+    ensures means { IfOk result (λ step.
+        Goes frames.old.items
+        (models.by_own (structs.metamethod typing.old.stage made.of event.now) made node.at node.source node.site)
+        typing.old budget.old frames.new.items step typing.new budget.new) }
+    ensures kept { OnOk result (KeepsTyping typing.old typing.new) }
+{
+    let handler = metamethod(&typing.world, made.of, event);
+    let operands = untyped(typing, Some(made), &[])?;
+    let kind = RefusalKind::BadOperand;
+    let step = call_handler(frames, typing, budget, handler, kind, operands, node)?;
+    Ok(step)
 }
 
 /// An operation on one operand, with a result of its type.

@@ -1,6 +1,7 @@
 // What is read of the world.
 
 ghost use Rattle.std.specs.Prelude.{◌≡◌};
+ghost use Rattle.lua_table.specs.Heap.{macro_at};
 ghost use Rattle.terra_term.specs.WellTyped as tests;
 ghost use Rattle.check_model.specs.Typing as models;
 ghost use Rattle.check_model.specs.Plans.{is_wide};
@@ -13,7 +14,7 @@ use lua_value::Value;
 use terra_term::{Expression, Term};
 use terra_types::TypeForm;
 use tl_base::limits::MAX_VALUE_BYTES;
-use tl_base::{Place, TermId, TextId, TypeId};
+use tl_base::{ClosureId, MacroId, Place, TermId, TextId, TypeId};
 
 /// Whether a type is a struct or an array.
 pub fn is_aggregate(world: &World, of: TypeId) -> bool
@@ -146,6 +147,13 @@ pub fn place_of(world: &World, term: TermId) -> Place
         Some(Term::Statement(at, _)) => *at,
         _ => Place { line: 0, word: 0 },
     }
+}
+
+/// The function of a macro.
+pub fn macro_function(world: &World, id: MacroId) -> ClosureId
+    ensures { result ≡ macro_at world.now.heap id }
+{
+    world.heap.macro_function(id)
 }
 
 /// A struct's metamethod for an event, and nil for any other type.

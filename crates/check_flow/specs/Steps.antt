@@ -6,9 +6,9 @@ use Rattle.tl_base.specs.Machine.{GoesOn}
 use Rattle.exotype.specs.World.{StageState}
 use Rattle.check_model.specs.declared.job.CheckJob.{CheckJob}
 use Rattle.check_model.specs.declared.end.CheckEnd.{CheckEnd}
-use Rattle.check_model.specs.declared.end.LayoutEnd.{LayoutEnd}
 use Rattle.check_model.specs.declared.question.CheckQuestion.{CheckQuestion}
 use Rattle.check_model.specs.declared.question.LayoutQuestion.{LayoutQuestion}
+use Rattle.check_model.specs.declared.question.CheckAnswer.{CheckAnswer}
 use Rattle.check_model.specs.Checks.{CheckPlan}
 use Rattle.check_model.specs.Layouts.{LayoutPlan}
 use Rattle.check_flow.specs.declared.check_frame.CheckFrame.{CheckFrame}
@@ -22,5 +22,5 @@ abbrev pub ChecksOn :
 ChecksOn fs plan w left fs2 step w2 left2 = GoesOn check_rules fs plan (state w left) fs2 step (state w2 left2)
 
 abbrev pub LaysOn :
-    List LayoutFrame → LayoutPlan → StageState → ℕ → List LayoutFrame → Step (Unit {0}) LayoutEnd LayoutQuestion → StageState → ℕ → Type 0
+    List LayoutFrame → LayoutPlan → StageState → ℕ → List LayoutFrame → Step (Unit {0}) CheckAnswer LayoutQuestion → StageState → ℕ → Type 0
 LaysOn fs plan w left fs2 step w2 left2 = GoesOn layout_rules fs plan (state w left) fs2 step (state w2 left2)

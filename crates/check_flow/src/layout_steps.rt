@@ -1,7 +1,8 @@
 // The steps of a layout.
 
-ghost use Rattle.std.specs.Prelude.{◌≡◌, ℕ, List, codes, IsTrue, IfOk, OnOk};
-ghost use Rattle.tl_base.specs.Plan.{Give};
+ghost use Rattle.std.specs.Prelude.{◌≡◌, ℕ, List, [], ◌∷◌, codes, IsTrue, IfOk, OnOk};
+ghost use Rattle.tl_base.specs.Plan.{Give, AskFor};
+ghost use Rattle.lua_table.specs.Cells.{first_value};
 ghost use Rattle.terra_types.specs.Layouts.{layout_of};
 ghost use Rattle.terra_types.specs.Making.{is_unsettled, settled_answer, with_settled};
 ghost use Rattle.terra_types.specs.Sizes.{size_of};
@@ -20,14 +21,14 @@ use crate::entries::entries_from;
 use crate::layout_frame::LayoutFrame;
 use check_model::{CheckAnswer, LayoutEnd, LayoutQuestion, LayoutTask, Rest};
 use exotype::{Known, Property, World, what_is_kept_is_known};
-use lua_value::Value;
+use lua_value::{Value, Values};
 use std::alloc::Global;
 use terra_term::RefusalKind;
 use terra_types::{Entry, Settled, TypeForm};
 use tl_base::{Budget, List, Machine, NoMemory, Place, Step, TypeId};
 
 /// What a layout does next.
-pub type LayoutStep = Step<(), LayoutEnd, LayoutQuestion>;
+pub type LayoutStep = Step<(), CheckAnswer, LayoutQuestion>;
 
 /// The steps of a layout.
 #[derive(Drop)]
@@ -90,18 +91,18 @@ fn keep(world: &mut World, of: TypeId, kind: RefusalKind) -> LayoutStep
 {
     what_is_kept_is_known();
     settle_entries(world, of, kept_as(kind));
-    Step::Return(LayoutEnd::Refused(kind))
+    Step::Return(CheckAnswer::NoLayout(kind))
 }
 
 /// Ends the layout of a struct that is settled, whose entries the value has.
 fn finish(world: &mut World, of: TypeId, value: Value) -> LayoutStep
     ensures means { (left : ℕ) → (fs : List LayoutFrame) →
-        LaysOn fs (models.settling of (Known.Value value) (Give LayoutEnd.Done)) world.old left fs result world.new left }
+        LaysOn fs (models.settling of (Known.Value value) (Give CheckAnswer.Done)) world.old left fs result world.new left }
     ensures kept { KeepsLayouts world.old world.new }
 {
     what_is_kept_is_known();
     settle_entries(world, of, Known::Value(value));
-    Step::Return(LayoutEnd::Done)
+    Step::Return(CheckAnswer::Done)
 }
 
 /// Asks for the layouts of the entries that are left, and settles the struct.
@@ -214,9 +215,9 @@ fn lay_out_struct(
     ensures kept { OnOk result (KeepsLayouts world.old world.new) }
 {
     match world.kept.known(Property::Entries(of)) {
-        Known::Value(_) => Ok(Step::Return(LayoutEnd::Done)),
-        Known::Refused(kind) => Ok(Step::Return(LayoutEnd::Refused(kind))),
-        Known::Asked => Ok(Step::Return(LayoutEnd::Refused(RefusalKind::Incomplete))),
+        Known::Value(_) => Ok(Step::Return(CheckAnswer::Done)),
+        Known::Refused(kind) => Ok(Step::Return(CheckAnswer::NoLayout(kind))),
+        Known::Asked => Ok(Step::Return(CheckAnswer::NoLayout(RefusalKind::Incomplete))),
         Known::Unasked => {
             let step = ask_entries(frames, world, of, at)?;
             Ok(step)
@@ -238,14 +239,64 @@ fn ask_entries(
     ensures kept { OnOk result (KeepsLayouts world.old world.new) }
 {
     what_is_kept_is_known();
-    let is_own = entries_metamethod(world, of).is_nil();
+    let handler = entries_metamethod(world, of);
     let own = own_entries(world, of);
     begin_entries(world, of)?;
-    if is_own {
+    if handler.is_nil() {
         let step = by_entries(frames, world, of, own, at)?;
         Ok(step)
     } else {
-        Ok(keep(world, of, RefusalKind::NotBuilt))
+        let step = ask_lua(frames, world, handler, of, at)?;
+        Ok(step)
+    }
+}
+
+/// Asks Lua for the entries of a struct.
+fn ask_lua(
+    frames: &mut Vec<LayoutFrame>,
+    world: &World,
+    handler: Value,
+    of: TypeId,
+    at: Place,
+) -> Result<LayoutStep, NoMemory>
+    ensures { IfOk result (λ step. (left : ℕ) →
+        LaysOn frames.old.items
+        (AskFor (LayoutQuestion.CallLua handler (Value.TerraType of ∷ []) at) (λ answer. models.on_values answer of at))
+        world.now left frames.new.items step world.now left) }
+{
+    let values = Values::from_slice(world.heap.allocator(), &[Value::TerraType(of)])?;
+    frames.push(LayoutFrame::Asked(of, at))?;
+    Ok(Step::Stop(LayoutQuestion::CallLua(handler, values, at)))
+}
+
+/// Lays a struct out by what Lua answers for its entries: by the first of the values.
+fn by_answer(
+    frames: &mut Vec<LayoutFrame>,
+    world: &mut World,
+    of: TypeId,
+    answer: CheckAnswer,
+    at: Place,
+) -> Result<LayoutStep, NoMemory>
+    ensures means { IfOk result (λ step. (left : ℕ) →
+        LaysOn frames.old.items (models.on_values answer of at) world.old left frames.new.items step world.new left) }
+    ensures kept { OnOk result (KeepsLayouts world.old world.new) }
+{
+    match answer {
+        CheckAnswer::Values(values) => {
+            let step = by_entries(frames, world, of, first(values.as_slice()), at)?;
+            Ok(step)
+        }
+        _ => Ok(keep(world, of, RefusalKind::CallbackRaised)),
+    }
+}
+
+/// The first value, or nil.
+fn first(values: &[Value]) -> Value
+    ensures { result ≡ first_value values.now }
+{
+    match values.first() {
+        Some(value) => *value,
+        None => Value::Nil,
     }
 }
 
@@ -296,8 +347,8 @@ fn sized(world: &World, of: TypeId) -> LayoutStep
         LaysOn fs (models.sized (size_of world.now.store.types of)) world.now left fs result world.now left }
 {
     match world.store.types().size_of(of) {
-        Some(_) => Step::Return(LayoutEnd::Done),
-        None => Step::Return(LayoutEnd::Refused(RefusalKind::BadEntries)),
+        Some(_) => Step::Return(CheckAnswer::Done),
+        None => Step::Return(CheckAnswer::NoLayout(RefusalKind::BadEntries)),
     }
 }
 
@@ -316,7 +367,7 @@ impl Machine for LayoutSteps {
 
     type Answer = CheckAnswer;
 
-    type Return = LayoutEnd;
+    type Return = CheckAnswer;
 
     type End = LayoutEnd;
 
@@ -346,7 +397,7 @@ impl Machine for LayoutSteps {
                 frames.push(LayoutFrame::Elements(task.of))?;
                 Ok(Step::Stop(LayoutQuestion::LayoutOf(elements, task.at)))
             }
-            Kind::Other => Ok(Step::Return(LayoutEnd::Done)),
+            Kind::Other => Ok(Step::Return(CheckAnswer::Done)),
         }
     }
 
@@ -357,7 +408,7 @@ impl Machine for LayoutSteps {
         budget: &mut Budget,
         job: (),
     ) -> Result<LayoutStep, NoMemory> {
-        Ok(Step::Return(LayoutEnd::Done))
+        Ok(Step::Return(CheckAnswer::Done))
     }
 
     fn go_on(
@@ -366,31 +417,35 @@ impl Machine for LayoutSteps {
         world: &mut World,
         budget: &mut Budget,
         frame: LayoutFrame,
-        end: LayoutEnd,
+        answer: CheckAnswer,
     ) -> Result<LayoutStep, NoMemory> {
         match frame {
-            LayoutFrame::Part(of, value, rest, entries, at) => match end {
-                LayoutEnd::Refused(kind) => Ok(keep(world, of, kind)),
-                LayoutEnd::Done => {
+            LayoutFrame::Asked(of, at) => {
+                let step = by_answer(frames, world, of, answer, at)?;
+                Ok(step)
+            }
+            LayoutFrame::Part(of, value, rest, entries, at) => match answer {
+                CheckAnswer::NoLayout(kind) => Ok(keep(world, of, kind)),
+                _ => {
                     let step = parts_left(frames, world, of, value, rest, entries, at)?;
                     Ok(step)
                 }
             },
-            LayoutFrame::Elements(of) => match end {
-                LayoutEnd::Refused(kind) => Ok(Step::Return(LayoutEnd::Refused(kind))),
-                LayoutEnd::Done => Ok(sized(world, of)),
+            LayoutFrame::Elements(of) => match answer {
+                CheckAnswer::NoLayout(kind) => Ok(Step::Return(CheckAnswer::NoLayout(kind))),
+                _ => Ok(sized(world, of)),
             },
         }
     }
 
-    fn reply(&self, answer: CheckAnswer) -> LayoutEnd {
-        match answer {
+    fn reply(&self, answer: CheckAnswer) -> CheckAnswer {
+        answer
+    }
+
+    fn close(&self, end: CheckAnswer) -> LayoutEnd {
+        match end {
             CheckAnswer::NoLayout(kind) => LayoutEnd::Refused(kind),
             _ => LayoutEnd::Done,
         }
-    }
-
-    fn close(&self, end: LayoutEnd) -> LayoutEnd {
-        end
     }
 }

@@ -1,5 +1,5 @@
 -- `compile` and `gettype`.
-use Rattle.std.specs.Prelude.{List, [], ◌∷◌, Option, Some, None}
+use Rattle.std.specs.Prelude.{List, [], ◌∷◌, Option, Some, None, slice_get}
 use Rattle.tl_base.specs.declared.ids.FnId.{FnId}
 use Rattle.tl_base.specs.declared.ids.TypeId.{TypeId}
 use Rattle.tl_base.specs.declared.place.Place.{Place}
@@ -11,6 +11,10 @@ use Rattle.lua_value.specs.declared.value.Value.{Value}
 use Rattle.lua_value.specs.declared.value.Value.TheVariants as values
 use Rattle.lua_base.specs.Arguments.{argument}
 use Rattle.terra_types.specs.Opening.{uint8, int64, unit}
+use Rattle.terra_term.specs.declared.store.Quote.{Quote}
+use Rattle.terra_term.specs.declared.store.Quote.TheVariants as quotes
+use Rattle.terra_term.specs.declared.typed.Typed.{Typed}
+use Rattle.terra_term.specs.declared.typed.Typed.TheVariants as typed_kinds
 use Rattle.exotype.specs.declared.fault.Fault.TheVariants as faults
 use Rattle.exotype.specs.Types.{pointer_id, with_pointer, function_id, with_function}
 use Rattle.exotype.specs.World.{StageState}
@@ -21,7 +25,7 @@ use Rattle.check_model.specs.declared.known.KnownResult.TheVariants.{Is}
 use Rattle.check_model.specs.declared.question.CheckAnswer.{CheckAnswer}
 use Rattle.check_library.specs.declared.ask.AskTurn.TheVariants as asks
 use Rattle.check_library.specs.declared.ask.AskNext.TheVariants as nexts
-use Rattle.check_library.specs.Answers.{Asked, asked, said, on_check}
+use Rattle.check_library.specs.Answers.{Asked, asked, said, with_one, on_check}
 
 -- ---- `compile`
 
@@ -62,11 +66,23 @@ primitive_type s PutByte = function_of s (uint8 ∷ []) unit
 primitive_type s Write = function_of (with_bytes s) (pointer_id s.world uint8 ∷ int64 ∷ []) unit
 primitive_type s Alloc = function_of (with_bytes s) (int64 ∷ []) (pointer_id s.world uint8)
 
--- A function whose type isn't known is checked first. No quote has a type yet.
+-- the type of a typed expression
+abbrev pub expression_type : Option Typed → Option TypeId
+expression_type (Some (typed_kinds.Expression at of form)) = Some of
+expression_type _ = None
+
+-- the type of a typed quote; no other has one
+abbrev pub quote_type : StageState → Option Quote → Option TypeId
+quote_type w (Some (quotes.Typed source made)) = expression_type (slice_get w.store.typed made.0)
+quote_type w _ = None
+
+-- A function whose type isn't known is checked first.
 abbrev pub gettype_of : State StageState → Value → Place → Asked
 gettype_of s (values.TerraFunction f) place = type_or s f (asked (asks.Check f (nexts.GetType f)) s)
 gettype_of s (values.Primitive p) place = said (primitive_type s p)
-gettype_of s (values.Quote q) place = said (raised s place faults.QuoteWithoutType)
+gettype_of s (values.Quote q) place =
+    with_one (quote_type s.world (slice_get s.world.store.quotes q.0)) (said (raised s place faults.QuoteWithoutType))
+    (λ t. said (gives_one s s.world (values.TerraType t)))
 gettype_of s v place = said (bad_argument s place 1 library.GetType)
 
 abbrev pub gettype_asked : State StageState → List Value → Place → Asked

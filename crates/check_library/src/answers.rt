@@ -48,7 +48,6 @@ pub fn kind_name(kind: RefusalKind) -> &'static str
         RefusalKind::NotConstant => "NotConstant",
         RefusalKind::CallbackRaised => "CallbackRaised",
         RefusalKind::FunctionValue => "FunctionValue",
-        RefusalKind::NotBuilt => "NotBuilt",
     }
 }
 

@@ -1,11 +1,11 @@
 // Checks, and the types of functions.
 
-ghost use Rattle.std.specs.Prelude.{◌≡◌, ◌≤◌, IfOk, OnOk};
+ghost use Rattle.std.specs.Prelude.{◌≡◌, ◌≤◌, IfOk, OnOk, slice_get};
 ghost use Rattle.tl_base.specs.Layer.{state};
 ghost use Rattle.check_model.specs.Calls.{parameters_of, result_of};
 ghost use Rattle.check_library.specs.Answers.{asked, said};
 ghost use Rattle.check_library.specs.Checks.{compile_asked, compile_backed, gettype_asked, gettype_backed, type_or};
-ghost use Rattle.check_library.specs.Checks.{function_of, primitive_type};
+ghost use Rattle.check_library.specs.Checks.{function_of, primitive_type, expression_type, quote_type};
 ghost use Rattle.check_library.specs.Keeping.{KeepsAsked};
 
 use crate::answers::{bad_argument, give_nothing, give_one, raise, refuse};
@@ -15,7 +15,8 @@ use check_model::{CheckAnswer, KnownResult};
 use exotype::{Fault, World};
 use lua_base::argument;
 use lua_value::{LibFn, Primitive, Value};
-use tl_base::{Budget, FnId, NoMemory, Place, TypeId};
+use terra_term::{Quote, Typed};
+use tl_base::{Budget, FnId, NoMemory, Place, QuoteId, TermId, TypeId};
 
 /// The type of signed numbers of 64 bits, which is there from the begin.
 const INT64: TypeId = TypeId(3);
@@ -66,7 +67,8 @@ pub fn compile_back(
     Ok(give_nothing(world))
 }
 
-/// `gettype` gives the type of a function, where it is known, and asks for the check of one whose type isn't. No quote has a type.
+/// `gettype` gives the type of a function, where it is known, and asks for the check of one whose type isn't. It gives the type of a typed
+/// quote; no other has one.
 pub fn get_type(
     world: &mut World,
     budget: &mut Budget,
@@ -87,7 +89,10 @@ pub fn get_type(
             give_type_or(world, budget, f, other)
         }
         Value::Primitive(primitive) => give_primitive_type(world, budget, primitive),
-        Value::Quote(_) => raise(world, budget, place, Fault::QuoteWithoutType),
+        Value::Quote(quote) => match quote_type(world, quote) {
+            Some(of) => give_one(world, Value::TerraType(of)),
+            None => raise(world, budget, place, Fault::QuoteWithoutType),
+        },
         _ => bad_argument(world, budget, place, 1, LibFn::GetType),
     }
 }
@@ -171,5 +176,25 @@ fn give_primitive_type(
             let bytes = world.pointer_to(UINT8)?;
             give_function_type(world, budget, &[INT64], bytes)
         }
+    }
+}
+
+/// The type of a typed quote; no other has one.
+fn quote_type(world: &World, quote: QuoteId) -> Option<TypeId>
+    ensures { result ≡ quote_type world.now (slice_get world.now.store.quotes quote.0) }
+{
+    match world.store.quote(quote) {
+        Some(Quote::Typed(_, made)) => expression_type(world, *made),
+        _ => None,
+    }
+}
+
+/// The type of a typed expression.
+fn expression_type(world: &World, made: TermId) -> Option<TypeId>
+    ensures { result ≡ expression_type (slice_get world.now.store.typed made.0) }
+{
+    match world.store.typed(made) {
+        Some(Typed::Expression(_, of, _)) => Some(*of),
+        _ => None,
     }
 }

@@ -13,7 +13,6 @@ use Rattle.lua_value.specs.declared.value.Value.TheVariants as values
 use Rattle.lua_value.specs.Values.{is_nil}
 use Rattle.lua_table.specs.Heap.{macro_at}
 use Rattle.terra_term.specs.declared.refusal.RefusalKind.TheVariants.{Undefined, NotCallable, BadOperand, WrongCount, RecursiveNeedsType}
-use Rattle.terra_term.specs.declared.refusal.RefusalKind.TheVariants.{NotBuilt}
 use Rattle.terra_term.specs.declared.operators.Operation.TheVariants as operations
 use Rattle.lua_value.specs.declared.primitive.Primitive.{Primitive}
 use Rattle.lua_value.specs.declared.primitive.Primitive.TheVariants.{PutByte, Write, Alloc}
@@ -45,8 +44,8 @@ use Rattle.check_model.specs.declared.made.Made.{Made}
 use Rattle.check_model.specs.declared.rule.Mode.TheVariants.{Implicit, Explicit}
 use Rattle.check_model.specs.Typing.{bytes_in, expression_at, place_of, function_at}
 use Rattle.check_model.specs.Structs.{metamethod}
-use Rattle.check_model.specs.Plans.{BodyPlan, reading, asks_lua, if_lua_is_asked, give, gives, refuse, laid_out, calling, becoming}
-use Rattle.check_model.specs.Plans.{in_place, operand, operands, ready, quotes_of, pointing}
+use Rattle.check_model.specs.Plans.{BodyPlan, reading, give, gives, refuse, laid_out, calling, becoming}
+use Rattle.check_model.specs.Plans.{in_place, operand, ready, quotes_of, pointing}
 use Rattle.check_model.specs.Converting.{convert, fit}
 pub use Rattle.terra_term.specs.Held.{written_in}
 
@@ -184,11 +183,9 @@ abbrev pub call_size : List Operand → Place → TermId → Site → BodyPlan
 call_size (o ∷ []) at source site = size_of_operand o at source site
 call_size _ at source site = refuse WrongCount at site
 
--- a macro is called with typed quotes of its operands
+-- a macro is called with typed quotes of its operands, and its answer is typed in place of the call
 abbrev pub call_macro : Value → List Operand → Place → Site → BodyPlan
-call_macro h os at site =
-    if asks_lua then quotes_of os site [] (λ qs. calling h qs at site (λ v. in_place v at site give))
-    else operands os site (refuse NotBuilt at site)
+call_macro h os at site = quotes_of os site [] (λ qs. calling h qs at site (λ v. in_place v at site give))
 
 -- which terms are called without being typed
 abbrev pub is_called : expressions.Expression → Bool
@@ -219,8 +216,7 @@ call_term t os at fitting source site =
 
 -- a call of a metamethod
 abbrev pub call_metamethod : Value → List Operand → Place → TermId → Site → BodyPlan
-call_metamethod h os at source site =
-    if_lua_is_asked at site (becoming h at site (λ t. call_term t os at false source site))
+call_metamethod h os at source site = becoming h at site (λ t. call_term t os at false source site)
 
 abbrev pub apply : Value → Made → List Operand → Place → TermId → Site → BodyPlan
 apply h m os at source site = if is_nil h then refuse NotCallable at site else call_metamethod h (ready m ∷ os) at source site

@@ -21,7 +21,7 @@ use Rattle.check_model.specs.declared.rule.Mode.{Mode}
 use Rattle.check_model.specs.declared.rule.Mode.TheVariants.{Implicit, Explicit}
 use Rattle.check_model.specs.Typing.{form_in, is_nil_made}
 use Rattle.check_model.specs.Structs.{metamethod_of_either}
-use Rattle.check_model.specs.Plans.{BodyPlan, reading, refuse, make, as_value, if_lua_is_asked, calling, quoting, in_place}
+use Rattle.check_model.specs.Plans.{BodyPlan, reading, refuse, make, as_value, calling, quoting, in_place}
 
 abbrev pub conv_of : Mode → StageState → TypeId → TypeId → Conv
 conv_of Implicit w from to = implicit w.store.types from to
@@ -31,11 +31,10 @@ conv_of Explicit w from to = explicit w.store.types from to
 abbrev pub cast_to : Value → Made → TypeId → Site → (Made → BodyPlan) → BodyPlan
 cast_to h m to site go =
     if is_nil h then refuse Mismatch m.at site
-    else if_lua_is_asked m.at site
-    (quoting m (λ q.
+    else quoting m (λ q.
     calling h (values.TerraType m.of ∷ values.TerraType to ∷ q ∷ []) m.at site (λ v.
     in_place v m.at site (λ r.
-    if same_type r.of to then as_value r site (go r) else refuse Mismatch m.at site))))
+    if same_type r.of to then as_value r site (go r) else refuse Mismatch m.at site)))
 
 abbrev pub by_conv : Conv → StageState → Made → TypeId → Site → (Made → BodyPlan) → BodyPlan
 by_conv conv.Same w m to site go = as_value m site (go m)

@@ -18,7 +18,6 @@ use Rattle.lua_value.specs.Values.{is_nil}
 use Rattle.terra_term.specs.declared.refusal.RefusalKind.{RefusalKind}
 use Rattle.terra_term.specs.declared.refusal.RefusalKind.TheVariants.{Mismatch, NoField, NoMethod, BadOperand, NotPlace, WrongCount}
 use Rattle.terra_term.specs.declared.refusal.RefusalKind.TheVariants.{OutOfScope, Incomplete, TooWide, CallbackRaised, FunctionValue}
-use Rattle.terra_term.specs.declared.refusal.RefusalKind.TheVariants.{NotBuilt}
 use Rattle.terra_term.specs.declared.operators.Operation.TheVariants as operations
 use Rattle.terra_term.specs.declared.operators.Constant.TheVariants as constants
 use Rattle.terra_term.specs.declared.store.TerraGlobal.{TerraGlobal}
@@ -33,7 +32,7 @@ use Rattle.terra_term.specs.Planted.{nowhere, typed_at, typed_trees}
 use Rattle.terra_term.specs.Events.{Event, Opens, Closes, Declares, Uses, events_of}
 use Rattle.terra_types.specs.Making.{same_type}
 use Rattle.terra_term.specs.WellTyped.{widest, struct_form, integer_form}
-use Rattle.exotype.specs.World.{StageState}
+use Rattle.exotype.specs.World.{StageState, KeptState}
 use Rattle.exotype.specs.Terms.{typed_size}
 use Rattle.exotype.specs.Properties.{known_of, with_known}
 use Rattle.check_model.specs.declared.site.Site.{Site}
@@ -41,12 +40,11 @@ use Rattle.check_model.specs.declared.job.BodyJob.TheVariants as jobs
 use Rattle.exotype.specs.declared.property.Property.TheVariants.{Method}
 use Rattle.exotype.specs.declared.property.Known.{Known}
 use Rattle.exotype.specs.declared.property.Known.TheVariants as known
-use Rattle.check_model.specs.declared.end.PartEnd.TheVariants as ends
 use Rattle.check_model.specs.declared.made.Made.{Made}
 use Rattle.check_model.specs.declared.rule.Mode.TheVariants.{Implicit}
 use Rattle.check_model.specs.Typing.{TypingState, made_at, form_in, struct_of, bytes_in, expression_at, variable_at}
 use Rattle.check_model.specs.Structs.{metamethod, method_at}
-use Rattle.check_model.specs.Plans.{BodyPlan, reading, writing, asks_lua, if_lua_is_asked, give, gives, refuse, on_stated, typing, laid_out}
+use Rattle.check_model.specs.Plans.{BodyPlan, reading, writing, give, gives, refuse, on_stated, typing, laid_out}
 use Rattle.check_model.specs.Plans.{as_value, asking, calling, quoting, becoming, in_place, ready, untyped, quotes_of, leaving}
 use Rattle.check_model.specs.Converting.{convert}
 use Rattle.check_model.specs.Calls.{is_called, call_named, call_term}
@@ -94,7 +92,7 @@ entry w o l at source site =
 abbrev pub missing_entry : Value → Made → TextId → Place → Site → BodyPlan
 missing_entry h o field at site =
     if is_nil h then refuse NoField at site
-    else if_lua_is_asked at site (quoting o (λ q. calling h (values.Text field ∷ q ∷ []) at site (λ v. in_place v at site give)))
+    else quoting o (λ q. calling h (values.Text field ∷ q ∷ []) at site (λ v. in_place v at site give))
 
 abbrev pub entry_or : StageState → Option Laid → TypeId → Made → TextId → Place → TermId → Site → BodyPlan
 entry_or w (Some l) s o field at source site = entry w o l at source site
@@ -111,15 +109,24 @@ select_plan (Some s) o field at source site =
 abbrev pub keeping : TypeId → TextId → Known → BodyPlan → BodyPlan
 keeping s name k rest = reading (λ w. writing (record w { kept = with_known w.kept (Method s name) k }) rest)
 
+-- the same where it is being asked for; whoever asked is the one who settles, so else nothing is changed
+abbrev pub settled_as : Known → KeptState → TypeId → TextId → Known → KeptState
+settled_as known.Asked kept s name k = with_known kept (Method s name) k
+settled_as _ kept s name k = kept
+
+abbrev pub settling : TypeId → TextId → Known → BodyPlan → BodyPlan
+settling s name k rest =
+    reading (λ w. writing (record w { kept = settled_as (known_of w.kept (Method s name)) w.kept s name k }) rest)
+
 abbrev pub asked_method : Value → TypeId → TextId → Place → Site → (Value → BodyPlan) → BodyPlan
 asked_method h s name at site go =
     asking h (values.TerraType s ∷ values.Text name ∷ []) at
-    (λ v. keeping s name (known.Value v) (go v))
-    (keeping s name (known.Refused CallbackRaised) (refuse CallbackRaised at site))
+    (λ v. settling s name (known.Value v) (go v))
+    (settling s name (known.Refused CallbackRaised) (refuse CallbackRaised at site))
 
 abbrev pub find_method : StageState → Value → TypeId → TextId → Place → Site → (Value → BodyPlan) → BodyPlan
 find_method w h s name at site go =
-    if is_nil h then keeping s name (known.Value (method_at w s name)) (go (method_at w s name)) else asked_method h s name at site go
+    if is_nil h then settling s name (known.Value (method_at w s name)) (go (method_at w s name)) else asked_method h s name at site go
 
 -- a method is asked for once, and kept
 abbrev pub by_known : StageState → Known → TypeId → TextId → Place → Site → (Value → BodyPlan) → BodyPlan
@@ -129,21 +136,14 @@ by_known w known.Asked s name at site go = refuse Incomplete at site
 by_known w known.Unasked s name at site go =
     keeping s name known.Asked (find_method w (metamethod w s (codes "__getmethod")) s name at site go)
 
--- where Lua isn't asked, a method is read at each use
-abbrev pub read_method : StageState → Value → TypeId → TextId → Place → Site → (Value → BodyPlan) → BodyPlan
-read_method w h s name at site go = if is_nil h then go (method_at w s name) else refuse NotBuilt at site
-
 abbrev pub the_method : StageState → TypeId → TextId → Place → Site → (Value → BodyPlan) → BodyPlan
-the_method w s name at site go =
-    if asks_lua then by_known w (known_of w.kept (Method s name)) s name at site go
-    else read_method w (metamethod w s (codes "__getmethod")) s name at site go
+the_method w s name at site go = by_known w (known_of w.kept (Method s name)) s name at site go
 
 abbrev pub missing_method : Value → Made → TextId → List TermId → Place → Site → BodyPlan
 missing_method h o name args at site =
     if is_nil h then refuse NoMethod at site
-    else if_lua_is_asked at site
-    (quoting o (λ q. quotes_of (untyped args) site [] (λ qs.
-    calling h (values.Text name ∷ q ∷ qs) at site (λ v. in_place v at site give))))
+    else quoting o (λ q. quotes_of (untyped args) site (values.Text name ∷ q ∷ []) (λ given.
+    calling h given at site (λ v. in_place v at site give)))
 
 abbrev pub call_method : Value → TypeId → Made → TextId → List TermId → Place → TermId → Site → BodyPlan
 call_method v s o name args at source site =
@@ -238,7 +238,7 @@ abbrev pub scoped : Option (RefusalKind × Place) → TermId → TermId → Site
 scoped (Some why) source made site = refuse why.0 why.1 site
 scoped None source made site = reading (λ w. give (made_at w made source))
 
--- Each node of a typed quote is gone through again. Typed quotes are made for Lua code that is asked.
+-- Each node of a typed quote is gone through again.
 abbrev pub typed_plan : TypingState → TermId → TermId → Site → BodyPlan
 typed_plan w source made site =
     Pay ((typed_size w.stage made).nodes - 1)
@@ -273,7 +273,7 @@ expression_plan w (e.Select o field) at t site = typing o site (λ m. reading (�
 expression_plan w (e.Index a i) at t site = typing a site (λ x. typing i site (λ y. reading (λ v. index_plan v x y at t site)))
 expression_plan w (e.New of values) at t site = new_plan w.stage of values at t site
 expression_plan w (e.Let block value) at t site = let_plan (length w.variables) block value at t site
-expression_plan w (e.Typed source made) at t site = if_lua_is_asked at site (typed_plan w source made site)
+expression_plan w (e.Typed source made) at t site = typed_plan w source made site
 
 abbrev pub node_plan : TypingState → Option nodes.Term → TermId → Site → BodyPlan
 node_plan w (Some (kinds.Expression at x)) t site = expression_plan w x at t site

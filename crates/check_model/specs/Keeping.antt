@@ -7,7 +7,6 @@ use Rattle.terra_types.specs.Keeping.{KeepsTypes}
 use Rattle.terra_types.specs.Sizes.{size_of}
 use Rattle.terra_term.specs.Keeping.{AllStay, AreKept}
 use Rattle.terra_term.specs.Held.{state_of, typed_in}
-use Rattle.terra_term.specs.declared.store.FunctionState.TheVariants as standing
 use Rattle.exotype.specs.World.{StageState}
 use Rattle.exotype.specs.Properties.{known_of}
 use Rattle.exotype.specs.declared.property.Property.{Property}
@@ -22,8 +21,6 @@ use Rattle.check_model.specs.declared.question.CheckQuestion.TheVariants as aske
 use Rattle.check_model.specs.Typing.{form_in, is_aggregate_form}
 use Rattle.check_model.specs.declared.known.KnownResult.TheVariants.{Is}
 use Rattle.check_model.specs.Calls.{parameters_of, result_of}
-use Rattle.check_model.specs.Bodies.{body}
-use Rattle.check_model.specs.Checks.{check}
 
 -- ---- what each turn keeps
 

@@ -20,7 +20,7 @@ use Rattle.lua_table.specs.Metatables.{value_under}
 use Rattle.lua_table.specs.Pairs.{Pairs, value_at, border_of}
 use Rattle.lua_table.specs.Cells.{first_value}
 use Rattle.terra_term.specs.declared.refusal.RefusalKind.{RefusalKind}
-use Rattle.terra_term.specs.declared.refusal.RefusalKind.TheVariants.{Incomplete, BadEntries, CallbackRaised, NotBuilt}
+use Rattle.terra_term.specs.declared.refusal.RefusalKind.TheVariants.{Incomplete, BadEntries, CallbackRaised}
 use Rattle.terra_term.specs.Held.{with_types}
 use Rattle.exotype.specs.World.{StageState, KeptState, with_store}
 use Rattle.exotype.specs.Properties.{known_of, with_known}
@@ -36,11 +36,10 @@ use Rattle.check_model.specs.declared.question.CheckAnswer.{CheckAnswer}
 use Rattle.check_model.specs.declared.question.CheckAnswer.TheVariants as answers
 use Rattle.check_model.specs.Typing.{form_in}
 use Rattle.check_model.specs.Structs.{metamethod, entries_at}
-use Rattle.check_model.specs.Plans.{asks_lua}
 
--- there are no jobs: a layout pays nothing by itself
+-- there are no jobs: a layout pays nothing by itself. It ends by the answer that whoever asked for it is given
 abbrev pub LayoutPlan : Type 0
-LayoutPlan = Plan (Unit {0}) StageState LayoutQuestion CheckAnswer LayoutEnd
+LayoutPlan = Plan (Unit {0}) StageState LayoutQuestion CheckAnswer CheckAnswer
 
 -- ---- entries, read raw
 
@@ -89,18 +88,18 @@ settling t k rest = Read (λ w. Write (record w { kept = settled_as (known_of w.
 
 -- a refusal is kept but for Incomplete
 abbrev pub keep : TypeId → RefusalKind → LayoutPlan
-keep t kind = settling t (kept_as kind) (Give (ends.Refused kind))
+keep t kind = settling t (kept_as kind) (Give (answers.NoLayout kind))
 
 -- of entries that were read the value is kept
 abbrev pub settle : TypeId → Value → Option Layout → LayoutPlan
 settle t v None = keep t BadEntries
 settle t v (Some l) =
     Read (λ w.
-    Write (with_store w (with_types w.store (with_settled w.store.types t (Some l)))) (settling t (known.Value v) (Give ends.Done)))
+    Write (with_store w (with_types w.store (with_settled w.store.types t (Some l)))) (settling t (known.Value v) (Give answers.Done)))
 
 -- a layout is settled once
 abbrev pub unless_settled : StageState → TypeId → Value → Option Layout → LayoutPlan
-unless_settled w t v l = if is_unsettled w.store.types t then settle t v l else settling t (known.Value v) (Give ends.Done)
+unless_settled w t v l = if is_unsettled w.store.types t then settle t v l else settling t (known.Value v) (Give answers.Done)
 
 -- ---- structs
 
@@ -120,38 +119,38 @@ with_entries t v (Some xs) at = parts_of t xs at (Read (λ w. unless_settled w t
 abbrev pub by_entries : TypeId → Value → Place → LayoutPlan
 by_entries t v at = Read (λ w. with_entries t v (entries_from w.heap v) at)
 
-abbrev on_values : CheckAnswer → TypeId → Place → LayoutPlan
+abbrev pub on_values : CheckAnswer → TypeId → Place → LayoutPlan
 on_values (answers.Values vs) t at = by_entries t (first_value vs) at
 on_values _ t at = keep t CallbackRaised
 
 abbrev pub asked_entries : StageState → Value → TypeId → Place → LayoutPlan
 asked_entries w h t at =
     if is_nil h then by_entries t (entries_at w t) at
-    else (if asks_lua then AskFor (CallLua h (values.TerraType t ∷ []) at) (λ a. on_values a t at) else keep t NotBuilt)
+    else AskFor (CallLua h (values.TerraType t ∷ []) at) (λ a. on_values a t at)
 
 abbrev pub by_known : StageState → Known → TypeId → Place → LayoutPlan
-by_known w (known.Value v) t at = Give ends.Done
-by_known w (known.Refused kind) t at = Give (ends.Refused kind)
-by_known w known.Asked t at = Give (ends.Refused Incomplete)
+by_known w (known.Value v) t at = Give answers.Done
+by_known w (known.Refused kind) t at = Give (answers.NoLayout kind)
+by_known w known.Asked t at = Give (answers.NoLayout Incomplete)
 by_known w known.Unasked t at = keeping t known.Asked (asked_entries w (metamethod w t (codes "__getentries")) t at)
 
 -- ---- each type
 
 abbrev pub sized : Option ℕ → LayoutPlan
-sized (Some n) = Give ends.Done
-sized None = Give (ends.Refused BadEntries)
+sized (Some n) = Give answers.Done
+sized None = Give (answers.NoLayout BadEntries)
 
 abbrev pub by_form : StageState → TypeForm → TypeId → Place → LayoutPlan
 by_form w (forms.Struct number place layout) t at = by_known w (known_of w.kept (Entries t)) t at
 by_form w (forms.Array of n) t at =
-    AskFor (LayoutOf of at) (λ a. on_part a (λ kind. Give (ends.Refused kind)) (Read (λ v. sized (size_of v.store.types t))))
-by_form w _ t at = Give ends.Done
+    AskFor (LayoutOf of at) (λ a. on_part a (λ kind. Give (answers.NoLayout kind)) (Read (λ v. sized (size_of v.store.types t))))
+by_form w _ t at = Give answers.Done
 
 abbrev pub layout_first : LayoutTask → LayoutPlan
 layout_first task = Read (λ w. by_form w (form_in w task.of) task.of task.at)
 
 abbrev pub layout_job : Unit {0} → LayoutPlan
-layout_job j = Give ends.Done
+layout_job j = Give answers.Done
 
 -- ---- the meaning
 
@@ -159,6 +158,11 @@ layout_job j = Give ends.Done
 abbrev pub LayoutGiven : Type 0
 LayoutGiven = Given StageState CheckAnswer
 
+-- the end of the whole
+abbrev pub close_layout : CheckAnswer → LayoutEnd
+close_layout (answers.NoLayout kind) = ends.Refused kind
+close_layout _ = ends.Done
+
 -- what is seen of it, given the first answer, which is `Go`, and the answers after it
 abbrev pub layout : LayoutTask → Meaning StageState LayoutQuestion CheckAnswer LayoutEnd
-layout task first later = shown (λ r. r) (run (run_job layout_job) (layout_first task) first.state later)
+layout task first later = shown close_layout (run (run_job layout_job) (layout_first task) first.state later)

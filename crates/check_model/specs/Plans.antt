@@ -1,5 +1,5 @@
 -- What the plans of bodies are made of.
-use Rattle.std.specs.Prelude.{ℕ, Bool, false, ◌&&◌, nat_lt, if◌then◌else◌, List, [], ◌∷◌, ◌++◌, Option, None}
+use Rattle.std.specs.Prelude.{ℕ, Bool, ◌&&◌, nat_lt, if◌then◌else◌, List, [], ◌∷◌, ◌++◌, Option}
 use Rattle.tl_base.specs.declared.place.Place.{Place}
 use Rattle.tl_base.specs.declared.ids.TypeId.{TypeId}
 use Rattle.tl_base.specs.declared.ids.TermId.{TermId}
@@ -8,7 +8,7 @@ use Rattle.lua_value.specs.declared.value.Value.{Value}
 use Rattle.lua_value.specs.declared.value.Value.TheVariants as values
 use Rattle.lua_table.specs.Cells.{first_value}
 use Rattle.terra_term.specs.declared.refusal.RefusalKind.{RefusalKind}
-use Rattle.terra_term.specs.declared.refusal.RefusalKind.TheVariants.{NotConstant, CallbackRaised, TooWide, NotBuilt}
+use Rattle.terra_term.specs.declared.refusal.RefusalKind.TheVariants.{NotConstant, CallbackRaised, TooWide}
 use Rattle.terra_term.specs.declared.store.Quote.TheVariants as quotes
 use Rattle.terra_term.specs.declared.typed.Typed.{Typed as TypedNode}
 use Rattle.terra_term.specs.declared.typed.Typed.TheVariants as typed_kinds
@@ -128,13 +128,6 @@ as_value m site rest = laid_out m.of m.at site (reading (λ w. if is_wide w m.of
 
 -- ---- Lua
 
--- Lua isn't asked yet: a rule that would ask it is refused, at the node that would.
-abbrev pub asks_lua : Bool
-asks_lua = false
-
-abbrev pub if_lua_is_asked : Place → Site → BodyPlan → BodyPlan
-if_lua_is_asked at site plan = if asks_lua then plan else refuse NotBuilt at site
-
 abbrev pub on_values : CheckAnswer → (Value → BodyPlan) → BodyPlan → BodyPlan
 on_values (answers.Values vs) go otherwise = go (first_value vs)
 on_values _ go otherwise = otherwise
@@ -177,12 +170,7 @@ abbrev pub untyped : List TermId → List Operand
 untyped [] = []
 untyped (t ∷ ts) = Untyped t ∷ untyped ts
 
--- types operands in order
-abbrev pub operands : List Operand → Site → BodyPlan → BodyPlan
-operands [] site rest = rest
-operands (o ∷ os) site rest = operand o site (λ m. operands os site rest)
-
--- types operands in order, each with a typed quote of it
+-- types operands in order, and puts a typed quote of each behind other values
 abbrev pub quotes_of : List Operand → Site → List Value → (List Value → BodyPlan) → BodyPlan
 quotes_of [] site qs go = go qs
 quotes_of (o ∷ os) site qs go = operand o site (λ m. quoting m (λ q. quotes_of os site (qs ++ q ∷ []) go))

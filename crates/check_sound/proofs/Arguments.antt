@@ -7,6 +7,7 @@ use Rattle.std.proofs.lemmas.Option.{slice_get_within}
 use Rattle.tl_base.specs.declared.place.Place.{Place}
 use Rattle.tl_base.specs.declared.ids.TermId.{TermId}
 use Rattle.tl_base.specs.declared.ids.TypeId.{TypeId}
+use Rattle.lua_value.specs.declared.value.Value.{Value}
 use Rattle.terra_types.specs.declared.types.Integer.TheVariants.{Uint64}
 use Rattle.terra_types.specs.declared.types.TypeForm.{TypeForm}
 use Rattle.terra_types.specs.declared.types.TypeForm.TheVariants as forms
@@ -24,23 +25,17 @@ use Rattle.check_model.specs.declared.end.PartEnd.TheVariants as ends
 use Rattle.check_model.specs.declared.made.Made.{Made}
 use Rattle.check_model.specs.declared.rule.Mode.TheVariants.{Implicit}
 use Rattle.check_model.specs.Typing.{TypingState, made_of}
-use Rattle.check_model.specs.Plans.{BodyPlan, give, gives, operand, operands, untyped}
+use Rattle.check_model.specs.Plans.{BodyPlan, give, gives, calling, quoting, in_place, operand, untyped, quotes_of}
 use Rattle.check_model.specs.Calls.{argument, arguments}
 use Rattle.check_sound.specs.Sound.{foreseen, IsThere, IsSound}
 use Rattle.check_sound.proofs.Scalars.{byte-at, long-at, unit-at, word-at}
 use Rattle.check_sound.proofs.Running.{Known, Holds}
+pub use Rattle.check_sound.proofs.Running.{IsOperand, AreOperands}
 use Rattle.check_sound.proofs.Combining.{In, Step, Refuses, Makes, step-itself, step-twice, refuses-on, still, there-still, holds-make}
 use Rattle.check_sound.proofs.Combining.{holds-typing}
+use Rattle.check_sound.proofs.Asking.{holds-quoting, holds-answer}
 use Rattle.check_sound.proofs.Parts.{part-as, Listed, listed-snoc, listed-grows, usable-all, usable-snoc, TypesThere, types-there}
 use Rattle.check_sound.proofs.OfConverting.{holds-convert, holds-fit}
-
-abbrev pub IsOperand : Scope → StageState → Operand → Type 0
-IsOperand s w (Untyped t) = Unit {0}
-IsOperand s w (Typed m) = Known s w m
-
-abbrev pub AreOperands : Scope → StageState → List Operand → Type 0
-AreOperands s w [] = Unit {0}
-AreOperands s w (o ∷ os) = IsOperand s w o × AreOperands s w os
 
 pub are-untyped : (s : Scope) (w : StageState) (ts : List TermId) → AreOperands s w (untyped ts)
 are-untyped s w [] = tt
@@ -95,14 +90,25 @@ module _ (q : PartEnd → TypingState → Type 0) (b : ℕ) (s : Scope) where
     holds-operand w i r (Untyped t) go h k = holds-typing q b s w i t site go base r k
     holds-operand w i r (Typed m) go h k = k m w (step-itself b s w i) h
 
-    pub holds-operands : (os : List Operand) (w : TypingState) (i : In b s w) → Refuses q w →
-        (rest : BodyPlan) → AreOperands s w.stage os →
-        ((v : TypingState) → Step b s w v → Holds q rest v) → Holds q (operands os site rest) w
-    holds-operands [] w i r rest h k = k w (step-itself b s w i)
-    holds-operands (o ∷ os) w i r rest h k =
-        holds-operand w i r o (λ m. operands os site rest) h.0
-        (λ m v p known. holds-operands os v p.inside (refuses-on q w v r p.moves) rest (operands-still w v i p os h.1)
-        (λ x o2. k x (step-twice b s w v x p o2)))
+    -- each operand is typed, and a typed quote of it is given behind other values
+    pub holds-quotes : (os : List Operand) (qs : List Value) (go : List Value → BodyPlan) (w : TypingState)
+        (i : In b s w) → Refuses q w → AreOperands s w.stage os →
+        ((given : List Value) (v : TypingState) → Step b s w v → Holds q (go given) v) →
+        Holds q (quotes_of os site qs go) w
+    holds-quotes [] qs go w i r h k = k qs w (step-itself b s w i)
+    holds-quotes (o ∷ os) qs go w i r h k =
+        holds-operand w i r o (λ m. quoting m (λ x. quotes_of os site (qs ++ x ∷ []) go)) h.0
+        (λ m v p known. holds-quoting q b s v p.inside m (λ x. quotes_of os site (qs ++ x ∷ []) go) known
+        (λ x y o2.
+        let whole = step-twice b s w v y p o2 in
+        holds-quotes os (qs ++ x ∷ []) go y whole.inside (refuses-on q w y r whole.moves)
+        (operands-still w y i whole os h.1)
+        (λ given z o3. k given z (step-twice b s w y z whole o3))))
+
+    -- a value is called, and what it gives is typed in place of a node
+    pub holds-given : (w : TypingState) (i : In b s w) → Refuses q w → (h : Value) (vs : List Value) (at : Place) →
+        Gives w → is_placed at ≡ true → Holds q (calling h vs at site (λ v. in_place v at site give)) w
+    holds-given w i r h vs at k placed = holds-answer q b s w i h vs at site base give r placed k
 
     holds-argument : (fitting : Bool) (w : TypingState) (i : In b s w) (r : Refuses q w) (m : Made) (to : TypeId)
         (at : Place) (go : Made → BodyPlan) →
@@ -110,10 +116,10 @@ module _ (q : PartEnd → TypingState → Type 0) (b : ℕ) (s : Scope) where
         ((x : Made) (v : TypingState) → Step b s w v → Known s v.stage x → x.of ≡ to →
         is_usable (foreseen v.stage) to ≡ true → Holds q (go x) v) →
         Holds q (argument fitting m to at site go) w
-    holds-argument true w i r m to at go placed known there k = holds-fit q b s w i r m to at site go placed known
-        there k
-    holds-argument false w i r m to at go placed known there k = holds-convert q b s w i r Implicit m to site go known
-        there k
+    holds-argument true w i r m to at go placed known there k = holds-fit q b s w i r m to at site base go
+        placed known there k
+    holds-argument false w i r m to at go placed known there k = holds-convert q b s w i r Implicit m to site
+        base go known there k
 
     -- what the arguments leave
     abbrev Arguments : TypingState → List TypeId → (List TermId → BodyPlan) → Type 0

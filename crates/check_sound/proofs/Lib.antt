@@ -16,6 +16,8 @@ pub mod Adding
 pub mod Scalars
 pub mod Conversions
 pub mod Combining
+pub mod Becoming
+pub mod Asking
 pub mod Parts
 pub mod OfConverting
 pub mod Signatures
@@ -27,7 +29,6 @@ pub mod Rules
 pub mod OfOperators
 pub mod OfUnary
 pub mod NewTypes
-pub mod Becoming
 pub mod Scopes
 pub mod Blocks
 pub mod Entries
@@ -35,6 +36,9 @@ pub mod OfPlaces
 pub mod OfEntries
 pub mod OfMethods
 pub mod OfConstructors
+pub mod TypedQuotes
+pub mod TypesOf
+pub mod OfQuotes
 pub mod OfExpressions
 pub mod Stating
 pub mod OfVars

@@ -83,7 +83,7 @@ module _ (q : PartEnd → TypingState → Type 0) (b : ℕ) (s : Scope) (site : 
   holds-converting [] (p ∷ ps) ids us go w i r known places same l u k = absurd (omega (arith, same))
   holds-converting (m ∷ ms) [] ids us go w i r known places same l u k = absurd (omega (arith, same))
   holds-converting (m ∷ ms) (p ∷ ps) ids us go w i r known places same l u k =
-      holds-convert q b s w i r Implicit m p.of site (λ x. converting_all ms ps site (ids ++ x.id ∷ []) go) known.0
+      holds-convert q b s w i r Implicit m p.of site base (λ x. converting_all ms ps site (ids ++ x.id ∷ []) go) known.0
       places.0.there
       (λ x v o now is usable. holds-converting ms ps (ids ++ x.id ∷ []) (us ++ p.of ∷ []) go v o.inside
       (refuses-on q w v r o.moves)

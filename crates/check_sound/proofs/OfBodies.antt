@@ -17,7 +17,7 @@ use Rattle.terra_term.specs.declared.typed.Typed.TheVariants as typed_kinds
 use Rattle.terra_term.specs.Held.{next_typed}
 use Rattle.terra_term.specs.Planted.{typed_trees, typed_block_at}
 use Rattle.terra_term.specs.TypedTerms as typed
-use Rattle.terra_term.specs.WellTyped.{body_typed, names_laid_out, types_of_names, with_names, all_typed}
+use Rattle.terra_term.specs.WellTyped.{is_placed, body_typed, names_laid_out, types_of_names, with_names, all_typed}
 use Rattle.exotype.specs.World.{StageState}
 use Rattle.terra_term.specs.Sizes.{most, capped, leaf, body_size, typed_item_size}
 use Rattle.exotype.specs.Terms.{typed_size}
@@ -39,12 +39,13 @@ use Rattle.check_sound.proofs.Grows.{Grows, grows-twice}
 use Rattle.check_sound.proofs.Leading.{leads-itself, leads-twice, Moves, moves-itself, moves-same, moves-twice}
 use Rattle.check_sound.proofs.Worlds.{fair-of, any-grows, there-grows, body-grows, statements-grow}
 use Rattle.check_sound.proofs.Running.{AllThere, scope_of, Fits, ResultThere, LeavesMade, Leaves, Holds, Outcome, EachHolds, SeesAll}
+use Rattle.check_sound.proofs.Running.{AreOperands}
 use Rattle.check_sound.proofs.Combining.{In, Refuses, refuses-on, all-there}
 use Rattle.check_sound.proofs.Adding.{added, added-grows, added-leads, added-sound, added-tree}
 use Rattle.check_sound.proofs.Blocks.{More, Block, more-to, holds-statements}
 use Rattle.check_sound.proofs.Scopes.{there-append}
 use Rattle.check_sound.proofs.OfVars.{laid-snoc, laid-grows, holds-may-be}
-use Rattle.check_sound.proofs.Arguments.{unit-there}
+use Rattle.check_sound.proofs.Arguments.{unit-there, operands-still}
 use Rattle.check_sound.proofs.OfCalls.{holds-apply}
 use Rattle.check_sound.proofs.OfExpressions.{holds-expression-job}
 use Rattle.check_sound.proofs.OfStatements.{holds-statement-job}
@@ -75,21 +76,24 @@ expression-holds job t site w sound h k =
     (λ m v p known. (p.inside.sound, (p.moves, k (ends.Made m) v (p.same, known))))
 
 callee-holds : (t : TermId) (os : List Operand) (at : Place) (source : TermId) (site : Site) (w : TypingState) →
-    IsSound w.stage → SeesAll site w →
+    IsSound w.stage → SeesAll site w → is_placed at ≡ true → AreOperands (scope_of site.base w) w.stage os →
     Holds (Outcome (jobs.Callee t os at source site) w) (body_job (jobs.Callee t os at source site)) w
-callee-holds t os at source site w sound h =
+callee-holds t os at source site w sound h placed known =
     let q = Outcome (jobs.Callee t os at source site) w in
     holds-then q (expression_job t site) (λ r. on_made r (λ m. call_value m os at source site)) w
     (holds-expression-job (λ r v. Holds q (on_made r (λ m. call_value m os at source site)) v) site.base
     (scope_of site.base w) site refl w (here site w sound h)
     (λ why v s g. (s, (g, tt))) t
-    (λ m v p known. holds-apply q site.base (scope_of site.base w) site refl v p.inside
-    (λ why x s g. (s, (moves-twice w v x p.moves g, tt))) m os at source))
+    (λ m v p mine. holds-apply q site.base (scope_of site.base w) site refl v p.inside
+    (λ why x s g. (s, (moves-twice w v x p.moves g, tt))) m os at source
+    (λ n x o last. (o.inside.sound, (moves-twice w v x p.moves o.moves, (o.same ∙ p.same, last)))) placed mine
+    (operands-still q site.base (scope_of site.base w) w v (here site w sound h) p os known)))
 
 pub each-holds : EachHolds
 each-holds (jobs.Expression t site) w sound ready = expression-holds (jobs.Expression t site) t site w sound ready
     (λ r v l. l)
-each-holds (jobs.Callee t os at source site) w sound ready = callee-holds t os at source site w sound ready
+each-holds (jobs.Callee t os at source site) w sound ready =
+    callee-holds t os at source site w sound ready.0 ready.1.0 ready.1.1
 each-holds (jobs.Statement t site) w sound ready =
     holds-statement-job (Outcome (jobs.Statement t site) w) site.base (scope_of site.base w) site refl w
     (here site w sound ready.0)

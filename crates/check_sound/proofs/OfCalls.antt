@@ -1,11 +1,14 @@
 -- Calls leave typed terms.
-use Rattle.std.proofs.Common.{◌≡◌, ℕ, Bool, true, List, refl, ap, ◌∙◌, subst}
+use Rattle.std.proofs.Common.{◌≡◌, ℕ, Bool, true, false, List, [], ◌∷◌, refl, sym, ap, ◌∙◌, subst}
 use Rattle.std.specs.Prelude.{codes}
 use Rattle.tl_base.specs.declared.place.Place.{Place}
 use Rattle.tl_base.specs.declared.ids.TermId.{TermId}
 use Rattle.tl_base.specs.Plan.{Give, Do}
+use Rattle.lua_value.specs.declared.value.Value.{Value}
+use Rattle.lua_value.specs.declared.value.Value.TheVariants as values
 use Rattle.lua_value.specs.Values.{is_nil}
-use Rattle.terra_term.specs.declared.refusal.RefusalKind.TheVariants.{NotCallable, NotBuilt}
+use Rattle.lua_table.specs.Heap.{macro_at}
+use Rattle.terra_term.specs.declared.refusal.RefusalKind.TheVariants.{NotCallable}
 use Rattle.terra_term.specs.declared.term.Expression as expressions
 use Rattle.terra_term.specs.declared.term.Expression.TheVariants as e
 use Rattle.terra_term.specs.WellTyped.{Scope, is_placed}
@@ -17,19 +20,27 @@ use Rattle.check_model.specs.declared.end.PartEnd.TheVariants as ends
 use Rattle.check_model.specs.declared.made.Made.{Made}
 use Rattle.check_model.specs.Typing.{TypingState, expression_at, function_at}
 use Rattle.check_model.specs.Structs.{metamethod}
-use Rattle.check_model.specs.Plans.{refuse}
-use Rattle.check_model.specs.Calls.{is_called, call_named, call_term, call_value}
+use Rattle.check_model.specs.Plans.{refuse, give, ready, calling, in_place}
+use Rattle.check_model.specs.Calls.{call_macro, is_called, call_named, call_term, call_metamethod, call_value}
 use Rattle.check_sound.specs.Sound.{ExpressionIsSound, IsSound}
 use Rattle.check_sound.proofs.Leading.{Moves}
 use Rattle.check_sound.proofs.Running.{Known, Holds, LeavesMade, scope_of}
 use Rattle.check_sound.proofs.Combining.{In, Refuses, step-to, refuses-on, holds-refuse, holds-if, sees}
 use Rattle.check_sound.proofs.Signatures.{expression-sound}
-use Rattle.check_sound.proofs.Arguments.{AreOperands, Gives, holds-operands}
+use Rattle.check_sound.proofs.Asking.{holds-becoming}
+use Rattle.check_sound.proofs.Arguments.{AreOperands, Gives, gives-on, operands-still, holds-quotes, holds-given}
 use Rattle.check_sound.proofs.OfFunctions.{holds-function, holds-primitive}
 use Rattle.check_sound.proofs.OfCasts.{holds-cast, holds-size}
 
 module _ (q : PartEnd → TypingState → Type 0) (b : ℕ) (s : Scope) (site : Site) (base : site.base ≡ b) where
-  -- ---- what is called q b s site base by its name, and any other callee
+  -- ---- what is called by its name, and any other callee
+
+  holds-macro : (w : TypingState) (i : In b s w) (r : Refuses q w) (h : Value) (os : List Operand) (at : Place) →
+      Gives q b s w → is_placed at ≡ true → AreOperands s w.stage os → Holds q (call_macro h os at site) w
+  holds-macro w i r h os at k placed known =
+      holds-quotes q b s site base os [] (λ qs. calling h qs at site (λ v. in_place v at site give)) w i r known
+      (λ qs v p. holds-given q b s site base v p.inside (refuses-on q w v r p.moves) h qs at (gives-on q b s w v p k)
+      placed)
 
   pub holds-named : (w : TypingState) (i : In b s w) (r : Refuses q w) (x : expressions.Expression)
       (os : List Operand) (at : Place) (fitting : Bool)
@@ -41,8 +52,7 @@ module _ (q : PartEnd → TypingState → Type 0) (b : ℕ) (s : Scope) (site : 
   holds-named w i r (e.Primitive p) os at fitting source k placed known sound =
       holds-primitive q b s site base w i r p os at fitting source k placed known
   holds-named w i r (e.Macro m) os at fitting source k placed known sound =
-      holds-operands q b s site base os w i r (refuse NotBuilt at site) known
-      (λ v p. holds-refuse q b s v p.inside (refuses-on q w v r p.moves) NotBuilt at site)
+      holds-macro w i r (values.Closure (macro_at w.stage.heap m)) os at k placed known
   holds-named w i r (e.Type t) os at fitting source k placed known sound =
       holds-cast q b s site base w i r t os at source k known sound
   holds-named w i r e.SizeOf os at fitting source k placed known sound =
@@ -60,9 +70,18 @@ module _ (q : PartEnd → TypingState → Type 0) (b : ℕ) (s : Scope) (site : 
   on-callee w i r k (ends.Answered a) v sound g l = absurd l
 
   pub holds-callee : (w : TypingState) (i : In b s w) (r : Refuses q w) (t : TermId) (os : List Operand) (at : Place)
-      (source : TermId) → Gives q b s w →
+      (source : TermId) → Gives q b s w → is_placed at ≡ true → AreOperands s w.stage os →
       Holds q (Do (jobs.Callee t os at source site) Give) w
-  holds-callee w i r t os at source k = (i.sound, (sees q b s w i site base, on-callee w i r k))
+  holds-callee w i r t os at source k placed known = (
+    i.sound,
+    (
+      (
+        sees q b s w i site base,
+        (placed, subst (λ z. AreOperands z w.stage os) (sym (ap (λ n. scope_of n w) base ∙ i.scope)) known),
+      ),
+      on-callee w i r k,
+    ),
+  )
 
   pub holds-term : (w : TypingState) (i : In b s w) (r : Refuses q w) (t : TermId) (os : List Operand) (at : Place)
       (fitting : Bool) (source : TermId) →
@@ -74,13 +93,25 @@ module _ (q : PartEnd → TypingState → Type 0) (b : ℕ) (s : Scope) (site : 
       (Do (jobs.Callee t os at source site) Give)
       (λ c. holds-named w i r (expression_at w.stage t) os at fitting source k placed known
       (expression-sound w.stage i.sound t))
-      (λ c. holds-callee w i r t os at source k)
+      (λ c. holds-callee w i r t os at source k placed known)
 
-  -- Lua isn't asked
+  -- ---- metamethods
+
+  pub holds-metamethod : (w : TypingState) (i : In b s w) (r : Refuses q w) (h : Value) (os : List Operand) (at : Place)
+      (source : TermId) →
+      Gives q b s w → is_placed at ≡ true → AreOperands s w.stage os →
+      Holds q (call_metamethod h os at source site) w
+  holds-metamethod w i r h os at source k placed known =
+      holds-becoming q b s w i h at site (λ t. call_term t os at false source site) r placed
+      (λ t v p. holds-term v p.inside (refuses-on q w v r p.moves) t os at false source (gives-on q b s w v p k) placed
+      (operands-still q b s w v i p os known))
+
   pub holds-apply : (w : TypingState) (i : In b s w) (r : Refuses q w) (m : Made) (os : List Operand) (at : Place)
       (source : TermId) →
+      Gives q b s w → is_placed at ≡ true → Known s w.stage m → AreOperands s w.stage os →
       Holds q (call_value m os at source site) w
-  holds-apply w i r m os at source =
-      holds-if q b s w i (is_nil (metamethod w.stage m.of (codes "__apply"))) (refuse NotCallable at site)
-      (refuse NotBuilt at site)
-      (λ c. holds-refuse q b s w i r NotCallable at site) (λ c. holds-refuse q b s w i r NotBuilt at site)
+  holds-apply w i r m os at source k placed mine known =
+      let h = metamethod w.stage m.of (codes "__apply") in
+      holds-if q b s w i (is_nil h) (refuse NotCallable at site) (call_metamethod h (ready m ∷ os) at source site)
+      (λ c. holds-refuse q b s w i r NotCallable at site)
+      (λ c. holds-metamethod w i r h (ready m ∷ os) at source k placed (mine, known))

@@ -55,7 +55,7 @@ module _ (q : PartEnd → TypingState → Type 0) (b : ℕ) (s : Scope) (site : 
   holds-cast w i r to (o ∷ []) at source k known there =
       holds-operand q b s site base w i r o (λ m. convert Explicit m to site
       (λ x. give (record x { source = source }))) known.0
-      (λ m v p now. holds-convert q b s v p.inside (refuses-on q w v r p.moves) Explicit m to site
+      (λ m v p now. holds-convert q b s v p.inside (refuses-on q w v r p.moves) Explicit m to site base
       (λ x. give (record x { source = source })) now
       (there-still b s w v i p to there)
       (λ x z o2 later is usable. k (record x { source = source }) z (step-twice b s w v z p o2)

@@ -80,7 +80,7 @@ module _ (q : PartEnd → TypingState → Type 0) (b : ℕ) (s : Scope) (site : 
   holds-into (Some x ∷ ls) (t ∷ ts) at os ids us of go w i r are l u fits k =
       holds-typing q b s w i t site (λ m. convert Implicit m x.of site
       (λ z. into ls ts at site (os ++ x.offset ∷ []) (ids ++ z.id ∷ []) go)) base r
-      (λ m v p known. holds-convert q b s v p.inside (refuses-on q w v r p.moves) Implicit m x.of site
+      (λ m v p known. holds-convert q b s v p.inside (refuses-on q w v r p.moves) Implicit m x.of site base
       (λ z. into ls ts at site (os ++ x.offset ∷ []) (ids ++ z.id ∷ []) go) known (there-still b s w v i p x.of are.0.1)
       (λ z y o now is usable.
       let whole = step-twice b s w v y p o in

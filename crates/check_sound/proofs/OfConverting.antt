@@ -5,6 +5,8 @@ use mathlib.Core.Logic.{inl, inr}
 use Rattle.std.proofs.lemmas.Bool.{and_from, and_parts, and_cases, ltb-true, or_left}
 use Rattle.tl_base.specs.declared.place.Place.{Place}
 use Rattle.tl_base.specs.declared.ids.TypeId.{TypeId}
+use Rattle.lua_value.specs.declared.value.Value.{Value}
+use Rattle.lua_value.specs.declared.value.Value.TheVariants as values
 use Rattle.lua_value.specs.Values.{is_nil}
 use Rattle.terra_types.specs.declared.types.TypeForm.{TypeForm}
 use Rattle.terra_types.specs.declared.types.TypeForm.TheVariants as forms
@@ -12,7 +14,7 @@ use Rattle.terra_types.specs.Making.{same_type}
 use Rattle.check_cast.specs.declared.conversion.Conv.{Conv}
 use Rattle.check_cast.specs.declared.conversion.Conv.TheVariants as conv
 use Rattle.check_cast.specs.Conversions.{form_of}
-use Rattle.terra_term.specs.declared.refusal.RefusalKind.TheVariants.{Mismatch, NotPlace, TooWide, NotBuilt}
+use Rattle.terra_term.specs.declared.refusal.RefusalKind.TheVariants.{Mismatch, NotPlace, TooWide}
 use Rattle.terra_term.specs.declared.operators.Operation.TheVariants as operations
 use Rattle.terra_term.specs.declared.operators.Constant.TheVariants as constants
 use Rattle.terra_term.specs.declared.typed.TypedExpression.TheVariants as te
@@ -30,8 +32,8 @@ use Rattle.check_model.specs.declared.rule.Mode.{Mode}
 use Rattle.check_model.specs.declared.rule.Mode.TheVariants.{Implicit, Explicit}
 use Rattle.check_model.specs.Typing.{TypingState, form_in, bytes_in, is_aggregate_form, is_nil_made, made_of}
 use Rattle.check_model.specs.Structs.{metamethod_of_either}
-use Rattle.check_model.specs.Plans.{BodyPlan, reading, refuse, make, as_value, is_wide}
-use Rattle.check_model.specs.Converting.{conv_of, by_conv, is_same, takes_type, converted, convert, fit}
+use Rattle.check_model.specs.Plans.{BodyPlan, reading, refuse, make, as_value, is_wide, calling, quoting, in_place}
+use Rattle.check_model.specs.Converting.{conv_of, cast_to, by_conv, is_same, takes_type, converted, convert, fit}
 use Rattle.check_sound.specs.Sound.{foreseen, IsThere, IsSound}
 use Rattle.check_sound.proofs.Tests.{no, same-id}
 use Rattle.check_sound.proofs.Scalars.{is_scalar, scalar-usable, flat-usable, narrow-usable}
@@ -39,6 +41,7 @@ use Rattle.check_sound.proofs.Conversions.{Fact, conversion-fact}
 use Rattle.check_sound.proofs.Running.{Known, Holds}
 use Rattle.check_sound.proofs.Combining.{In, Step, Refuses, Makes, step-twice, refuses-on, still, usable-still, holds-make, holds-refuse}
 use Rattle.check_sound.proofs.Combining.{holds-if, holds-laid}
+use Rattle.check_sound.proofs.Asking.{holds-quoting, holds-answer}
 use Rattle.check_sound.proofs.Parts.{part-of, operates}
 
 -- ---- values
@@ -150,8 +153,10 @@ module _ (q : PartEnd → TypingState → Type 0) (b : ℕ) (s : Scope) (w : Typ
       (narrow v.stage m.of (still b s w v i p m known).there layout
       (and_cases (is_aggregate_form (form_in v.stage m.of)) (nat_lt 128 (bytes_in v.stage m.of)) h))))
 
-  -- ---- conversions
+-- ---- conversions
 
+module _ (q : PartEnd → TypingState → Type 0) (b : ℕ) (s : Scope) (w : TypingState) (i : In b s w)
+    (r : Refuses q w) where
   -- what a conversion leaves
   abbrev pub Converts : TypeId → (Made → BodyPlan) → Type 0
   Converts to go =
@@ -166,22 +171,44 @@ module _ (q : PartEnd → TypingState → Type 0) (b : ℕ) (s : Scope) (w : Typ
       (λ v p known. k (made_of (next_typed w.stage.store) m.source at to form) v p known refl
       (usable-still b s w v i p to (scalar-usable (foreseen w.stage) to scalar)))
 
-  by-conversion : (c : Conv) (m : Made) (to : TypeId) (site : Site) (go : Made → BodyPlan) → Known s w.stage m →
-      IsThere w.stage to →
+  -- what `__cast` gives has the type
+  holds-cast-to : (h : Value) (m : Made) (to : TypeId) (site : Site) → site.base ≡ b → (go : Made → BodyPlan) →
+      Known s w.stage m → Converts to go → Holds q (cast_to h m to site go) w
+  holds-cast-to h m to site base go known k =
+      holds-if q b s w i (is_nil h) (refuse Mismatch m.at site)
+      (quoting m (λ x. calling h (values.TerraType m.of ∷ values.TerraType to ∷ x ∷ []) m.at site
+      (λ y. in_place y m.at site
+      (λ n. if same_type n.of to then as_value n site (go n) else refuse Mismatch m.at site))))
+      (λ c. holds-refuse q b s w i r Mismatch m.at site)
+      (λ c. holds-quoting q b s w i m
+      (λ x. calling h (values.TerraType m.of ∷ values.TerraType to ∷ x ∷ []) m.at site
+      (λ y. in_place y m.at site
+      (λ n. if same_type n.of to then as_value n site (go n) else refuse Mismatch m.at site))) known
+      (λ x v p. holds-answer q b s v p.inside h (values.TerraType m.of ∷ values.TerraType to ∷ x ∷ []) m.at site base
+      (λ n. if same_type n.of to then as_value n site (go n) else refuse Mismatch m.at site)
+      (refuses-on q w v r p.moves) known.placed
+      (λ n y o now.
+      let whole = step-twice b s w v y p o in
+      holds-if q b s y o.inside (same_type n.of to) (as_value n site (go n)) (refuse Mismatch m.at site)
+      (λ e. holds-value q b s y o.inside (refuses-on q w y r whole.moves) n site (go n) now
+      (λ z o2 later usable. k n z (step-twice b s w y z whole o2) later (same-id n.of to e)
+      (subst (λ t. is_usable (foreseen z.stage) t ≡ true) (same-id n.of to e) usable)))
+      (λ e. holds-refuse q b s y o.inside (refuses-on q w y r whole.moves) Mismatch m.at site))))
+
+  by-conversion : (c : Conv) (m : Made) (to : TypeId) (site : Site) → site.base ≡ b → (go : Made → BodyPlan) →
+      Known s w.stage m → IsThere w.stage to →
       Fact (foreseen w.stage) c m.of to → Converts to go → Holds q (by_conv c w.stage m to site go) w
-  by-conversion conv.Same m to site go known there fact k =
-      holds-value m site (go m) known
+  by-conversion conv.Same m to site base go known there fact k =
+      holds-value q b s w i r m site (go m) known
       (λ v p now usable. k m v p now fact (subst (λ t. is_usable (foreseen v.stage) t ≡ true) fact usable))
-  by-conversion conv.Array m to site go known there fact k =
+  by-conversion conv.Array m to site base go known there fact k =
       holds-if q b s w i m.is_place (make m.source m.at to (te.Decay m.id) go) (refuse NotPlace m.at site)
       (λ place. made-scalar m m.at to (te.Decay m.id) (typed.Decay (typed_at (typed_trees w.stage.store.typed) m.id)) go
       (makes-decay s w.stage to m there known place fact) (pointer-scalar (form_in w.stage to) fact.0) k)
       (λ h. holds-refuse q b s w i r NotPlace m.at site)
-  by-conversion conv.No m to site go known there fact k =
-      holds-if q b s w i (is_nil (metamethod_of_either w.stage m.of to (codes "__cast"))) (refuse Mismatch m.at site)
-      (refuse NotBuilt m.at site)
-      (λ h. holds-refuse q b s w i r Mismatch m.at site) (λ h. holds-refuse q b s w i r NotBuilt m.at site)
-  by-conversion _ m to site go known there fact k =
+  by-conversion conv.No m to site base go known there fact k =
+      holds-cast-to (metamethod_of_either w.stage m.of to (codes "__cast")) m to site base go known k
+  by-conversion _ m to site base go known there fact k =
       made-scalar m m.at to (te.Operate operations.Convert (m.id ∷ []))
       (typed.Operate operations.Convert (typed.then_one (typed_at (typed_trees w.stage.store.typed) m.id)
       typed.no_more)) go
@@ -194,33 +221,33 @@ module _ (q : PartEnd → TypingState → Type 0) (b : ℕ) (s : Scope) (w : Typ
       made-scalar m m.at to (te.Constant constants.Nil) (typed.Constant' constants.Nil) go
       (makes-nil s w.stage m.at to known.placed there pointer) (pointer-scalar (form_in w.stage to) pointer) k
 
-  converted-by : (c : Conv) (m : Made) (to : TypeId) (site : Site) (go : Made → BodyPlan) → Known s w.stage m →
-      IsThere w.stage to →
+  converted-by : (c : Conv) (m : Made) (to : TypeId) (site : Site) → site.base ≡ b → (go : Made → BodyPlan) →
+      Known s w.stage m → IsThere w.stage to →
       Fact (foreseen w.stage) c m.of to → Converts to go → Holds q (converted c w.stage m to site go) w
-  converted-by c m to site go known there fact k =
+  converted-by c m to site base go known there fact k =
       holds-if q b s w i (takes_type w.stage m to)
       (if is_same c then by_conv c w.stage m to site go else make m.source m.at to (te.Constant constants.Nil) go)
       (by_conv c w.stage m to site go)
       (λ h. holds-if q b s w i (is_same c) (by_conv c w.stage m to site go)
       (make m.source m.at to (te.Constant constants.Nil) go)
-      (λ e. by-conversion c m to site go known there fact k)
+      (λ e. by-conversion c m to site base go known there fact k)
       (λ e. as-nil m to go known there (and_parts (is_nil_made w.stage m) (pointer_form (form_in w.stage to)) h).1 k))
-      (λ h. by-conversion c m to site go known there fact k)
+      (λ h. by-conversion c m to site base go known there fact k)
 
-  pub holds-convert : (mode : Mode) (m : Made) (to : TypeId) (site : Site) (go : Made → BodyPlan) → Known s w.stage m →
-      IsThere w.stage to →
+  pub holds-convert : (mode : Mode) (m : Made) (to : TypeId) (site : Site) → site.base ≡ b → (go : Made → BodyPlan) →
+      Known s w.stage m → IsThere w.stage to →
       Converts to go → Holds q (convert mode m to site go) w
-  holds-convert mode m to site go known there k =
-      converted-by (conv_of mode w.stage m.of to) m to site go known there (fact-of w.stage i.sound mode m.of to) k
+  holds-convert mode m to site base go known there k =
+      converted-by (conv_of mode w.stage m.of to) m to site base go known there (fact-of w.stage i.sound mode m.of to) k
 
 -- ---- receivers
 
 module _ (q : PartEnd → TypingState → Type 0) (b : ℕ) (s : Scope) (w : TypingState) (i : In b s w)
     (r : Refuses q w) where
-  pub holds-fit : (m : Made) (to : TypeId) (at : Place) (site : Site) (go : Made → BodyPlan) → is_placed at ≡ true →
-      Known s w.stage m →
+  pub holds-fit : (m : Made) (to : TypeId) (at : Place) (site : Site) → site.base ≡ b → (go : Made → BodyPlan) →
+      is_placed at ≡ true → Known s w.stage m →
       IsThere w.stage to → Converts q b s w i r to go → Holds q (fit m to at site go) w
-  holds-fit m to at site go placed known there k =
+  holds-fit m to at site base go placed known there k =
       holds-if q b s w i (same_type m.of to) (as_value m site (go m))
       (if points_in (form_in w.stage to) m.of then (if m.is_place then make m.source at to (te.Address m.id) go else
       refuse NotPlace m.at site) else (if points_in (form_in w.stage m.of) to then
@@ -247,4 +274,4 @@ module _ (q : PartEnd → TypingState → Type 0) (b : ℕ) (s : Scope) (w : Typ
       (go (made_of (next_typed w.stage.store) m.source at to (te.Dereference m.id))) now
       (λ x o later usable. k (made_of (next_typed w.stage.store) m.source at to (te.Dereference m.id)) x
       (step-twice b s w v x p o) later refl usable)))
-      (λ c. holds-convert q b s w i r Implicit m to site go known there k)))
+      (λ c. holds-convert q b s w i r Implicit m to site base go known there k)))

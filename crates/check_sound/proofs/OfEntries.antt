@@ -8,11 +8,12 @@ use Rattle.tl_base.specs.declared.ids.TermId.{TermId}
 use Rattle.tl_base.specs.declared.ids.TextId.{TextId}
 use Rattle.tl_base.specs.declared.ids.TypeId.{TypeId}
 use Rattle.lua_value.specs.declared.value.Value.{Value}
+use Rattle.lua_value.specs.declared.value.Value.TheVariants as values
 use Rattle.lua_value.specs.Values.{is_nil}
 use Rattle.terra_types.specs.declared.layout.Laid.{Laid}
 use Rattle.terra_types.specs.Layouts.{entries_of, entry_named}
 use Rattle.check_cast.specs.Conversions.{form_of}
-use Rattle.terra_term.specs.declared.refusal.RefusalKind.TheVariants.{NoField, NotBuilt}
+use Rattle.terra_term.specs.declared.refusal.RefusalKind.TheVariants.{NoField}
 use Rattle.terra_term.specs.declared.operators.Operation.TheVariants as operations
 use Rattle.terra_term.specs.declared.typed.TypedExpression.TheVariants as te
 use Rattle.terra_term.specs.Planted.{typed_trees, typed_at, typed_list_at}
@@ -24,7 +25,7 @@ use Rattle.check_model.specs.declared.end.PartEnd.{PartEnd}
 use Rattle.check_model.specs.declared.made.Made.{Made}
 use Rattle.check_model.specs.Typing.{TypingState, form_in, struct_of}
 use Rattle.check_model.specs.Structs.{metamethod}
-use Rattle.check_model.specs.Plans.{reading, gives, refuse, as_value}
+use Rattle.check_model.specs.Plans.{reading, give, gives, refuse, as_value, calling, quoting, in_place}
 use Rattle.check_model.specs.Expressions.{entry, missing_entry, entry_or, select_plan}
 use Rattle.check_sound.specs.Sound.{foreseen, IsSound}
 use Rattle.check_sound.proofs.Tests.{no}
@@ -36,7 +37,8 @@ use Rattle.check_sound.proofs.Running.{Known, Holds}
 use Rattle.check_sound.proofs.Combining.{In, Step, Refuses, refuses-on, still, there-still, holds-refuse, holds-if, holds-laid}
 use Rattle.check_sound.proofs.Parts.{part-of, operates}
 use Rattle.check_sound.proofs.OfConverting.{holds-value}
-use Rattle.check_sound.proofs.Arguments.{Gives, gives-on, holds-gives}
+use Rattle.check_sound.proofs.Asking.{holds-quoting}
+use Rattle.check_sound.proofs.Arguments.{Gives, gives-on, holds-gives, holds-given}
 use Rattle.check_sound.proofs.OfOperators.{target-still}
 use Rattle.check_sound.proofs.Entries.{named-entry, StructFact, struct-fact, IsEntry, entry-at}
 
@@ -119,11 +121,16 @@ module _ (q : PartEnd → TypingState → Type 0) (b : ℕ) (s : Scope) (site : 
       (gives-on q b s w v p k))))
 
   holds-missing : (w : TypingState) (i : In b s w) (r : Refuses q w) (h : Value) (o : Made) (field : TextId)
-      (at : Place) →
+      (at : Place) → Gives q b s w → is_placed at ≡ true → Known s w.stage o →
       Holds q (missing_entry h o field at site) w
-  holds-missing w i r h o field at =
-      holds-if q b s w i (is_nil h) (refuse NoField at site) (refuse NotBuilt at site)
-      (λ c. holds-refuse q b s w i r NoField at site) (λ c. holds-refuse q b s w i r NotBuilt at site)
+  holds-missing w i r h o field at k placed known =
+      holds-if q b s w i (is_nil h) (refuse NoField at site)
+      (quoting o (λ x. calling h (values.Text field ∷ x ∷ []) at site (λ v. in_place v at site give)))
+      (λ c. holds-refuse q b s w i r NoField at site)
+      (λ c. holds-quoting q b s w i o
+      (λ x. calling h (values.Text field ∷ x ∷ []) at site (λ v. in_place v at site give)) known
+      (λ x v p. holds-given q b s site base v p.inside (refuses-on q w v r p.moves) h (values.Text field ∷ x ∷ []) at
+      (gives-on q b s w v p k) placed))
 
   holds-entry-or : (w : TypingState) (i : In b s w) (r : Refuses q w) (o : Made) (u : TypeId) (field : TextId)
       (at : Place) (source : TermId) → Gives q b s w →
@@ -131,7 +138,7 @@ module _ (q : PartEnd → TypingState → Type 0) (b : ℕ) (s : Scope) (site : 
       (x : Option Laid) → entry_named field (entries_of w.stage.store.types u) ≡ x →
       Holds q (entry_or w.stage x u o field at source site) w
   holds-entry-or w i r o u field at source k placed known fact None h =
-      holds-missing w i r (metamethod w.stage u (codes "__entrymissing")) o field at
+      holds-missing w i r (metamethod w.stage u (codes "__entrymissing")) o field at k placed known
   holds-entry-or w i r o u field at source k placed known fact (Some l) h =
       let n = named-entry field (entries_of w.stage.store.types u) l h in
       holds-entry w i r o u l at source k placed known fact (entry-at w.stage i.sound u n.1.0 l n.0 n.1.1)

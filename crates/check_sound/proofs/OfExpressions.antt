@@ -1,15 +1,14 @@
 -- Expressions leave typed terms.
 use Rattle.std.proofs.Common.{◌≡◌, ℕ, true, false, List, length, Option, Some, None, refl, sym, ap, ◌∙◌, subst, slice_get}
 use Rattle.std.specs.Prelude.{unwrap_or}
-use Rattle.std.proofs.lemmas.Bool.{and_from, lt-ltb}
-use Rattle.std.proofs.lemmas.Option.{slice_get_within}
+use Rattle.std.proofs.lemmas.Bool.{and_from}
 use Rattle.tl_base.specs.declared.place.Place.{Place}
 use Rattle.tl_base.specs.declared.ids.TermId.{TermId}
 use Rattle.tl_base.specs.declared.ids.TypeId.{TypeId}
 use Rattle.tl_base.specs.Plan.{Give, Do, Pay}
 use Rattle.terra_types.specs.declared.types.TypeForm.TheVariants as forms
 use Rattle.terra_types.specs.Opening.{boolean, rawstring}
-use Rattle.terra_term.specs.declared.refusal.RefusalKind.TheVariants.{BadOperand, FunctionValue, NotBuilt}
+use Rattle.terra_term.specs.declared.refusal.RefusalKind.TheVariants.{BadOperand, FunctionValue}
 use Rattle.terra_term.specs.declared.operators.Constant.TheVariants as constants
 use Rattle.terra_term.specs.declared.lists.TypedName.{TypedName}
 use Rattle.terra_term.specs.declared.operators.Constant.{Constant}
@@ -20,7 +19,7 @@ use Rattle.terra_term.specs.declared.term.Expression.TheVariants as e
 use Rattle.terra_term.specs.declared.typed.TypedExpression.TheVariants as te
 use Rattle.terra_term.specs.Planted.{nowhere, typed_trees, typed_at, typed_block_at}
 use Rattle.terra_term.specs.TypedTerms as typed
-use Rattle.terra_term.specs.WellTyped.{Scope, same, is_placed, is_pointer, pointer_form, with_names, is_typed, constant_typed, is_word_of}
+use Rattle.terra_term.specs.WellTyped.{Scope, same, is_placed, is_pointer, pointer_form, with_names, is_typed, constant_typed}
 use Rattle.exotype.specs.World.{StageState}
 use Rattle.check_model.specs.declared.site.Site.{Site}
 use Rattle.check_model.specs.declared.job.BodyJob.TheVariants as jobs
@@ -33,7 +32,7 @@ use Rattle.check_model.specs.Expressions.{index_plan, select_plan, method_plan, 
 use Rattle.check_model.specs.Expressions.{expression_job}
 use Rattle.check_sound.specs.Sound.{foreseen, IsThere, AreStatements, ExpressionIsSound, IsSound}
 use Rattle.check_sound.proofs.Tests.{same-refl}
-use Rattle.check_sound.proofs.Scalars.{in-range, text-at, boolean-at}
+use Rattle.check_sound.proofs.Scalars.{text-at}
 use Rattle.check_sound.proofs.Grows.{grows-twice}
 use Rattle.check_sound.proofs.Leading.{moves-twice}
 use Rattle.check_sound.proofs.Running.{Holds}
@@ -50,6 +49,8 @@ use Rattle.check_sound.proofs.OfPlaces.{holds-variable, holds-global, holds-inde
 use Rattle.check_sound.proofs.OfEntries.{holds-select}
 use Rattle.check_sound.proofs.OfMethods.{holds-method}
 use Rattle.check_sound.proofs.OfConstructors.{holds-new}
+use Rattle.check_sound.proofs.TypesOf.{bool-there, text-there, constant-there}
+use Rattle.check_sound.proofs.OfQuotes.{holds-typed}
 
 pub more-on : {b : ℕ} {s : Scope} (w v x y : TypingState) (more : List TypedName) → In b s w → More b s w v more →
     Step b (with_names more s) v x →
@@ -113,7 +114,7 @@ module _ (q : PartEnd → TypingState → Type 0) (b : ℕ) (s : Scope) (site : 
       (Do (jobs.Callee f (untyped args) at source site) Give)
       (λ c. holds-named q b s site base w i r (expression_at w.stage f) (untyped args) at false source k placed
       (are-untyped s w.stage args) (expression-sound w.stage i.sound f))
-      (λ c. holds-callee q b s site base w i r f (untyped args) at source k)
+      (λ c. holds-callee q b s site base w i r f (untyped args) at source k placed (are-untyped s w.stage args))
 
   makes-constant : (w : StageState) (at : Place) (of : TypeId) (c : Constant) → is_placed at ≡ true → IsThere w of →
       constant_typed (foreseen w) of c ≡ true →
@@ -127,13 +128,6 @@ module _ (q : PartEnd → TypingState → Type 0) (b : ℕ) (s : Scope) (site : 
         and_from _ _ placed h;
     place = refl;
   }
-
-  word-there : (w : StageState) (t : TypeId) (word : ℕ) → constant_typed (foreseen w) t
-      (constants.Number word) ≡ true → IsThere w t
-  word-there w t word h = lt-ltb t.0 _ (in-range w.store.types (λ f. is_word_of f word) refl t h)
-
-  text-there : (w : StageState) → IsSound w → IsThere w rawstring
-  text-there w sound = lt-ltb 10 _ (slice_get_within w.store.types 10 _ (text-at w.store.types sound.types))
 
   nil-there : (w : StageState) → IsSound w → is_pointer (foreseen w) rawstring ≡ true
   nil-there w sound = ap (λ o. pointer_form (unwrap_or o forms.Unit)) (text-at w.store.types sound.types)
@@ -149,11 +143,12 @@ module _ (q : PartEnd → TypingState → Type 0) (b : ℕ) (s : Scope) (site : 
       is_placed at ≡ true → ExpressionIsSound w.stage x → Holds q (expression_plan w x at t site) w
   holds-expression w i r (e.Number bits of) at t k placed sound =
       holds-gives q b s w i t at of (te.Constant (constants.Number bits)) (typed.Constant' (constants.Number bits))
-      (makes-constant w.stage at of (constants.Number bits) placed (word-there w.stage of bits sound) sound) k
+      (makes-constant w.stage at of (constants.Number bits) placed
+      (constant-there w.stage i.sound of (constants.Number bits) sound) sound) k
   holds-expression w i r (e.Truth c) at t k placed sound =
       holds-gives q b s w i t at boolean (te.Constant (constants.Truth c)) (typed.Constant' (constants.Truth c))
       (makes-constant w.stage at boolean (constants.Truth c) placed
-      (lt-ltb 8 _ (slice_get_within w.stage.store.types 8 _ (boolean-at w.stage.store.types i.sound.types))) refl) k
+      (bool-there w.stage i.sound) refl) k
   holds-expression w i r e.Nil at t k placed sound = holds-nil w i at t k placed
   holds-expression w i r (e.Variable x) at t k placed sound = holds-variable q b s site base w i r x at t k placed
       (variable_at w site.base x) refl
@@ -197,7 +192,8 @@ module _ (q : PartEnd → TypingState → Type 0) (b : ℕ) (s : Scope) (site : 
       (gives-on q b s w z (step-twice b s w v z p o) k) placed (still b s v z p.inside o x known) now))
   holds-expression w i r (e.New of values) at t k placed sound = holds-new q b s site base w i r of values at t k placed
   holds-expression w i r (e.Let block value) at t k placed sound = holds-let w i r block value at t k placed sound
-  holds-expression w i r (e.Typed source made) at t k placed sound = holds-refuse q b s w i r NotBuilt at site
+  holds-expression w i r (e.Typed source made) at t k placed sound =
+      holds-typed q b s site base w i r source made k sound
 
   holds-node : (w : TypingState) (i : In b s w) (r : Refuses q w) (t : TermId) → Gives q b s w →
       (o : Option nodes.Term) →

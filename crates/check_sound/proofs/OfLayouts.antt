@@ -6,7 +6,9 @@ use Rattle.tl_base.specs.declared.ids.TypeId.{TypeId}
 use Rattle.tl_base.specs.Layer.{State}
 use Rattle.tl_base.specs.Plan.{Give, AskFor, Read, Run, Gives, Stops, Lacks, Waits, run, run_job, shown}
 use Rattle.lua_value.specs.declared.value.Value.{Value}
+use Rattle.lua_value.specs.declared.value.Value.TheVariants as values
 use Rattle.lua_value.specs.Values.{is_nil}
+use Rattle.lua_table.specs.Cells.{first_value}
 use Rattle.terra_types.specs.declared.layout.Entry.{Entry}
 use Rattle.terra_types.specs.declared.layout.Layout.{Layout}
 use Rattle.terra_types.specs.declared.types.TypeForm.{TypeForm}
@@ -22,17 +24,16 @@ use Rattle.exotype.specs.Properties.{known_of, with_known}
 use Rattle.exotype.specs.declared.property.Property.TheVariants.{Entries}
 use Rattle.exotype.specs.declared.property.Known.{Known}
 use Rattle.exotype.specs.declared.property.Known.TheVariants as known
-use Rattle.check_model.specs.declared.end.LayoutEnd.{LayoutEnd}
-use Rattle.check_model.specs.declared.end.LayoutEnd.TheVariants as ends
 use Rattle.check_model.specs.declared.question.LayoutQuestion.{LayoutQuestion}
-use Rattle.check_model.specs.declared.question.LayoutQuestion.TheVariants.{LayoutOf}
+use Rattle.check_model.specs.declared.question.LayoutQuestion.TheVariants.{CallLua, LayoutOf}
 use Rattle.check_model.specs.declared.question.CheckAnswer.{CheckAnswer}
 use Rattle.check_model.specs.declared.question.CheckAnswer.TheVariants as answers
 use Rattle.check_model.specs.Typing.{form_in, is_aggregate_form}
 use Rattle.check_model.specs.Structs.{metamethod, entries_at}
 use Rattle.check_model.specs.Keeping.{IsLaidOut}
 use Rattle.check_model.specs.Layouts.{LayoutPlan, LayoutGiven, kept_as, keep, settle, unless_settled, settled_as, parts_of, with_entries}
-use Rattle.check_model.specs.Layouts.{by_entries, on_part, asked_entries, by_known, by_form, sized, entries_from, layout_first, layout_job}
+use Rattle.check_model.specs.Layouts.{by_entries, on_values, on_part, asked_entries, by_known, by_form, sized, entries_from, layout_first}
+use Rattle.check_model.specs.Layouts.{layout_job, close_layout}
 use Rattle.check_sound.specs.Sound.{IsSound}
 use Rattle.check_sound.specs.Growing.{Leads}
 use Rattle.check_sound.specs.Layers.{IsBack, IsBackFor, IsLaidAs, LayoutStaysSound, LayoutsKeepSound}
@@ -77,10 +78,10 @@ kept-no-value kind v e = refused-apart kind v e
 
 -- a layout of a type, from a world on
 module _ (t : TypeId) (w0 : StageState) where
-  abbrev Goal : LayoutEnd → StageState → Type 0
-  Goal r w = IsSound w × (Leads w0 w × IsLaidAs t r w)
+  abbrev Goal : CheckAnswer → StageState → Type 0
+  Goal r w = IsSound w × (Leads w0 w × IsLaidAs t (close_layout r) w)
 
-  abbrev Leaves : Unit {0} → StageState → LayoutEnd → StageState → Type 0
+  abbrev Leaves : Unit {0} → StageState → CheckAnswer → StageState → Type 0
   Leaves job w r v = Goal r v
 
   abbrev Holds : LayoutPlan → StageState → Type 0
@@ -91,7 +92,7 @@ module _ (t : TypeId) (w0 : StageState) where
     sound : IsSound w
     leads : Leads w0 w
 
-  refuses : (w : StageState) → Stands w → (kind : RefusalKind) → Goal (ends.Refused kind) w
+  refuses : (w : StageState) → Stands w → (kind : RefusalKind) → Goal (answers.NoLayout kind) w
   refuses w s kind = (s.sound, (s.leads, tt))
 
   -- ---- what is kept
@@ -116,11 +117,11 @@ module _ (t : TypeId) (w0 : StageState) where
   laid-by false w h = tt
 
   -- where the size is known
-  holds-done : (w : StageState) → Stands w → is_some (size_of w.store.types t) ≡ true → Goal ends.Done w
+  holds-done : (w : StageState) → Stands w → is_some (size_of w.store.types t) ≡ true → Goal answers.Done w
   holds-done w s h = (s.sound, (s.leads, laid-by (is_aggregate_form (form_in w t)) w h))
 
   holds-settled : (w : StageState) → Stands w → (v : Value) → is_some (size_of w.store.types t) ≡ true →
-      Goal ends.Done (kept_else w (settled_as (known_of w.kept (Entries t)) w.kept t (known.Value v)))
+      Goal answers.Done (kept_else w (settled_as (known_of w.kept (Entries t)) w.kept t (known.Value v)))
   holds-settled w s v h =
       holds-done (kept_else w (settled_as (known_of w.kept (Entries t)) w.kept t (known.Value v)))
       (stands-settling w s (known.Value v) (λ u e. h)) h
@@ -190,13 +191,28 @@ module _ (t : TypeId) (w0 : StageState) where
   holds-entries : (v : Value) (at : Place) (w : StageState) → Stands w → IsStruct w → Holds (by_entries t v at) w
   holds-entries v at w s is = holds-with-entries v at w s is (entries_from w.heap v)
 
-  -- Lua isn't asked
+  -- the entries are the first value that Lua gives
+  holds-values : (a : CheckAnswer) (at : Place) (w : StageState) → Stands w → IsStruct w → Holds (on_values a t at) w
+  holds-values (answers.Values vs) at w s is = holds-entries (first_value vs) at w s is
+  holds-values answers.Go at w s is = holds-keep w s refusals.CallbackRaised
+  holds-values (answers.Raise v place) at w s is = holds-keep w s refusals.CallbackRaised
+  holds-values (answers.Result u) at w s is = holds-keep w s refusals.CallbackRaised
+  holds-values (answers.Refused why) at w s is = holds-keep w s refusals.CallbackRaised
+  holds-values answers.Done at w s is = holds-keep w s refusals.CallbackRaised
+  holds-values (answers.NoLayout kind) at w s is = holds-keep w s refusals.CallbackRaised
+
   holds-asked : (x w : StageState) (h : Value) (at : Place) → Stands w → IsStruct w → Holds (asked_entries x h t at) w
   holds-asked x w h at s is = by (is_nil h)
     where
-      by : (c : Bool) → Holds (if c then by_entries t (entries_at x t) at else keep t refusals.NotBuilt) w
+      by : (c : Bool) → Holds (if c then by_entries t (entries_at x t) at
+          else AskFor (CallLua h (values.TerraType t ∷ []) at) (λ a. on_values a t at)) w
       by true = holds-entries (entries_at x t) at w s is
-      by false = holds-keep w s refusals.NotBuilt
+      by false = (
+        s.sound,
+        λ a y f.
+            holds-values a at y (record { sound = f.0; leads = leads-twice w0 w y s.leads f.1 })
+            (struct-on w y f.1 is),
+      )
 
   holds-known : (w : StageState) (k : Known) (at : Place) → known_of w.kept (Entries t) ≡ k → Stands w → IsStruct w →
       Holds (by_known w k t at) w
@@ -214,7 +230,7 @@ module _ (t : TypeId) (w0 : StageState) where
   -- ---- each type
 
   holds-array : (w : StageState) → Stands w → (of : TypeId) (at : Place) →
-      Holds (AskFor (LayoutOf of at) (λ a. on_part a (λ kind. Give (ends.Refused kind))
+      Holds (AskFor (LayoutOf of at) (λ a. on_part a (λ kind. Give (answers.NoLayout kind))
       (Read (λ v. sized (size_of v.store.types t))))) w
   holds-array w s of at = (s.sound, λ a y h. answered a y (record { sound = h.0; leads = leads-twice w0 w y s.leads h.1 }))
     where
@@ -223,7 +239,7 @@ module _ (t : TypeId) (w0 : StageState) where
       size y s None e = refuses y s refusals.BadEntries
 
       answered : (a : CheckAnswer) (y : StageState) → Stands y →
-          Holds (on_part a (λ kind. Give (ends.Refused kind))
+          Holds (on_part a (λ kind. Give (answers.NoLayout kind))
           (Read (λ v. sized (size_of v.store.types t)))) y
       answered (answers.NoLayout kind) y s = refuses y s kind
       answered answers.Go y s = size y s (size_of y.store.types t) refl
@@ -234,7 +250,7 @@ module _ (t : TypeId) (w0 : StageState) where
       answered answers.Done y s = size y s (size_of y.store.types t) refl
 
   -- what is no aggregate needs none
-  flat : (w : StageState) → Stands w → (f : TypeForm) → form_in w t ≡ f → is_aggregate_form f ≡ false → Goal ends.Done w
+  flat : (w : StageState) → Stands w → (f : TypeForm) → form_in w t ≡ f → is_aggregate_form f ≡ false → Goal answers.Done w
   flat w s f e plain = (s.sound, (s.leads, subst (λ c. IsLaidOut w t c) (sym (ap is_aggregate_form e ∙ plain)) tt))
 
   struct-at : (w : StageState) (n : ℕ) (p : Place) (l : Option Layout) (o : Option TypeForm) → slice_get w.store.types t.0 ≡ o →
@@ -258,8 +274,8 @@ module _ (t : TypeId) (w0 : StageState) where
 
 -- ---- the whole
 
-follows-seen : (t : TypeId) (w0 : StageState) (o : Run StageState LayoutQuestion CheckAnswer LayoutEnd) (next : LayoutGiven) →
-    IsBackFor (shown (λ r. r) o) next →
+follows-seen : (t : TypeId) (w0 : StageState) (o : Run StageState LayoutQuestion CheckAnswer CheckAnswer) (next : LayoutGiven) →
+    IsBackFor (shown close_layout o) next →
     FollowsRun layout_job IsSound Ready (Leaves t w0) Asked Fits Follows Fine fits o next
 follows-seen t w0 (Gives r s over) next h = tt
 follows-seen t w0 (Stops (Lacks s)) next h = tt
@@ -284,8 +300,8 @@ layouts-keep-sound task first later sound all = by (run (run_job layout_job) (la
         follows-seen task.of first.state.world (run (run_job layout_job) (layout_first task) first.state before) next
         (all before behind next split)
 
-    by : (o : Run StageState LayoutQuestion CheckAnswer LayoutEnd) →
-        run (run_job layout_job) (layout_first task) first.state later ≡ o → LayoutStaysSound task first (shown (λ r. r) o)
+    by : (o : Run StageState LayoutQuestion CheckAnswer CheckAnswer) →
+        run (run_job layout_job) (layout_first task) first.state later ≡ o → LayoutStaysSound task first (shown close_layout o)
     by (Gives r s over) e =
         meets layout_job IsSound Ready (Leaves task.of first.state.world) Asked Fits Follows Fine fits
         (λ job w good never. absurd never) (Goal task.of first.state.world) (layout_first task) first.state later

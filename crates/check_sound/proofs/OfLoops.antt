@@ -79,7 +79,7 @@ module _ (q : PartEnd → TypingState → Type 0) (b : ℕ) (s : Scope) (site : 
   holds-all-to [] t ids us go w i r known there l k = k ids w (step-itself b s w i)
       (subst (Listed s w.stage ids) (sym (append-nil us)) l)
   holds-all-to (m ∷ ms) t ids us go w i r known there l k =
-      holds-convert q b s w i r Implicit m t site (λ x. all_to t ms site (ids ++ x.id ∷ []) go) known.0 there
+      holds-convert q b s w i r Implicit m t site base (λ x. all_to t ms site (ids ++ x.id ∷ []) go) known.0 there
       (λ x v o now is usable. holds-all-to ms t (ids ++ x.id ∷ []) (us ++ t ∷ []) go v o.inside
       (refuses-on q w v r o.moves)
       (all-grow s w.stage v.stage i.sound o.inside.sound o.grows ms known.1) (there-still b s w v i o t there)

@@ -6,13 +6,14 @@ use Rattle.std.proofs.lemmas.Option.{slice_get_within}
 use Rattle.tl_base.specs.declared.place.Place.{Place}
 use Rattle.tl_base.specs.declared.ids.TermId.{TermId}
 use Rattle.tl_base.specs.declared.ids.TypeId.{TypeId}
+use Rattle.lua_value.specs.declared.value.Value.{Value}
 use Rattle.lua_value.specs.Values.{is_nil}
 use Rattle.terra_words.specs.declared.words.BinaryOperator.{BinaryOperator}
 use Rattle.terra_types.specs.declared.types.TypeForm.TheVariants as forms
 use Rattle.terra_types.specs.Making.{same_type}
 use Rattle.terra_types.specs.Opening.{boolean, int64}
 use Rattle.check_cast.specs.Conversions.{form_of}
-use Rattle.terra_term.specs.declared.refusal.RefusalKind.TheVariants.{BadOperand, NotBuilt}
+use Rattle.terra_term.specs.declared.refusal.RefusalKind.TheVariants.{BadOperand}
 use Rattle.terra_term.specs.declared.operators.Operation.{Operation}
 use Rattle.terra_term.specs.declared.operators.Operation.TheVariants as operations
 use Rattle.terra_term.specs.declared.operators.Constant.TheVariants as constants
@@ -32,7 +33,8 @@ use Rattle.check_model.specs.declared.rule.Rule.TheVariants.{Meets, Compares, Sh
 use Rattle.check_model.specs.declared.rule.Rule.TheVariants.{Unknown}
 use Rattle.check_model.specs.Typing.{TypingState, form_in, is_nil_made, bytes_in, made_of}
 use Rattle.check_model.specs.Structs.{metamethod_of_either}
-use Rattle.check_model.specs.Plans.{BodyPlan, reading, make, gives, refuse, laid_out}
+use Rattle.check_model.specs.Plans.{BodyPlan, reading, make, gives, refuse, laid_out, ready}
+use Rattle.check_model.specs.Calls.{call_metamethod}
 use Rattle.check_model.specs.Converting.{convert}
 use Rattle.check_model.specs.Operators.{event_of, rule_of, both, at_type, retyped, same_pointers, meeting, by_rule, by_metamethod}
 use Rattle.check_model.specs.Operators.{binary_plan}
@@ -45,6 +47,7 @@ use Rattle.check_sound.proofs.Combining.{In, Step, Refuses, Makes, step-itself, 
 use Rattle.check_sound.proofs.Combining.{holds-refuse, holds-if, holds-laid}
 use Rattle.check_sound.proofs.OfConverting.{holds-convert, makes-nil}
 use Rattle.check_sound.proofs.Arguments.{Gives, gives-on, holds-gives}
+use Rattle.check_sound.proofs.OfCalls.{holds-metamethod}
 use Rattle.check_sound.proofs.Rules.{integer-there, boolean-there, truth-usable, integer-usable, pointer-usable, two, RuleFact, rule-fact}
 use Rattle.check_sound.proofs.Rules.{both-compare, integers-comparable, pointers-comparable, truths-comparable, meets, shifted}
 use Rattle.check_sound.proofs.Rules.{meet-integer}
@@ -75,9 +78,9 @@ module _ (q : PartEnd → TypingState → Type 0) (b : ℕ) (s : Scope) (site : 
       binary_typed (foreseen v.stage) op m m of ≡ true) →
       Holds q (at_type m op of x y at source site) w
   holds-at-type w i r m op of x y at source k placed a c integer there h =
-      holds-convert q b s w i r Implicit x m site (λ x2. convert Implicit y m site (λ y2. both op of x2 y2 at source))
-      a (integer-there w.stage m integer)
-      (λ x2 v p known is u. holds-convert q b s v p.inside (refuses-on q w v r p.moves) Implicit y m site
+      holds-convert q b s w i r Implicit x m site base
+      (λ x2. convert Implicit y m site (λ y2. both op of x2 y2 at source)) a (integer-there w.stage m integer)
+      (λ x2 v p known is u. holds-convert q b s v p.inside (refuses-on q w v r p.moves) Implicit y m site base
       (λ y2. both op of x2 y2 at source) (still b s w v i p y c)
       (there-still b s w v i p m (integer-there w.stage m integer))
       (λ y2 z o known2 is2 u2.
@@ -287,6 +290,17 @@ module _ (q : PartEnd → TypingState → Type 0) (b : ℕ) (s : Scope) (site : 
       (λ d. holds-refuse q b s w i r BadOperand at site)
   holds-rule w i r Unknown op x y at source k placed a c h = holds-refuse q b s w i r BadOperand at site
 
+  -- a metamethod is called with both operands, which were typed
+  holds-by-metamethod : (w : TypingState) (i : In b s w) (r : Refuses q w) (h : Value) (x y : Made) (at : Place)
+      (source : TermId) →
+      Gives q b s w → is_placed at ≡ true → Known s w.stage x → Known s w.stage y →
+      Holds q (by_metamethod h x y at source site) w
+  holds-by-metamethod w i r h x y at source k placed a c =
+      holds-if q b s w i (is_nil h) (refuse BadOperand at site)
+      (call_metamethod h (ready x ∷ ready y ∷ []) at source site)
+      (λ z. holds-refuse q b s w i r BadOperand at site)
+      (λ z. holds-metamethod q b s site base w i r h (ready x ∷ ready y ∷ []) at source k placed (a, (c, tt)))
+
   pub holds-binary : (w : TypingState) (i : In b s w) (r : Refuses q w) (op : BinaryOperator) (x y : Made) (at : Place)
       (source : TermId) →
       Gives q b s w → is_placed at ≡ true → Known s w.stage x → Known s w.stage y →
@@ -295,8 +309,6 @@ module _ (q : PartEnd → TypingState → Type 0) (b : ℕ) (s : Scope) (site : 
       holds-if q b s w i (struct_form (form_in w.stage x.of) || struct_form (form_in w.stage y.of))
       (by_metamethod (metamethod_of_either w.stage x.of y.of (event_of op)) x y at source site)
       (by_rule (rule_of op (form_in w.stage x.of) (form_in w.stage y.of)) w.stage op x y at source site)
-      (λ d. holds-if q b s w i (is_nil (metamethod_of_either w.stage x.of y.of (event_of op)))
-      (refuse BadOperand at site) (refuse NotBuilt at site)
-      (λ z. holds-refuse q b s w i r BadOperand at site) (λ z. holds-refuse q b s w i r NotBuilt at site))
+      (λ d. holds-by-metamethod w i r (metamethod_of_either w.stage x.of y.of (event_of op)) x y at source k placed a c)
       (λ d. holds-rule w i r (rule_of op (form_in w.stage x.of) (form_in w.stage y.of)) op x y at source k placed a c
       (rule-fact w.stage i.sound op x.of y.of (form_in w.stage x.of) (form_in w.stage y.of) refl refl))

@@ -71,7 +71,8 @@ module _ (q : PartEnd → TypingState → Type 0) (b : ℕ) (s : Scope) (site : 
       (typed.Return (typed_at (typed_trees v.stage.store.typed) m.id)) (Some m.of)
       (makes-return v.stage m m.of at placed outside now refl now.there usable (λ z x. absurd (cc (sym e ∙ x)))) k)
   holds-return-value w0 w i0 i p0 r m at k placed outside known (Some t) e there =
-      holds-convert q b s w i r Implicit m t site (λ x. states at (made_kinds.Return (Some x.id)) (Some t)) known there
+      holds-convert q b s w i r Implicit m t site base (λ x. states at (made_kinds.Return (Some x.id)) (Some t)) known
+      there
       (λ x v p now is usable. holds-states q b s site base w0 v [] (step-more w0 v (step-twice b s w0 w v p0 p)) i0 at
       (made_kinds.Return (Some x.id))
       (typed.Return (typed_at (typed_trees v.stage.store.typed) x.id)) (Some t)

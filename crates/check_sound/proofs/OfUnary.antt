@@ -9,7 +9,7 @@ use Rattle.lua_value.specs.Values.{is_nil}
 use Rattle.terra_types.specs.declared.types.TypeForm.{TypeForm}
 use Rattle.terra_types.specs.declared.types.TypeForm.TheVariants as forms
 use Rattle.check_cast.specs.Conversions.{form_of}
-use Rattle.terra_term.specs.declared.refusal.RefusalKind.TheVariants.{BadOperand, NotPlace, NotBuilt}
+use Rattle.terra_term.specs.declared.refusal.RefusalKind.TheVariants.{BadOperand, NotPlace}
 use Rattle.terra_term.specs.declared.operators.UnaryOperator.{UnaryOperator}
 use Rattle.terra_term.specs.declared.operators.UnaryOperator.TheVariants as unary
 use Rattle.terra_term.specs.declared.operators.Operation.TheVariants as operations
@@ -22,7 +22,8 @@ use Rattle.check_model.specs.declared.end.PartEnd.{PartEnd}
 use Rattle.check_model.specs.declared.made.Made.{Made}
 use Rattle.check_model.specs.Typing.{TypingState, form_in}
 use Rattle.check_model.specs.Structs.{metamethod}
-use Rattle.check_model.specs.Plans.{gives, refuse, pointing}
+use Rattle.check_model.specs.Plans.{gives, refuse, pointing, ready}
+use Rattle.check_model.specs.Calls.{call_metamethod}
 use Rattle.check_model.specs.Operators.{by_own, unary_plan}
 use Rattle.check_sound.specs.Sound.{foreseen}
 use Rattle.check_sound.proofs.Tests.{same-refl}
@@ -31,16 +32,19 @@ use Rattle.check_sound.proofs.Running.{Known, Holds}
 use Rattle.check_sound.proofs.Combining.{In, Refuses, still, holds-pointing, holds-refuse, holds-if}
 use Rattle.check_sound.proofs.OfConverting.{makes-address, makes-target}
 use Rattle.check_sound.proofs.Arguments.{Gives, gives-on, holds-gives}
+use Rattle.check_sound.proofs.OfCalls.{holds-metamethod}
 use Rattle.check_sound.proofs.Rules.{truth-usable, integer-usable, one}
 
 module _ (q : PartEnd → TypingState → Type 0) (b : ℕ) (s : Scope) (site : Site) (base : site.base ≡ b) where
   -- ---- unary operators
 
   holds-own : (w : TypingState) (i : In b s w) (r : Refuses q w) (h : Value) (m : Made) (at : Place)
-      (source : TermId) → Holds q (by_own h m at source site) w
-  holds-own w i r h m at source =
-      holds-if q b s w i (is_nil h) (refuse BadOperand at site) (refuse NotBuilt at site)
-      (λ z. holds-refuse q b s w i r BadOperand at site) (λ z. holds-refuse q b s w i r NotBuilt at site)
+      (source : TermId) →
+      Gives q b s w → is_placed at ≡ true → Known s w.stage m → Holds q (by_own h m at source site) w
+  holds-own w i r h m at source k placed a =
+      holds-if q b s w i (is_nil h) (refuse BadOperand at site) (call_metamethod h (ready m ∷ []) at source site)
+      (λ z. holds-refuse q b s w i r BadOperand at site)
+      (λ z. holds-metamethod q b s site base w i r h (ready m ∷ []) at source k placed (a, tt))
 
   holds-unary-by : (w : TypingState) (i : In b s w) (r : Refuses q w) (op : UnaryOperator) (form : TypeForm) (m : Made)
       (at : Place) (source : TermId) →
@@ -66,7 +70,7 @@ module _ (q : PartEnd → TypingState → Type 0) (b : ℕ) (s : Scope) (site : 
       (one s w.stage at m.of operations.Negate m refl placed a.there a (integer-usable w.stage m.of (ap integer_form h))
       (and_from _ _ (and_from _ _ refl (same-refl m.of)) (ap integer_form h))) k
   holds-unary-by w i r unary.Negate _ m at source k placed a h =
-      holds-own w i r (metamethod w.stage m.of (codes "__unm")) m at source
+      holds-own w i r (metamethod w.stage m.of (codes "__unm")) m at source k placed a
   holds-unary-by w i r unary.Not (forms.Integer n) m at source k placed a h =
       holds-gives q b s w i source at m.of (te.Operate operations.Not (m.id ∷ []))
       (typed.Operate operations.Not (typed_list_at (typed_trees w.stage.store.typed) (m.id ∷ [])))
@@ -78,8 +82,8 @@ module _ (q : PartEnd → TypingState → Type 0) (b : ℕ) (s : Scope) (site : 
       (typed.Operate operations.Not (typed_list_at (typed_trees w.stage.store.typed) (m.id ∷ [])))
       (one s w.stage at m.of operations.Not m refl placed a.there a (truth-usable w.stage i.sound m.of truth)
       (and_from _ _ (and_from _ _ refl (same-refl m.of)) (or_right (is_integer (foreseen w.stage) m.of) _ truth))) k
-  holds-unary-by w i r unary.Not _ m at source k placed a h = holds-own w i r (metamethod w.stage m.of (codes "__not"))
-      m at source
+  holds-unary-by w i r unary.Not _ m at source k placed a h =
+      holds-own w i r (metamethod w.stage m.of (codes "__not")) m at source k placed a
 
   pub holds-unary : (w : TypingState) (i : In b s w) (r : Refuses q w) (op : UnaryOperator) (m : Made) (at : Place)
       (source : TermId) →

@@ -196,7 +196,8 @@ module _ (q : PartEnd → TypingState → Type 0) (b : ℕ) (s : Scope) (site : 
       is_usable (foreseen v.stage) of ≡ true → Holds q (go of x) v) →
       Holds q (value_for o m site go) w
   holds-value-for w i r (Some t) m go known there k =
-      holds-convert q b s w i r Implicit m t site (go t) known there (λ x v p now is usable. k t x v p now is usable)
+      holds-convert q b s w i r Implicit m t site base (go t) known there
+      (λ x v p now is usable. k t x v p now is usable)
   holds-value-for w i r None m go known there k =
       holds-if q b s w i (is_nil_made w.stage m) (refuse Mismatch m.at site) (as_value m site (go m.of m))
       (λ c. holds-refuse q b s w i r Mismatch m.at site)

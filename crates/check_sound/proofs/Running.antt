@@ -13,6 +13,8 @@ use Rattle.exotype.specs.World.{StageState}
 use Rattle.check_model.specs.declared.site.Site.{Site}
 use Rattle.check_model.specs.declared.job.BodyJob.{BodyJob}
 use Rattle.check_model.specs.declared.job.BodyJob.TheVariants as jobs
+use Rattle.check_model.specs.declared.job.Operand.{Operand}
+use Rattle.check_model.specs.declared.job.Operand.TheVariants.{Untyped, Typed}
 use Rattle.check_model.specs.declared.end.PartEnd.{PartEnd}
 use Rattle.check_model.specs.declared.end.PartEnd.TheVariants as ends
 use Rattle.check_model.specs.declared.made.Made.{Made}
@@ -48,6 +50,15 @@ pub record Known (s : Scope) (w : StageState) (m : Made) : Type 0 where
   pub place : is_place (typed_at (typed_trees w.store.typed) m.id) ≡ m.is_place
   pub placed : is_placed m.at ≡ true
   pub there : IsThere w m.of
+
+-- operands that are ready were typed in the scope
+abbrev pub IsOperand : Scope → StageState → Operand → Type 0
+IsOperand s w (Untyped t) = Unit {0}
+IsOperand s w (Typed m) = Known s w m
+
+abbrev pub AreOperands : Scope → StageState → List Operand → Type 0
+AreOperands s w [] = Unit {0}
+AreOperands s w (o ∷ os) = IsOperand s w o × AreOperands s w os
 
 -- the result type behind a statement is that of its function, but in a `let`, out of which nothing returns
 abbrev pub Fits : Bool → Option TypeId → TypeId → Type 0
@@ -85,7 +96,8 @@ Ready (jobs.Expression t site) w = SeesAll site w
 Ready (jobs.Statement t site) w =
     SeesAll site w × ((is_statement (slice_get w.stage.store.terms t.0) ≡ true) × ResultThere site.in_let w.stage
     site.result)
-Ready (jobs.Callee t os at source site) w = SeesAll site w
+Ready (jobs.Callee t os at source site) w =
+    SeesAll site w × ((is_placed at ≡ true) × AreOperands (scope_of site.base w) w.stage os)
 
 abbrev pub LeavesMade : Site → TypingState → PartEnd → TypingState → Type 0
 LeavesMade site w (ends.Made m) v = (v.variables ≡ w.variables) × Known (scope_of site.base w) v.stage m

@@ -8,7 +8,7 @@ use Rattle.lua_table.proofs.Keeping as heaps
 use Rattle.terra_term.specs.Held.{Held, state_of}
 use Rattle.terra_term.specs.Keeping.{AllStay}
 use Rattle.terra_term.proofs.Staying.{stays-same}
-use Rattle.exotype.specs.World.{StageState, KeptState, ExportState}
+use Rattle.exotype.specs.World.{StageState, ExportState}
 use Rattle.terra_lib.specs.Keeping.{KeepsExports}
 use Rattle.terra_lib.proofs.Kept.{exports_stay}
 use Rattle.stage_library.specs.Keeping.{KeepsStaging}
@@ -33,9 +33,6 @@ same_heap old new same = subst (KeepsHeap old) (sym same) (heaps.keeps_itself ol
 same_exports : (old new : ExportState) → new ≡ old → KeepsExports old new
 same_exports old new same = subst (KeepsExports old) (sym same) (exports_stay old)
 
-same_structs : (old new : KeptState) → new ≡ old → IsFront old.structs new.structs
-same_structs old new same = subst (λ (k : KeptState). IsFront old.structs k.structs) (sym same) (heaps.front_self old.structs)
-
 -- ---- bodies
 
 pub keeps_body : (old new : TypingState) → KeepsTyping old new → KeepsChecking old new
@@ -48,10 +45,10 @@ keeps_body old new k =
       terms = k.store.terms;
       types = stagings.types_front a.store.types b.store.types k.store.types;
       symbols = subst (IsFront a.store.symbols) (sym k.store.symbols) (heaps.front_self a.store.symbols);
-      quotes = subst (IsFront a.store.quotes) (sym k.store.quotes) (heaps.front_self a.store.quotes);
+      quotes = k.store.quotes;
       constants = subst (IsFront a.store.constants) (sym k.store.constants) (heaps.front_self a.store.constants);
       statics = k.store.statics;
-      structs = same_structs a.kept b.kept k.kept;
+      structs = subst (IsFront a.kept.structs) (sym k.structs) (heaps.front_self a.kept.structs);
       exports = same_exports a.exports b.exports k.exports;
       memory = k.memory;
     }

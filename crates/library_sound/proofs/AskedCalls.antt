@@ -1,6 +1,6 @@
 -- Each call of a function of Terra's library that may ask for a check or a layout leaves a sound world, and so does its answer.
 use Rattle.std.proofs.Common.{◌≡◌, ℕ, suc, Bool, true, false, List, [], ◌∷◌, ◌++◌, length, Option, Some, None, refl, sym, subst}
-use Rattle.std.specs.Prelude.{not, ◌&&◌, if◌then◌else◌}
+use Rattle.std.specs.Prelude.{not, ◌&&◌, if◌then◌else◌, slice_get}
 use Rattle.std.specs.Option.{option_map_or}
 use Rattle.std.proofs.lemmas.Bool.{and_parts, not-true, ltb-true}
 use Rattle.tl_base.specs.declared.ids.FnId.{FnId}
@@ -33,7 +33,7 @@ use Rattle.exotype.specs.declared.fault.Fault.TheVariants as faults
 use Rattle.exotype.specs.World.{StageState}
 use Rattle.exotype.specs.Types.{is_type, pointer_id}
 use Rattle.spec_model.specs.Making.{undefined_state, is_undefined}
-use Rattle.terra_lib.specs.Answers.{Turned, bad_argument, raised, gives, type_in}
+use Rattle.terra_lib.specs.Answers.{Turned, bad_argument, raised, gives, gives_one, type_in}
 use Rattle.terra_lib.specs.Exports.{with_exported, marked, is_free, takes_scalars, gives_scalar, parameters_in, term_of_function, is_text}
 use Rattle.check_library.specs.declared.exports.Fate.{Fate}
 use Rattle.check_library.specs.declared.exports.Fate.TheVariants as fates
@@ -55,7 +55,7 @@ use Rattle.check_library.specs.Layouts.{sizeof_asked, sizeof_backed, struct_in, 
 use Rattle.check_library.specs.Layouts.{initial_bits, type_if, type_there, global_asked, first_bytes, with_global_in, global_or_full}
 use Rattle.check_library.specs.Layouts.{global_turned, global_backed, struct_place}
 use Rattle.check_library.specs.Checks.{compile_of, compile_backed, function_of, typed_or, type_or, with_bytes, primitive_type, gettype_of}
-use Rattle.check_library.specs.Checks.{gettype_backed}
+use Rattle.check_library.specs.Checks.{quote_type, gettype_backed}
 use Rattle.check_library.specs.Counting.{CountedState, nothing, count_with, numbered}
 use Rattle.check_library.specs.Exports.{fate_by, fate_after, found_result, next_of, waiting, fared, exported, raised_at, place_of_function}
 use Rattle.check_library.specs.Exports.{added_to, added_by, checked, export_backed, taken, table_exported, saveobj_asked, chunk_ended}
@@ -230,7 +230,9 @@ module _ (begin : StageState) (s : State StageState) (old : IsSound s.world) (le
       (asking-fine (asked_for.Check f (nexts.GetType f)) tt)
   gettype-fine (values.Primitive p) place = said-fine begin s led (primitive_type s p) (primitive-good p)
   gettype-fine (values.Quote q) place =
-      said-fine begin s led (raised s place faults.QuoteWithoutType) (raised-good s old place faults.QuoteWithoutType)
+      if-one (Fine begin) (quote_type s.world (slice_get s.world.store.quotes q.0)) (said (raised s place faults.QuoteWithoutType)) _
+      (said-fine begin s led (raised s place faults.QuoteWithoutType) (raised-good s old place faults.QuoteWithoutType))
+      (λ t e. said-fine begin s led (gives_one s s.world (values.TerraType t)) itself)
   gettype-fine _ place = bad-fine place 1 library.GetType
 
   gettype-back-fine : (f : FnId) (answer : CheckAnswer) (place : Place) → Fine begin (gettype_backed s f answer place)

@@ -10,7 +10,7 @@ returns-in_ok-step-in-Primitive-clause-means c = rw c.in-Primitive.is
 
 pub returns-in_ok-step-in-Macro-clause-means : goal.returns-in_ok-step-in-Macro-clause-means
 returns-in_ok-step-in-Macro-clause-means c =
-    rw c.in-Macro.is (c.in_ok-step-in-Macro.ensures.means c.args.typing.now c.args.budget.now)
+    rw c.in-Macro.is (c.in_ok-step-in-Macro.ensures.means c.args.budget.now)
 
 pub returns-in_ok-step-in-Type-clause-means : goal.returns-in_ok-step-in-Type-clause-means
 returns-in_ok-step-in-Type-clause-means c = rw c.in-Type.is (c.in_ok-step-in-Type.ensures.means c.args.budget.now)

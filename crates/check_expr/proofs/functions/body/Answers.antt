@@ -4,7 +4,7 @@ use Rattle.tl_base.specs.declared.ids.TermId.{TermId}
 use Rattle.terra_term.specs.declared.store.Function.{Function}
 use Rattle.check_model.specs.declared.site.Site.{Site}
 use Rattle.check_model.specs.Bodies as models
-use Rattle.check_model.specs.Plans.{BodyPlan, refuse, then_on}
+use Rattle.check_model.specs.Plans.{BodyPlan, then_on}
 use Rattle.check_model.specs.Typing.{TypingState, function_at}
 use Rattle.check_expr.specs.Functions.{parts_in, parts_plan}
 use Rattle.check_expr.specs.Kept.{keeps_then}

@@ -1,4 +1,4 @@
-use Rattle.std.proofs.Common.{◌+◌, ◌-◌, List, ◌++◌, drop, refl, ap, ◌∙◌}
+use Rattle.std.proofs.Common.{◌+◌, List, ◌++◌, drop, refl, ap, ◌∙◌}
 use Rattle.terra_term.specs.declared.lists.Parameter.{Parameter}
 use Rattle.terra_term.specs.declared.lists.TypedName.{TypedName}
 use Rattle.check_model.specs.Bodies as models

@@ -1,4 +1,4 @@
-use Rattle.std.proofs.Common.{◌≡◌, ◌-◌, drop}
+use Rattle.std.proofs.Common.{◌≡◌, drop}
 use Rattle.check_model.specs.Statements as models
 use Rattle.check_expr.proofs.loops.meet_from.Given as goal
 

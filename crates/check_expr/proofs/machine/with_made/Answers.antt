@@ -4,22 +4,16 @@ use Rattle.check_expr.specs.declared.frame.MadeFrame.TheVariants as of_made
 use Rattle.check_expr.proofs.Doing.{enters}
 use Rattle.check_expr.proofs.machine.with_made.Goals as goal
 
-pub returns-in-Left-clause-means : goal.returns-in-Left-clause-means
-returns-in-Left-clause-means c =
+pub returns-in_ok-push-in-Left-clause-means : goal.returns-in_ok-push-in-Left-clause-means
+returns-in_ok-push-in-Left-clause-means c =
     let a = c.args in
     let m = c.in-Left in
     rw m.is (enters a.frames.now.items c.push.new.self.items (frames.Made (of_made.Right m.op a.made m.node))
     (jobs.Expression m.right m.node.site) a.typing.now a.budget.now c.in_ok-push-in-Left.ensures.items)
 
-pub returns-in-Object-clause-means : goal.returns-in-Object-clause-means
-returns-in-Object-clause-means c =
+pub returns-in_ok-push-in-Object-clause-means : goal.returns-in_ok-push-in-Object-clause-means
+returns-in_ok-push-in-Object-clause-means c =
     let a = c.args in
     let m = c.in-Object in
     rw m.is (enters a.frames.now.items c.push-in-Object.new.self.items (frames.Made (of_made.Key a.made m.node))
     (jobs.Expression m.key m.node.site) a.typing.now a.budget.now c.in_ok-push-in-Object.ensures.items)
-
-pub returns-in-Callee-clause-means : goal.returns-in-Callee-clause-means
-returns-in-Callee-clause-means c =
-    let a = c.args in
-    let m = c.in-Callee in
-    rw m.is (c.call_value.ensures.means m.field-0 m.field-2 a.budget.now a.frames.now.items)
