@@ -36,6 +36,8 @@ fn answer(bench: &mut Bench, words: &[&str]) -> Result<String, NoMemory> {
         "load" => bench.load(words),
         "start" => bench.start(words),
         "steps" => bench.steps(words),
+        "count" => bench.count(),
+        "register" => bench.register(words),
         "sink" => bench.sink(words),
         "taken" => bench.taken(),
         _ => Ok(String::from_str(alloc, "no such row")?),

@@ -126,6 +126,28 @@ impl Bench {
             None => Ok(String::from_str(self.alloc, "no machine")?),
         }
     }
+
+    /// `count`: how many steps the machine took since it started.
+    pub fn count(&self) -> Result<String, NoMemory> {
+        match &self.machine {
+            Some(machine) => {
+                let count = machine.steps();
+                Ok(format!(in self.alloc; "{count:x}")?)
+            }
+            None => Ok(String::from_str(self.alloc, "no machine")?),
+        }
+    }
+
+    /// `register NUMBER`: what a register of the machine holds.
+    pub fn register(&self, words: &[&str]) -> Result<String, NoMemory> {
+        match &self.machine {
+            Some(machine) => {
+                let value = machine.register((hexadecimal(word_at(words, 1)) % 32) as u32);
+                Ok(format!(in self.alloc; "{value:x}")?)
+            }
+            None => Ok(String::from_str(self.alloc, "no machine")?),
+        }
+    }
 }
 
 fn narrow_sink(

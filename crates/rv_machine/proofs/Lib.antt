@@ -2,6 +2,7 @@ pub mod Files
 pub mod Registers
 pub mod Taken
 pub mod Runs
+pub mod Counts
 pub mod Programs
 pub mod Reaches
 pub mod Places

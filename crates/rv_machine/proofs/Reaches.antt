@@ -1,6 +1,7 @@
 -- Where a run stands after some turns of its loop, and what it then comes to.
 use Rattle.std.proofs.Common.{◌≡◌, ◌≢◌, ℕ, suc, ◌+◌, ◌-◌, ◌<◌, List, [], ◌∷◌, ◌++◌, ◌⊎◌, inl, inr, length, take, drop, Option, refl, sym}
-use Rattle.std.proofs.Common.{ap, ◌∙◌, append-nil, append_assoc, arith, length-drop}
+use Rattle.std.proofs.Common.{ap, ◌∙◌, ⊎_elim, append-nil, append_assoc, arith, length-drop}
+use Rattle.std.proofs.lemmas.Bool.{cases_eq}
 use Rattle.std.proofs.lemmas.List.{take-append-drop}
 use Rattle.rv_isa.specs.declared.instr.Instr.{Instr}
 use Rattle.rv_machine.specs.declared.stops.Stop.{Stop}
@@ -8,7 +9,9 @@ use Rattle.rv_machine.specs.declared.stops.Stop.TheVariants.{Returned, TerraFaul
 use Rattle.rv_machine.specs.Machine.{State, Moved, GoesOn, Writes, Faults, Throws, step, Ran, stands, after_output, run_of}
 use Rattle.rv_machine.specs.Runs.{Agrees, IsBeforeWrite}
 use Rattle.rv_machine.specs.Steps.{WentOn, StoppedAt, TookPart}
+use Rattle.rv_machine.specs.Count.{count_after, steps_to, steps_of, StepsBetween, CountsToWrite}
 use Rattle.rv_machine.proofs.Runs.{run_of-at_zero, run_of-used_up, run_of-moved, run_of-add, after_output-both}
+use Rattle.rv_machine.proofs.Counts.{steps_of-at_zero, steps_of-moved, counts-moved}
 use Rattle.rv_machine.proofs.Taken.{with_back-both}
 use Rattle.tl_base.specs.Outside.{with_back}
 
@@ -65,28 +68,38 @@ module _ (program : List (Option Instr)) (start now : State) (count : ℕ) (outp
   stopped steps Unfinished after more on h other = absurd h
 
   -- the sink stopped it
+  came_to_write : (steps : ℕ) (after : Option (List ℕ)) → count < steps → (now.pc ≡ 0 → ⊥) → TookPart (step program now) here after → (came : IsBeforeWrite program start steps now before after) × (came.done ≡ count)
+  came_to_write steps after more on h =
+      let sum : count ≡ count + 0 = omega arith in (
+        record {
+          done = count;
+          fewer = more;
+          output = output;
+          comes =
+              ap (run_of program start) sum
+              ∙ comes 0
+              ∙ ap (after_output output) (run_of-used_up program now on)
+              ∙ ap (λ (o : List ℕ). record { stop = Unfinished; state = now; output = o }) (append-nil output);
+          next = h.next;
+          bytes = h.bytes;
+          writes = h.writes;
+          front = h.front.front;
+          part = h.front.part;
+          took =
+              h.front.took
+              ∙ ap (λ t. with_back t (take h.front.front h.bytes)) took
+              ∙ with_back-both before output (take h.front.front h.bytes);
+        },
+        refl,
+      )
+
   pub before_write : (steps : ℕ) (after : Option (List ℕ)) → count < steps → (now.pc ≡ 0 → ⊥) → TookPart (step program now) here after → IsBeforeWrite program start steps now before after
-  before_write steps after more on h =
-      let sum : count ≡ count + 0 = omega arith in
-      record {
-        done = count;
-        fewer = more;
-        output = output;
-        comes =
-            ap (run_of program start) sum
-            ∙ comes 0
-            ∙ ap (after_output output) (run_of-used_up program now on)
-            ∙ ap (λ (o : List ℕ). record { stop = Unfinished; state = now; output = o }) (append-nil output);
-        next = h.next;
-        bytes = h.bytes;
-        writes = h.writes;
-        front = h.front.front;
-        part = h.front.part;
-        took =
-            h.front.took
-            ∙ ap (λ t. with_back t (take h.front.front h.bytes)) took
-            ∙ with_back-both before output (take h.front.front h.bytes);
-      }
+  before_write steps after more on h = (came_to_write steps after more on h).0
+
+  -- and the steps up to there were counted
+  pub counts_to_write : (steps : ℕ) (after : Option (List ℕ)) (old new : ℕ) → count < steps → (now.pc ≡ 0 → ⊥) → TookPart (step program now) here after → new ≡ count_after old count → CountsToWrite program start steps now before after old new
+  counts_to_write steps after old new more on h e =
+      let came = came_to_write steps after more on h in (came.0, e ∙ ap (count_after old) (sym came.1))
 
   -- a run that wrote nothing wrote nothing before
   pub none_before : (steps : ℕ) → count < steps ⊎ count ≡ steps → (run_of program start steps).output ≡ [] → output ≡ []
@@ -118,6 +131,39 @@ module _ (program : List (Option Instr)) (start now : State) (count : ℕ) (outp
   )
   went_on next after (Faults kind) same same_before same_after quiet join on by h = absurd h
   went_on next after (Throws kind place) same same_before same_after quiet join on by h = absurd h
+
+-- the steps of a run that stopped at a step
+pub steps_to_stop : (program : List (Option Instr)) (start now : State) (count steps : ℕ) (stop : Stop) (here after : Option (List ℕ)) → StepsBetween program start now count → count < steps → (now.pc ≡ 0 → stop ≡ Returned (now.registers 10)) → ((now.pc ≡ 0 → ⊥) → StoppedAt stop now.pc (step program now) here after) → stop ≢ WriteFault → steps_of program start steps ≡ count + steps_to stop
+steps_to_stop program start now count steps stop here after between more over at other =
+    let left = steps - count - 1 in
+    let sum : steps ≡ count + suc left = omega (arith, more) in
+    ap (steps_of program start) sum
+    ∙ between (suc left)
+    ∙ ap (λ n. count + n) (⊎_elim (λ zero. steps_of-at_zero program now (suc left) zero ∙ sym (ap steps_to (over zero))) (λ on. last left on stop (at on) other) (cases_eq now.pc 0))
+  where
+    last : (left : ℕ) → (now.pc ≡ 0 → ⊥) → (stop : Stop) → StoppedAt stop now.pc (step program now) here after → stop ≢ WriteFault → steps_of program now (suc left) ≡ steps_to stop
+    last left on (MachineFault kind pc) h other = steps_of-moved program now left (Faults kind) on h.0
+    last left on (TerraFault kind place) h other = steps_of-moved program now left (Throws kind place) on h.0
+    last left on WriteFault h other = absurd (other refl)
+    last left on (Returned value) h other = absurd h
+    last left on Unfinished h other = absurd h
+
+-- a step that went on leads one step further
+pub between_on : (program : List (Option Instr)) (start now next : State) (count : ℕ) (here after : Option (List ℕ)) (same : Type 0) → StepsBetween program start now count → (now.pc ≡ 0 → ⊥) → WentOn (step program now) next here after same → StepsBetween program start next (count + 1)
+between_on program start now next count here after same between on went =
+    counts-moved program start now next count between (λ k. from k (step program now) refl went)
+  where
+    from : (k : ℕ) (moved : Moved) → step program now ≡ moved → WentOn moved next here after same → steps_of program now (suc k) ≡ suc (steps_of program next k)
+    from k (GoesOn n) by h = steps_of-moved program now k (GoesOn n) on by ∙ ap (λ (s : State). suc (steps_of program s k)) h.0
+    from k (Writes n bytes) by h = steps_of-moved program now k (Writes n bytes) on by ∙ ap (λ (s : State). suc (steps_of program s k)) h.0
+    from k (Faults kind) by h = absurd h
+    from k (Throws kind place) by h = absurd h
+
+-- steps behind steps
+pub between-both : (program : List (Option Instr)) (start middle now : State) (first second : ℕ) → StepsBetween program start middle first → StepsBetween program middle now second → StepsBetween program start now (first + second)
+between-both program start middle now first second one two rest =
+    let sum : first + second + rest ≡ first + (second + rest) = omega arith in
+    ap (steps_of program start) sum ∙ one (second + rest) ∙ (let e = two rest in omega (arith, e))
 
 -- the output of a run that comes before a write: what was written before, the bytes of that write, and more
 pub writes_output : (program : List (Option Instr)) (start : State) (steps : ℕ) (s : State) (before after : Option (List ℕ)) → (h : IsBeforeWrite program start steps s before after) → (run_of program start steps).output ≡ h.output ++ (h.bytes ++ (run_of program h.next (steps - h.done - 1)).output)

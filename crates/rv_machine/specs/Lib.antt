@@ -2,8 +2,9 @@
 pub mod Machine
 -- The run of an image, and what a call that runs one does.
 pub mod ImageRun
--- What runs keep. A reader can stop behind what these name of words, arithmetic, memory and text.
+-- What runs keep, and how many steps they take. A reader can stop behind what these name of words, arithmetic, memory and text.
 pub mod Laws
+pub mod Count
 -- Words and their signed values, what instructions compute, and memory.
 pub mod Word
 pub mod Arithmetic

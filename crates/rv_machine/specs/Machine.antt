@@ -41,6 +41,10 @@ pub data Moved : Type 0 where
 abbrev pub value_at : State → Register → ℕ
 value_at s a = if nat_eq a.number 0 then 0 else s.registers a.number
 
+-- the value of the register of a number, in the same way
+abbrev pub register_at : State → ℕ → ℕ
+register_at s number = if nat_eq number 0 then 0 else s.registers number
+
 -- the registers after a write. A write to x0 is dropped
 abbrev pub written : (ℕ → ℕ) → ℕ → ℕ → ℕ → ℕ
 written registers d value number =

@@ -37,3 +37,7 @@ heap_of machine = machine.heap
 -- the state of its hart
 abbrev pub state_of : Machine → State
 state_of machine = hart_state machine.hart
+
+-- how many steps it counts since it started
+abbrev pub taken_of : Machine → ℕ
+taken_of machine = machine.taken

@@ -3,6 +3,7 @@
 ghost use Rattle.std.specs.Prelude.{◌≡◌, ◌≢◌, ◌+◌, ◌-◌, ◌*◌, ◌≤◌, ◌<◌, ◌^◌, ◌++◌, map, option_map, length, replicate, drop, IfOk, IfErr};
 ghost use Rattle.std.specs.Prelude.{OnOk, OnErr};
 ghost use Rattle.rv_machine.specs.Laws.{RunsGoOn, RunsStayOver, RunsStopAgain, OneProgram};
+ghost use Rattle.rv_machine.specs.Count.{UnfinishedTakesAll, OverAfterTaken, NotOverBefore, PartsTakeSteps, steps_to};
 ghost use Rattle.rv_machine.specs.Program.{IsProgram};
 ghost use Rattle.rv_machine.specs.Decoded.{found_of};
 ghost use Rattle.rv_machine.specs.Machine.{fetch};
@@ -16,12 +17,13 @@ use rv_isa::decode;
 use std::alloc::Global;
 use tl_base::{NoMemory, Sink};
 
-/// A machine: its text, where its heap begins, and its hart.
+/// A machine: its text, where its heap begins, its hart, and the steps that it took since it started.
 #[derive(Drop)]
 pub struct Machine {
     text: Vec<Decoded>,
     heap: u64,
     hart: Hart,
+    taken: u64,
     ghost short: { length text.items < 2 ^ 62 - 2 ^ 14 },
 }
 
@@ -30,10 +32,11 @@ impl Machine {
     ghost use Rattle.elf_image.specs.Lawful.{IsLawful};
     ghost use Rattle.rv_machine.specs.declared.stops.Stop.TheVariants.{Returned, MachineFault, WriteFault};
     ghost use Rattle.rv_machine.specs.declared.stops.MachineKind.TheVariants.{BadFetch};
-    ghost use Rattle.rv_machine.specs.Machine.{step, run_of, start_state, loaded_state};
+    ghost use Rattle.rv_machine.specs.Machine.{register_at, step, run_of, start_state, loaded_state};
     ghost use Rattle.rv_machine.specs.Runs.{Agrees, IsBeforeWrite};
     ghost use Rattle.rv_machine.specs.Steps.{WentOn, StoppedAt, Counted};
-    ghost use Rattle.rv_machine.specs.Shown.{program_of, heap_of, state_of};
+    ghost use Rattle.rv_machine.specs.Count.{steps_of, count_after, CountsToWrite};
+    ghost use Rattle.rv_machine.specs.Shown.{program_of, heap_of, state_of, taken_of};
 
     /// The machine of an image: its text, its region, which begins with the static bytes, and private memory of zeros. This takes
     /// all the memory of a run.
@@ -44,6 +47,7 @@ impl Machine {
         ensures state { IfOk result (λ machine. state_of machine
             ≡ loaded_state (image.now.statics ++ replicate (image.now.memory - length image.now.statics) 0)
             (replicate image.now.private 0)) }
+        ensures taken { IfOk result (λ machine. taken_of machine ≡ 0) }
     {
         let text = decode_text(alloc, image.text.as_slice())?;
         let region = region_of(alloc, image.memory, image.statics.as_slice())?;
@@ -52,18 +56,22 @@ impl Machine {
             text,
             heap: image.heap,
             hart: Hart::new(region, private),
+            taken: 0,
         })
     }
 
-    /// Makes the machine ready to run from `address` with at most eight arguments. Its memory stays as it is.
+    /// Makes the machine ready to run from `address` with at most eight arguments. Its memory stays as it is, and its steps are counted
+    /// from here.
     pub fn start(&mut self, address: u64, arguments: &[u64])
         requires { length arguments.now ≤ 8 }
         ensures state { state_of self.new
             ≡ start_state address (heap_of self.old) arguments.now (state_of self.old).region (state_of self.old).private }
         ensures program { program_of self.new ≡ program_of self.old }
         ensures heap { heap_of self.new ≡ heap_of self.old }
+        ensures taken { taken_of self.new ≡ 0 }
     {
         self.hart.start(address, self.heap, arguments);
+        self.taken = 0;
     }
 
     /// Runs at most `steps` instructions, and says why it stopped. To see the program counter at 0 takes no step; an
@@ -79,6 +87,11 @@ impl Machine {
             IsBeforeWrite (program_of self.old) (state_of self.old) steps (state_of self.new) (K.taken out.old) (K.taken out.new) }
         ensures counted { Counted result (K.faults out.old) (K.faults out.new) }
         ensures unwritten { result ≢ WriteFault → (run_of (program_of self.old) (state_of self.old) steps).output ≡ [] → out.new ≡ out.old }
+        ensures taken { result ≢ WriteFault →
+            taken_of self.new ≡ count_after (taken_of self.old) (steps_of (program_of self.old) (state_of self.old) steps) }
+        ensures taken_before { result ≡ WriteFault →
+            CountsToWrite (program_of self.old) (state_of self.old) steps (state_of self.new) (K.taken out.old) (K.taken out.new)
+            (taken_of self.old) (taken_of self.new) }
         ensures program { program_of self.new ≡ program_of self.old }
         ensures heap { heap_of self.new ≡ heap_of self.old }
     {
@@ -86,15 +99,45 @@ impl Machine {
         while left > 0 {
             // One step, which may write or stop the run, and then all the quiet ones after it.
             if let Err(stop) = self.step(out) {
+                self.count(steps - left + steps_to(stop));
                 return stop;
             }
             left = self.hart.run_quietly(&self.text, left - 1);
         }
+        self.count(steps);
         if self.hart.pc == 0 {
             Stop::Returned(self.hart.registers[10])
         } else {
             Stop::Unfinished
         }
+    }
+
+    /// How many steps the machine took since it started or was loaded, or `u64::MAX` where they are more. An instruction that ends the run
+    /// is a step, also where a further call of [`Machine::run`] comes to it again; to see the program counter at 0 is none, and neither
+    /// is a write that the sink did not take. So where a run has just ended, this is the least number of steps after which it is over,
+    /// as [`runs_take_steps`] states.
+    pub fn steps(&self) -> u64
+        ensures { result ≡ taken_of self.now }
+    {
+        self.taken
+    }
+
+    /// The value of a register. x0 reads zero.
+    pub fn register(&self, number: u32) -> u64
+        requires { number ≤ 31 }
+        ensures { result ≡ register_at (state_of self.now) number }
+    {
+        self.hart.registers[number as usize]
+    }
+
+    // Counts steps.
+    fn count(&mut self, steps: u64)
+        ensures taken { taken_of self.new ≡ count_after (taken_of self.old) steps }
+        ensures state { state_of self.new ≡ state_of self.old }
+        ensures program { program_of self.new ≡ program_of self.old }
+        ensures heap { heap_of self.new ≡ heap_of self.old }
+    {
+        self.taken = self.taken.saturating_add(steps);
     }
 
     // One instruction, or none where the run is over. One that stops the run leaves the state as it was.
@@ -113,6 +156,7 @@ impl Machine {
         ensures same { OnErr result (state_of self.new ≡ state_of self.old) }
         ensures program { program_of self.new ≡ program_of self.old }
         ensures heap { heap_of self.new ≡ heap_of self.old }
+        ensures taken { taken_of self.new ≡ taken_of self.old }
     {
         match fetch(&self.text, self.hart.pc) {
             Some(word) => self.hart.perform(word, out),
@@ -133,6 +177,17 @@ impl Machine {
     }
 }
 
+// How many steps a stop takes: seeing the program counter at 0 takes none, and a write that the sink did not take stands before it.
+fn steps_to(stop: Stop) -> u64
+    ensures value { result ≡ steps_to stop }
+    ensures most { result ≤ 1 }
+{
+    match stop {
+        Stop::MachineFault { .. } | Stop::TerraFault { .. } => 1,
+        Stop::Returned(_) | Stop::Unfinished | Stop::WriteFault => 0,
+    }
+}
+
 // The word of text at an address, if there is one.
 fn fetch(text: &[Decoded], address: u64) -> Option<&Decoded>
     requires { length text.now < 2 ^ 62 - 2 ^ 14 }
@@ -149,6 +204,15 @@ pub fn runs_go_on()
     ensures over { RunsStayOver }
     ensures again { RunsStopAgain }
     ensures program { OneProgram }
+{}
+
+/// The laws of the steps that runs take. A run that isn't over took all its steps; one that is over is so after the steps that it took, in
+/// the same way, and not after fewer: so these are the least; and a run in parts takes the steps of its parts.
+pub fn runs_take_steps()
+    ensures all { UnfinishedTakesAll }
+    ensures over { OverAfterTaken }
+    ensures least { NotOverBefore }
+    ensures parts { PartsTakeSteps }
 {}
 
 // The words of text, decoded.

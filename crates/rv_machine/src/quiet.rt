@@ -13,6 +13,7 @@ ghost use Rattle.rv_machine.specs.Machine.{value_at, GoesOn, writes, jumps, load
 ghost use Rattle.rv_machine.specs.Arithmetic.{register_value, shift_value};
 ghost use Rattle.rv_isa.specs.declared.operation.ShiftOp.TheVariants.{Slli};
 ghost use Rattle.rv_machine.specs.Shown.{hart_state, stands_at};
+ghost use Rattle.rv_machine.specs.Count.{StepsBetween};
 
 use crate::arithmetic::{register_value, shift_value};
 use crate::decoded::Decoded;
@@ -29,6 +30,7 @@ impl Hart {
     pub(crate) fn run_quietly(&mut self, text: &[Decoded], steps: u64) -> u64
         requires short { length text.now < 2 ^ 62 - 2 ^ 14 }
         ensures left { result ≤ steps }
+        ensures taken { StepsBetween (map found_of text.now) (hart_state self.old) (hart_state self.new) (steps - result) }
         ensures run { (rest : ℕ) → run_of (map found_of text.now) (hart_state self.old) (steps - result + rest)
             ≡ run_of (map found_of text.now) (hart_state self.new) rest }
     {

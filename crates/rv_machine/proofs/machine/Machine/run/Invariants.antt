@@ -1,7 +1,8 @@
 use Rattle.std.proofs.Common.{◌≡◌, ◌+◌, ◌-◌, ◌≤◌, ℕ, List, []}
 use Rattle.tl_base.specs.Outside.{with_back}
 use Rattle.rv_machine.specs.Machine.{after_output, run_of}
-use Rattle.rv_machine.specs.Shown.{program_of, heap_of, state_of}
+use Rattle.rv_machine.specs.Count.{StepsBetween}
+use Rattle.rv_machine.specs.Shown.{program_of, heap_of, state_of, taken_of}
 use Rattle.rv_machine.proofs.machine.Machine.run.Given as goal
 
 -- the run from the start goes on as the run from here, after what was written so far
@@ -14,6 +15,8 @@ invariant-loop-left g l =
     × ((k : ℕ) → run_of (program_of l.fn.self) (state_of l.fn.self) (l.fn.steps - l.left + k) ≡ after_output output (run_of (program_of l.fn.self) (state_of l.self) k))
     × (output ≡ [] → l.out ≡ l.fn.out))
     × (l.left ≤ l.fn.steps)
+    × (taken_of l.self ≡ taken_of l.fn.self)
+    × StepsBetween (program_of l.fn.self) (state_of l.fn.self) (state_of l.self) (l.fn.steps - l.left)
 
 abbrev pub decreases-loop-left : goal.decreases-loop-left
 decreases-loop-left g l = l.left
