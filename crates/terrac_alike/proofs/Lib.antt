@@ -1,0 +1,2 @@
+-- What is due for a source is due for one that binds alike.
+pub mod SameDue
