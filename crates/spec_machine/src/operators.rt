@@ -75,24 +75,16 @@ pub fn numeral(digits: &str) -> u64
     }
 }
 
-/// The type of a numeral, by its last three bytes.
+/// The type of a numeral, by its suffix: `ULL`, `LL` or none.
 pub fn numeral_type(digits: &str) -> TypeId
     ensures { result ≡ nodes.numeral_type digits.now }
 {
     let text = digits.as_bytes();
-    suffixed(&text[text.len().saturating_sub(3)..])
-}
-
-/// The type by the last bytes of a numeral.
-fn suffixed(end: &[u8]) -> TypeId
-    ensures { result ≡ nodes.suffixed end.now }
-{
-    if end.len() != 3 || !(end[2] == b'L' || end[2] == b'l') {
-        return INT32;
-    }
-    if end[0] == b'U' || end[0] == b'u' {
+    if text.ends_with(b"ULL".as_slice()) {
         UINT64
-    } else {
+    } else if text.ends_with(b"LL".as_slice()) {
         INT64
+    } else {
+        INT32
     }
 }

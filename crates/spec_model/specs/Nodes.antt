@@ -1,5 +1,5 @@
 -- What nodes of Terra code hold. A node of another kind has nothing of it.
-use Rattle.std.specs.Prelude.{ℕ, ◌-◌, Bool, true, false, ◌==◌, ◌||◌, List, [], ◌∷◌, length, drop, Option, Some, None, if◌then◌else◌}
+use Rattle.std.specs.Prelude.{ℕ, Bool, true, false, List, [], ◌∷◌, Option, Some, None}
 use Rattle.tl_base.specs.declared.ids.NodeId.{NodeId}
 use Rattle.tl_base.specs.declared.ids.TypeId.{TypeId}
 use Rattle.tl_tree.specs.declared.node.BinaryOperator.{BinaryOperator as Written}
@@ -8,6 +8,9 @@ use Rattle.tl_tree.specs.declared.node.UnaryOperator.{UnaryOperator as WrittenUn
 use Rattle.tl_tree.specs.declared.node.UnaryOperator.TheVariants as written_unary
 use Rattle.tl_tree.specs.declared.node.Piece.TheVariants as pieces
 use Rattle.tl_tree.specs.declared.node.TerraExpression.TheVariants as terra_expressions
+use Rattle.tl_tree.specs.declared.symbol.Symbol.{Symbol}
+use Rattle.tl_tree.specs.declared.symbol.Symbol.TheVariants as symbols
+use Rattle.tl_tree.specs.Symbols.{numeral_of}
 use Rattle.tl_tree.specs.Item.{Item}
 use Rattle.tl_tree.specs.Item as kept
 use Rattle.tl_tree.specs.Nodes.{item_at}
@@ -128,17 +131,11 @@ unary_of written_unary.Dereference = unary.Dereference
 
 -- ---- numerals
 
--- `L` and `U`, small or large
-abbrev pub is_l : ℕ → Bool
-is_l c = (c == 76) || (c == 108)
-
-abbrev pub is_u : ℕ → Bool
-is_u c = (c == 85) || (c == 117)
-
--- the type by the last three bytes of a numeral
-abbrev pub suffixed : List ℕ → TypeId
-suffixed (a ∷ b ∷ c ∷ []) = if is_l c then (if is_u a then uint64 else int64) else int32
-suffixed _ = int32
+-- the type by the suffix: `ULL`, `LL` or none
+abbrev pub typed_by : Symbol → TypeId
+typed_by symbols.UnsignedNumeral = uint64
+typed_by symbols.LongNumeral = int64
+typed_by _ = int32
 
 abbrev pub numeral_type : List ℕ → TypeId
-numeral_type text = suffixed (drop (length text - 3) text)
+numeral_type text = typed_by (numeral_of text)

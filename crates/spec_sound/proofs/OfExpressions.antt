@@ -1,7 +1,6 @@
 -- Plans for expressions are fine.
 use Rattle.std.proofs.Common.{◌≡◌, ℕ, ◌≤◌, Bool, true, false, List, [], ◌∷◌, ◌++◌, Option, Some, None, refl, ap, ◌∙◌, arith, slice_get}
-use Rattle.std.proofs.Common.{length}
-use Rattle.std.specs.Prelude.{◌-◌, nat_le, drop, unwrap_or, if◌then◌else◌}
+use Rattle.std.specs.Prelude.{nat_le, unwrap_or, if◌then◌else◌}
 use Rattle.std.proofs.lemmas.Bool.{leb-true, lt-ltb, or_left}
 use Rattle.tl_base.specs.declared.ids.EnvId.{EnvId}
 use Rattle.tl_base.specs.declared.ids.NodeId.{NodeId}
@@ -13,6 +12,9 @@ use Rattle.tl_base.specs.Plan.{Give, AskFor}
 use Rattle.tl_lex.specs.Values.{value_of as literal_value}
 use Rattle.tl_tree.specs.declared.node.TerraExpression.{TerraExpression}
 use Rattle.tl_tree.specs.declared.node.TerraExpression.TheVariants as tree
+use Rattle.tl_tree.specs.declared.symbol.Symbol.{Symbol}
+use Rattle.tl_tree.specs.declared.symbol.Symbol.TheVariants as symbols
+use Rattle.tl_tree.specs.Symbols.{numeral_of}
 use Rattle.tl_tree.specs.Item.{Item}
 use Rattle.tl_tree.specs.Item as kept
 use Rattle.tl_tree.specs.Numbers.{value_of as written_value}
@@ -40,7 +42,7 @@ use Rattle.spec_model.specs.Making.{quote_at, type_at, type_in}
 use Rattle.spec_model.specs.declared.end.End.{End}
 use Rattle.spec_model.specs.declared.end.End.TheVariants.{Found, Made}
 use Rattle.spec_model.specs.declared.question.SpecQuestion.TheVariants as questions
-use Rattle.spec_model.specs.Nodes.{Initial, initial_at, are_named, operator_of, unary_of, is_l, is_u, suffixed, numeral_type}
+use Rattle.spec_model.specs.Nodes.{Initial, initial_at, are_named, operator_of, unary_of, typed_by, numeral_type}
 use Rattle.spec_model.specs.Plans.{SpecPlan, with_text_of, on_value, make, one, term, terms_of}
 use Rattle.spec_model.specs.Names.{member, naming}
 use Rattle.spec_model.specs.Expressions.{found, named_value, select_term, select_from, select, or_no_type, spliced_type, quoted_type}
@@ -86,17 +88,10 @@ uint64-word w sound n =
     ap (λ (l : List TypeForm). is_word_of (unwrap_or (slice_get l 7) forms.Unit) value) sound.types.opened.1 ∙
     small-word (forms.Integer Uint64) 18446744073709551615 (λ m h. lt-ltb m 18446744073709551616 (omega (arith, h))) n
 
-numeral-word : (w : StageState) → IsSound w → (xs : List ℕ) (n : ℕ) → IsWordAs w (suffixed xs) n
-numeral-word w sound (a ∷ b ∷ c ∷ []) n = by (is_l c) (is_u a)
-  where
-    by : (l u : Bool) → IsWordAs w (if l then (if u then uint64 else int64) else int32) n
-    by true true = uint64-word w sound n
-    by true false = int64-word w sound n
-    by false u = int32-word w sound n
-numeral-word w sound [] n = int32-word w sound n
-numeral-word w sound (a ∷ []) n = int32-word w sound n
-numeral-word w sound (a ∷ b ∷ []) n = int32-word w sound n
-numeral-word w sound (a ∷ b ∷ c ∷ d ∷ xs) n = int32-word w sound n
+numeral-word : (w : StageState) → IsSound w → (s : Symbol) (n : ℕ) → IsWordAs w (typed_by s) n
+numeral-word w sound symbols.UnsignedNumeral n = uint64-word w sound n
+numeral-word w sound symbols.LongNumeral n = int64-word w sound n
+numeral-word w sound _ n = int32-word w sound n
 
 -- ---- names
 
@@ -266,7 +261,7 @@ fine-expression-plan w sound items all (kept.Name place offset name) n env place
     fine-named w sound (binder items n) name place env (found place) (λ x v f. placed)
 fine-expression-plan w sound items all (kept.Numeral place digits) n env placed =
     fine-make w sound place (e.Number (numeral_value digits) (numeral_type digits)) placed
-    (numeral-word w sound (drop (length digits - 3) digits) (written_value digits))
+    (numeral-word w sound (numeral_of digits) (written_value digits))
 fine-expression-plan w sound items all (kept.Literal place written) n env placed =
     fine-literal w sound (literal_value written) place (λ t. Give (Made t)) placed (λ t v f. tt)
 fine-expression-plan w sound items all (kept.TerraExpression place x) n env placed =
