@@ -1,0 +1,10 @@
+pub mod Children
+pub mod Reading
+pub mod OfPlans
+pub mod OfNames
+pub mod OfExpressions
+pub mod OfStatements
+pub mod OfQuotes
+pub mod OfDefinitions
+pub mod OfStructs
+pub mod Whole
