@@ -1,11 +1,10 @@
 -- Code of which machine code may be made reads and writes temporaries of its own alone.
-use Rattle.std.proofs.Common.{◌≡◌, ℕ, ◌^◌, Bool, true, false, ◌&&◌, List, [], ◌∷◌, ◌++◌, Option, Some, None, map, refl, ap, ◌∙◌}
+use Rattle.std.proofs.Common.{◌≡◌, ℕ, ◌^◌, Bool, true, false, ◌&&◌, List, [], ◌∷◌, ◌++◌, map, refl}
 use Rattle.std.specs.Prelude.{nat_le, nat_lt, length}
-use Rattle.std.specs.List.{list_all, flat_map}
+use Rattle.std.specs.List.{list_all}
 use Rattle.std.proofs.lemmas.Bool.{and_parts}
 use Rattle.tac_form.specs.declared.tac.Operand.{Operand}
 use Rattle.tac_form.specs.declared.tac.Operand.TheVariants.{Temp, Constant}
-use Rattle.tac_form.specs.declared.tac.Address.{Address}
 use Rattle.tac_form.specs.declared.tac.Address.TheVariants.{Word, Frame}
 use Rattle.tac_form.specs.declared.tac.Spot.{Spot}
 use Rattle.tac_form.specs.declared.tac.Spot.TheVariants as spots
@@ -20,11 +19,11 @@ use Rattle.tac_form.specs.declared.tac.Exit.{Exit}
 use Rattle.tac_form.specs.declared.tac.Exit.TheVariants.{Jump, Branch, Return, Fail}
 use Rattle.tac_form.specs.declared.tac.Block.{Block}
 use Rattle.tac_form.specs.declared.tac.Tac.{Tac}
-use Rattle.tac_form.specs.Flow.{area_size, bytes_of}
+use Rattle.tac_form.specs.Flow.{bytes_of}
 use Rattle.tac_form.specs.Weights.{most_moved}
-use Rattle.tac_form.specs.Graph.{address_reads, block_of, destination_write, exit_reads, graph_of, instruction_reads, operand_reads}
+use Rattle.tac_form.specs.Graph.{block_of, destination_write, exit_reads, graph_of, operand_reads}
 use Rattle.tac_form.specs.Graph.{part_reads, parts_reads, spot_reads, step_of}
-use Rattle.tac_form.specs.Fits.{are_apart, area_fits, area_there, block_fits, destination_fits, edge_fits, exit_fits, instruction_fits}
+use Rattle.tac_form.specs.Fits.{are_apart, area_fits, block_fits, destination_fits, edge_fits, exit_fits, instruction_fits}
 use Rattle.tac_form.specs.Fits.{is_within, operand_fits, part_fits, place_fits, spot_fits}
 use Rattle.reg_alloc.specs.Homes.{all_below, are_below, block_below, step_below, write_below}
 

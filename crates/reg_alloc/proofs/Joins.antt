@@ -1,13 +1,13 @@
 -- A row goes in, one temporary after the other.
-use Rattle.std.proofs.Common.{◌≡◌, ◌≢◌, ℕ, zero, suc, ◌+◌, ◌<◌, ◌≤◌, Bool, true, false, not, ◌&&◌, ◌||◌, cond, List, [], ◌∷◌, length}
-use Rattle.std.proofs.Common.{get_or, set, take, refl, sym, ap, ◌∙◌, subst, ⊎_elim, sum_by, count_by, arith, rules}
+use Rattle.std.proofs.Common.{◌≡◌, ◌≢◌, ℕ, ◌+◌, ◌<◌, ◌≤◌, Bool, true, false, not, ◌||◌, cond, List, [], length}
+use Rattle.std.proofs.Common.{get_or, set, take, refl, sym, ap, ◌∙◌, subst, ⊎_elim, arith}
 use Rattle.std.specs.List.{list_any}
-use Rattle.std.proofs.lemmas.List.{length-set, get_or-set_same, get_or-set_other, get_or_past, get_or-replicate, length-replicate}
+use Rattle.std.proofs.lemmas.List.{length-set, get_or-set_same, get_or-set_other, get_or_past}
 use Rattle.std.proofs.lemmas.List.Sums.{sum_by-set}
 use Rattle.std.proofs.lemmas.List.Folds.{list_any_more}
-use Rattle.std.proofs.lemmas.Bool.{cases_eq, cases_lt, cases_Bool, true≢false, false≢true}
+use Rattle.std.proofs.lemmas.Bool.{cases_eq, cases_Bool, true≢false, false≢true}
 use Rattle.tac_form.specs.declared.graph.FlowBlock.{FlowBlock}
-use Rattle.tac_form.specs.Live.{has, before_exit}
+use Rattle.tac_form.specs.Live.{has}
 use Rattle.reg_alloc.specs.Sets.{at, marked, missing, in_table, IsSet, JoinsAt, IsJoined, IsJoinedTo}
 use Rattle.reg_alloc.proofs.Marking.{marked-at, marked-long}
 

@@ -5,4 +5,9 @@ pub mod Rounds
 pub mod Taking
 pub mod Places
 pub mod Whole
+pub mod OwnSlots
 pub mod Fewest
+pub mod Noting
+pub mod Walks
+pub mod Turns
+pub mod Ends

@@ -1,13 +1,12 @@
 -- What is in a set after temporaries went in or out.
-use Rattle.std.proofs.Common.{◌≡◌, ◌≢◌, ℕ, zero, suc, ◌+◌, ◌<◌, ◌≤◌, Bool, true, false, not, ◌&&◌, ◌||◌, eqb, List, [], ◌∷◌, length, get_or}
-use Rattle.std.proofs.Common.{set, drop, Option, Some, None, refl, sym, ap, ◌∙◌, subst, ⊎_elim, arith, rules}
-use Rattle.std.proofs.lemmas.List.{length-set, get_or-set_same, get_or-set_other, set_past, drop_more}
+use Rattle.std.proofs.Common.{◌≡◌, ℕ, ◌+◌, ◌<◌, Bool, true, false, not, ◌&&◌, ◌||◌, eqb, List, [], ◌∷◌, length, get_or}
+use Rattle.std.proofs.Common.{set, drop, Option, Some, None, refl, sym, ap, ◌∙◌, ⊎_elim, arith}
+use Rattle.std.proofs.lemmas.List.{length-set, get_or-set_same, get_or-set_other, drop_more}
 use Rattle.std.proofs.lemmas.Bool.{or_right}
 use Rattle.std.proofs.lemmas.Bool.Decides.{eqb_tells}
 use Rattle.tac_form.specs.declared.graph.Step.{Step}
-use Rattle.tac_form.specs.declared.graph.FlowBlock.{FlowBlock}
-use Rattle.tac_form.specs.Live.{has, is_written, before_step, before_exit}
-use Rattle.reg_alloc.specs.Sets.{at, marked, unmarked, with_written, set_before, IsSet, before_steps, before_from}
+use Rattle.tac_form.specs.Live.{has, is_written, before_step}
+use Rattle.reg_alloc.specs.Sets.{at, marked, unmarked, with_written, set_before, IsSet, before_steps}
 
 pub at-mark : (xs : List Bool) (u t : ℕ) → t < length xs → at (set xs u true) t ≡ (eqb u t || at xs t)
 at-mark xs u t h =

@@ -1,6 +1,6 @@
 -- Homes at the places of a block, from the last to the first.
-use Rattle.std.proofs.Common.{◌≡◌, ◌≢◌, ℕ, zero, suc, ◌+◌, ◌<◌, ◌≤◌, ◌↔◌, Bool, true, false, not, ◌&&◌, ◌||◌, List, [], ◌∷◌, length, get_or}
-use Rattle.std.proofs.Common.{drop, Option, Some, None, Result, Ok, Err, IfOk, refl, sym, ap, ◌∙◌, subst, ⊎_elim, arith, rules}
+use Rattle.std.proofs.Common.{◌≡◌, ℕ, zero, suc, ◌+◌, ◌<◌, ◌≤◌, ◌↔◌, Bool, true, false, not, ◌&&◌, ◌||◌, List, ◌∷◌, length, get_or}
+use Rattle.std.proofs.Common.{drop, Option, Some, Result, Ok, Err, IfOk, refl, sym, ap, ◌∙◌, subst, ⊎_elim, arith}
 use Rattle.std.specs.Prelude.{slice_get}
 use Rattle.std.proofs.lemmas.List.{drop_more}
 use Rattle.std.proofs.lemmas.Option.{slice_get-get_or}
@@ -10,7 +10,7 @@ use Rattle.tac_form.specs.declared.graph.Step.{Step}
 use Rattle.tac_form.specs.declared.graph.FlowBlock.{FlowBlock}
 use Rattle.tac_form.specs.Live.{has, is_written, before_step, before_exit, step_writes}
 use Rattle.reg_alloc.specs.Sets.{at, with_written, set_before, in_table, before_steps, before_from, IsSet}
-use Rattle.reg_alloc.specs.Homes.{AreRightBelow, IsRightSet, just_written, used_from, IsBlockRight, AreBlocksRight}
+use Rattle.reg_alloc.specs.Homes.{AreRightBelow, IsRightSet, used_from, IsBlockRight, AreBlocksRight}
 use Rattle.reg_alloc.proofs.Marking.{with_written-long, with_written-at, set_before-long, set_before-at}
 
 pub right-along : (homes : List (Option Home)) (n : ℕ) (p q : ℕ → Bool) → ((t : ℕ) → t < n → p t ≡ q t) → AreRightBelow homes n p → AreRightBelow homes n q

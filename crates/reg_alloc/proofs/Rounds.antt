@@ -1,16 +1,15 @@
 -- Rounds that widen a table come to an end, at what is live.
-use Rattle.std.proofs.Common.{◌≡◌, ◌≢◌, ℕ, zero, suc, ◌+◌, ◌<◌, ◌≤◌, ◌↔◌, Bool, true, false, not, ◌&&◌, ◌||◌, List, [], ◌∷◌, length, drop}
-use Rattle.std.proofs.Common.{get_or, set, replicate, Option, Some, None, refl, sym, ap, ◌∙◌, subst, ⊎_elim, inl, inr, sum_by, arith, rules}
+use Rattle.std.proofs.Common.{◌≡◌, ℕ, zero, suc, ◌+◌, ◌<◌, ◌≤◌, Bool, true, false, ◌||◌, List, [], length, drop}
+use Rattle.std.proofs.Common.{get_or, set, replicate, Option, Some, None, refl, sym, ap, ◌∙◌, subst, ⊎_elim, arith}
 use Rattle.std.specs.Prelude.{slice_get}
 use Rattle.std.proofs.lemmas.List.{length-set, get_or-set_same, get_or-set_other, get_or_past, get_or-replicate, length-replicate}
 use Rattle.std.proofs.lemmas.List.{set-get_or}
 use Rattle.std.proofs.lemmas.List.Sums.{sum_by-set}
-use Rattle.std.proofs.lemmas.Option.{slice_get_within, get_or_from_slice_get, slice_get-get_or}
+use Rattle.std.proofs.lemmas.Option.{slice_get_within}
 use Rattle.std.proofs.lemmas.Bool.{or_cases, or_right, cases_eq, cases_lt, cases_Bool, true≢false, false≢true}
-use Rattle.tac_form.specs.declared.graph.Step.{Step}
 use Rattle.tac_form.specs.declared.graph.FlowBlock.{FlowBlock}
 use Rattle.tac_form.specs.Live.{IsLive, read_within, at_place}
-use Rattle.reg_alloc.specs.Sets.{at, missing, missing_all, in_table, before_from, IsSet, IsJoined, IsWidened, IsTable, IsRound, IsClosedAt}
+use Rattle.reg_alloc.specs.Sets.{at, missing, missing_all, in_table, before_from, IsWidened, IsTable, IsRound, IsClosedAt}
 use Rattle.reg_alloc.specs.Sets.{IsLiveTable}
 use Rattle.reg_alloc.proofs.Ways.{before-live, live-before}
 

@@ -1,16 +1,15 @@
 -- Homes are taken one after the other, and numbers tell homes apart.
-use Rattle.std.proofs.Common.{◌≡◌, ◌≢◌, ℕ, zero, suc, ◌+◌, ◌-◌, ◌<◌, ◌≤◌, ◌↔◌, Bool, true, false, not, ◌&&◌, ◌||◌, cond, ltb, leb, List, []}
-use Rattle.std.proofs.Common.{◌∷◌, length, get_or, set, replicate, Option, Some, None, refl, sym, ap, ◌∙◌, subst, ⊎_elim, inl, inr, arith}
-use Rattle.std.proofs.Common.{rules}
+use Rattle.std.proofs.Common.{◌≡◌, ◌≢◌, ℕ, ◌+◌, ◌-◌, ◌<◌, ◌≤◌, Bool, true, false, ◌&&◌, cond, ltb, leb, List}
+use Rattle.std.proofs.Common.{length, get_or, set, replicate, Option, Some, None, refl, sym, ap, ◌∙◌, subst, ⊎_elim, arith}
 use Rattle.std.specs.Prelude.{slice_get}
 use Rattle.std.proofs.lemmas.List.{length-set, get_or-set_same, get_or-set_other, get_or_past, get_or-replicate, length-replicate}
-use Rattle.std.proofs.lemmas.Option.{slice_get_within, slice_get-get_or, slice_get_past}
-use Rattle.std.proofs.lemmas.Bool.{cases_eq, cases_lt, cases_Bool, and_parts, leb-true, ltb-true, lt-ltb, true≢false, false≢true}
+use Rattle.std.proofs.lemmas.Option.{slice_get-get_or}
+use Rattle.std.proofs.lemmas.Bool.{cases_eq, cases_lt, and_parts, leb-true, ltb-true, true≢false, false≢true}
 use Rattle.reg_alloc.specs.declared.assignment.Home.{Home}
 use Rattle.reg_alloc.specs.declared.assignment.Home.TheVariants.{Register, Slot}
-use Rattle.reg_alloc.specs.Right.{is_home, is_some_home, has_home}
+use Rattle.reg_alloc.specs.Right.{is_some_home, has_home}
 use Rattle.reg_alloc.specs.Sets.{at}
-use Rattle.reg_alloc.specs.Homes.{home_number, TakesNumber, Takes, TakesIf, AreRightBelow, IsRightSet, IsTaken}
+use Rattle.reg_alloc.specs.Homes.{home_number, TakesNumber, TakesIf, IsRightSet, IsTaken}
 
 some-if : (b : Bool) (m n : ℕ) → cond b (Some m) None ≡ Some n → (b ≡ true) × (m ≡ n)
 some-if true m n e = (refl, cc)

@@ -1,12 +1,12 @@
 -- Ways to reads, and sets that are closed under what is live.
-use Rattle.std.proofs.Common.{◌≡◌, ◌≢◌, ℕ, zero, suc, ◌+◌, ◌<◌, ◌≤◌, Bool, true, false, not, ◌&&◌, ◌||◌, eqb, List, [], ◌∷◌, length, drop}
-use Rattle.std.proofs.Common.{Option, Some, None, refl, sym, ap, ◌∙◌, subst, ⊎_elim, inl, inr, arith, rules}
+use Rattle.std.proofs.Common.{◌≡◌, ℕ, zero, suc, Bool, true, not, ◌&&◌, eqb, List, [], ◌∷◌, drop}
+use Rattle.std.proofs.Common.{Option, Some, None, refl, sym, ap, ◌∙◌, subst, ⊎_elim}
 use Rattle.std.specs.Prelude.{slice_get}
 use Rattle.std.specs.List.{list_any}
-use Rattle.std.proofs.lemmas.Bool.{or_cases, or_left, or_right, and_parts, and_from, false≢true, cases_Bool, eqb-true, eq-eqb}
+use Rattle.std.proofs.lemmas.Bool.{or_cases, or_left, or_right, and_parts, and_from, false≢true, eqb-true, eq-eqb}
 use Rattle.tac_form.specs.declared.graph.Step.{Step}
 use Rattle.tac_form.specs.declared.graph.FlowBlock.{FlowBlock}
-use Rattle.tac_form.specs.Live.{has, is_written, before_step, before_exit, at_step, at_place, read_within, IsLive}
+use Rattle.tac_form.specs.Live.{has, is_written, before_exit, at_step, at_place, read_within, IsLive}
 use Rattle.reg_alloc.specs.Sets.{before_steps, before_from}
 
 -- the place of a block's step, and its exit
@@ -42,7 +42,7 @@ any-map : (p q : ℕ → Bool) (ns : List ℕ) → ((n : ℕ) → p n ≡ true �
 any-map p q ns f e = let r = any-pick p ns e in any-from q ns r.0 r.1 (f r.0 r.2)
 
 -- a way one step longer
-live-here : (graph : List FlowBlock) (b at t k : ℕ) (block : FlowBlock) → slice_get graph b ≡ Some block →
+pub live-here : (graph : List FlowBlock) (b at t k : ℕ) (block : FlowBlock) → slice_get graph b ≡ Some block →
     at_step block (slice_get block.steps at) (λ c. read_within graph k c 0 t) (read_within graph k b (suc at) t) t ≡ true →
     IsLive graph b at t
 live-here graph b at t k block e h =

@@ -1,24 +1,23 @@
 -- Right at every place of every block is right.
-use Rattle.std.proofs.Common.{◌≡◌, ◌≢◌, ℕ, zero, suc, ◌+◌, ◌<◌, ◌≤◌, ◌↔◌, Bool, true, false, not, ◌&&◌, ◌||◌, ltb, eqb, List, [], ◌∷◌, ◌++◌}
-use Rattle.std.proofs.Common.{length, get_or, drop, Option, Some, None, refl, sym, ap, ◌∙◌, subst, ⊎_elim, inl, inr, arith, rules}
+use Rattle.std.proofs.Common.{◌≡◌, ℕ, zero, suc, ◌<◌, ◌≤◌, ◌↔◌, Bool, true, false, not, ◌&&◌, ◌||◌, ltb, eqb, List, [], ◌∷◌}
+use Rattle.std.proofs.Common.{length, drop, Option, Some, None, refl, sym, ap, ◌∙◌, subst, ⊎_elim, inl, inr, arith}
 use Rattle.std.specs.Prelude.{slice_get}
 use Rattle.std.specs.List.{list_any, list_all}
-use Rattle.std.proofs.lemmas.List.{drop_all, length_push, get_or_push, get_or_append_left}
-use Rattle.std.proofs.lemmas.Option.{slice_get_within, slice_get-get_or, slice_get_past}
-use Rattle.std.proofs.lemmas.Bool.{cases_eq, cases_lt, cases_Bool, or_cases, or_left, or_right, and_parts, and_cases, eqb-true, eq-eqb}
-use Rattle.std.proofs.lemmas.Bool.{ltb-true, ltb-false, lt-ltb, true≢false, false≢true}
+use Rattle.std.proofs.lemmas.List.{drop_all}
+use Rattle.std.proofs.lemmas.Option.{slice_get_within, slice_get_past}
+use Rattle.std.proofs.lemmas.Bool.{cases_lt, or_cases, or_left, or_right, and_parts, and_cases, eqb-true, eq-eqb}
+use Rattle.std.proofs.lemmas.Bool.{ltb-true, ltb-false, true≢false, false≢true}
 use Rattle.tac_form.specs.declared.tac.Tac.{Tac}
 use Rattle.reg_alloc.specs.declared.assignment.Home.{Home}
-use Rattle.reg_alloc.specs.declared.assignment.Home.TheVariants.{Slot}
 use Rattle.tac_form.specs.declared.graph.Step.{Step}
 use Rattle.tac_form.specs.declared.graph.FlowBlock.{FlowBlock}
 use Rattle.tac_form.specs.Graph.{graph_of}
-use Rattle.tac_form.specs.Live.{has, is_written, before_step, before_exit, at_step, at_place, read_within, IsLive, step_writes, written_in}
+use Rattle.tac_form.specs.Live.{has, is_written, before_exit, at_step, at_place, read_within, IsLive, step_writes, written_in}
 use Rattle.tac_form.specs.Live.{is_just_written, InUse}
-use Rattle.reg_alloc.specs.Right.{is_some_home, has_home, IsRight}
+use Rattle.reg_alloc.specs.Right.{is_some_home, IsRight}
 use Rattle.reg_alloc.specs.Sets.{in_table, before_steps, before_from, IsLiveTable}
 use Rattle.reg_alloc.specs.Homes.{AreRightBelow, just_written, used_from, IsBlockRight, AreBlocksRight, all_below, write_below, step_below}
-use Rattle.reg_alloc.specs.Homes.{steps_below, block_below, are_below, own_slots}
+use Rattle.reg_alloc.specs.Homes.{steps_below, block_below, are_below}
 use Rattle.reg_alloc.proofs.Ways.{before-live, live-before}
 
 -- tests of all, at one
@@ -166,7 +165,7 @@ not-right code homes a r =
     false≢true (sym (ap (is_some_home (length homes)) (slice_get_past homes o.2 o.3)) ∙ r.homes_are o.0 o.1 o.2 o.4)
 
 -- what is in use, by the table
-live-from : (graph : List FlowBlock) (n : ℕ) (table : List (List Bool)) → IsLiveTable graph n table → (b : ℕ) (block : FlowBlock) → slice_get graph b ≡ Some block →
+pub live-from : (graph : List FlowBlock) (n : ℕ) (table : List (List Bool)) → IsLiveTable graph n table → (b : ℕ) (block : FlowBlock) → slice_get graph b ≡ Some block →
     (i t : ℕ) → t < n → before_from block i (λ c. in_table table c t) t ≡ true → IsLive graph b i t
 live-from graph n table live b block g i t l h =
     before-live graph b t block (λ c. in_table table c t) g (λ c k. (live c t l).0 k) (drop i block.steps) i refl h
@@ -189,7 +188,7 @@ used-from graph n table live b block g i t l h =
     (λ f. inl (live-from graph n table live b block g i t l f))
     (or_cases (just_written block.steps i t) (before_from block i (λ c. in_table table c t) t) h)
 
-from-used : (graph : List FlowBlock) (n : ℕ) (table : List (List Bool)) → IsLiveTable graph n table → (b : ℕ) (block : FlowBlock) → slice_get graph b ≡ Some block →
+pub from-used : (graph : List FlowBlock) (n : ℕ) (table : List (List Bool)) → IsLiveTable graph n table → (b : ℕ) (block : FlowBlock) → slice_get graph b ≡ Some block →
     (i t : ℕ) → t < n → InUse graph b i t → used_from table block i t ≡ true
 from-used graph n table live b block g i t l u =
     ⊎_elim
@@ -280,32 +279,3 @@ pub check-fails : (code : Tac) (homes given : List (Option Home)) (first : List 
     are_below (length given) first ≡ false → IsRight code homes → ⊥
 check-fails code homes given first eh e1 a r =
     not-right code homes (ap (λ h. are_below (length h) (graph_of code)) (sym eh) ∙ (ap (λ g. are_below (length given) g) (sym e1) ∙ a)) r
-
--- a slot for each
-pub own-long : (n : ℕ) → length (own_slots n) ≡ n
-own-long zero = refl
-own-long (suc n) = let e = length_push (own_slots n) (Some (Slot n)) in let f = own-long n in omega (arith, e, f)
-
-own-at : (n t : ℕ) → t < n → get_or (own_slots n) t None ≡ Some (Slot t)
-own-at zero t l = absurd (omega arith)
-own-at (suc n) t l =
-    ⊎_elim
-    (λ s. ap (λ m. get_or (own_slots (suc n)) m None) s ∙ (get_or_push (own_slots n) (Some (Slot n)) None n (own-long n) ∙ ap (λ m. Some (Slot m)) (sym s)))
-    (λ o. let k : t < n = omega (arith, o) in
-    get_or_append_left (own_slots n) (Some (Slot n) ∷ []) None t (omega (arith, own-long n)) ∙ own-at n t k)
-    (cases_eq t n)
-
-pub own-right : (code : Tac) (n : ℕ) (homes : List (Option Home)) → homes ≡ own_slots n → are_below n (graph_of code) ≡ true → IsRight code homes
-own-right code n homes e a = subst (λ v. IsRight code v) (sym e) (record {
-  homes_are = λ b i t u.
-      let l = used-below n (graph_of code) b i t a u in
-      ap (is_some_home (length (own_slots n))) (here t l) ∙ lt-ltb t (length (own_slots n)) (omega (arith, own-long n));
-  apart = λ b i t v u w ne q.
-      let l = used-below n (graph_of code) b i t a u in
-      let k = used-below n (graph_of code) b i v a w in
-      let p : Some (Some (Slot t)) ≡ Some (Some (Slot v)) = sym (here t l) ∙ (q ∙ here v k) in
-      ne (cc);
-})
-  where
-    here : (t : ℕ) → t < n → slice_get (own_slots n) t ≡ Some (Some (Slot t))
-    here t l = slice_get-get_or (own_slots n) t None (omega (arith, own-long n)) ∙ ap Some (own-at n t l)

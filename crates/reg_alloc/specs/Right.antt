@@ -1,5 +1,5 @@
 -- Which assignments are right.
-use Rattle.std.specs.Prelude.{◌≡◌, ◌≢◌, ℕ, Bool, true, false, ◌&&◌, nat_le, nat_lt, IsTrue, List, length, Option, Some, None, slice_get}
+use Rattle.std.specs.Prelude.{◌≢◌, ℕ, Bool, false, ◌&&◌, nat_le, nat_lt, IsTrue, List, length, Option, Some, slice_get}
 use Rattle.tac_form.specs.declared.tac.Tac.{Tac}
 use Rattle.reg_alloc.specs.declared.assignment.Home.{Home}
 use Rattle.reg_alloc.specs.declared.assignment.Home.TheVariants.{Register, Slot}

@@ -1,13 +1,10 @@
 -- Views of the code, which private contracts cite: sets of temporaries as flags, and how far the search for live
 -- ones has come.
-use Rattle.std.specs.Prelude.{◌≡◌, ℕ, zero, suc, ◌+◌, ◌<◌, ◌≤◌, ◌↔◌, Bool, true, false, not, ◌&&◌, ◌||◌, nat_lt, List, [], ◌∷◌, length}
-use Rattle.std.specs.Prelude.{drop, Option, Some, None, slice_get, slice_set, slice_index_or, sum_by, count_by, ◌≢◌}
-use Rattle.std.specs.List.{list_all}
+use Rattle.std.specs.Prelude.{◌≡◌, ℕ, ◌<◌, ◌≤◌, ◌↔◌, Bool, true, false, not, ◌||◌, List, [], ◌∷◌, length}
+use Rattle.std.specs.Prelude.{drop, Option, Some, None, slice_get, slice_set, slice_index_or, sum_by, count_by}
 use Rattle.tac_form.specs.declared.graph.Step.{Step}
 use Rattle.tac_form.specs.declared.graph.FlowBlock.{FlowBlock}
-use Rattle.reg_alloc.specs.declared.assignment.Home.{Home}
 use Rattle.tac_form.specs.Live.{before_step, before_exit, IsLive}
-use Rattle.reg_alloc.specs.Right.{has_home}
 
 abbrev pub at : List Bool → ℕ → Bool
 at xs t = slice_index_or xs t false

@@ -1,4 +1,4 @@
-// An assignment for code: for now each temporary has a slot of its own.
+// An assignment for code in which each temporary has a slot of its own.
 
 ghost use Rattle.std.specs.Prelude.{◌≡◌, ◌≤◌, true, length, IfOk, IsTrue};
 ghost use Rattle.tac_form.specs.Fits.{is_within};
@@ -16,7 +16,7 @@ use tl_base::NoMemory;
 const TOO_MANY: usize = 1 << 40;
 
 /// A number above those of all temporaries: that of the code itself, or else the next power of two that serves.
-fn room_for(graph: &[FlowBlock], temps: u64) -> Result<usize, NoMemory>
+pub fn room_for(graph: &[FlowBlock], temps: u64) -> Result<usize, NoMemory>
     ensures serves { IfOk result (λ count. are_below count graph.now ≡ true) }
     ensures few { are_below temps graph.now ≡ true → IfOk result (λ count. count ≤ temps) }
 {

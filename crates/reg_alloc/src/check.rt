@@ -16,11 +16,11 @@ use tac_form::{FlowBlock, Step, Tac};
 use tl_base::NoMemory;
 
 /// The first of the registers that calls keep and that hold temporaries, the last, and how many they are.
-const FIRST: u64 = 18;
+pub const FIRST: u64 = 18;
 
 const LAST: u64 = 27;
 
-const KEPT: usize = 10;
+pub const KEPT: usize = 10;
 
 /// The number of a home among all: the slots, and behind them the registers.
 fn number_of(home: Option<Home>, slots: usize) -> Option<usize>

@@ -107,7 +107,8 @@ pub fn live_at_begins(
     graph: &[FlowBlock],
     count: usize,
 ) -> Result<Vec<TempSet>, NoMemory>
-    ensures { IfOk result (λ table. IsLiveTable graph.now count table.items) }
+    ensures live { IfOk result (λ table. IsLiveTable graph.now count table.items) }
+    ensures rows { IfOk result (λ table. length table.items ≡ length graph.now) }
 {
     let mut table = empty_table(alloc, graph.len(), count)?;
     let mut grew = true;

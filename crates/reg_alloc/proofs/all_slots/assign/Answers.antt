@@ -1,9 +1,7 @@
-use Rattle.std.proofs.Common.{◌≡◌, ◌≤◌, true, length, sym, ap, ◌∙◌, subst}
-use Rattle.tac_form.specs.Fits.{is_within}
-use Rattle.tac_form.specs.Graph.{graph_of}
-use Rattle.reg_alloc.specs.Homes.{are_below, own_slots}
+use Rattle.std.proofs.Common.{◌≤◌, length, sym, ap, ◌∙◌, subst}
+use Rattle.reg_alloc.specs.Homes.{are_below}
 use Rattle.reg_alloc.proofs.Fewest.{own-temps}
-use Rattle.reg_alloc.proofs.Whole.{own-long, own-right}
+use Rattle.reg_alloc.proofs.OwnSlots.{own-long, own-right}
 use Rattle.reg_alloc.proofs.all_slots.assign.Goals as goal
 
 pub returns-clause-right : goal.returns-clause-right

@@ -1,4 +1,4 @@
-use Rattle.std.proofs.Common.{◌≡◌, ◌↔◌, Bool, true, length, sym, ap, ◌∙◌}
+use Rattle.std.proofs.Common.{◌≡◌, ◌↔◌, true, length, sym, ◌∙◌}
 use Rattle.std.proofs.lemmas.Bool.{false≢true}
 use Rattle.reg_alloc.specs.Right.{IsRight}
 use Rattle.reg_alloc.specs.Homes.{AreBlocksRight}
@@ -21,5 +21,5 @@ returns c =
     ok-along (λ b. (b ≡ true) ↔ AreBlocksRight homes row graph (length graph)) (λ b. (b ≡ true) ↔ IsRight c.args.tac.now c.args.assignment.now) c.are_right_blocks.result
     (λ b answer. check-ends c.args.tac.now c.args.assignment.now homes c.deref.result.now c.deref-2.result.now graph c.in_ok-table.table.items row b
     c.as_slice-homes.ensures (c.deref.ensures.value ∙ c.in_ok-graph.ensures) (c.deref-2.ensures.value ∙ c.in_ok-graph.ensures)
-    (c.deref-3.ensures.value ∙ c.in_ok-graph.ensures) c.deref-4.ensures.value (sym c.is_graph_below.ensures ∙ c.if-not-is_graph_below.false) c.in_ok-table.ensures answer)
+    (c.deref-3.ensures.value ∙ c.in_ok-graph.ensures) c.deref-4.ensures.value (sym c.is_graph_below.ensures ∙ c.if-not-is_graph_below.false) c.in_ok-table.ensures.live answer)
     c.are_right_blocks.ensures

@@ -1,4 +1,4 @@
-use Rattle.std.proofs.Common.{◌≡◌, ◌<◌, length, arith}
+use Rattle.std.proofs.Common.{◌<◌, length, arith}
 use Rattle.reg_alloc.proofs.Taking.{taken-turn}
 use Rattle.reg_alloc.proofs.check.is_right_set.Goals as goal
 

@@ -1,4 +1,4 @@
-use Rattle.std.proofs.Common.{◌≡◌, ◌+◌, ◌-◌, ◌≤◌, ◌<◌, length, get_or, sym, ap, ◌∙◌, subst, refl, arith}
+use Rattle.std.proofs.Common.{◌≡◌, ◌+◌, ◌-◌, get_or, sym, ap, ◌∙◌, subst, arith}
 use Rattle.tac_form.specs.Live.{before_exit}
 use Rattle.reg_alloc.specs.Sets.{in_table, before_from, IsSet}
 use Rattle.reg_alloc.proofs.Marking.{stepped-back}

@@ -1,4 +1,4 @@
-use Rattle.std.proofs.Common.{◌≡◌, ◌+◌, ◌-◌, ◌≤◌, ◌<◌, length, sym, ap, ◌∙◌, subst, Some, arith}
+use Rattle.std.proofs.Common.{◌≡◌, ◌+◌, ◌-◌, ◌<◌, length, sym, ap, ◌∙◌, subst, Some, arith}
 use Rattle.std.proofs.lemmas.Option.{slice_get-get_or}
 use Rattle.reg_alloc.specs.Sets.{IsRound}
 use Rattle.reg_alloc.proofs.Rounds.{round-turn}
