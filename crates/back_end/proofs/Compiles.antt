@@ -21,7 +21,6 @@ use Rattle.terra_sound.proofs.Whole.{never-stuck}
 use Rattle.rv_machine.specs.Machine.{Ran, run_of}
 use Rattle.rv_machine.specs.Program.{IsProgram}
 use Rattle.rv_machine.specs.ImageRun.{image_start}
-use Rattle.rv_select.specs.Whole.{AreShort}
 use Rattle.rv_link.specs.declared.function.Function.{Function}
 use Rattle.rv_link.specs.declared.function.Linked.{Linked}
 use Rattle.rv_link.specs.Linked.{AreSelected, AreSound, IsLinkedText, code_in, image_of, program_of}
@@ -36,7 +35,7 @@ use Rattle.back_end.proofs.Following.{follows, only}
 use Rattle.back_end.proofs.WithoutCopies.{all_compiled, all_lowered, compiled-runs}
 
 -- An image whose text was linked of functions that have all that they call, from a typed store.
-pub record IsMade (store : Contents) (functions : List Function) (linked : Linked) (image : Image) (words : ℕ) (In : FnId → Type 0) : Type 0 where
+pub record IsMade (store : Contents) (functions : List Function) (linked : Linked) (image : Image) (In : FnId → Type 0) : Type 0 where
   pub types : AreTypes store.types
   pub typed : AreTyped store
   pub memory : IsMemorySize image.memory
@@ -48,12 +47,11 @@ pub record IsMade (store : Contents) (functions : List Function) (linked : Linke
   pub lawful : IsLawful image
   pub text_is : image.text ≡ linked.words.items
   pub room : 512 * linked.frame ≤ image.private
-  pub short : AreShort (program_of functions []) words
   pub closed : IsClosed (all_compiled store) In
   pub same : HasSame (all_compiled store) (program_of functions []) In
 
-module _ (store : Contents) (functions : List Function) (linked : Linked) (image : Image) (words : ℕ) (In : FnId → Type 0)
-    (made : IsMade store functions linked image words In) (f : FnId) (k : Callable) (there : callable_of store f ≡ Some k) (here : In f)
+module _ (store : Contents) (functions : List Function) (linked : Linked) (image : Image) (In : FnId → Type 0)
+    (made : IsMade store functions linked image In) (f : FnId) (k : Callable) (there : callable_of store f ≡ Some k) (here : In f)
     (narrow : are_narrow store.types (parameter_types k) ≡ true) (scalar : is_aggregate store.types k.body.result ≡ false)
     (program : List (Option Instr)) (decoded : IsProgram image.text program) (arguments : List ℕ) (args : AreWords arguments)
     (eight : length arguments ≤ 8) (values : AreValues store.types k.body.parameters (map word arguments)) where
@@ -70,12 +68,12 @@ module _ (store : Contents) (functions : List Function) (linked : Linked) (image
   none-few = omega arith
 
   ends-like : length arguments ≡ length (compiled_code store k).parameters → (n : ℕ) →
-      EndsLike image (image_of functions f).at arguments n ((n + 1) * words) (source n)
+      EndsLike image (image_of functions f).at arguments n ((n + 1) * length image.text) (source n)
   ends-like count n =
       let run = lowering_keeps_runs store (all_lowered store) made.types made.typed none-few (λ g. refl) image.memory n f k
       (map word arguments) made.memory made.half there narrow values in
-      images-carried functions [] linked image f (compiled_code store k) words n arguments (source n) made.selected made.sound made.text
-      made.lawful made.text_is made.room made.short code-is args eight count
+      images-carried functions [] linked image f (compiled_code store k) n arguments (source n) made.selected made.sound made.text
+      made.lawful made.text_is made.room code-is args eight count
       (subst (λ bytes. Run_of bytes n) (sym made.statics)
       (same-run (all_compiled store) (program_of functions []) In made.closed made.same (static_bytes store) image.memory n f
       (map word arguments) (source n) here
@@ -85,10 +83,10 @@ module _ (store : Contents) (functions : List Function) (linked : Linked) (image
       Run_of bytes m = TacRun (program_of functions []) bytes image.memory m f (map word arguments) (source m)
 
   pub agrees : length arguments ≡ length (compiled_code store k).parameters →
-      Agree (SameEnd store.types k.body.result) source target words
+      Agree (SameEnd store.types k.body.result) source target (length image.text)
   agrees count =
-      agree (SameEnd store.types k.body.result) (only store.types k.body.result) source target words
-      (λ n. follows store.types k.body.result scalar image (image_of functions f).at arguments eight program decoded words n (source n)
+      agree (SameEnd store.types k.body.result) (only store.types k.body.result) source target (length image.text)
+      (λ n. follows store.types k.body.result scalar image (image_of functions f).at arguments eight program decoded (length image.text) n (source n)
       (λ v out is. gives-values store [] image.memory n f k (map word arguments) v out made.types made.typed none-few made.memory made.half
       there narrow values is)
       (λ out is. never-stuck store [] image.memory n f k (map word arguments) out made.typed there is)

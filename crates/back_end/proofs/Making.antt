@@ -184,30 +184,6 @@ module _ (store : Contents) where
           rest ≤ 250 * more → all ≤ 250 * (nodes + more)
       sum all own rest items words nodes more a b c d e = omega (arith, a, b, c, d, e)
 
-  short : (xs : List Function) (f : FnId) (code : Tac) → AreFunctions store xs → code_in xs f ≡ Some code →
-      code_words code ≤ 250 * nodes_in store (map id_of xs)
-  short [] f code h e = absurd (grind (arith, e))
-  short (x ∷ xs) f code h e = by (nat_eq x.id.0 f.0) refl (λ later. short xs f code h.1 later)
-    where
-      one : (a b : Tac) → Some a ≡ Some b → a ≡ b
-      one a b q = cc
-
-      more : (words nodes rest : ℕ) → words ≤ 250 * rest → words ≤ 250 * (nodes + rest)
-      more words nodes rest a = omega (arith, a)
-
-      first : (words nodes rest : ℕ) → words ≤ 250 * nodes → words ≤ 250 * (nodes + rest)
-      first words nodes rest a = omega (arith, a)
-
-      by : (b : Bool) → nat_eq x.id.0 f.0 ≡ b → (code_in xs f ≡ Some code → code_words code ≤ 250 * nodes_in store (map id_of xs)) →
-          code_words code ≤ 250 * nodes_in store (map id_of (x ∷ xs))
-      by true q later =
-          first (code_words code) (nodes_of (callable_of store x.id)) (nodes_in store (map id_of xs))
-          (subst (λ (t : Tac). code_words t ≤ 250 * nodes_of (callable_of store x.id))
-          (one x.tac code (sym (ap (λ b. if b then Some x.tac else code_in xs f) q) ∙ e)) (few-words x h.0))
-      by false q later =
-          more (code_words code) (nodes_of (callable_of store x.id)) (nodes_in store (map id_of xs))
-          (later (sym (ap (λ b. if b then Some x.tac else code_in xs f) q) ∙ e))
-
   -- a function that is there has code
   there : (xs : List Function) (f : FnId) (n : ℕ) → slice_get (map id_of xs) n ≡ Some f → (code : Tac) × (code_in xs f ≡ Some code)
   there [] f n e = absurd (grind (arith, e))
@@ -247,7 +223,7 @@ module _ (store : Contents) (exports : List Export) (functions : List Function) 
   ids = map id_of functions
 
   abbrev most : ℕ
-  most = 250 * nodes_in store ids
+  most = length image.text
 
   code-of : (f : FnId) → Has ids f → code_in functions f ≡ option_map (compiled_code store) (callable_of store f)
   code-of f h =
@@ -255,7 +231,7 @@ module _ (store : Contents) (exports : List Export) (functions : List Function) 
       let c = code-is store functions f t.0 whole.made t.1 in
       t.1 ∙ ap Some c.2 ∙ sym (ap (option_map (compiled_code store)) c.1)
 
-  made : IsMade store functions linked image most (Has ids)
+  made : IsMade store functions linked image (Has ids)
   made = record {
     types = types;
     typed = typed;
@@ -268,7 +244,6 @@ module _ (store : Contents) (exports : List Export) (functions : List Function) 
     lawful = lawful;
     text_is = text_is;
     room = room;
-    short = λ f code e. short store functions f code whole.made e;
     closed = record {
       calls = λ f code block b k to at g arguments h e i j.
           within store ids functions f code whole.calls (code-of f h ∙ e) b k block to at g arguments i j;
@@ -294,7 +269,7 @@ module _ (store : Contents) (exports : List Export) (functions : List Function) 
         (run_of first.program (image_start image (image_of functions e.function).at arguments) k)
         (subst (λ at. RvRun image at arguments k (target k)) start (runs k))
         (record { few = first.few; program = first.program; decoded = first.decoded; runs = refl }))
-        (agrees store functions linked image most (Has ids) made e.function out.term out.is here narrow
+        (agrees store functions linked image (Has ids) made e.function out.term out.is here narrow
         (whole-result (form_at store.types out.term.body.result) out.result) first.program first.decoded arguments
         (values-words store.types out.term.body.parameters arguments values) first.few values
         (values-long store.types out.term.body.parameters arguments values ∙ sym (as-many store out.term narrow)));
@@ -317,7 +292,7 @@ module _ (store : Contents) (exports : List Export) (functions : List Function) 
     statics = statics;
     functions = ids;
     reached = whole.reached;
-    short = subst (λ t. length t ≤ most) (sym (text_is ∙ text.words))
+    short = subst (λ t. length t ≤ 250 * nodes_in store ids) (sym (text_is ∙ text.words))
         (text-short store (places_of functions) text_address functions whole.made);
     exported = subst (AreExported store image most exports) (sym symbols) (all-exported exports outward whole.exported);
   }

@@ -180,6 +180,5 @@ module _ (store : Contents) (exports : List Export) (part : Contents) (is : IsTy
         functions = c.functions;
         reached = reached;
         short = subst (λ n. length image.text ≤ 250 * n) nodes c.short;
-        exported = subst (λ n. AreExported store image (250 * n) exports image.exports) nodes
-            (all-back image (250 * nodes_in part c.functions) exports image.exports (λ i e at. (i, at)) c.exported);
+        exported = all-back image (length image.text) exports image.exports (λ i e at. (i, at)) c.exported;
       }

@@ -22,7 +22,7 @@ SameEnd types result _ _ = ⊥
 abbrev pub EndsSo : (End → Stop → Type 0) → End → List ℕ → Ran → Type 0
 EndsSo Same e out ran = Same e ran.stop × (ran.output ≡ out)
 
--- Runs by their counts, and runs by their numbers of steps, agree, where no function has more than so many words.
+-- Runs by their counts, and runs by their numbers of steps, agree: a count, and the begin, takes at most as many steps as there are words.
 pub record Agree (Same : End → Stop → Type 0) (source : ℕ → Run) (target : ℕ → Ran) (words : ℕ) : Type 0 where
   -- what ends at a count ends so after some steps, and these are few
   pub ends : (n : ℕ) (e : End) (out : List ℕ) → source n ≡ Over e out →

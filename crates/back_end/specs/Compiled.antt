@@ -127,7 +127,7 @@ codes_of types [] = []
 codes_of types (x ∷ xs) = type_code (form_at types x.of) ∷ codes_of types xs
 
 -- A symbol stands for an export: it has its name and the type codes of its function, and from its address the image runs as the function
--- means, for all arguments that are words of the parameters' types.
+-- means, in at most so many steps for each count, for all arguments that are words of the parameters' types.
 pub record IsExported (store : Contents) (image : Image) (most : ℕ) (e : Export) (s : Symbol) : Type 0 where
   pub name : s.name ≡ e.name
   pub function : Callable
@@ -145,8 +145,7 @@ AreExported store image most (e ∷ es) (s ∷ ss) = IsExported store image most
 AreExported store image most _ _ = ⊥
 
 -- What is compiled: an image of at most 250 instructions for each typed node of functions that the exports reach, with exactly these
--- exports in their order. Runs take at most so many steps for each count, and for the begin; this bound is of the nodes, and not yet of the
--- image's own instructions, of which there may be fewer.
+-- exports in their order. Runs take at most as many steps for each count, and for the begin, as the image has instructions.
 pub record IsCompiled (store : Contents) (memory : ℕ) (exports : List Export) (image : Image) : Type 0 where
   pub lawful : IsLawful image
   pub memory_is : image.memory ≡ memory
@@ -154,4 +153,4 @@ pub record IsCompiled (store : Contents) (memory : ℕ) (exports : List Export) 
   pub functions : List FnId
   pub reached : AreReached store exports functions
   pub short : length image.text ≤ 250 * nodes_in store functions
-  pub exported : AreExported store image (250 * nodes_in store functions) exports image.exports
+  pub exported : AreExported store image (length image.text) exports image.exports

@@ -19,11 +19,13 @@ use Rattle.rv_select.specs.Places.{Layout, frame_bytes, layout_of}
 use Rattle.rv_select.specs.Entering.{left}
 use Rattle.rv_select.specs.Shapes.{start_of}
 use Rattle.rv_select.specs.Calls.{IsSelected, all_has_code, block_starts, body_code, function_code, head_code, last_address}
+use Rattle.rv_select.specs.Whole.{AreShort}
 use Rattle.rv_select.specs.Waiting.{IsPlaced, PassesAll, Placed, entry_of}
 use Rattle.rv_select.proofs.Lengths.{blocks-length}
 use Rattle.rv_link.specs.declared.function.Function.{Function}
+use Rattle.rv_link.specs.declared.function.Linked.{Linked}
 use Rattle.rv_link.specs.Filling.{entry_in}
-use Rattle.rv_link.specs.Linked.{AreSelected, AreSound, IsSound, LinkedTextsAreLinked, code_in, function_words, image_of, larger}
+use Rattle.rv_link.specs.Linked.{AreSelected, AreSound, IsLinkedText, IsSound, LinkedTextsAreLinked, code_in, function_words, image_of, larger}
 use Rattle.rv_link.specs.Linked.{most_frame, placed_in, places_of, program_of, text_from, text_of}
 
 -- a function's code is as long wherever it and others stand
@@ -189,6 +191,25 @@ texts-linked functions values linked program selected sound t decoded f code is 
           frame = frame;
           stands = stands;
         }
+
+-- no function has more words than the text, of which it is a part
+pub texts-short : (functions : List Function) (values : List FnId) (linked : Linked) → AreSelected functions →
+    AreSound (program_of functions values) functions → IsLinkedText functions linked →
+    AreShort (program_of functions values) (image_of functions) (length linked.words.items)
+texts-short functions values linked selected sound t f code is =
+    part (among (program_of functions values) (places_of functions) functions f code [] text_address refl selected sound is)
+  where
+    part : IsAmong (program_of functions values) (places_of functions) (text_of functions) (most_frame functions) code (image_of functions f) →
+        length (function_code (layout_of code (image_of functions f).homes) code (places_of functions) (image_of functions f).at)
+        ≤ length linked.words.items
+    part i =
+        let C : List Instr = function_code (layout_of code (image_of functions f).homes) code (places_of functions) (image_of functions f).at in
+        within (length i.before) (length C) (length i.rest) (length linked.words.items)
+        (ap length t.words ∙ (ap length i.text_is ∙ (length-append i.before (map word_of C ++ i.rest)
+        ∙ ap (λ n. length i.before + n) (length-append (map word_of C) i.rest ∙ ap (λ n. n + length i.rest) (length-map C word_of)))))
+      where
+        within : (b c r n : ℕ) → n ≡ b + (c + r) → c ≤ n
+        within b c r n h = omega (arith, h)
 
 -- where calls enter functions
 pub entries-are : (functions : List Function) (at : ℕ) (f : FnId) → AreSelected functions →

@@ -20,7 +20,7 @@ use Rattle.tac_form.specs.Flow as tac
 use Rattle.tac_form.specs.Flow.{Program}
 use Rattle.rv_select.specs.Places.{AreBytes}
 use Rattle.rv_select.proofs.Stands.{both-true}
-use Rattle.rv_select.specs.Whole.{Ended, before_entry}
+use Rattle.rv_select.specs.Whole.{AreShort, Ended, before_entry}
 use Rattle.rv_select.specs.Places.{layout_of}
 use Rattle.rv_select.specs.Shapes.{place_number}
 use Rattle.rv_select.specs.Calls.{function_code}
@@ -28,7 +28,7 @@ use Rattle.rv_select.proofs.Entire.{programs-carried}
 use Rattle.rv_link.specs.declared.function.Function.{Function}
 use Rattle.rv_link.specs.Linked.{function_words, image_of, places_of, program_of, text_from}
 use Rattle.rv_link.specs.Images.{EndsLike, ImagesAreCarried, ImagesStart}
-use Rattle.rv_link.proofs.Links.{texts-linked}
+use Rattle.rv_link.proofs.Links.{texts-linked, texts-short}
 
 all-bytes : (xs : List ℕ) → ((k : ℕ) → slice_index xs k < 256) → AreBytes xs
 all-bytes [] h = tt
@@ -206,7 +206,7 @@ ends-like image program at arguments n most s (More out) few decoded none left (
     below c h = omega (arith, h)
 
 pub images-carried : ImagesAreCarried
-images-carried functions values linked image f code words n arguments r selected sound t lawful text frame short is args few count run =
+images-carried functions values linked image f code n arguments r selected sound t lawful text frame is args few count run =
     let p : Program = program_of functions values in
     let start : State = image_start image (image_of functions f).at arguments in
     let whole : image.text ≡ map word_of (code-from (places_of functions) text_address functions) =
@@ -215,8 +215,10 @@ images-carried functions values linked image f code words n arguments r selected
     let decoded : IsProgram image.text program =
     subst (λ z. IsProgram z program) (sym whole) (program-of (code-from (places_of functions) text_address functions)) in
     let room : 512 * linked.frame ≤ length start.private = subst (λ z. 512 * linked.frame ≤ z) (sym (length-replicate image.private 0)) frame in
-    ends-like image program (image_of functions f).at arguments n ((n + 1) * words) (before_entry f (fresh image.memory image.statics) n) r few
+    let short : AreShort p (image_of functions) (length image.text) =
+    subst (λ z. AreShort p (image_of functions) (length z)) (sym text) (texts-short functions values linked selected sound t) in
+    ends-like image program (image_of functions f).at arguments n ((n + 1) * length image.text) (before_entry f (fresh image.memory image.statics) n) r few
     decoded refl refl
-    (programs-carried p (image_of functions) program linked.frame words image.memory n image.statics f code arguments start r
+    (programs-carried p (image_of functions) program linked.frame (length image.text) image.memory n image.statics f code arguments start r
     (texts-linked functions values linked program selected sound t (subst (λ z. IsProgram z program) text decoded)) short is
     (images-start image (image_of functions f).at arguments lawful few args) few count room run)

@@ -14,7 +14,7 @@ use Rattle.terra_memory.specs.Region.{fresh}
 use Rattle.tac_form.specs.declared.tac.Tac.{Tac}
 use Rattle.tac_form.specs.Flow.{TacRun}
 use Rattle.rv_select.specs.Shapes.{place_number}
-use Rattle.rv_select.specs.Whole.{AreShort, Starts}
+use Rattle.rv_select.specs.Whole.{Starts}
 use Rattle.rv_link.specs.declared.function.Function.{Function}
 use Rattle.rv_link.specs.declared.function.Linked.{Linked}
 use Rattle.rv_link.specs.Linked.{AreSelected, AreSound, IsLinkedText, code_in, image_of, program_of}
@@ -66,13 +66,13 @@ EndsLike image at arguments n most (Over Stuck out) = Unit {0}
 EndsLike image at arguments n most (More out) = ImageGoesOn image at arguments n most out
 
 -- Linked functions in a lawful image: a run of the image, from where one of them begins as the entry, ends as that of its three-address
--- code does at each count n, in at most n + 1 times the words that a function may have.
+-- code does at each count n, in at most n + 1 times as many steps as the image has instructions.
 abbrev pub ImagesAreCarried : Type 0
 ImagesAreCarried =
-    (functions : List Function) (values : List FnId) (linked : Linked) (image : Image) (f : FnId) (code : Tac) (words n : ℕ)
+    (functions : List Function) (values : List FnId) (linked : Linked) (image : Image) (f : FnId) (code : Tac) (n : ℕ)
     (arguments : List ℕ) (r : Run) →
     AreSelected functions → AreSound (program_of functions values) functions → IsLinkedText functions linked → IsLawful image →
-    image.text ≡ linked.words.items → MAX_CALLS * linked.frame ≤ image.private → AreShort (program_of functions values) words →
+    image.text ≡ linked.words.items → MAX_CALLS * linked.frame ≤ image.private →
     code_in functions f ≡ Some code → AreWords arguments → length arguments ≤ 8 → length arguments ≡ length code.parameters →
     TacRun (program_of functions values) image.statics image.memory n f (map word arguments) r →
-    EndsLike image (image_of functions f).at arguments n ((n + 1) * words) r
+    EndsLike image (image_of functions f).at arguments n ((n + 1) * length image.text) r

@@ -14,7 +14,8 @@ pub fn images_start()
     ensures { ImagesStart }
 {}
 
-/// A run of an image that has a linked text, from where a function begins as the entry, ends as the run of its three-address code does.
+/// A run of an image that has a linked text, from where a function begins as the entry, ends as the run of its three-address code does, in
+/// at most as many steps for each count, and for the begin, as the image has instructions.
 pub fn images_are_carried()
     ensures { ImagesAreCarried }
 {}

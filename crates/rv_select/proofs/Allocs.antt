@@ -3,6 +3,7 @@ use Rattle.std.proofs.Common.{◌≡◌, ◌≢◌, ℕ, ◌+◌, ◌-◌, ◌*�
 use Rattle.std.proofs.Common.{drop, Option, Some, refl, sym, ap, ◌∙◌, subst, ⊎_elim, arith, inl}
 use Rattle.std.specs.Prelude.{if◌then◌else◌, nat_lt}
 use Rattle.std.proofs.lemmas.Bool.{cases_lt, le-leb, le-ltb, lt-leb, lt-ltb}
+use Rattle.std.proofs.lemmas.List.{length-append}
 use Rattle.rv_isa.specs.declared.instr.Instr.{Instr}
 use Rattle.rv_isa.specs.declared.instr.Instr.TheVariants.{Branch, Lui, RegisterImmediate, RegisterRegister, Shift}
 use Rattle.rv_isa.specs.declared.operation.BranchCondition.TheVariants.{Eq, Ltu}
@@ -15,8 +16,6 @@ use Rattle.terra_memory.specs.Numbers.{number_of}
 use Rattle.terra_memory.specs.Region.{Contents, aligned, alloc_of, first_address, heap_limit}
 use Rattle.terra_words.specs.Words.{signed}
 use Rattle.tac_form.specs.declared.tac.Operand.{Operand}
-use Rattle.tac_form.specs.declared.tac.Instruction.TheVariants as instructions
-use Rattle.tac_form.specs.Weights.{words_of}
 use Rattle.rv_machine.specs.Word.{low, difference}
 use Rattle.rv_machine.specs.Arithmetic.{shifted_left, shifted_right}
 use Rattle.rv_machine.specs.Machine.{GoesOn, State, act, at_with, fetch, run_of}
@@ -32,7 +31,7 @@ use Rattle.rv_select.proofs.Straight.{Loads, behind-both, loads-five, low-below,
 use Rattle.rv_select.proofs.Numbers.{immediate-is}
 use Rattle.rv_select.proofs.Ways.{Near, Way, at_pc, near-both, near-same, scratch-near, stands-back, stands-front, step-way, straight-way}
 use Rattle.rv_select.proofs.Ways.{way-both, way-none}
-use Rattle.rv_select.proofs.Homes.{first-count, take-first}
+use Rattle.rv_select.proofs.Homes.{take-first}
 use Rattle.rv_select.proofs.Faults.{branch-way}
 use Rattle.rv_select.proofs.Moves.{keeps-both, lasts-not, near-holds, near-keeps, PutsAway, first-small, put-away, then-put}
 
@@ -328,10 +327,11 @@ body put =
 body-count : (put : List Instr) → length (body put) ≡ 13 + length put
 body-count put = omega arith
 
-alloc-ends : (y : Layout) (d v weight : ℕ) (Used Next : ℕ → Type 0) (w : World) (base : ℕ) (A : List Instr) (program : List (Option Instr)) (m : State) (l : Loads 5 A m v) → v < 2 ^ 64 → length A + 16 ≤ weight →
+alloc-ends : (y : Layout) (d v : ℕ) (Used Next : ℕ → Type 0) (w : World) (base : ℕ) (A : List Instr) (program : List (Option Instr)) (m : State) (l : Loads 5 A m v) → v < 2 ^ 64 →
     Holds y Used w base m → Housed y Used → Housed y Next → Next d → Follows Used Next d → Stands program m.pc (A ++ body (put_at y d)) →
-    Gives y program Next (with_temp (with_region w (alloc_of w.region (signed v)).1) d (alloc_of w.region (signed v)).0) base weight (behind m (A ++ body (put_at y d))) d m
-alloc-ends y d v weight Used Next w base A program m l small few p h h' u follows stands =
+    Gives y program Next (with_temp (with_region w (alloc_of w.region (signed v)).1) d (alloc_of w.region (signed v)).0) base (length (A ++ body (put_at y d)))
+    (behind m (A ++ body (put_at y d))) d m
+alloc-ends y d v Used Next w base A program m l small p h h' u follows stands =
     let t : State = l.after in
     let r : Contents = w.region in
     let put : List Instr = put_at y d in
@@ -348,14 +348,16 @@ alloc-ends y d v weight Used Next w base A program m l small few p h h' u follow
     let q : Holds y Used w base t = near-holds y Used w base m t p h near pc-t in
     let there : Stands program t.pc (body (put_at y d)) = subst (λ z. Stands program z (body (put_at y d))) (sym l.behind) (stands-back program m.pc A (body (put_at y d)) p.pc stands) in
     let target : ℕ = behind m (A ++ body (put_at y d)) in
+    let whole : ℕ = length (A ++ body (put_at y d)) in
+    let count : whole ≡ length A + (13 + length put) = omega (arith, length-append A (body (put_at y d)), body-count (put_at y d)) in
     let to : low (t.pc + 4 * (13 + length put)) ≡ target = behind-both A (body (put_at y d)) m.pc t.pc (low (t.pc + 4 * (13 + length put))) l.behind (ap (λ n. low (t.pc + 4 * n)) (sym (body-count (put_at y d)))) in
     ⊎_elim
     (λ many.
     let e : alloc_of r (signed v) ≡ (0, r) = alloc-full r v (omega arith) in
     let g = refuses program t put v r.heap size l.gives q.heap q.limit small sized most p.lawful.begun limited there many in
-    subst (λ x. Gives y program Next (with_temp (with_region w x.1) d x.0) base weight target d m) (sym e)
-    (then-put y Used Next w base d 0 (length A + 10) weight target program m g.0 p h h' u follows (way-both program (length A) 10 m t g.0 first g.1) (near-both m t g.0 near g.4)
-    (subst (λ z. z < 2 ^ 64) (sym g.5) (low-below _)) g.2 (omega arith) (omega arith) (inl (omega arith)) g.3
+    subst (λ x. Gives y program Next (with_temp (with_region w x.1) d x.0) base whole target d m) (sym e)
+    (then-put y Used Next w base d 0 (length A + 10) whole target program m g.0 p h h' u follows (way-both program (length A) 10 m t g.0 first g.1) (near-both m t g.0 near g.4)
+    (subst (λ z. z < 2 ^ 64) (sym g.5) (low-below _)) g.2 (omega arith) (omega (arith, count)) (inl (omega arith)) g.3
     (ap (λ z. low (z + 4 * length put)) g.5 ∙ (pc-all t.pc (length put) ∙ to))))
     (λ enough.
     let e : alloc_of r (signed v) ≡ (start, record r { heap = start + v }) = alloc-fits r v (omega arith) (omega arith) in
@@ -363,19 +365,19 @@ alloc-ends y d v weight Used Next w base A program m l small few p h h' u follow
     let pc-g : g.0.pc < 2 ^ 64 = subst (λ z. z < 2 ^ 64) (sym g.8) (low-below _) in
     let now : World = with_region w (record r { heap = start + v }) in
     let s : Holds y Used now base g.0 = heap-holds y Used w base (start + v) t g.0 q h g.5 g.6 g.7 g.3 (omega (arith, p.lawful.begun)) (omega arith) pc-g in
-    subst (λ x. Gives y program Next (with_temp (with_region w x.1) d x.0) base weight target d m) (sym e)
-    (earlier y program Next (with_temp now d start) base (length A + 12) 3 weight target d m g.0 (way-both program (length A) 12 m t g.0 first g.1)
+    subst (λ x. Gives y program Next (with_temp (with_region w x.1) d x.0) base whole target d m) (sym e)
+    (earlier y program Next (with_temp now d start) base (length A + 12) (length put) whole target d m g.0 (way-both program (length A) 12 m t g.0 first g.1)
     (keeps-both y base m t g.0 (near-keeps y base m t near) (heap-keeps y base t g.0 g.5 g.7))
-    (put-away y Used Next now base d start 0 3 target program g.0 g.0 s h h' u follows (way-none program g.0) (near-same g.0) pc-g g.2 (omega arith) (omega arith) g.4
-    (ap (λ z. low (z + 4 * length put)) g.8 ∙ (pc-all t.pc (length put) ∙ to))) (omega arith) (omega arith)))
+    (put-away y Used Next now base d start 0 (length put) target program g.0 g.0 s h h' u follows (way-none program g.0) (near-same g.0) pc-g g.2 (omega arith) (omega arith) g.4
+    (ap (λ z. low (z + 4 * length put)) g.8 ∙ (pc-all t.pc (length put) ∙ to))) (omega arith) (omega (arith, count))))
     (cases_lt (limit - start) v)
 
 pub allocs : (y : Layout) (held : Option ℕ) (d : ℕ) (a : Operand) (Used Next : ℕ → Type 0) (w : World) (base : ℕ) (program : List (Option Instr)) (m : State) →
     Stands program m.pc (allocated y held d a) → IsHeld held w.temps m → Holds y Used w base m → Housed y Used → Housed y Next → IsFirst y held Used a → Next d → Follows Used Next d →
     Gives y program Next (with_temp (with_region w (alloc_of w.region (signed (value_in w.temps a))).1) d (alloc_of w.region (signed (value_in w.temps a))).0) base
-    (words_of (instructions.Alloc d a))
+    (length (allocated y held d a))
     (behind m (allocated y held d a)) d m
 allocs y held d a Used Next w base program m stands f p h h' ra u follows =
-    alloc-ends y d (value_in w.temps a) (words_of (instructions.Alloc d a)) Used Next w base (first_taken y held a) program m
-    (take-first y held Used w base m a f p h ra) (first-small held Used y w base m a p ra) (omega (arith, first-count y held a))
+    alloc-ends y d (value_in w.temps a) Used Next w base (first_taken y held a) program m
+    (take-first y held Used w base m a f p h ra) (first-small held Used y w base m a p ra)
     p h h' u follows stands

@@ -12,8 +12,8 @@ stack-less top n frame h = h
 pub stack-more : (top n frame : ℕ) → 2 ^ 30 + n - n / 4 + frame ≤ top → 2 ^ 30 + n - n / 4 + frame ≤ top
 stack-more top n frame h = h
 
-pub steps-few : (k n r : ℕ) → k ≤ 11 + 11 * n → k + 2 + 36 ≤ 49 + 11 * n + r
-steps-few k n r h = omega (arith, h)
+pub steps-few : (k b e r : ℕ) → k ≤ b → k + 2 + e ≤ b + 2 + (e + r)
+steps-few k b e r h = omega (arith, h)
 
 pub link-facts : (n : ℕ) → n + 8 + 256 ≤ 2 ^ 30 → (n < 2 ^ 30) × (n ≤ 2 ^ 30)
 link-facts n h = (omega (arith, h), omega (arith, h))
@@ -78,8 +78,8 @@ word-high base h a q n k g e l = omega (arith, g, e, l)
 pub some-steps : (a b : ℕ) → 1 ≤ a + 2 + b
 some-steps a b = omega arith
 
-pub all-few : (a b n r : ℕ) → a ≤ 11 + 11 * n → b ≤ 36 → a + 2 + b + r ≤ 49 + 11 * n + r
-all-few a b n r h g = omega (arith, h, g)
+pub all-few : (a b c e r : ℕ) → a ≤ b → c ≤ e → a + 2 + c + r ≤ b + 2 + (e + r)
+all-few a b c e r h g = omega (arith, h, g)
 
 pub zero-first : (k : ℕ) → 0 + k + 1 ≡ k + 1
 zero-first k = omega arith
@@ -99,5 +99,5 @@ deep-is n h = omega (arith, h)
 pub shallow-is : (n : ℕ) → suc n < 512 → n < 511
 shallow-is n h = omega (arith, h)
 
-pub few-deep : (n r : ℕ) → 13 ≤ 49 + 11 * n + r
+pub few-deep : (n r : ℕ) → n ≤ n + 2 + r
 few-deep n r = omega arith

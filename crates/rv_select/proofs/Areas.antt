@@ -16,9 +16,8 @@ use Rattle.tac_form.specs.declared.tac.Number.{Number}
 use Rattle.tac_form.specs.declared.tac.Size.{Size}
 use Rattle.tac_form.specs.declared.tac.Operand.{Operand}
 use Rattle.tac_form.specs.declared.tac.Spot.TheVariants as spots
-use Rattle.tac_form.specs.declared.tac.Instruction.TheVariants as instructions
 use Rattle.tac_form.specs.Flow.{bytes_of, put, width_of}
-use Rattle.tac_form.specs.Weights.{most_moved, operand_words, words_of}
+use Rattle.tac_form.specs.Weights.{most_moved}
 use Rattle.rv_machine.specs.Word.{low}
 use Rattle.rv_machine.specs.Memory.{load_value, load_width, place_of, store_width}
 use Rattle.rv_machine.specs.Machine.{State, GoesOn, act, at_with, loads, loads_from, stores, stores_to}
@@ -28,7 +27,7 @@ use Rattle.rv_operators.specs.Runs.{AreStraight, Stands}
 use Rattle.rv_operators.proofs.Runs.{straight-both}
 use Rattle.rv_select.specs.Places.{AreBytes, Layout, World, HasFrame, Holds, Housed, IsHome, IsRead, Keeps, area_offset, frame_bytes}
 use Rattle.rv_select.specs.Places.{home_of, slot_offset, value_in, word_at}
-use Rattle.rv_select.specs.Shapes.{framed, load_of, loaded, store_of, stored, taken}
+use Rattle.rv_select.specs.Shapes.{framed, load_of, loaded, put_at, store_of, stored, taken}
 use Rattle.rv_select.specs.Steps.{AreFewer, Comes, Follows, behind, with_temp}
 use Rattle.rv_select.proofs.Claims.{Gives, with_area}
 use Rattle.rv_select.proofs.Bytes.{other-part, private-part}
@@ -36,10 +35,10 @@ use Rattle.rv_select.proofs.Parts.{part-within, part-written, written-count}
 use Rattle.rv_select.proofs.Words.{drop-bytes, load-bytes, load-is, low-are-bytes, overwritten-bytes, store-bytes, take-bytes}
 use Rattle.rv_select.proofs.Small.{wrapped-small}
 use Rattle.rv_select.proofs.Straight.{Loads, Scratch, behind-both, goes-both, loads-five, loads-six, low-below, low-first}
-use Rattle.rv_select.proofs.Frames.{Reach, before-scratch, framed-count, framed-loads, framed-some, reach}
+use Rattle.rv_select.proofs.Frames.{Reach, before-scratch, framed-loads, framed-some, reach}
 use Rattle.rv_select.proofs.Ways.{Way, straight-way}
-use Rattle.rv_select.proofs.Homes.{operand-count, region-small, slot-apart, take-operand}
-use Rattle.rv_select.proofs.Moves.{lasts-not, scratch-holds, straight-put, wide-size}
+use Rattle.rv_select.proofs.Homes.{region-small, slot-apart, take-operand}
+use Rattle.rv_select.proofs.Moves.{at-most, lasts-not, scratch-holds, straight-put, wide-size}
 
 -- an area lies within the frame, and near enough
 pub area-room : (y : Layout) (base n k : ℕ) (m : State) → HasFrame y base m → n < y.areas → k ≤ most_moved → base + (area_offset y n + k) ≤ length m.private
@@ -87,14 +86,14 @@ area-load y Used w base n offset form m p h l =
 pub area-loads : (y : Layout) (held : Option ℕ) (d : ℕ) (form : Number) (n offset : ℕ) (Used Next : ℕ → Type 0) (w : World) (base : ℕ) (program : List (Option Instr)) (m : State) →
     Stands program m.pc (loaded y held d form (spots.Area n offset)) → n < y.areas → offset + bytes_of form.size ≤ length (w.areas n) →
     Holds y Used w base m → Housed y Used → Housed y Next → Next d → Follows Used Next d →
-    Gives y program Next (with_temp w d (wrapped (width_of form) (number_of (part (w.areas n) offset (bytes_of form.size))))) base 8
-    (behind m (loaded y held d form (spots.Area n offset))) d m
+    Gives y program Next (with_temp w d (wrapped (width_of form) (number_of (part (w.areas n) offset (bytes_of form.size))))) base
+    (length (loaded y held d form (spots.Area n offset))) (behind m (loaded y held d form (spots.Area n offset))) d m
 area-loads y held d form n offset Used Next w base program m stands there within p h h' u follows =
     let code : List Instr = framed (λ r far. Load (load_of form.signed form.size) x5 r far) (area_offset y n + offset) in
     let v : ℕ = wrapped (width_of form) (number_of (part (w.areas n) offset (bytes_of form.size))) in
     let l : Loads 5 code m v = area-load y Used w base n offset form m p there within in
-    let few : length code ≤ 3 = framed-count (λ r far. Load (load_of form.signed form.size) x5 r far) (area_offset y n + offset) in
-    straight-put y Used Next w base d v 8 code program m l.after p h h' u follows (loads-five code m v l) l.gives (wrapped-small (width_of form) _ (wide-size form.size)) (omega arith)
+    straight-put y Used Next w base d v (length (code ++ put_at y d)) code program m l.after p h h' u follows (loads-five code m v l) l.gives (wrapped-small (width_of form) _ (wide-size form.size))
+    (at-most (length (code ++ put_at y d)))
     (inl (framed-some (λ r far. Load (load_of form.signed form.size) x5 r far) (area_offset y n + offset))) stands
 
 -- The machine's states before and after bytes were put into an area, which has these bytes then. The bytes of an area behind those that it has may be any.
@@ -267,7 +266,7 @@ pub area-stores : (y : Layout) (held : Option ℕ) (size : Size) (n offset : ℕ
     Stands program m.pc (stored y held (spots.Area n offset) size b) → n < y.areas → offset ≤ length (w.areas n) → offset + bytes_of size ≤ most_moved → IsRead y Used b →
     Holds y Used w base m → Housed y Used → AreFewer Used Next →
     Comes y program Next (with_area w n (overwritten (w.areas n) offset (low_bytes (bytes_of size) (value_in w.temps b)))) base
-    (words_of (instructions.Store (spots.Area n offset) size b))
+    (length (stored y held (spots.Area n offset) size b))
     (behind m (stored y held (spots.Area n offset) size b)) [] m
 area-stores y held size n offset b Used Next w base program m stands there within most r p h f =
     let A : List Instr = taken y x6 b in
@@ -279,10 +278,8 @@ area-stores y held size n offset b Used Next w base program m stands there withi
     let s : Saves (A ++ B) m (base + (area_offset y n + offset)) bs =
     then-saves A B m l.after (base + (area_offset y n + offset)) bs (loads-six A m v l) (area-save y Used w base n offset v size l.after q there most l.gives) in
     let count : length bs ≡ bytes_of size = length-low_bytes (bytes_of size) v in
-    let few-a : length A ≤ operand_words b = operand-count y x6 b in
-    let few-b : length B ≤ 3 = framed-count (λ r far. Store (store_of size) r x6 far) (area_offset y n + offset) in
     let some-b : 1 ≤ length B = framed-some (λ r far. Store (store_of size) r x6 far) (area_offset y n + offset) in
     let all : length (A ++ B) ≡ length A + length B = length-append A B in
-    area-comes y Used Next w base n (length (A ++ B)) (words_of (instructions.Store (spots.Area n offset) size b)) (behind m (A ++ B)) (overwritten (w.areas n) offset bs) program m s.after
+    area-comes y Used Next w base n (length (A ++ B)) (length (A ++ B)) (behind m (A ++ B)) (overwritten (w.areas n) offset bs) program m s.after
     (straight-way program (A ++ B) m s.after stands s.straight s.goes) s.behind (subst (λ z. z < 2 ^ 64) (sym s.behind) (low-below (m.pc + 4 * length (A ++ B))))
     (area-written y Used w base n offset bs (A ++ B) m s p there within (omega (arith, count)) (low-are-bytes (bytes_of size) v)) p h f there (omega arith) (omega arith)

@@ -41,11 +41,11 @@ pub record InFunction (z : Layout) (base bottom placed depth link : ℕ) (m n : 
   pub above : (at k : ℕ) → base ≤ at → take k (drop at n.private) ≡ take k (drop at m.private)
 
 pub enters-call : (program : List (Option Instr)) (y : Layout) (held : Option ℕ) (z : Layout)
-    (base bytes frame placed target to link : ℕ) (w : World) (at : Place) (ps : List Part) (rest : List Instr) (m : State)
+    (base bytes frame placed target most to link : ℕ) (w : World) (at : Place) (ps : List Part) (rest : List Instr) (m : State)
     (b : Begun program y held base w at ps rest m) (j : JumpedTo program target b.after)
-    (e : Enters program z (base - bytes) (placed - frame) to j.after) → 88 ≤ bytes → bytes ≤ base →
+    (e : Enters program z (base - bytes) (placed - frame) most to j.after) → 88 ≤ bytes → bytes ≤ base →
     low (b.after.pc + 8) ≡ link → link < 2 ^ 64 → InFunction z base (base - bytes) (placed - frame) (suc w.depth) link m e.after
-enters-call program y held z base bytes frame placed target to link w at ps rest m b j e least room link-is small = record {
+enters-call program y held z base bytes frame placed target most to link w at ps rest m b j e least room link-is small = record {
   pointer = e.pointer;
   eight = e.placed;
   three = others 3 (λ q. omega (arith, q)) (λ q. omega (arith, q)) (λ q. omega (arith, q)) (λ q. omega (arith, q)) (λ q. omega (arith, q))

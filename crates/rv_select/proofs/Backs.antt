@@ -14,6 +14,7 @@ use Rattle.tac_form.specs.declared.tac.Part.{Part}
 use Rattle.tac_form.specs.declared.tac.Part.TheVariants as parts
 use Rattle.tac_form.specs.declared.tac.Destination.{Destination}
 use Rattle.tac_form.specs.declared.tac.Destination.TheVariants.{Temp, Area}
+use Rattle.tac_form.specs.declared.tac.Exit.{Exit}
 use Rattle.tac_form.specs.declared.tac.Exit.TheVariants.{Return}
 use Rattle.tac_form.specs.declared.tac.Instruction.TheVariants.{Call}
 use Rattle.tac_form.specs.declared.tac.Block.{Block}
@@ -34,12 +35,13 @@ use Rattle.rv_machine.specs.declared.stops.Stop.TheVariants as stops
 use Rattle.rv_operators.specs.Runs.{Stands}
 use Rattle.rv_select.specs.Pairs.{pair_of, plain_of, reads_of}
 use Rattle.rv_select.specs.Asked.{exit_asks, given_asks}
-use Rattle.rv_select.specs.Places.{AreBytes, HasHome, Holds, Housed, IsHeld, Layout, World, area_offset, frame_bytes, home_of, layout_of}
+use Rattle.rv_select.specs.Places.{AreBytes, HasHome, Holds, Housed, IsHeld, Layout, World, area_offset, frame_bytes, layout_of}
 use Rattle.rv_select.specs.Places.{link_in, private_word}
 use Rattle.rv_select.specs.Shapes.{put_at}
-use Rattle.rv_select.specs.Steps.{Comes, world_of}
+use Rattle.rv_select.specs.Steps.{world_of}
 use Rattle.rv_select.specs.Calls.{blocks_length, call_begun, call_ended, call_jump, head_code, last_address}
-use Rattle.rv_select.specs.Entering.{result_put, result_words, size_in}
+use Rattle.rv_select.specs.Entering.{left, result_put, size_in}
+use Rattle.rv_select.specs.Whole.{ended_words}
 use Rattle.rv_select.specs.Waiting.{Arrives, HasRoom, Image, IsLinked, IsPlaced, StandsIn, Stepped, Waiting, Waits, entries_of, held_at}
 use Rattle.rv_select.specs.Waiting.{held_in, place_in, plain_in, restored}
 use Rattle.rv_select.proofs.Asking.{exit-homes}
@@ -53,7 +55,7 @@ use Rattle.rv_select.proofs.Moves.{Settles, first-small, put-away, settled}
 use Rattle.rv_select.proofs.Passes.{IsPartFirst, part_value}
 use Rattle.rv_select.proofs.Receives.{housed-fewer}
 use Rattle.rv_select.proofs.Returns.{BackIn, HeldIn, Resumes, UsedBut, back-holds, goes-back, resumes}
-use Rattle.rv_select.proofs.Stands.{AtExit, AtPlace, at-plain-exit, at-instruction, both-true, exit-within, instruction-within}
+use Rattle.rv_select.proofs.Stands.{AtExit, AtPlace, at-instruction, both-true, exit-within, instruction-within}
 use Rattle.rv_select.proofs.Stands.{the-function, within-parts}
 use Rattle.rv_select.proofs.Reached.{short-bytes}
 use Rattle.rv_select.proofs.Waits.{SameAbove, link-kept, restored-same, waits-keeps, waits-same, waits-within}
@@ -144,8 +146,8 @@ some-same d t e = cc
 
 -- the result is where the caller takes it, and the machine goes on behind the call
 put-result : (p : Program) (image : Image) (program : List (Option Instr)) (most size : ℕ) → IsLinked p image program most →
-    (s : tac.State) (a : Activation) (temps : tac.Temps) (areas : tac.Areas) (cs : List Caller) (code : Tac) (up k more target : ℕ)
-    (held : Option ℕ) (m n : State) → p.code a.function ≡ Some code → Way program k m n → 1 ≤ k → k ≤ 36 →
+    (s : tac.State) (a : Activation) (temps : tac.Temps) (areas : tac.Areas) (cs : List Caller) (code : Tac) (up k more bound target : ℕ)
+    (held : Option ℕ) (m n : State) → p.code a.function ≡ Some code → Way program k m n → 1 ≤ k → k + more ≤ bound →
     (c : Settles (layout_of code (image a.function).homes) program (InUse (graph_of code) a.block a.at)
     (record { temps = temps; areas = areas; region = s.region; placed = a.base; depth = length cs }) up more target n) →
     IsHeld held temps c.after →
@@ -155,8 +157,8 @@ put-result : (p : Program) (image : Image) (program : List (Option Instr)) (most
     Waits p image most size cs (link_in (layout_of code (image a.function).homes) up n)
     (up + frame_bytes (layout_of code (image a.function).homes)) (a.base + code.frame)
     (restored (layout_of code (image a.function).homes) up n) →
-    Arrives p image program most size (36 + more) s.left [] (record s { here = record a { temps = temps; areas = areas }; callers = cs }) m
-put-result p image program most size linked s a temps areas cs code up k more target held m n function way some few c five to-is held-is
+    Arrives p image program most size bound s.left [] (record s { here = record a { temps = temps; areas = areas }; callers = cs }) m
+put-result p image program most size linked s a temps areas cs code up k more bound target held m n function way some few c five to-is held-is
     inside frame
     region room
     waits = record {
@@ -249,21 +251,22 @@ abbrev Puts : List (Option Instr) → Layout → (sizes : List ℕ) → (U : ℕ
 Puts program y sizes U to s a over depth up v temps areas n =
     (t : State) → t.private ≡ n.private → t.registers 5 ≡ v → Stands program t.pc (result_put y sizes to) →
     Holds y (UsedBut U to) (outer s a over depth) up t →
-    (c : Settles y program U (record { temps = temps; areas = areas; region = s.region; placed = over; depth = depth }) up (result_words to)
-    (low (t.pc + 4 * length (result_put y sizes to))) t) × IsHeld (destination_write to) temps c.after
+    (c : Settles y program U (record { temps = temps; areas = areas; region = s.region; placed = over; depth = depth }) up
+    (length (result_put y sizes to)) (low (t.pc + 4 * length (result_put y sizes to))) t) × IsHeld (destination_write to) temps c.after
 
 -- the result of a call that was made from a caller that waits
 pub to-caller : (p : Program) (image : Image) (program : List (Option Instr)) (most size : ℕ) → IsLinked p image program most →
     (s : tac.State) (a : Activation) (to : Destination) (v : ℕ) (temps : tac.Temps) (areas : tac.Areas) (cs : List Caller)
-    (up over link k : ℕ) (M m n : State) → (W : Waiting p image most (record { waits = a; to = to }) (length cs) link up over M) →
+    (up over link k bound : ℕ) (M m n : State) → (W : Waiting p image most (record { waits = a; to = to }) (length cs) link up over M) →
     Waits p image most size cs (private_word M up) (up + frame_bytes (layout_of W.code (image a.function).homes)) (over + W.code.frame)
     (restored (layout_of W.code (image a.function).homes) up M) →
-    length s.region.bytes ≡ size → Way program k m n → 1 ≤ k → k ≤ 34 → IsBack s (length cs) up over link v M n →
+    length s.region.bytes ≡ size → Way program k m n → 1 ≤ k →
+    k + length (call_ended (layout_of W.code (image a.function).homes) W.code.areas to) ≤ bound → IsBack s (length cs) up over link v M n →
     Puts program (layout_of W.code (image a.function).homes) W.code.areas (InUse (graph_of W.code) a.block a.at) to s a over (length cs) up
     v temps areas n →
-    Arrives p image program most size (36 + result_words to) s.left []
+    Arrives p image program most size bound s.left []
     (record s { here = record a { temps = temps; areas = areas }; callers = cs }) m
-to-caller p image program most size linked s a to v temps areas cs up over link k M m n W rest sized way some few b puts =
+to-caller p image program most size linked s a to v temps areas cs up over link k bound M m n W rest sized way some few b puts =
     let q : ℕ = behind_of p image most (record { waits = a; to = to }) (length cs) link up over M W in
     let bc = behind-call p image program most W.code a.function a.block W.before to W.block W.place W.callee W.arguments
     (linked a.function W.code W.function) W.in_function W.in_block in
@@ -275,6 +278,9 @@ to-caller p image program most size linked s a to v temps areas cs up over link 
     (subst (λ z. Stands program z (call_ended (layout_of W.code (image a.function).homes) W.code.areas to)) (sym here) bc.stands) in
     landed q bc here r
   where
+    sums : (r : ℕ) → k + suc (suc r) ≤ bound → k + 2 + r ≤ bound
+    sums r h = omega (arith, h)
+
     frame-within : (bs : List ℕ) (over frame : ℕ) → a.base ≡ over → length bs ≡ size → over + frame ≤ 2 ^ 30 + size →
         a.base + frame ≤ 2 ^ 30 + length bs
     frame-within bs over frame e g h = omega (arith, e, g, h)
@@ -283,7 +289,7 @@ to-caller p image program most size linked s a to v temps areas cs up over link 
         (place_in p image W.code (image a.function) a.block W.before) q → n.pc ≡ q →
         Resumes program (layout_of W.code (image a.function).homes) (UsedBut (InUse (graph_of W.code) a.block a.at) to)
         (outer s a over (length cs)) up v (result_put (layout_of W.code (image a.function).homes) W.code.areas to) n →
-        Arrives p image program most size (36 + result_words to) s.left []
+        Arrives p image program most size bound s.left []
         (record s { here = record a { temps = temps; areas = areas }; callers = cs }) m
     landed q bc here r =
         let yc : Layout = layout_of W.code (image a.function).homes in
@@ -317,13 +323,13 @@ to-caller p image program most size linked s a to v temps areas cs up over link 
         (r.pc ∙ ap (λ z. low (z + 4 * 2)) here) refl bc.near
         ∙ (sym bc.next ∙ ap (λ z. place_in p image W.code (image a.function) a.block z) (sym W.at)) in
         let both : (c : Settles yc program U (record { temps = temps; areas = areas; region = s.region; placed = a.base; depth = length cs }) up
-        (result_words to) (low (r.after.pc + 4 * length R)) r.after) × IsHeld (destination_write to) temps c.after =
+        (length R) (low (r.after.pc + 4 * length R)) r.after) × IsHeld (destination_write to) temps c.after =
         subst (λ z. (c : Settles yc program U (record { temps = temps; areas = areas; region = s.region; placed = z; depth = length cs }) up
-        (result_words to) (low (r.after.pc + 4 * length R)) r.after) × IsHeld (destination_write to) temps c.after) (sym W.placed_is)
+        (length R) (low (r.after.pc + 4 * length R)) r.after) × IsHeld (destination_write to) temps c.after) (sym W.placed_is)
         (puts r.after r.private r.five r.there held) in
-        put-result p image program most size linked s a temps areas cs W.code up (k + 2) (result_words to) (low (r.after.pc + 4 * length R))
+        put-result p image program most size linked s a temps areas cs W.code up (k + 2) (length R) bound (low (r.after.pc + 4 * length R))
         (destination_write to) m r.after W.function
-        (way-both program k 2 m n r.after way r.way) (omega (arith, some)) (omega (arith, few)) both.0 both.1 target
+        (way-both program k 2 m n r.after way r.way) (omega (arith, some)) (sums (length R) few) both.0 both.1 target
         (ap (λ z. held_in W.code a.block z) W.at ∙ bc.held)
         (subst (λ z. z ≤ length (plain_in (reads_of W.code) (slice_get W.code.blocks a.block))) (sym W.at) bc.before_end)
         (frame-within s.region.bytes over W.code.frame W.placed_is sized two) sized W.room
@@ -341,7 +347,7 @@ puts-word p image program most linked s a d v depth up over link M n W small t s
     let U : ℕ → Type 0 = InUse (graph_of W.code) a.block a.at in
     let h : Housed yc U = housed W.code (image a.function).homes a.block a.at (linked a.function W.code W.function).right in
     let g =
-    put-away yc (UsedBut U (Temp d)) U (outer s a over depth) up d v 0 3 (low (t.pc + 4 * length (put_at yc d))) program t t hold
+    put-away yc (UsedBut U (Temp d)) U (outer s a over depth) up d v 0 (length (put_at yc d)) (low (t.pc + 4 * length (put_at yc d))) program t t hold
     (housed-fewer yc U (UsedBut U (Temp d)) (λ x u. u.0) h) h next-used
     (λ x u. ⊎_elim (λ e. inl e) (λ o. inr (u, λ e. o (sym (some-same d x e)))) (cases_eq x d)) (way-none program t) (near-same t) hold.pc
     five small (omega arith) there refl in
@@ -368,7 +374,7 @@ puts-bytes p image program most linked s a j from bs depth up over link M n W co
     let U : ℕ → Type 0 = InUse (graph_of W.code) a.block a.at in
     let z : ℕ = size_in W.code.areas j in
     let h : Housed yc U = housed W.code (image a.function).homes a.block a.at (linked a.function W.code W.function).right in (
-      settled yc program U _ up 39 _ t (copies-there yc j z from bs (UsedBut U (Area j)) U (outer s a over depth) up program t there fits.0
+      settled yc program U _ up (length (result_put yc W.code.areas (Area j))) _ t (copies-there yc j z from bs (UsedBut U (Area j)) U (outer s a over depth) up program t there fits.0
           (size-small W.code.areas j fits.1) count five
           (subst (λ x. from + z ≤ length x) (sym same) (inside from (length bs) z (length n.private) count under within))
           (inl (below from (length bs) z (area_offset yc j) count under))
@@ -402,12 +408,12 @@ word-part y base s (parts.Word a) k g = let same : operand s a ≡ k = cc in par
 word-part y base s (parts.Area n) k g = cc
 
 -- what the machine holds once a function is left
-left-back : (program : List (Option Instr)) (y : Layout) (Used : ℕ → Type 0) (s : tac.State) (base frame link v depth : ℕ) (m : State) →
+left-back : (program : List (Option Instr)) (y : Layout) (Used : ℕ → Type 0) (s : tac.State) (base frame link v most depth : ℕ) (m : State) →
     Holds y Used (world_of s) base m →
-    (b : BackIn program y (frame_bytes y) base (s.here.base + frame) link v m) → length s.callers ≡ suc depth → v < 2 ^ 64 →
+    (b : BackIn program y (frame_bytes y) base (s.here.base + frame) link v most m) → length s.callers ≡ suc depth → v < 2 ^ 64 →
     s.here.base + frame ≤ end_address s.region →
     IsBack s depth (base + frame_bytes y) (s.here.base + frame) link v (restored y base m) b.after
-left-back program y Used s base frame link v depth m h b deep small fits = record {
+left-back program y Used s base frame link v most depth m h b deep small fits = record {
   same = b.same;
   pc = b.pc;
   ten = b.ten;
@@ -444,47 +450,55 @@ link-even p image program most linked a to depth link up over M W =
     small-is : (n : ℕ) → n + 256 ≤ 2 ^ 30 + 8 → n < 2 ^ 64
     small-is n e = omega (arith, e)
 
+more : (k n own : ℕ) → k ≤ own → k + n ≤ own + n
+more k n own h = omega (arith, h)
+
 -- to a caller, wherever the result goes
 to-one : (p : Program) (image : Image) (program : List (Option Instr)) (most size : ℕ) → IsLinked p image program most →
     (s : tac.State) (base : ℕ) (m : State) (y : Layout) (held : Option ℕ) (Used : ℕ → Type 0) (frame : ℕ) →
     Holds y Used (world_of s) base m → s.here.base + frame ≤ end_address s.region → length s.region.bytes ≡ size →
-    (a : Activation) (to : Destination) (cs : List Caller) (v : Part) (link : ℕ) → length s.callers ≡ suc (length cs) →
+    (a : Activation) (to : Destination) (cs : List Caller) (v : Part) (link own : ℕ) → length s.callers ≡ suc (length cs) →
     IsPartFirst y held Used v →
     (W : Waiting p image most (record { waits = a; to = to }) (length cs) link (base + frame_bytes y) (s.here.base + frame)
     (restored y base m)) →
     Waits p image most size cs (private_word m (base + frame_bytes y))
     (base + frame_bytes y + frame_bytes (layout_of W.code (image a.function).homes)) (s.here.base + frame + W.code.frame)
     (restored (layout_of W.code (image a.function).homes) (base + frame_bytes y) (restored y base m)) →
-    (link % 2 ≡ 0 → link < 2 ^ 64 → BackIn program y (frame_bytes y) base (s.here.base + frame) link (part_value y base (world_of s) v) m) →
-    Stepped p image program most size (36 + result_words to) s m (given (value_of s v) (Some W.code) (record { waits = a; to = to }) cs s)
-to-one p image program most size linked s base m y held Used frame h fits sized a (Temp d) cs (parts.Word o) link depth reads W rest back =
+    (link % 2 ≡ 0 → link < 2 ^ 64 → BackIn program y (frame_bytes y) base (s.here.base + frame) link (part_value y base (world_of s) v) own m) →
+    Stepped p image program most size (own + length (call_ended (layout_of W.code (image a.function).homes) W.code.areas to)) s m (given (value_of s v) (Some W.code) (record { waits = a; to = to }) cs s)
+to-one p image program most size linked s base m y held Used frame h fits sized a (Temp d) cs (parts.Word o) link own depth reads W rest back =
     let e = link-even p image program most linked a (Temp d) (length cs) link (base + frame_bytes y) (s.here.base + frame)
     (restored y base m) W in
     let same : part_value y base (world_of s) (parts.Word o) ≡ operand s o = part-is y base s o in
     let small : operand s o < 2 ^ 64 = subst (λ k. k < 2 ^ 64) same (first-small held Used y (world_of s) base m o h reads) in
-    let b : BackIn program y (frame_bytes y) base (s.here.base + frame) link (operand s o) m =
-    subst (λ k. BackIn program y (frame_bytes y) base (s.here.base + frame) link k m) same (back e.0 e.1) in (
+    let b : BackIn program y (frame_bytes y) base (s.here.base + frame) link (operand s o) own m =
+    subst (λ k. BackIn program y (frame_bytes y) base (s.here.base + frame) link k own m) same (back e.0 e.1) in (
       [],
       nothing-written s.out,
       to-caller p image program most size linked s a (Temp d) (operand s o) (put a.temps d (operand s o)) a.areas cs (base + frame_bytes y)
-          (s.here.base + frame) link b.steps (restored y base m) m b.after W rest sized b.way b.some b.few
-          (left-back program y Used s base frame link (operand s o) (length cs) m h b depth small fits)
+          (s.here.base + frame) link b.steps (own + length (call_ended (layout_of W.code (image a.function).homes) W.code.areas (Temp d)))
+          (restored y base m) m b.after W rest sized b.way b.some
+          (more b.steps (length (call_ended (layout_of W.code (image a.function).homes) W.code.areas (Temp d))) own b.few)
+          (left-back program y Used s base frame link (operand s o) own (length cs) m h b depth small fits)
           (puts-word p image program most linked s a d (operand s o) (length cs) (base + frame_bytes y) (s.here.base + frame) link
           (restored y base m) b.after W small),
     )
-to-one p image program most size linked s base m y held Used frame h fits sized a (Temp d) cs (parts.Area n) link depth reads W rest back = tt
-to-one p image program most size linked s base m y held Used frame h fits sized a (Area j) cs (parts.Word o) link depth reads W rest back = tt
-to-one p image program most size linked s base m y held Used frame h fits sized a (Area j) cs (parts.Area n) link depth reads W rest back =
-    by-test (Stepped p image program most size 75 s m) (nat_eq (length (s.here.areas n)) (area_size W.code j)) _ _
+to-one p image program most size linked s base m y held Used frame h fits sized a (Temp d) cs (parts.Area n) link own depth reads W rest back = tt
+to-one p image program most size linked s base m y held Used frame h fits sized a (Area j) cs (parts.Word o) link own depth reads W rest back = tt
+to-one p image program most size linked s base m y held Used frame h fits sized a (Area j) cs (parts.Area n) link own depth reads W rest back =
+    by-test (Stepped p image program most size (own + length (call_ended (layout_of W.code (image a.function).homes) W.code.areas (Area j))) s m) (nat_eq (length (s.here.areas n)) (area_size W.code j)) _ _
     (λ taken.
     let e = link-even p image program most linked a (Area j) (length cs) link (base + frame_bytes y) (s.here.base + frame)
     (restored y base m) W in
-    let b : BackIn program y (frame_bytes y) base (s.here.base + frame) link (2 ^ 32 + (base + area_offset y n)) m = back e.0 e.1 in (
+    let b : BackIn program y (frame_bytes y) base (s.here.base + frame) link (2 ^ 32 + (base + area_offset y n)) own m = back e.0 e.1 in (
       [],
       nothing-written s.out,
       to-caller p image program most size linked s a (Area j) (2 ^ 32 + (base + area_offset y n)) a.temps (put a.areas j (s.here.areas n)) cs
-          (base + frame_bytes y) (s.here.base + frame) link b.steps (restored y base m) m b.after W rest sized b.way b.some b.few
-          (left-back program y Used s base frame link (2 ^ 32 + (base + area_offset y n)) (length cs) m h b depth
+          (base + frame_bytes y) (s.here.base + frame) link b.steps
+          (own + length (call_ended (layout_of W.code (image a.function).homes) W.code.areas (Area j)))
+          (restored y base m) m b.after W rest sized b.way b.some
+          (more b.steps (length (call_ended (layout_of W.code (image a.function).homes) W.code.areas (Area j))) own b.few)
+          (left-back program y Used s base frame link (2 ^ 32 + (base + area_offset y n)) own (length cs) m h b depth
           (small (length m.private) h.frame.within h.frame.private) fits)
           (puts-bytes p image program most linked s a j (base + area_offset y n) (s.here.areas n) (length cs) (base + frame_bytes y)
           (s.here.base + frame) link (restored y base m) b.after W (eqb-true (length (s.here.areas n)) (area_size W.code j) taken)
@@ -499,18 +513,21 @@ to-one p image program most size linked s base m y held Used frame h fits sized 
     under : (k : ℕ) → k ≤ 128 → base + area_offset y n + k ≤ base + frame_bytes y
     under k e = omega (arith, e, reads)
 
--- how many steps a return takes at most
-abbrev pub return_most : List Caller → ℕ
-return_most [] = 36
-return_most (c ∷ cs) = 36 + result_words c.to
+-- how many steps a return takes at most, where the function has so many words for it, and its caller ends the call
+abbrev pub return_most : Program → Image → (own : ℕ) → List Caller → ℕ
+return_most p image own [] = own
+return_most p image own (c ∷ cs) = own + ended_words image c.waits.function (p.code c.waits.function) c.to
 
 -- a function returns
 pub return-steps : (p : Program) (image : Image) (program : List (Option Instr)) (most size : ℕ) → IsLinked p image program most →
     (s : tac.State) (base : ℕ) (m : State)
     (x : StandsIn p image program most size s base m) (block : Block) (v : Part) → slice_get x.code.blocks s.here.block ≡ Some block →
     slice_get block.instructions s.here.at ≡ None → pair_of (reads_of x.code) block ≡ None → block.exit ≡ Return v →
-    Stepped p image program most size (return_most s.callers) s m (step p s)
-return-steps p image program most size linked s base m x block v in-f in-b alone is =
+    (found : AtExit p image program x.code (image s.here.function) s.here.block (held_in x.code s.here.block s.here.at) None block.exit
+    (place_in p image x.code (image s.here.function) s.here.block s.here.at)) →
+    Stepped p image program most size (return_most p image (found.own + length (left (layout_of x.code (image s.here.function).homes)
+    (frame_bytes (layout_of x.code (image s.here.function).homes)) x.code.frame)) s.callers) s m (step p s)
+return-steps p image program most size linked s base m x block v in-f in-b alone is found =
     let e1 = x.function in
     rw (e1, in-f, in-b) (rw is (go s.callers refl x.waits))
   where
@@ -536,24 +553,32 @@ return-steps p image program most size linked s base m x block v in-f in-b alone
     last-small : (n : ℕ) → n + 256 ≤ 2 ^ 30 → n < 2 ^ 30
     last-small n e = omega (arith, e)
 
-    back : (link : ℕ) → link_in (layout_of x.code (image s.here.function).homes) base m ≡ link → link % 2 ≡ 0 → link < 2 ^ 64 →
-        BackIn program (layout_of x.code (image s.here.function).homes) (frame_bytes (layout_of x.code (image s.here.function).homes)) base
-        (s.here.base + x.code.frame) link
-        (part_value (layout_of x.code (image s.here.function).homes) base (world_of s) v) m
-    back link e even small =
+    held : Option ℕ
+    held = held_in x.code s.here.block s.here.at
+
+    place : ℕ
+    place = place_in p image x.code (image s.here.function) s.here.block s.here.at
+
+    Found : Exit → ℕ → Type 0
+    Found e q = AtExit p image program x.code (image s.here.function) s.here.block held None e q
+
+    L : ℕ
+    L = length (left (layout_of x.code (image s.here.function).homes) (frame_bytes (layout_of x.code (image s.here.function).homes)) x.code.frame)
+
+    Back : (link own : ℕ) → Type 0
+    Back link own = BackIn program (layout_of x.code (image s.here.function).homes)
+        (frame_bytes (layout_of x.code (image s.here.function).homes)) base (s.here.base + x.code.frame) link
+        (part_value (layout_of x.code (image s.here.function).homes) base (world_of s) v) own m
+
+    back-here : (link : ℕ) → link_in (layout_of x.code (image s.here.function).homes) base m ≡ link → link % 2 ≡ 0 → link < 2 ^ 64 →
+        (here : Found (Return v) m.pc) → Back link (here.own + L)
+    back-here link e even small here =
         let pl : IsPlaced p image program most x.code (image s.here.function) = linked s.here.function x.code x.function in
         let y : Layout = layout_of x.code (image s.here.function).homes in
         let f : FoundFunction program y x.code (entries_of p image) (image s.here.function).at = the-function p image program most x.code
         (image s.here.function) pl in
-        let held : Option ℕ = held_in x.code s.here.block s.here.at in
-        let at : AtExit p image program x.code (image s.here.function) held None (Return v)
-        (place_in p image x.code (image s.here.function) s.here.block s.here.at) =
-        subst (λ z. AtExit p image program x.code (image s.here.function) held None z
-        (place_in p image x.code (image s.here.function) s.here.block s.here.at)) is
-        (at-plain-exit p image program most x.code (image s.here.function) s.here.block s.here.at block pl in-f in-b alone) in
-        let here : AtExit p image program x.code (image s.here.function) held None (Return v) m.pc =
-        subst (λ q. AtExit p image program x.code (image s.here.function) held None (Return v) q) (sym x.pc) at in
-        goes-back program y held (InUse (graph_of x.code) s.here.block s.here.at) (world_of s) base x.code.frame
+        subst (λ n. Back link (n + L)) (sym here.own_is)
+        (goes-back program y held (InUse (graph_of x.code) s.here.block s.here.at) (world_of s) base x.code.frame
         (last_address y x.code (image s.here.function).at) link 0 v m here.setting x.holds
         (housed x.code (image s.here.function).homes s.here.block s.here.at pl.right) x.five reads here.near
         (last-small (last_address y x.code (image s.here.function).at) f.near)
@@ -561,28 +586,34 @@ return-steps p image program most size linked s base m x block v in-f in-b alone
         (λ short. last-reach (image s.here.function).at m.pc (last_address y x.code (image s.here.function).at) here.low here.high
         (short-bytes p image program most x.code (image s.here.function) pl (sym here.short_is ∙ short)))
         here.last_there
-        (placed-small (s.here.base + x.code.frame) (length s.region.bytes) x.frame x.holds.lawful.sized.2) e even small here.stands f.leaves
+        (placed-small (s.here.base + x.code.frame) (length s.region.bytes) x.frame x.holds.lawful.sized.2) e even small here.stands f.leaves)
+
+    back : (link : ℕ) → link_in (layout_of x.code (image s.here.function).homes) base m ≡ link → link % 2 ≡ 0 → link < 2 ^ 64 →
+        Back link (found.own + L)
+    back link e even small =
+        subst (λ z. (here : Found z place) → Back link (here.own + L)) (sym is)
+        (subst (λ q. (here : Found (Return v) q) → Back link (here.own + L)) x.pc (back-here link e even small)) found
 
     go : (cs : List Caller) → s.callers ≡ cs →
         Waits p image most size cs (link_in (layout_of x.code (image s.here.function).homes) base m)
         (base + frame_bytes (layout_of x.code (image s.here.function).homes)) (s.here.base + x.code.frame)
         (restored (layout_of x.code (image s.here.function).homes) base m) →
-        Stepped p image program most size (return_most cs) s m (give p (value_of s v) cs s)
+        Stepped p image program most size (return_most p image (found.own + L) cs) s m (give p (value_of s v) cs s)
     go [] e w =
         let b = back 0 w.0 refl (omega arith) in (
           refl,
           record {
             steps = b.steps;
             last = b.after;
-            few = omega (arith, b.few);
+            few = b.few;
             runs = λ more. b.way.runs more ∙ run-returned program b.after more b.pc;
             gives = λ k g. b.ten ∙ word-part (layout_of x.code (image s.here.function).homes) base s v k g;
           },
         )
     go (c ∷ cs) e w =
-        let found = w.0.function in
-        rw found
+        let there = w.0.function in
+        rw there
         (to-one p image program most size linked s base m (layout_of x.code (image s.here.function).homes)
         (held_in x.code s.here.block s.here.at) (InUse (graph_of x.code) s.here.block s.here.at) x.code.frame x.holds x.frame x.region
-        c.waits c.to cs v (link_in (layout_of x.code (image s.here.function).homes) base m) (ap length e) reads w.0 w.1
+        c.waits c.to cs v (link_in (layout_of x.code (image s.here.function).homes) base m) (found.own + L) (ap length e) reads w.0 w.1
         (λ even small. back (link_in (layout_of x.code (image s.here.function).homes) base m) refl even small))

@@ -24,10 +24,10 @@ use Rattle.rv_operators.specs.Runs.{Stands}
 use Rattle.rv_select.specs.Numbers.{constant, register_of}
 use Rattle.rv_select.specs.Pairs.{reads_of}
 use Rattle.rv_select.specs.Asked.{asked_homes}
-use Rattle.rv_select.specs.Places.{AreBytes, frame_bytes, layout_of, private_word, uses}
+use Rattle.rv_select.specs.Places.{AreBytes, Layout, frame_bytes, layout_of, private_word, uses}
 use Rattle.rv_select.specs.Shapes.{moved, place_number, x4, x8, x11}
 use Rattle.rv_select.specs.Calls.{blocks_length, head_code, last_address}
-use Rattle.rv_select.specs.Entering.{arguments_stored, begun, entered, kept_offset, place_given, received, receiving, stored_below}
+use Rattle.rv_select.specs.Entering.{arguments_stored, begun, entered, kept_offset, place_given, received, stored_below}
 use Rattle.rv_select.specs.Entering.{words_offset}
 use Rattle.rv_select.specs.Frames.{BeforeEntering, Enters, HasWords, Received, seen, without_words}
 use Rattle.rv_select.specs.Waiting.{Arrives, Image, IsLinked, IsPlaced, Stepped, entries_of, place_in, plain_in}
@@ -35,7 +35,7 @@ use Rattle.rv_select.specs.Whole.{EntriesAreCarried, Starts, before_entry}
 use Rattle.rv_select.proofs.Arrivals.{InFunction, begin-holds, link-after}
 use Rattle.rv_select.proofs.Bytes.{stored-word}
 use Rattle.rv_select.proofs.Amounts.{top-is}
-use Rattle.rv_select.proofs.Calling.{first-start, fresh_call, slice-below, takes-is, widen}
+use Rattle.rv_select.proofs.Calling.{entering_words, first-start, fresh_call, receiving_words, slice-below, takes-is, widen}
 use Rattle.rv_select.proofs.Carries.{by-test, place-small}
 use Rattle.rv_select.proofs.Areas.{Saves}
 use Rattle.rv_select.proofs.Entrances.{functions-entered}
@@ -315,11 +315,11 @@ limit-below size = omega arith
 room-first : (most base b : ℕ) → 512 * most ≤ base → b ≤ most → (b ≤ base) × (511 * most ≤ base - b)
 room-first most base b h k = (omega (arith, h, k), omega (arith, h, k))
 
-steps-full : (k n q : ℕ) → k ≤ n → k + 36 ≤ n + 36 + q
-steps-full k n q h = omega (arith, h)
+steps-full : (k n e q h : ℕ) → h ≡ n + (e + q) → k ≤ n → k + e ≤ h
+steps-full k n e q h is l = omega (arith, is, l)
 
-steps-in : (k a b n q : ℕ) → k ≤ n → a ≤ 36 → b ≤ q → k + a + b ≤ n + 36 + q
-steps-in k a b n q h g e = omega (arith, h, g, e)
+steps-in : (k a b n e q h : ℕ) → h ≡ n + (e + q) → k ≤ n → a ≤ e → b ≤ q → k + a + b ≤ h
+steps-in k a b n e q h is l g i = omega (arith, is, l, g, i)
 
 not-lt : (a b : ℕ) → nat_lt a b ≡ false → b ≤ a
 not-lt a b e = ⊎_elim (λ l. let t : nat_lt a b ≡ true = lt-ltb a b l in let no : true ≡ false = sym t ∙ e in cc) (λ l. l) (cases_lt a b)
@@ -356,6 +356,14 @@ module _ (p : Program) (image : Image) (program : List (Option Instr)) (most n :
       fn.first
       (head-in (image f).at (length (head_code (layout_of code (image f).homes) code))
       (blocks_length (layout_of code (image f).homes) code.areas code.blocks)) fn.near
+
+  head-words : length (head_code (layout_of code (image f).homes) code) ≡ length (begun code) + (entering_words image f code + receiving_words image f code)
+  head-words =
+      let y : Layout = layout_of code (image f).homes in
+      let A : List Instr = begun code in
+      let B : List Instr = entered y (frame_bytes y) code.frame in
+      let C : List Instr = received y code.areas (words_offset y) code.parameters in
+      length-append A (B ++ C) ∙ ap (λ n. length A + n) (length-append B C)
 
   small-region : length m.region ≤ 67108864
   small-region = subst (λ z. length z ≤ 67108864) (sym x.region_is) x.lawful.sized.2
@@ -399,7 +407,7 @@ module _ (p : Program) (image : Image) (program : List (Option Instr)) (most n :
 
   inside : (b : AtEntry program code (place_number code.place) (length code.parameters) m)
       (en : Enters program (layout_of code (image f).homes) ((length m.private) - (frame_bytes (layout_of code (image f).homes)))
-      ((end_address region) - code.frame)
+      ((end_address region) - code.frame) (entering_words image f code)
       (low (b.after.pc + 4 * length (entered (layout_of code (image f).homes) (frame_bytes (layout_of code (image f).homes)) code.frame)))
       b.after) →
       InFunction (layout_of code (image f).homes) (length m.private) ((length m.private) - (frame_bytes (layout_of code (image f).homes)))
@@ -442,28 +450,28 @@ module _ (p : Program) (image : Image) (program : List (Option Instr)) (most n :
 
   lands-in : (b : AtEntry program code (place_number code.place) (length code.parameters) m)
       (en : Enters program (layout_of code (image f).homes) ((length m.private) - (frame_bytes (layout_of code (image f).homes)))
-      ((end_address region) - code.frame)
+      ((end_address region) - code.frame) (entering_words image f code)
       (low (b.after.pc + 4 * length (entered (layout_of code (image f).homes) (frame_bytes (layout_of code (image f).homes)) code.frame)))
       b.after) →
       (a : Activation) (target : ℕ) → a ≡ record (fresh_call f code (before_entry f region n)) { temps = a.temps; areas = a.areas } →
       code.frame ≤ (end_address region) → target ≡ place_in p image code (image f) 0 0 →
       Received program (without_words (layout_of code (image f).homes)) (InUse (graph_of code) 0 0) (seen a region 0)
-      ((length m.private) - (frame_bytes (layout_of code (image f).homes))) (receiving code.parameters) target en.after →
-      Arrives p image program most (length region.bytes) (length (begun code) + 36 + receiving code.parameters) n []
+      ((length m.private) - (frame_bytes (layout_of code (image f).homes))) (receiving_words image f code) target en.after →
+      Arrives p image program most (length region.bytes) (length (head_code (layout_of code (image f).homes) code)) n []
       (record (before_entry f region n) { here = a }) m
   lands-in b en a target is enough to-is rc =
       subst
       (λ c. Received program (without_words (layout_of code (image f).homes)) (InUse (graph_of code) 0 0) (seen c region 0)
-      ((length m.private) - (frame_bytes (layout_of code (image f).homes))) (receiving code.parameters) target en.after →
-      Arrives p image program most (length region.bytes) (length (begun code) + 36 + receiving code.parameters) n []
+      ((length m.private) - (frame_bytes (layout_of code (image f).homes))) (receiving_words image f code) target en.after →
+      Arrives p image program most (length region.bytes) (length (head_code (layout_of code (image f).homes) code)) n []
       (record (before_entry f region n) { here = c }) m)
       (sym is) (made a.temps a.areas) rc
     where
       made : (temps : tac.Temps) (areas : tac.Areas) →
           Received program (without_words (layout_of code (image f).homes)) (InUse (graph_of code) 0 0)
           (seen (record (fresh_call f code (before_entry f region n)) { temps = temps; areas = areas }) region 0)
-          ((length m.private) - (frame_bytes (layout_of code (image f).homes))) (receiving code.parameters) target en.after →
-          Arrives p image program most (length region.bytes) (length (begun code) + 36 + receiving code.parameters) n []
+          ((length m.private) - (frame_bytes (layout_of code (image f).homes))) (receiving_words image f code) target en.after →
+          Arrives p image program most (length region.bytes) (length (head_code (layout_of code (image f).homes) code)) n []
           (record (before_entry f region n)
           { here = record (fresh_call f code (before_entry f region n)) { temps = temps; areas = areas } }) m
       made temps areas r =
@@ -477,7 +485,8 @@ module _ (p : Program) (image : Image) (program : List (Option Instr)) (most n :
             after = r.after;
             base = (length m.private) - (frame_bytes (layout_of code (image f).homes));
             enough = omega arith;
-            few = steps-in b.steps en.steps r.steps (length (begun code)) (receiving code.parameters) b.few en.few r.few;
+            few = steps-in b.steps en.steps r.steps (length (begun code)) (entering_words image f code) (receiving_words image f code)
+                (length (head_code (layout_of code (image f).homes) code)) head-words b.few en.few r.few;
             runs = λ more. (way-both program (b.steps + en.steps) r.steps m en.after r.after
                 (way-both program b.steps en.steps m b.after en.after b.way (record { runs = en.runs })) (record { runs = r.runs })).runs
                 more;
@@ -511,7 +520,7 @@ module _ (p : Program) (image : Image) (program : List (Option Instr)) (most n :
 
   passed-word : (b : AtEntry program code (place_number code.place) (length code.parameters) m)
       (en : Enters program (layout_of code (image f).homes) ((length m.private) - (frame_bytes (layout_of code (image f).homes)))
-      ((end_address region) - code.frame)
+      ((end_address region) - code.frame) (entering_words image f code)
       (low (b.after.pc + 4 * length (entered (layout_of code (image f).homes) (frame_bytes (layout_of code (image f).homes)) code.frame)))
       b.after) →
       (k y : ℕ) → slice_get arguments k ≡ Some y → (private_word en.after ((length m.private) - 8 * (0 + k + 1)) ≡ y) × (y < 2 ^ 64)
@@ -527,11 +536,11 @@ module _ (p : Program) (image : Image) (program : List (Option Instr)) (most n :
 
   goes-in : (b : AtEntry program code (place_number code.place) (length code.parameters) m)
       (en : Enters program (layout_of code (image f).homes) ((length m.private) - (frame_bytes (layout_of code (image f).homes)))
-      ((end_address region) - code.frame)
+      ((end_address region) - code.frame) (entering_words image f code)
       (low (b.after.pc + 4 * length (entered (layout_of code (image f).homes) (frame_bytes (layout_of code (image f).homes)) code.frame)))
       b.after) →
       heap_limit region + code.frame ≤ (end_address region) → accepts_all code code.parameters (map word arguments) ≡ true →
-      Arrives p image program most (length region.bytes) (length (begun code) + 36 + receiving code.parameters) n []
+      Arrives p image program most (length region.bytes) (length (head_code (layout_of code (image f).homes) code)) n []
       (record (before_entry f region n)
       { here = takes_all code.parameters (map word arguments) (fresh_call f code (before_entry f region n)) }) m
   goes-in b en fits accepts =
@@ -584,21 +593,23 @@ module _ (p : Program) (image : Image) (program : List (Option Instr)) (most n :
       (received (layout_of code (image f).homes) code.areas (words_offset (layout_of code (image f).homes)) code.parameters)) near.0 ∙
       (fn.first ∙ sym (first-start (layout_of code (image f).homes) code (image f).at wi.entered)))) rc
 
-  pub entry-step : Stepped p image program most (length region.bytes) (length (begun code) + 36 + receiving code.parameters)
+  pub entry-step : Stepped p image program most (length region.bytes) (length (head_code (layout_of code (image f).homes) code))
       (before_entry f region n) m (enter code.place f (Some code) (map word arguments) (end_address region) [] (before_entry f region n))
   entry-step =
       let both = functions-entered program (layout_of code (image f).homes) (frame_bytes (layout_of code (image f).homes)) code.frame
       (length m.private) (end_address region) (length region.bytes) code.place at-entry.after (before at-entry) in
-      by-test (Stepped p image program most (length region.bytes) (length (begun code) + 36 + receiving code.parameters)
+      by-test (Stepped p image program most (length region.bytes) (length (head_code (layout_of code (image f).homes) code))
       (before_entry f region n) m) (nat_lt (end_address region) (heap_limit region + code.frame)) _ _
       (λ full. (
         refl,
-        later-ends program StackFull code.place at-entry.steps 36 (length (begun code) + 36 + receiving code.parameters) m at-entry.after
+        later-ends program StackFull code.place at-entry.steps (entering_words image f code)
+            (length (head_code (layout_of code (image f).homes) code)) m at-entry.after
             at-entry.way (both.0 (ltb-true (end_address region) (heap_limit region + code.frame) full))
-            (steps-full at-entry.steps (length (begun code)) (receiving code.parameters) at-entry.few),
+            (steps-full at-entry.steps (length (begun code)) (entering_words image f code) (receiving_words image f code)
+            (length (head_code (layout_of code (image f).homes) code)) head-words at-entry.few),
       ))
       (λ fits.
-      by-test (Stepped p image program most (length region.bytes) (length (begun code) + 36 + receiving code.parameters)
+      by-test (Stepped p image program most (length region.bytes) (length (head_code (layout_of code (image f).homes) code))
       (before_entry f region n) m) (accepts_all code code.parameters (map word arguments)) _ _
       (λ taken. (
         [],

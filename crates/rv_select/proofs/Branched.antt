@@ -1,5 +1,5 @@
 -- Branches to blocks, of which one may stand behind them.
-use Rattle.std.proofs.Common.{◌≡◌, ℕ, ◌+◌, ◌*◌, ◌%◌, ◌^◌, ◌<◌, ◌≤◌, Bool, true, false, not, List, ◌∷◌, ◌++◌, length, Option, Some, None}
+use Rattle.std.proofs.Common.{◌≡◌, ℕ, ◌+◌, ◌*◌, ◌%◌, ◌^◌, ◌<◌, ◌≤◌, Bool, true, false, not, List, length, Option, Some, None}
 use Rattle.std.proofs.Common.{refl, sym, ap, ◌∙◌, subst, arith}
 use Rattle.std.specs.Prelude.{if◌then◌else◌, nat_eq, nat_lt, int_lt}
 use Rattle.std.proofs.lemmas.Bool.{eqb-true}
@@ -18,7 +18,7 @@ use Rattle.rv_select.specs.declared.settings.Follows.TheVariants.{Neither, First
 use Rattle.rv_select.specs.Settings.{follower, is_next}
 use Rattle.rv_select.specs.Shapes.{branch_bytes, branch_offset, branched, branched_bytes, chosen, distance, jump, negated}
 use Rattle.rv_select.proofs.Faults.{branch-way}
-use Rattle.rv_select.proofs.Jumps.{Jumped, Reaches, branched-count, branched_words, chosen-count, fetched-even, jump-few, jump_words}
+use Rattle.rv_select.proofs.Jumps.{Jumped, Reaches, branched-count, branched_words, chosen-count, chosen_words, fetched-even, jump_words}
 use Rattle.rv_select.proofs.Jumps.{jumps-there, near-target}
 use Rattle.rv_select.proofs.Ways.{Near, Way, at_pc, near-both, near-pc, stands-back, stands-front, step-way, way-both}
 
@@ -105,7 +105,7 @@ module _ (program : List (Option Instr)) (k : State) (condition : BranchConditio
   mine : fetch program k.pc ≡ Some (Some (Branch condition a b (branch_offset (distance at to))))
   mine = subst (λ q. fetch program q ≡ Some (Some (Branch condition a b (branch_offset (distance at to))))) (sym here) there.0
 
-  near-turns : is_taken condition (value_at k a) (value_at k b) ≡ true → Turned program 3 to k
+  near-turns : is_taken condition (value_at k a) (value_at k b) ≡ true → Turned program 1 to k
   near-turns e = record {
     steps = 1;
     after = at_pc k (low (k.pc + word (branch_offset (distance at to)).bytes));
@@ -143,7 +143,7 @@ module _ (program : List (Option Instr)) (k : State) (short : Bool) (condition :
       branch-way program (negated condition) a b (branch_bytes short) k (not t) (omega (arith, few)) (omega (arith, is)) from-here.0
       (negated-taken condition (value_at k a) (value_at k b) ∙ ap not e)
 
-  far-turns : is_taken condition (value_at k a) (value_at k b) ≡ true → Turned program 3 to k
+  far-turns : is_taken condition (value_at k a) (value_at k b) ≡ true → Turned program (1 + jump_words short) to k
   far-turns e =
       let n : State = at_pc k (low (k.pc + 4)) in
       let next : low (k.pc + 4) ≡ at + 4 = ap (λ q. low (q + 4)) here ∙ low-near (at + 4) (omega (arith, room)) in
@@ -158,7 +158,7 @@ module _ (program : List (Option Instr)) (k : State) (short : Bool) (condition :
         near = near-both k n j.after (near-pc k (low (k.pc + 4))) j.near;
         pc = j.pc;
         some = omega arith;
-        few = omega (arith, (jump-few short).1);
+        few = omega arith;
       }
 
   far-passes : is_taken condition (value_at k a) (value_at k b) ≡ false → Turned program 1 (at + branch_bytes short) k
@@ -175,7 +175,8 @@ module _ (program : List (Option Instr)) (k : State) (short : Bool) (condition :
 -- a branch to one block
 pub branch-turns : (program : List (Option Instr)) (k : State) (near short : Bool) (condition : BranchCondition) (a b : Register) (at to : ℕ) →
     k.pc ≡ at → at + 64 ≤ 2 ^ 30 → to < 2 ^ 30 → to % 2 ≡ 0 → Reaches short (at + 4) to → IsNearby near at to →
-    Stands program at (branched near short condition a b at to) → is_taken condition (value_at k a) (value_at k b) ≡ true → Turned program 3 to k
+    Stands program at (branched near short condition a b at to) → is_taken condition (value_at k a) (value_at k b) ≡ true →
+    Turned program (branched_words near short) to k
 branch-turns program k true short condition a b at to here room small even reach close there e =
     near-turns program k condition a b at to here room small even (close refl) there e
 branch-turns program k false short condition a b at to here room small even reach close there e =
@@ -190,15 +191,20 @@ branch-passes program k true short condition a b at to here room small even reac
 branch-passes program k false short condition a b at to here room small even reach close there e =
     far-passes program k short condition a b at to here room small even reach there e
 
-more-steps : (program : List (Option Instr)) (to begin-to : ℕ) (k : State) → begin-to ≡ to → Turned program 1 begin-to k → Turned program 3 to k
-more-steps program to begin-to k e t = record {
+branched-some : (near short : Bool) → 1 ≤ branched_words near short
+branched-some true short = omega arith
+branched-some false short = omega arith
+
+more-steps : (program : List (Option Instr)) (few most to begin-to : ℕ) (k : State) → few ≤ most → begin-to ≡ to → Turned program few begin-to k →
+    Turned program most to k
+more-steps program few most to begin-to k h e t = record {
   steps = t.steps;
   after = t.after;
   way = t.way;
   near = t.near;
   pc = t.pc ∙ e;
   some = t.some;
-  few = omega (arith, t.few);
+  few = omega (arith, t.few, h);
 }
 
 -- a branch to two blocks, where that which stands behind it begins there
@@ -210,17 +216,18 @@ module _ (program : List (Option Instr)) (k : State) (near short : Bool) (condit
     (first-close : IsNearby near at first) (second-close : IsNearby near at second) where
   -- the second stands behind, or a jump to it
   turns-second : (t : Bool) → is_taken condition (value_at k a) (value_at k b) ≡ t → second ≡ at + branched_bytes near short →
-      Stands program at (branched near short condition a b at first) → Turned program 3 (if t then first else second) k
+      Stands program at (branched near short condition a b at first) → Turned program (branched_words near short) (if t then first else second) k
   turns-second true e is there =
       branch-turns program k near short condition a b at first here room first-small first-even first-reach first-close there e
   turns-second false e is there =
-      more-steps program second (at + branched_bytes near short) k (sym is)
+      more-steps program 1 (branched_words near short) second (at + branched_bytes near short) k (branched-some near short) (sym is)
       (branch-passes program k near short condition a b at first here room first-small first-even first-reach first-close there e)
 
   turns-first : (t : Bool) → is_taken condition (value_at k a) (value_at k b) ≡ t → first ≡ at + branched_bytes near short →
-      Stands program at (branched near short (negated condition) a b at second) → Turned program 3 (if t then first else second) k
+      Stands program at (branched near short (negated condition) a b at second) →
+      Turned program (branched_words near short) (if t then first else second) k
   turns-first true e is there =
-      more-steps program first (at + branched_bytes near short) k (sym is)
+      more-steps program 1 (branched_words near short) first (at + branched_bytes near short) k (branched-some near short) (sym is)
       (branch-passes program k near short (negated condition) a b at second here room second-small second-even second-reach second-close there
       (negated-taken condition (value_at k a) (value_at k b) ∙ ap not e))
   turns-first false e is there =
@@ -228,10 +235,12 @@ module _ (program : List (Option Instr)) (k : State) (near short : Bool) (condit
       (negated-taken condition (value_at k a) (value_at k b) ∙ ap not e)
 
   turns-neither : (t : Bool) → is_taken condition (value_at k a) (value_at k b) ≡ t →
-      Stands program at (chosen near short Neither condition a b at first second) → Turned program 3 (if t then first else second) k
+      Stands program at (chosen near short Neither condition a b at first second) →
+      Turned program (branched_words near short + jump_words short) (if t then first else second) k
   turns-neither true e there =
-      branch-turns program k near short condition a b at first here room first-small first-even first-reach first-close
-      (stands-front program at (branched near short condition a b at first) (jump short (at + branched_bytes near short) second) there) e
+      more-steps program (branched_words near short) (branched_words near short + jump_words short) first first k (omega arith) refl
+      (branch-turns program k near short condition a b at first here room first-small first-even first-reach first-close
+      (stands-front program at (branched near short condition a b at first) (jump short (at + branched_bytes near short) second) there) e)
   turns-neither false e there =
       let B : List Instr = branched near short condition a b at first in
       let J : List Instr = jump short (at + branched_bytes near short) second in
@@ -252,7 +261,7 @@ module _ (program : List (Option Instr)) (k : State) (near short : Bool) (condit
         near = near-both k one.after j.after one.near j.near;
         pc = j.pc;
         some = omega (arith, one.some);
-        few = omega (arith, one.few, (jump-few short).1);
+        few = omega (arith, one.few, branched-some near short);
       }
     where
       sum : (l n : ℕ) → l ≡ n → branched_bytes near short ≡ 4 * n → at + 4 * l ≡ at + branched_bytes near short
@@ -266,7 +275,8 @@ module _ (program : List (Option Instr)) (k : State) (near short : Bool) (condit
   pub chosen-turns : (o : Follows) (t : Bool) → is_taken condition (value_at k a) (value_at k b) ≡ t →
       (o ≡ First → first ≡ at + 4 * length (chosen near short o condition a b at first second)) →
       (o ≡ Second → second ≡ at + 4 * length (chosen near short o condition a b at first second)) →
-      Stands program at (chosen near short o condition a b at first second) → Turned program 3 (if t then first else second) k
+      Stands program at (chosen near short o condition a b at first second) →
+      Turned program (chosen_words near short o) (if t then first else second) k
   chosen-turns Neither t e f s there = turns-neither t e there
   chosen-turns First t e f s there =
       turns-first t e (behind-is First first (f refl) (chosen-count near short First condition a b at first second)) there

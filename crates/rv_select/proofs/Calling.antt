@@ -1,5 +1,5 @@
 -- A call of three-address code is carried out.
-use Rattle.std.proofs.Common.{◌≡◌, ◌≢◌, ℕ, zero, suc, ◌+◌, ◌-◌, ◌*◌, ◌/◌, ◌%◌, ◌^◌, ◌<◌, ◌≤◌, true, false, ◌&&◌, List, [], ◌∷◌, ◌++◌}
+use Rattle.std.proofs.Common.{◌≡◌, ◌≢◌, ℕ, zero, suc, ◌+◌, ◌-◌, ◌*◌, ◌/◌, ◌^◌, ◌<◌, ◌≤◌, true, ◌&&◌, List, [], ◌∷◌, ◌++◌}
 use Rattle.std.proofs.Common.{length, take, drop, Option, Some, None, refl, sym, ap, ◌∙◌, subst, ⊎_elim, inl, arith}
 use Rattle.std.specs.Prelude.{nat_le, nat_lt, slice_get}
 use Rattle.std.specs.List.{list_all}
@@ -37,7 +37,7 @@ use Rattle.rv_select.specs.Shapes.{place_number, start_of}
 use Rattle.rv_select.specs.Steps.{Ends, world_of}
 use Rattle.rv_select.specs.Calls.{block_starts, blocks_length, call_begun, call_ended, call_jump, head_code, instruction_code, last_address}
 use Rattle.rv_select.specs.Calls.{starts_from}
-use Rattle.rv_select.specs.Entering.{begun, entered, received, receiving, words_offset}
+use Rattle.rv_select.specs.Entering.{begun, entered, received, words_offset}
 use Rattle.rv_select.specs.Frames.{ArePassed, BeforeEntering, Enters, IsPartFirst, Received, part_value, seen, without_words}
 use Rattle.rv_select.specs.Waiting.{Arrives, HasRoom, Image, IsLinked, IsPlaced, StandsIn, Stepped, Waiting, Waits, entries_of, entry_of}
 use Rattle.rv_select.specs.Waiting.{held_in, place_in, plain_in, restored}
@@ -64,6 +64,23 @@ use Rattle.rv_select.proofs.Ways.{Way, way-both}
 abbrev pub begun_in : Image → Tac → Activation → Place → List Part → List Instr
 begun_in image code a place arguments =
     call_begun (layout_of code (image a.function).homes) (held_in code a.block a.at) place arguments
+
+-- how many words enter a function, and how many take its parameters
+abbrev pub entering_words : Image → FnId → Tac → ℕ
+entering_words image f code =
+    length (entered (layout_of code (image f).homes) (frame_bytes (layout_of code (image f).homes)) code.frame)
+
+abbrev pub receiving_words : Image → FnId → Tac → ℕ
+receiving_words image f code =
+    length (received (layout_of code (image f).homes) code.areas (words_offset (layout_of code (image f).homes)) code.parameters)
+
+-- the most steps from where calls enter a function to its first block, and those of a whole call
+abbrev pub taking : Image → FnId → Option Tac → ℕ
+taking image f None = 0
+taking image f (Some code) = entering_words image f code + receiving_words image f code
+
+abbrev pub call_most : Program → Image → Tac → Activation → Place → FnId → List Part → ℕ
+call_most p image code a place f arguments = length (begun_in image code a place arguments) + 2 + taking image f (p.code f)
 
 -- what a call passes is in use before it, and is at home unless x5 holds it
 part-first : (code : Tac) (homes : List (Option Home)) (held : Option ℕ) (Used : ℕ → Type 0) (q : Part) → part_fits code q ≡ true →
@@ -200,7 +217,7 @@ pub lands : (p : Program) (image : Image) (program : List (Option Instr)) (most 
     (Call to place f arguments) →
     (callee : Tac) → p.code f ≡ Some callee →
     (l k target : ℕ) (a : Activation) (n : State) → a ≡ record (fresh_call f callee s) { temps = a.temps; areas = a.areas } →
-    Way program k m n → 1 ≤ k → k + receiving callee.parameters ≤ bound →
+    Way program k m n → 1 ≤ k → k + receiving_words image f callee ≤ bound →
     (frame_bytes (layout_of callee (image f).homes)) ≤ base →
     HasRoom most (suc (length s.callers)) (base - (frame_bytes (layout_of callee (image f).homes))) → callee.frame ≤ s.here.base →
     s.here.base ≤ end_address s.region → base ≤ length m.private →
@@ -210,7 +227,7 @@ pub lands : (p : Program) (image : Image) (program : List (Option Instr)) (most 
     (begun_in image x.code s.here place arguments) + 8) m n →
     target ≡ place_in p image callee (image f) 0 0 →
     Received program (without_words (layout_of callee (image f).homes)) (InUse (graph_of callee) 0 0)
-    (seen a s.region (suc (length s.callers))) (base - (frame_bytes (layout_of callee (image f).homes))) (receiving callee.parameters)
+    (seen a s.region (suc (length s.callers))) (base - (frame_bytes (layout_of callee (image f).homes))) (receiving_words image f callee)
     target n →
     Arrives p image program most size bound (suc l) [] (entered_state s to l a) m
 unfolding made-waiting
@@ -218,7 +235,7 @@ lands p image program most size bound linked s base m x block to place f argumen
     room enough below within inside to-is rc =
     subst
     (λ b. Received program (without_words (layout_of callee (image f).homes)) (InUse (graph_of callee) 0 0)
-    (seen b s.region (suc (length s.callers))) (base - (frame_bytes (layout_of callee (image f).homes))) (receiving callee.parameters)
+    (seen b s.region (suc (length s.callers))) (base - (frame_bytes (layout_of callee (image f).homes))) (receiving_words image f callee)
     target n →
     Arrives p image program most size bound (suc l) [] (entered_state s to l b) m)
     (sym a-is) (made a.temps a.areas) rc
@@ -240,7 +257,7 @@ lands p image program most size bound linked s base m x block to place f argumen
         Received program (without_words (layout_of callee (image f).homes)) (InUse (graph_of callee) 0 0)
         (seen (record (fresh_call f callee s) { temps = temps; areas = areas }) s.region (suc (length s.callers)))
         (base - (frame_bytes (layout_of callee (image f).homes)))
-        (receiving callee.parameters) target n →
+        (receiving_words image f callee) target n →
         Arrives p image program most size bound (suc l) []
         (entered_state s to l (record (fresh_call f callee s) { temps = temps; areas = areas })) m
     made temps areas r =
@@ -436,13 +453,15 @@ callee-step : (p : Program) (image : Image) (program : List (Option Instr)) (mos
     arguments (call_jump (place_in p image x.code (image s.here.function) s.here.block s.here.at + 4 * length
     (begun_in image x.code s.here place arguments)) (entries_of p image f) ++ call_ended
     (layout_of x.code (image s.here.function).homes) x.code.areas to) m) →
-    (s.here.base < heap_limit s.region + callee.frame → Ends program StackFull place (49 + 11 * length arguments + receiving callee.parameters) m) ×
+    (s.here.base < heap_limit s.region + callee.frame → Ends program StackFull place (length (begun_in image x.code s.here place arguments) + 2 + taking image f (Some callee)) m) ×
     (heap_limit s.region + callee.frame ≤ s.here.base → accepts_all callee callee.parameters (values_of s arguments) ≡ true → (l : ℕ) →
-    Arrives p image program most size (49 + 11 * length arguments + receiving callee.parameters) (suc l) []
+    Arrives p image program most size (length (begun_in image x.code s.here place arguments) + 2 + taking image f (Some callee)) (suc l) []
     (entered_state s to l (takes_all callee.parameters (values_of s arguments) (fresh_call f callee s))) m)
 callee-step p image program most size linked s base m x block to place f arguments in-f in-b callee e c count shallow b = (
-  λ less. later-ends program StackFull place (b.steps + 2) 36 (49 + 11 * length arguments + receiving callee.parameters) m jump.after jumped
-      (entering.0 (stack-less s.here.base (length s.region.bytes) callee.frame less)) (steps-few b.steps (length arguments) (receiving callee.parameters) b.few),
+  λ less. later-ends program StackFull place (b.steps + 2) (entering_words image f callee)
+      (length (begun_in image x.code s.here place arguments) + 2 + taking image f (Some callee)) m jump.after jumped
+      (entering.0 (stack-less s.here.base (length s.region.bytes) callee.frame less))
+      (steps-few b.steps (length (begun_in image x.code s.here place arguments)) (entering_words image f callee) (receiving_words image f callee) b.few),
   λ fits accepts l. arrived (entering.1 (stack-more s.here.base (length s.region.bytes) callee.frame fits)) fits accepts l,
 )
   where
@@ -531,21 +550,21 @@ callee-step p image program most size linked s base m x block to place f argumen
     }
 
     entering : (s.here.base < 2 ^ 30 + length s.region.bytes - length s.region.bytes / 4 + callee.frame →
-        Ends program StackFull place 36 jump.after) ×
+        Ends program StackFull place (entering_words image f callee) jump.after) ×
         (2 ^ 30 + length s.region.bytes - length s.region.bytes / 4 + callee.frame ≤ s.here.base →
         Enters program (layout_of callee (image f).homes) (base - (frame_bytes (layout_of callee (image f).homes)))
-        (s.here.base - callee.frame)
+        (s.here.base - callee.frame) (entering_words image f callee)
         (low (jump.after.pc + 4 * length
         (entered (layout_of callee (image f).homes) (frame_bytes (layout_of callee (image f).homes)) callee.frame))) jump.after)
     entering = functions-entered program (layout_of callee (image f).homes) (frame_bytes (layout_of callee (image f).homes)) callee.frame
         base s.here.base (length s.region.bytes) place jump.after before
 
     arrived : Enters program (layout_of callee (image f).homes) (base - (frame_bytes (layout_of callee (image f).homes)))
-        (s.here.base - callee.frame)
+        (s.here.base - callee.frame) (entering_words image f callee)
         (low (jump.after.pc + 4 * length
         (entered (layout_of callee (image f).homes) (frame_bytes (layout_of callee (image f).homes)) callee.frame))) jump.after →
         heap_limit s.region + callee.frame ≤ s.here.base → accepts_all callee callee.parameters (values_of s arguments) ≡ true → (l : ℕ) →
-        Arrives p image program most size (49 + 11 * length arguments + receiving callee.parameters) (suc l) []
+        Arrives p image program most size (length (begun_in image x.code s.here place arguments) + 2 + taking image f (Some callee)) (suc l) []
         (entered_state s to l (takes_all callee.parameters (values_of s arguments) (fresh_call f callee s))) m
     arrived en fits accepts l =
         let inside : InFunction (layout_of callee (image f).homes) base (base - (frame_bytes (layout_of callee (image f).homes)))
@@ -555,6 +574,7 @@ callee-step p image program most size linked s base m x block to place f argumen
         enters-call program (layout_of x.code (image s.here.function).homes) (held_in x.code s.here.block s.here.at)
         (layout_of callee (image f).homes) base
         (frame_bytes (layout_of callee (image f).homes)) callee.frame s.here.base ((image f).at + 4 * length (begun callee))
+        (entering_words image f callee)
         (low (jump.after.pc + 4 * length
         (entered (layout_of callee (image f).homes) (frame_bytes (layout_of callee (image f).homes)) callee.frame)))
         (place_in p image x.code (image s.here.function) s.here.block s.here.at + 4 * length
@@ -607,14 +627,15 @@ callee-step p image program most size linked s base m x block to place f argumen
         (sym ahead) fn.receives) holds words
         (subst (λ q. base - (frame_bytes (layout_of callee (image f).homes)) + (frame_bytes (layout_of callee (image f).homes)) ≤ q)
         (sym inside.long) within-back) in
-        lands p image program most size (49 + 11 * length arguments + receiving callee.parameters) linked s base m x block to place f arguments in-f in-b callee e l
+        lands p image program most size (length (begun_in image x.code s.here place arguments) + 2 + taking image f (Some callee)) linked s base m x block to place f arguments in-f in-b callee e l
         (b.steps + 2 + en.steps)
         (low (en.after.pc + 4 * length
         (received (layout_of callee (image f).homes) callee.areas (words_offset (layout_of callee (image f).homes)) callee.parameters)))
         (takes_all callee.parameters (values_of s arguments) (fresh_call f callee s)) en.after
         (takes-is callee.parameters (values_of s arguments) (fresh_call f callee s))
         (way-both program (b.steps + 2) en.steps m jump.after en.after jumped (record { runs = en.runs })) (some-steps b.steps en.steps)
-        (all-few b.steps en.steps (length arguments) (receiving callee.parameters) b.few en.few)
+        (all-few b.steps (length (begun_in image x.code s.here place arguments)) en.steps (entering_words image f callee) (receiving_words image f callee) b.few
+        en.few)
         room.0 room.1 (frame-fits (heap_limit s.region) s.here.base callee.frame fits) x.holds.below top-within inside
         (ap (λ q. low (q + 4 * length
         (received (layout_of callee (image f).homes) callee.areas (words_offset (layout_of callee (image f).homes))
@@ -646,7 +667,7 @@ callee-step p image program most size linked s base m x block to place f argumen
         position k q g = slice-below arguments k q g
 
         passed-word : (en : Enters program (layout_of callee (image f).homes) (base - (frame_bytes (layout_of callee (image f).homes)))
-            (s.here.base - callee.frame)
+            (s.here.base - callee.frame) (entering_words image f callee)
             (low (jump.after.pc + 4 * length
             (entered (layout_of callee (image f).homes) (frame_bytes (layout_of callee (image f).homes)) callee.frame))) jump.after) →
             (k : ℕ) (q : Part) → slice_get arguments k ≡ Some q → k < length arguments →
@@ -658,11 +679,6 @@ callee-step p image program most size linked s base m x block to place f argumen
             ∙ (ap (λ z. number_of (take 8 (drop (base - 8 * (0 + k + 1)) z))) jump.private ∙
             (ap (λ n. private_word b.after (base - 8 * n)) (zero-first k) ∙ b.words k q g))
 
--- the most steps in which the parameters of a function are taken
-abbrev pub taking : Option Tac → ℕ
-taking None = 0
-taking (Some code) = receiving code.parameters
-
 -- a call
 pub call-step : (p : Program) (image : Image) (program : List (Option Instr)) (most size : ℕ) → IsLinked p image program most →
     (s : tac.State) (base : ℕ) (m : State)
@@ -670,11 +686,9 @@ pub call-step : (p : Program) (image : Image) (program : List (Option Instr)) (m
     →
     slice_get x.code.blocks s.here.block ≡ Some block → slice_get (plain_of (reads_of x.code) block) s.here.at ≡ Some
     (Call to place f arguments) →
-    Stepped p image program most size (49 + 11 * length arguments + taking (p.code f)) s m (step p s)
+    Stepped p image program most size (call_most p image x.code s.here place f arguments) s m (step p s)
 call-step p image program most size linked s base m x block to place f arguments in-f in-b =
-    let e1 = x.function in
-    let e2 = here in
-    rw (e1, in-f, e2) (counts s.left refl)
+    stepped (call_most p image x.code s.here place f arguments) refl
   where
     here : slice_get block.instructions s.here.at ≡ Some (Call to place f arguments)
     here = plain-get (pair_of (reads_of x.code) block) block.instructions s.here.at (Call to place f arguments) in-b
@@ -692,15 +706,16 @@ call-step p image program most size linked s base m x block to place f arguments
         (count callee e)
 
     with-code : (l : ℕ) → s.left ≡ suc l → (o : Option Tac) → p.code f ≡ o →
-        Stepped p image program most size (49 + 11 * length arguments + taking o) s m
+        Stepped p image program most size (length (begun_in image x.code s.here place arguments) + 2 + taking image f o) s m
         (enter place f o (values_of s arguments) s.here.base (record { waits = record s.here { at = suc s.here.at }; to = to } ∷ s.callers)
         (record s { left = l }))
     with-code l q None e = tt
     with-code l q (Some callee) e =
-        by-test (Stepped p image program most size (49 + 11 * length arguments + receiving callee.parameters) s m) (nat_le most_calls (suc (length s.callers))) _ _
+        by-test (Stepped p image program most size (length (begun_in image x.code s.here place arguments) + 2 + taking image f (Some callee)) s m) (nat_le most_calls (suc (length s.callers))) _ _
         (λ deep. (
           refl,
-          more-ends program CallDepth place 13 (49 + 11 * length arguments + receiving callee.parameters) m (few-deep (length arguments) (receiving callee.parameters))
+          more-ends program CallDepth place (length (begun_in image x.code s.here place arguments))
+              (length (begun_in image x.code s.here place arguments) + 2 + taking image f (Some callee)) m (few-deep (length (begun_in image x.code s.here place arguments)) (taking image f (Some callee)))
               (too-deep program (layout_of x.code (image s.here.function).homes) (held_in x.code s.here.block s.here.at)
               (InUse (graph_of x.code) s.here.block s.here.at) (world_of s) base place arguments
               (call_jump (place_in p image x.code (image s.here.function) s.here.block s.here.at + 4 * length
@@ -719,24 +734,32 @@ call-step p image program most size linked s base m x block to place f arguments
         (begun_in image x.code s.here place arguments)) (entries_of p image f) ++ call_ended
         (layout_of x.code (image s.here.function).homes) x.code.areas to) m x.holds x.five c.homes c.place_small c.code less c.reads
         (room callee e less)) in
-        by-test (Stepped p image program most size (49 + 11 * length arguments + receiving callee.parameters) s m)
+        by-test (Stepped p image program most size (length (begun_in image x.code s.here place arguments) + 2 + taking image f (Some callee)) s m)
         (nat_lt s.here.base (heap_limit s.region + callee.frame)) _ _
         (λ full. (refl, both.0 (ltb-true s.here.base (heap_limit s.region + callee.frame) full)))
         (λ fits.
-        by-test (Stepped p image program most size (49 + 11 * length arguments + receiving callee.parameters) s m)
+        by-test (Stepped p image program most size (length (begun_in image x.code s.here place arguments) + 2 + taking image f (Some callee)) s m)
         (accepts_all callee callee.parameters (values_of s arguments)) _ _
         (λ taken. (
           [],
           nothing-written s.out,
           subst
-              (λ z. Arrives p image program most size (49 + 11 * length arguments + receiving callee.parameters) z []
+              (λ z. Arrives p image program most size (length (begun_in image x.code s.here place arguments) + 2 + taking image f (Some callee)) z []
               (entered_state s to l (takes_all callee.parameters (values_of s arguments) (fresh_call f callee s))) m)
               (sym q) (both.1 (not-lt s.here.base (heap_limit s.region + callee.frame) fits) taken l),
         )) (λ no. tt)))
 
     counts : (l : ℕ) → s.left ≡ l →
-        Stepped p image program most size (49 + 11 * length arguments + taking (p.code f)) s m
+        Stepped p image program most size (call_most p image x.code s.here place f arguments) s m
         (tac.counted l s (λ z. enter place f (p.code f) (values_of s arguments) z.here.base
         (record { waits = (tac.ahead z).here; to = to } ∷ z.callers) z))
     counts zero q = (refl, q)
     counts (suc l) q = with-code l q (p.code f) refl
+
+    stepped : (n : ℕ) → call_most p image x.code s.here place f arguments ≡ n → Stepped p image program most size n s m (step p s)
+    stepped n same =
+        let e1 = x.function in
+        let e2 = here in
+        rw (e1, in-f, e2) (subst (λ z. Stepped p image program most size z s m
+        (tac.counted s.left s (λ z. enter place f (p.code f) (values_of s arguments) z.here.base
+        (record { waits = (tac.ahead z).here; to = to } ∷ z.callers) z))) same (counts s.left refl))

@@ -26,7 +26,7 @@ use Rattle.rv_select.proofs.Enters.{call-fails}
 use Rattle.rv_select.proofs.Faults.{branch-way, later-ends, small-load}
 use Rattle.rv_select.proofs.Jumps.{even-stays, target-is}
 use Rattle.rv_select.proofs.Moves.{held-kept}
-use Rattle.rv_select.proofs.Numbers.{constant-count, constant-loads, immediate-is}
+use Rattle.rv_select.proofs.Numbers.{constant-loads, immediate-is}
 use Rattle.rv_select.proofs.Passes.{ArePassed, PassedParts, part_value, passes}
 use Rattle.rv_select.proofs.Straight.{Loads, low-below, low-small, written-elsewhere, written-there}
 use Rattle.rv_select.proofs.Ways.{Way, at_pc, near-pc, stands-back, stands-front, step-way, straight-way, way-both}
@@ -70,7 +70,7 @@ pub record Begun (program : List (Option Instr)) (y : Layout) (held : Option ℕ
   pub after : State
   pub steps : ℕ
   pub way : Way program steps m after
-  pub few : steps ≤ 11 + 11 * length ps
+  pub few : steps ≤ length (call_begun y held at ps)
   pub pc : after.pc ≡ low (m.pc + 4 * length (call_begun y held at ps))
   pub place : after.registers 11 ≡ place_number at
   pub waiting : after.registers 28 ≡ suc w.depth
@@ -135,15 +135,21 @@ module _ (program : List (Option Instr)) (y : Layout) (held : Option ℕ) (Used 
   depth-2 : t2.registers 28 ≡ w.depth
   depth-2 = same-2 28 (λ z. omega (arith, z)) (λ z. omega (arith, z)) (λ z. omega (arith, z)) ∙ p.depth
 
+  begun-words : length (call_begun y held at ps) ≡ length A + (5 + (length P + 1))
+  begun-words =
+      let tail : length (P ++ one_more) ≡ length P + 1 = length-append P one_more in
+      omega (arith, length-append A (depth_tested ++ (P ++ one_more)), tail)
+
   -- too many calls wait
-  pub too-deep : 511 ≤ w.depth → Ends program CallDepth at 13 m
+  pub too-deep : 511 ≤ w.depth → Ends program CallDepth at (length (call_begun y held at ps)) m
   too-deep deep =
       let d : State = at_pc t2 (low (t2.pc + 4)) in
       let branch : Way program 1 t2 d =
       branch-way program Ltu x28 x6 16 t2 false (omega arith) (omega arith) after-1.1.0 (ap (λ x. nat_lt x 511) depth-2 ∙ le-ltb w.depth 511 deep) in
       let last : Ends program CallDepth at 3 d =
       call-fails program d CallDepth at place-2 (omega arith) (omega arith) (stands-front program d.pc (fault_call CallDepth) (P ++ (one_more ++ rest)) after-1.1.1) in
-      later-ends program CallDepth at (length A + 1 + 1) 3 13 m d (way-both program (length A + 1) 1 m t2 d way-2 branch) last (omega (arith, constant-count x11 (place_number at)))
+      later-ends program CallDepth at (length A + 1 + 1) 3 (length (call_begun y held at ps)) m d (way-both program (length A + 1) 1 m t2 d way-2 branch) last
+      (omega (arith, begun-words))
 
   -- the call may be made
   pub begins : w.depth < 511 → ArePassed y held Used ps → 8 * length ps ≤ base → Begun program y held base w at ps rest m
@@ -170,15 +176,12 @@ module _ (program : List (Option Instr)) (y : Layout) (held : Option ℕ) (Used 
       let way-4 : Way program (length A + 1 + 1 + pp.steps) m t4 = way-both program (length A + 1 + 1) pp.steps m t3 t4 way-3 pp.way in
       let way-5 : Way program (length A + 1 + 1 + pp.steps + 1) m t5 =
       way-both program (length A + 1 + 1 + pp.steps) 1 m t4 t5 way-4 (step-way program (RegisterImmediate Addi x28 x28 (immediate_of 1)) t4 t5 pp.there.0 to-5) in
-      let tail : length (P ++ one_more) ≡ length P + 1 = length-append P one_more in
-      let count : length (call_begun y held at ps) ≡ length A + (5 + (length P + 1)) =
-      omega (arith, length-append A (depth_tested ++ (P ++ one_more)), tail) in
       record {
         after = t5;
         steps = length A + 1 + 1 + pp.steps + 1;
         way = way-5;
-        few = omega (arith, constant-count x11 (place_number at), pp.few);
-        pc = pc-begun m.pc t1.pc t3.pc t4.pc t5.pc (length A) (length P) l.behind refl pp.pc refl ∙ ap (λ n. low (m.pc + 4 * n)) (sym count);
+        few = omega (arith, begun-words, pp.few);
+        pc = pc-begun m.pc t1.pc t3.pc t4.pc t5.pc (length A) (length P) l.behind refl pp.pc refl ∙ ap (λ n. low (m.pc + 4 * n)) (sym begun-words);
         place = written-elsewhere t4.registers 28 (suc w.depth) 11 (λ z. omega (arith, z)) ∙ (pp.beneath.keeps 11 (λ z. omega (arith, z)) (λ z. omega (arith, z)) (λ z. omega (arith, z)) ∙ place-2);
         waiting = written-there t4.registers 28 (suc w.depth) (λ z. omega (arith, z));
         others = λ r five six seven eleven more. written-elsewhere t4.registers 28 (suc w.depth) r more ∙ (pp.beneath.keeps r five six seven ∙ same-2 r six seven eleven);

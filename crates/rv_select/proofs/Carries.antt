@@ -32,7 +32,7 @@ use Rattle.tac_form.specs.Flow.{Program, area_size, bytes_of, step, width_of}
 use Rattle.tac_form.specs.Graph.{block_of, graph_of, instruction_reads, instruction_write, address_reads, operand_reads, step_of}
 use Rattle.tac_form.specs.Live.{InUse, has, is_written}
 use Rattle.tac_form.specs.Fits.{are_apart, area_fits, area_there, instruction_fits, operand_fits, place_fits, spot_fits}
-use Rattle.tac_form.specs.Weights.{most_moved, words_of}
+use Rattle.tac_form.specs.Weights.{most_moved}
 use Rattle.rv_select.specs.Asked.{address_asks, both_ask, first_asks, is_held, is_second, is_turned}
 use Rattle.rv_select.specs.Places.{HasHome, Holds, IsFirst, IsHeld, IsRead, Layout, World, layout_of, value_in}
 use Rattle.rv_operators.specs.Runs.{Stands}
@@ -144,20 +144,20 @@ pub nothing-written : (out : List ℕ) → out ≡ out ++ []
 nothing-written out = sym (append-nil out)
 
 -- an instruction that leaves a temporary's word in x5
-given : (written : List ℕ) {y : Layout} {program : List (Option Instr)} {Next : ℕ → Type 0} {w : World} {base weight target d : ℕ} {m : State} →
-    Gives y program Next w base weight target d m →
-    (out : List ℕ) × (written ≡ written ++ out) × (c : Comes y program Next w base weight target out m) × IsHeld (Some d) w.temps c.after
+given : (written : List ℕ) {y : Layout} {program : List (Option Instr)} {Next : ℕ → Type 0} {w : World} {base most target d : ℕ} {m : State} →
+    Gives y program Next w base most target d m →
+    (out : List ℕ) × (written ≡ written ++ out) × (c : Comes y program Next w base most target out m) × IsHeld (Some d) w.temps c.after
 given written g = ([], nothing-written written, g.comes, g.five)
 
 -- one that may leave it there
 told : (written : List ℕ) (held : Option ℕ) {y : Layout} {program : List (Option Instr)} {Next : ℕ → Type 0} {w : World}
-    {base weight target : ℕ} {m : State} → (c : Comes y program Next w base weight target [] m) × IsHeld held w.temps c.after →
-    (out : List ℕ) × (written ≡ written ++ out) × (c : Comes y program Next w base weight target out m) × IsHeld held w.temps c.after
+    {base most target : ℕ} {m : State} → (c : Comes y program Next w base most target [] m) × IsHeld held w.temps c.after →
+    (out : List ℕ) × (written ≡ written ++ out) × (c : Comes y program Next w base most target out m) × IsHeld held w.temps c.after
 told written held g = ([], nothing-written written, g.0, g.1)
 
 carry-copy : (p : Program) (code : Tac) (homes : List (Option Home)) (held : Option ℕ) (d : ℕ) (a : Operand) (s : tac.State) (program : List (Option Instr)) (base : ℕ) (m : State) →
     StandsBefore p code homes held (Copy d a) s program base m →
-    Carried (layout_of code homes) (graph_of code) program base (words_of (Copy d a)) (held_after (Copy d a)) (shape_of (layout_of code homes) held (Copy d a)) s m (step p s)
+    Carried (layout_of code homes) (graph_of code) program base (held_after (Copy d a)) (shape_of (layout_of code homes) held (Copy d a)) s m (step p s)
 carry-copy p code homes held d a s program base m x =
     let fit = both-true (nat_lt d code.temps) (operand_fits code a) x.fits in
     let e1 = x.function in
@@ -192,7 +192,7 @@ unturned held a b t turned second e = ap (λ c. has (if c then both_ask held b a
 
 carry-compute : (p : Program) (code : Tac) (homes : List (Option Home)) (held : Option ℕ) (d : ℕ) (op : BinaryOperator) (form : Number) (a b : Operand) (s : tac.State)
     (program : List (Option Instr)) (base : ℕ) (m : State) → StandsBefore p code homes held (Compute d op form a b) s program base m →
-    Carried (layout_of code homes) (graph_of code) program base (words_of (Compute d op form a b)) (held_after (Compute d op form a b)) (shape_of (layout_of code homes) held (Compute d op form a b)) s m (step p s)
+    Carried (layout_of code homes) (graph_of code) program base (held_after (Compute d op form a b)) (shape_of (layout_of code homes) held (Compute d op form a b)) s m (step p s)
 carry-compute p code homes held d op form a b s program base m x =
     let fit = both-true (nat_lt d code.temps && operand_fits code a) (operand_fits code b) x.fits in
     let fit-a = both-true (nat_lt d code.temps) (operand_fits code a) fit.0 in
@@ -206,7 +206,7 @@ carry-compute p code homes held d op form a b s program base m x =
     let e3 = x.in_block in
     rw (e1, e2, e3)
     (by-test
-    (λ moved. Carried (layout_of code homes) (graph_of code) program base (words_of (Compute d op form a b)) (held_after (Compute d op form a b)) (shape_of (layout_of code homes) held (Compute d op form a b)) s m moved)
+    (λ moved. Carried (layout_of code homes) (graph_of code) program base (held_after (Compute d op form a b)) (shape_of (layout_of code homes) held (Compute d op form a b)) s m moved)
     (divides op && nat_eq (value_in s.here.temps b) 0) _ _ (λ h. tt)
     (λ h. (given s.out (operators (layout_of code homes) held d op form a b (used code s) (next code s) (world_of s) base program m x.stands x.five
     (no-zero (divides op) (nat_eq (value_in s.here.temps b) 0) (value_in s.here.temps b) h refl) x.holds
@@ -222,7 +222,7 @@ carry-compute p code homes held d op form a b s program base m x =
 
 carry-test : (p : Program) (code : Tac) (homes : List (Option Home)) (held : Option ℕ) (at : Place) (a : Operand) (s : tac.State) (program : List (Option Instr)) (base : ℕ) (m : State) →
     StandsBefore p code homes held (TestDivisor at a) s program base m →
-    Carried (layout_of code homes) (graph_of code) program base (words_of (TestDivisor at a)) (held_after (TestDivisor at a)) (shape_of (layout_of code homes) held (TestDivisor at a)) s m (step p s)
+    Carried (layout_of code homes) (graph_of code) program base (held_after (TestDivisor at a)) (shape_of (layout_of code homes) held (TestDivisor at a)) s m (step p s)
 carry-test p code homes held at a s program base m x =
     let fit = both-true (place_fits at) (operand_fits code a) x.fits in
     let i : Instruction = TestDivisor at a in
@@ -235,13 +235,13 @@ carry-test p code homes held at a s program base m x =
     (fewer p code homes held i s program base m x refl) in
     rw (e1, e2, e3)
     (by-test
-    (λ moved. Carried (layout_of code homes) (graph_of code) program base (words_of (TestDivisor at a)) (held_after (TestDivisor at a)) (shape_of (layout_of code homes) held (TestDivisor at a)) s m moved)
+    (λ moved. Carried (layout_of code homes) (graph_of code) program base (held_after (TestDivisor at a)) (shape_of (layout_of code homes) held (TestDivisor at a)) s m moved)
     (nat_eq (value_in s.here.temps a) 0) _ _ (λ h. (refl, both.1 (eqb-true (value_in s.here.temps a) 0 h)))
     (λ h. ([], nothing-written s.out, both.0 (λ z. let t : nat_eq (value_in s.here.temps a) 0 ≡ true = eq-eqb (value_in s.here.temps a) 0 z in let none : true ≡ false = sym t ∙ h in cc), tt)))
 
 carry-locate : (p : Program) (code : Tac) (homes : List (Option Home)) (held : Option ℕ) (d offset : ℕ) (s : tac.State) (program : List (Option Instr)) (base : ℕ) (m : State) →
     StandsBefore p code homes held (Locate d offset) s program base m →
-    Carried (layout_of code homes) (graph_of code) program base (words_of (Locate d offset)) (held_after (Locate d offset)) (shape_of (layout_of code homes) held (Locate d offset)) s m (step p s)
+    Carried (layout_of code homes) (graph_of code) program base (held_after (Locate d offset)) (shape_of (layout_of code homes) held (Locate d offset)) s m (step p s)
 carry-locate p code homes held d offset s program base m x =
     let fit = both-true (nat_lt d code.temps) (nat_le offset code.frame) x.fits in
     let within : offset ≤ code.frame = leb-true offset code.frame fit.1 in
@@ -271,7 +271,7 @@ spot-place code at size (Frame offset) h = place-small at (both-true (place_fits
 -- a load, by what it reads
 carry-load : (p : Program) (code : Tac) (homes : List (Option Home)) (held : Option ℕ) (d : ℕ) (form : Number) (at : Place) (a : Address) (s : tac.State) (program : List (Option Instr)) (base : ℕ) (m : State) →
     StandsBefore p code homes held (Load d form (spots.Region at a)) s program base m →
-    Carried (layout_of code homes) (graph_of code) program base (words_of (Load d form (spots.Region at a))) (held_after (Load d form (spots.Region at a))) (shape_of (layout_of code homes) held (Load d form (spots.Region at a))) s m (step p s)
+    Carried (layout_of code homes) (graph_of code) program base (held_after (Load d form (spots.Region at a))) (shape_of (layout_of code homes) held (Load d form (spots.Region at a))) s m (step p s)
 carry-load p code homes held d form at a s program base m x =
     let fit = both-true (nat_lt d code.temps) (spot_fits code (bytes_of form.size) (spots.Region at a)) x.fits in
     let i : Instruction = Load d form (spots.Region at a) in
@@ -285,11 +285,12 @@ carry-load p code homes held d form at a s program base m x =
     load-step : (p : Program) (code : Tac) (homes : List (Option Home)) (held : Option ℕ) (d : ℕ) (form : Number) (at : Place) (a : Address) (s : tac.State) (program : List (Option Instr)) (base : ℕ) (m : State) →
         StandsBefore p code homes held (Load d form (spots.Region at a)) s program base m →
         ((bs : List ℕ) → range_of s.region (address_in (world_of s) a) (bytes_of form.size) ≡ Some bs →
-        Gives (layout_of code homes) program (next code s) (with_temp (world_of s) d (wrapped (width_of form) (number_of bs))) base (words_of (Load d form (spots.Region at a)))
+        Gives (layout_of code homes) program (next code s) (with_temp (world_of s) d (wrapped (width_of form) (number_of bs))) base
+        (length (loaded (layout_of code homes) held d form (spots.Region at a)))
         (behind m (loaded (layout_of code homes) held d form (spots.Region at a))) d m)
-        × (range_of s.region (address_in (world_of s) a) (bytes_of form.size) ≡ None → Ends program BadAddress at (words_of (Load d form (spots.Region at a))) m) →
+        × (range_of s.region (address_in (world_of s) a) (bytes_of form.size) ≡ None → Ends program BadAddress at (length (loaded (layout_of code homes) held d form (spots.Region at a))) m) →
         (range_of s.region (address_in (world_of s) a) (bytes_of form.size) ≡ None) ⊎ ((bs : List ℕ) × (range_of s.region (address_in (world_of s) a) (bytes_of form.size) ≡ Some bs)) →
-        Carried (layout_of code homes) (graph_of code) program base (words_of (Load d form (spots.Region at a))) (held_after (Load d form (spots.Region at a))) (shape_of (layout_of code homes) held (Load d form (spots.Region at a))) s m (step p s)
+        Carried (layout_of code homes) (graph_of code) program base (held_after (Load d form (spots.Region at a))) (shape_of (layout_of code homes) held (Load d form (spots.Region at a))) s m (step p s)
     load-step p code homes held d form at (Word (Temp t)) s program base m x both o =
         let e1 = x.function in
         let e2 = x.in_function in
@@ -309,7 +310,7 @@ carry-load p code homes held d form at a s program base m x =
 -- a store, by what it writes
 carry-store : (p : Program) (code : Tac) (homes : List (Option Home)) (held : Option ℕ) (size : Size) (at : Place) (a : Address) (b : Operand) (s : tac.State) (program : List (Option Instr)) (base : ℕ) (m : State) →
     StandsBefore p code homes held (Store (spots.Region at a) size b) s program base m →
-    Carried (layout_of code homes) (graph_of code) program base (words_of (Store (spots.Region at a) size b)) (held_after (Store (spots.Region at a) size b)) (shape_of (layout_of code homes) held (Store (spots.Region at a) size b)) s m (step p s)
+    Carried (layout_of code homes) (graph_of code) program base (held_after (Store (spots.Region at a) size b)) (shape_of (layout_of code homes) held (Store (spots.Region at a) size b)) s m (step p s)
 carry-store p code homes held size at a b s program base m x =
     let fit = both-true (spot_fits code (bytes_of size) (spots.Region at a)) (operand_fits code b) x.fits in
     let i : Instruction = Store (spots.Region at a) size b in
@@ -327,13 +328,14 @@ carry-store p code homes held size at a b s program base m x =
     store-step : (p : Program) (code : Tac) (homes : List (Option Home)) (held : Option ℕ) (size : Size) (at : Place) (a : Address) (b : Operand) (s : tac.State) (program : List (Option Instr)) (base : ℕ) (m : State) →
         StandsBefore p code homes held (Store (spots.Region at a) size b) s program base m →
         ((r : Contents) → put_bytes s.region (address_in (world_of s) a) (low_bytes (bytes_of size) (value_in s.here.temps b)) ≡ Some r →
-        Comes (layout_of code homes) program (next code s) (with_region (world_of s) r) base (words_of (Store (spots.Region at a) size b))
+        Comes (layout_of code homes) program (next code s) (with_region (world_of s) r) base
+        (length (stored (layout_of code homes) held (spots.Region at a) size b))
         (behind m (stored (layout_of code homes) held (spots.Region at a) size b)) [] m)
         × (put_bytes s.region (address_in (world_of s) a) (low_bytes (bytes_of size) (value_in s.here.temps b)) ≡ None →
-        Ends program BadAddress at (words_of (Store (spots.Region at a) size b)) m) →
+        Ends program BadAddress at (length (stored (layout_of code homes) held (spots.Region at a) size b)) m) →
         (put_bytes s.region (address_in (world_of s) a) (low_bytes (bytes_of size) (value_in s.here.temps b)) ≡ None)
         ⊎ ((r : Contents) × (put_bytes s.region (address_in (world_of s) a) (low_bytes (bytes_of size) (value_in s.here.temps b)) ≡ Some r)) →
-        Carried (layout_of code homes) (graph_of code) program base (words_of (Store (spots.Region at a) size b)) (held_after (Store (spots.Region at a) size b)) (shape_of (layout_of code homes) held (Store (spots.Region at a) size b)) s m (step p s)
+        Carried (layout_of code homes) (graph_of code) program base (held_after (Store (spots.Region at a) size b)) (shape_of (layout_of code homes) held (Store (spots.Region at a) size b)) s m (step p s)
     store-step p code homes held size at (Word (Temp t)) b s program base m x both o =
         let e1 = x.function in
         let e2 = x.in_function in
@@ -365,7 +367,7 @@ area-spot code n offset size e f =
 
 carry-area-load : (p : Program) (code : Tac) (homes : List (Option Home)) (held : Option ℕ) (d : ℕ) (form : Number) (n offset : ℕ) (s : tac.State) (program : List (Option Instr)) (base : ℕ) (m : State) →
     StandsBefore p code homes held (Load d form (spots.Area n offset)) s program base m →
-    Carried (layout_of code homes) (graph_of code) program base 8 (held_after (Load d form (spots.Area n offset))) (shape_of (layout_of code homes) held (Load d form (spots.Area n offset))) s m (step p s)
+    Carried (layout_of code homes) (graph_of code) program base (held_after (Load d form (spots.Area n offset))) (shape_of (layout_of code homes) held (Load d form (spots.Area n offset))) s m (step p s)
 carry-area-load p code homes held d form n offset s program base m x =
     let fit = both-true (nat_lt d code.temps) (spot_fits code (bytes_of form.size) (spots.Area n offset)) x.fits in
     let i : Instruction = Load d form (spots.Area n offset) in
@@ -373,7 +375,7 @@ carry-area-load p code homes held d form n offset s program base m x =
     let e2 = x.in_function in
     let e3 = x.in_block in
     rw (e1, e2, e3)
-    (by-test (λ moved. Carried (layout_of code homes) (graph_of code) program base 8 (held_after (Load d form (spots.Area n offset))) (shape_of (layout_of code homes) held (Load d form (spots.Area n offset))) s m moved)
+    (by-test (λ moved. Carried (layout_of code homes) (graph_of code) program base (held_after (Load d form (spots.Area n offset))) (shape_of (layout_of code homes) held (Load d form (spots.Area n offset))) s m moved)
     (nat_le (offset + bytes_of form.size) (length (s.here.areas n))) _ _
     (λ h. (given s.out (area-loads (layout_of code homes) held d form n offset (used code s) (next code s) (world_of s) base program m x.stands
     (area-spot code n offset (bytes_of form.size) fit.1 x.areas).0 (leb-true (offset + bytes_of form.size) (length (s.here.areas n)) h) x.holds
@@ -383,7 +385,7 @@ carry-area-load p code homes held d form n offset s program base m x =
 
 carry-area-store : (p : Program) (code : Tac) (homes : List (Option Home)) (held : Option ℕ) (size : Size) (n offset : ℕ) (b : Operand) (s : tac.State) (program : List (Option Instr)) (base : ℕ) (m : State) →
     StandsBefore p code homes held (Store (spots.Area n offset) size b) s program base m →
-    Carried (layout_of code homes) (graph_of code) program base (words_of (Store (spots.Area n offset) size b)) (held_after (Store (spots.Area n offset) size b)) (shape_of (layout_of code homes) held (Store (spots.Area n offset) size b)) s m (step p s)
+    Carried (layout_of code homes) (graph_of code) program base (held_after (Store (spots.Area n offset) size b)) (shape_of (layout_of code homes) held (Store (spots.Area n offset) size b)) s m (step p s)
 carry-area-store p code homes held size n offset b s program base m x =
     let fit = both-true (spot_fits code (bytes_of size) (spots.Area n offset)) (operand_fits code b) x.fits in
     let spot = area-spot code n offset (bytes_of size) fit.0 x.areas in
@@ -392,7 +394,7 @@ carry-area-store p code homes held size n offset b s program base m x =
     let e2 = x.in_function in
     let e3 = x.in_block in
     rw (e1, e2, e3)
-    (by-test (λ moved. Carried (layout_of code homes) (graph_of code) program base (words_of (Store (spots.Area n offset) size b)) (held_after (Store (spots.Area n offset) size b)) (shape_of (layout_of code homes) held (Store (spots.Area n offset) size b)) s m moved)
+    (by-test (λ moved. Carried (layout_of code homes) (graph_of code) program base (held_after (Store (spots.Area n offset) size b)) (shape_of (layout_of code homes) held (Store (spots.Area n offset) size b)) s m moved)
     (nat_le offset (length (s.here.areas n))) _ _
     (λ h. (
       [],
@@ -407,7 +409,7 @@ carry-area-store p code homes held size n offset b s program base m x =
 
 carry-clear : (p : Program) (code : Tac) (homes : List (Option Home)) (held : Option ℕ) (n size : ℕ) (s : tac.State) (program : List (Option Instr)) (base : ℕ) (m : State) → size ≤ most_moved →
     StandsBefore p code homes held (Clear n size) s program base m →
-    Carried (layout_of code homes) (graph_of code) program base 19 (held_after (Clear n size)) (shape_of (layout_of code homes) held (Clear n size)) s m (step p s)
+    Carried (layout_of code homes) (graph_of code) program base (held_after (Clear n size)) (shape_of (layout_of code homes) held (Clear n size)) s m (step p s)
 carry-clear p code homes held n size s program base m most x =
     let fit = both-true (area_there code n) (nat_le size (area_size code n)) x.fits in
     let i : Instruction = Clear n size in
@@ -424,7 +426,7 @@ carry-clear p code homes held n size s program base m most x =
 
 carry-byte : (p : Program) (code : Tac) (homes : List (Option Home)) (held : Option ℕ) (a : Operand) (s : tac.State) (program : List (Option Instr)) (base : ℕ) (m : State) →
     StandsBefore p code homes held (PutByte a) s program base m →
-    Carried (layout_of code homes) (graph_of code) program base 11 (held_after (PutByte a)) (shape_of (layout_of code homes) held (PutByte a)) s m (step p s)
+    Carried (layout_of code homes) (graph_of code) program base (held_after (PutByte a)) (shape_of (layout_of code homes) held (PutByte a)) s m (step p s)
 carry-byte p code homes held a s program base m x =
     let i : Instruction = PutByte a in
     let e1 = x.function in
@@ -440,7 +442,7 @@ carry-byte p code homes held a s program base m x =
 
 carry-alloc : (p : Program) (code : Tac) (homes : List (Option Home)) (held : Option ℕ) (d : ℕ) (a : Operand) (s : tac.State) (program : List (Option Instr)) (base : ℕ) (m : State) →
     StandsBefore p code homes held (Alloc d a) s program base m →
-    Carried (layout_of code homes) (graph_of code) program base (words_of (Alloc d a)) (held_after (Alloc d a)) (shape_of (layout_of code homes) held (Alloc d a)) s m (step p s)
+    Carried (layout_of code homes) (graph_of code) program base (held_after (Alloc d a)) (shape_of (layout_of code homes) held (Alloc d a)) s m (step p s)
 carry-alloc p code homes held d a s program base m x =
     let fit = both-true (nat_lt d code.temps) (operand_fits code a) x.fits in
     let i : Instruction = Alloc d a in
@@ -461,7 +463,7 @@ module _ (p : Program) (code : Tac) (homes : List (Option Home)) (held : Option 
   abbrev vb : ℕ
   vb = value_in s.here.temps b
 
-  range-result : RangeWritten (layout_of code homes) program (next code s) (world_of s) base (words_of (Write at a b)) va vb (behind m (range_written (layout_of code homes) at a b)) at m
+  range-result : RangeWritten (layout_of code homes) program (next code s) (world_of s) base (length (range_written (layout_of code homes) at a b)) va vb (behind m (range_written (layout_of code homes) at a b)) at m
   range-result =
       let fit = both-true (place_fits at && operand_fits code a) (operand_fits code b) x.fits in
       let fit-a = both-true (place_fits at) (operand_fits code a) fit.0 in
@@ -475,24 +477,24 @@ module _ (p : Program) (code : Tac) (homes : List (Option Home)) (held : Option 
       (λ t u. x.asked t (has-right (operand_reads a) (operand_reads b) t u)))
       x.holds (housed code homes s.here.block s.here.at x.right) (fewer p code homes held i s program base m x refl)
 
-  write-goes : (bs : List ℕ) → range_of s.region va vb ≡ Some bs → Comes (layout_of code homes) program (next code s) (world_of s) base (words_of (Write at a b)) (behind m (range_written (layout_of code homes) at a b)) bs m
+  write-goes : (bs : List ℕ) → range_of s.region va vb ≡ Some bs → Comes (layout_of code homes) program (next code s) (world_of s) base (length (range_written (layout_of code homes) at a b)) (behind m (range_written (layout_of code homes) at a b)) bs m
   write-goes bs e =
       ⊎_elim
       (λ none.
       let q : range_of s.region va vb ≡ Some [] = range-none s.region va vb none in
       let same : [] ≡ bs = cc in
-      subst (λ z. Comes (layout_of code homes) program (next code s) (world_of s) base (words_of (Write at a b)) (behind m (range_written (layout_of code homes) at a b)) z m) same (range-result.nothing none))
+      subst (λ z. Comes (layout_of code homes) program (next code s) (world_of s) base (length (range_written (layout_of code homes) at a b)) (behind m (range_written (layout_of code homes) at a b)) z m) same (range-result.nothing none))
       (λ many.
       ⊎_elim
       (λ i.
       let q : range_of s.region va vb ≡ Some (part s.region.bytes (va - first_address) vb) = range-inside s.region va vb many i.0 i.1 in
       let same : part s.region.bytes (va - first_address) vb ≡ bs = cc in
-      subst (λ z. Comes (layout_of code homes) program (next code s) (world_of s) base (words_of (Write at a b)) (behind m (range_written (layout_of code homes) at a b)) z m) same (range-result.inside many i.0 i.1))
+      subst (λ z. Comes (layout_of code homes) program (next code s) (world_of s) base (length (range_written (layout_of code homes) at a b)) (behind m (range_written (layout_of code homes) at a b)) z m) same (range-result.inside many i.0 i.1))
       (λ o. let q : range_of s.region va vb ≡ None = range-outside s.region va vb many o in let none : Some bs ≡ None = sym e ∙ q in cc)
       (insides s.region va vb))
       (cases_eq vb 0)
 
-  write-none : range_of s.region va vb ≡ None → Ends program BadAddress at (words_of (Write at a b)) m
+  write-none : range_of s.region va vb ≡ None → Ends program BadAddress at (length (range_written (layout_of code homes) at a b)) m
   write-none e =
       ⊎_elim (λ none. let q : range_of s.region va vb ≡ Some [] = range-none s.region va vb none in let no : Some [] ≡ None = sym q ∙ e in cc)
       (λ many.
@@ -503,7 +505,7 @@ module _ (p : Program) (code : Tac) (homes : List (Option Home)) (held : Option 
       (λ o. range-result.outside many o) (insides s.region va vb))
       (cases_eq vb 0)
 
-  write-below : is_negative vb ≡ true → Ends program BadAddress at (words_of (Write at a b)) m
+  write-below : is_negative vb ≡ true → Ends program BadAddress at (length (range_written (layout_of code homes) at a b)) m
   write-below h =
       let large : 2 ^ 63 ≤ vb = leb-true (2 ^ 63) vb h in
       let most : length s.region.bytes ≤ 67108864 = x.holds.lawful.sized.2 in
@@ -511,52 +513,52 @@ module _ (p : Program) (code : Tac) (homes : List (Option Home)) (held : Option 
 
 write-step : (p : Program) (code : Tac) (homes : List (Option Home)) (held : Option ℕ) (at : Place) (a b : Operand) (s : tac.State) (program : List (Option Instr)) (base : ℕ) (m : State) →
     StandsBefore p code homes held (Write at a b) s program base m →
-    (is_negative (value_in s.here.temps b) ≡ true → Ends program BadAddress at (words_of (Write at a b)) m) →
-    (range_of s.region (value_in s.here.temps a) (value_in s.here.temps b) ≡ None → Ends program BadAddress at (words_of (Write at a b)) m) →
+    (is_negative (value_in s.here.temps b) ≡ true → Ends program BadAddress at (length (range_written (layout_of code homes) at a b)) m) →
+    (range_of s.region (value_in s.here.temps a) (value_in s.here.temps b) ≡ None → Ends program BadAddress at (length (range_written (layout_of code homes) at a b)) m) →
     ((bs : List ℕ) → range_of s.region (value_in s.here.temps a) (value_in s.here.temps b) ≡ Some bs →
-    Comes (layout_of code homes) program (next code s) (world_of s) base (words_of (Write at a b)) (behind m (range_written (layout_of code homes) at a b)) bs m) →
+    Comes (layout_of code homes) program (next code s) (world_of s) base (length (range_written (layout_of code homes) at a b)) (behind m (range_written (layout_of code homes) at a b)) bs m) →
     (range_of s.region (value_in s.here.temps a) (value_in s.here.temps b) ≡ None) ⊎ ((bs : List ℕ) × (range_of s.region (value_in s.here.temps a) (value_in s.here.temps b) ≡ Some bs)) →
-    Carried (layout_of code homes) (graph_of code) program base (words_of (Write at a b)) (held_after (Write at a b)) (shape_of (layout_of code homes) held (Write at a b)) s m (step p s)
+    Carried (layout_of code homes) (graph_of code) program base (held_after (Write at a b)) (shape_of (layout_of code homes) held (Write at a b)) s m (step p s)
 write-step p code homes held at (Temp t) (Temp u) s program base m x below none goes o =
     let e1 = x.function in
     let e2 = x.in_function in
     let e3 = x.in_block in
     ⊎_elim
-    (λ e4. rw (e1, e2, e3) (rw e4 (by-test (λ moved. Carried (layout_of code homes) (graph_of code) program base (words_of (Write at (Temp t) (Temp u))) (held_after (Write at (Temp t) (Temp u))) (shape_of (layout_of code homes) held (Write at (Temp t) (Temp u))) s m moved) (is_negative (s.here.temps u)) _ _ (λ h. (refl, below h)) (λ h. (refl, none e4)))))
+    (λ e4. rw (e1, e2, e3) (rw e4 (by-test (λ moved. Carried (layout_of code homes) (graph_of code) program base (held_after (Write at (Temp t) (Temp u))) (shape_of (layout_of code homes) held (Write at (Temp t) (Temp u))) s m moved) (is_negative (s.here.temps u)) _ _ (λ h. (refl, below h)) (λ h. (refl, none e4)))))
     (λ q.
     let e4 = q.1 in
-    rw (e1, e2, e3) (rw e4 (by-test (λ moved. Carried (layout_of code homes) (graph_of code) program base (words_of (Write at (Temp t) (Temp u))) (held_after (Write at (Temp t) (Temp u))) (shape_of (layout_of code homes) held (Write at (Temp t) (Temp u))) s m moved) (is_negative (s.here.temps u)) _ _ (λ h. (refl, below h)) (λ h. (q.0, refl, goes q.0 e4, tt))))) o
+    rw (e1, e2, e3) (rw e4 (by-test (λ moved. Carried (layout_of code homes) (graph_of code) program base (held_after (Write at (Temp t) (Temp u))) (shape_of (layout_of code homes) held (Write at (Temp t) (Temp u))) s m moved) (is_negative (s.here.temps u)) _ _ (λ h. (refl, below h)) (λ h. (q.0, refl, goes q.0 e4, tt))))) o
 write-step p code homes held at (Temp t) (Constant e) s program base m x below none goes o =
     let e1 = x.function in
     let e2 = x.in_function in
     let e3 = x.in_block in
     ⊎_elim
-    (λ e4. rw (e1, e2, e3) (rw e4 (by-test (λ moved. Carried (layout_of code homes) (graph_of code) program base (words_of (Write at (Temp t) (Constant e))) (held_after (Write at (Temp t) (Constant e))) (shape_of (layout_of code homes) held (Write at (Temp t) (Constant e))) s m moved) (is_negative e) _ _ (λ h. (refl, below h)) (λ h. (refl, none e4)))))
+    (λ e4. rw (e1, e2, e3) (rw e4 (by-test (λ moved. Carried (layout_of code homes) (graph_of code) program base (held_after (Write at (Temp t) (Constant e))) (shape_of (layout_of code homes) held (Write at (Temp t) (Constant e))) s m moved) (is_negative e) _ _ (λ h. (refl, below h)) (λ h. (refl, none e4)))))
     (λ q.
     let e4 = q.1 in
-    rw (e1, e2, e3) (rw e4 (by-test (λ moved. Carried (layout_of code homes) (graph_of code) program base (words_of (Write at (Temp t) (Constant e))) (held_after (Write at (Temp t) (Constant e))) (shape_of (layout_of code homes) held (Write at (Temp t) (Constant e))) s m moved) (is_negative e) _ _ (λ h. (refl, below h)) (λ h. (q.0, refl, goes q.0 e4, tt))))) o
+    rw (e1, e2, e3) (rw e4 (by-test (λ moved. Carried (layout_of code homes) (graph_of code) program base (held_after (Write at (Temp t) (Constant e))) (shape_of (layout_of code homes) held (Write at (Temp t) (Constant e))) s m moved) (is_negative e) _ _ (λ h. (refl, below h)) (λ h. (q.0, refl, goes q.0 e4, tt))))) o
 write-step p code homes held at (Constant c) (Temp u) s program base m x below none goes o =
     let e1 = x.function in
     let e2 = x.in_function in
     let e3 = x.in_block in
     ⊎_elim
-    (λ e4. rw (e1, e2, e3) (rw e4 (by-test (λ moved. Carried (layout_of code homes) (graph_of code) program base (words_of (Write at (Constant c) (Temp u))) (held_after (Write at (Constant c) (Temp u))) (shape_of (layout_of code homes) held (Write at (Constant c) (Temp u))) s m moved) (is_negative (s.here.temps u)) _ _ (λ h. (refl, below h)) (λ h. (refl, none e4)))))
+    (λ e4. rw (e1, e2, e3) (rw e4 (by-test (λ moved. Carried (layout_of code homes) (graph_of code) program base (held_after (Write at (Constant c) (Temp u))) (shape_of (layout_of code homes) held (Write at (Constant c) (Temp u))) s m moved) (is_negative (s.here.temps u)) _ _ (λ h. (refl, below h)) (λ h. (refl, none e4)))))
     (λ q.
     let e4 = q.1 in
-    rw (e1, e2, e3) (rw e4 (by-test (λ moved. Carried (layout_of code homes) (graph_of code) program base (words_of (Write at (Constant c) (Temp u))) (held_after (Write at (Constant c) (Temp u))) (shape_of (layout_of code homes) held (Write at (Constant c) (Temp u))) s m moved) (is_negative (s.here.temps u)) _ _ (λ h. (refl, below h)) (λ h. (q.0, refl, goes q.0 e4, tt))))) o
+    rw (e1, e2, e3) (rw e4 (by-test (λ moved. Carried (layout_of code homes) (graph_of code) program base (held_after (Write at (Constant c) (Temp u))) (shape_of (layout_of code homes) held (Write at (Constant c) (Temp u))) s m moved) (is_negative (s.here.temps u)) _ _ (λ h. (refl, below h)) (λ h. (q.0, refl, goes q.0 e4, tt))))) o
 write-step p code homes held at (Constant c) (Constant e) s program base m x below none goes o =
     let e1 = x.function in
     let e2 = x.in_function in
     let e3 = x.in_block in
     ⊎_elim
-    (λ e4. rw (e1, e2, e3) (rw e4 (by-test (λ moved. Carried (layout_of code homes) (graph_of code) program base (words_of (Write at (Constant c) (Constant e))) (held_after (Write at (Constant c) (Constant e))) (shape_of (layout_of code homes) held (Write at (Constant c) (Constant e))) s m moved) (is_negative e) _ _ (λ h. (refl, below h)) (λ h. (refl, none e4)))))
+    (λ e4. rw (e1, e2, e3) (rw e4 (by-test (λ moved. Carried (layout_of code homes) (graph_of code) program base (held_after (Write at (Constant c) (Constant e))) (shape_of (layout_of code homes) held (Write at (Constant c) (Constant e))) s m moved) (is_negative e) _ _ (λ h. (refl, below h)) (λ h. (refl, none e4)))))
     (λ q.
     let e4 = q.1 in
-    rw (e1, e2, e3) (rw e4 (by-test (λ moved. Carried (layout_of code homes) (graph_of code) program base (words_of (Write at (Constant c) (Constant e))) (held_after (Write at (Constant c) (Constant e))) (shape_of (layout_of code homes) held (Write at (Constant c) (Constant e))) s m moved) (is_negative e) _ _ (λ h. (refl, below h)) (λ h. (q.0, refl, goes q.0 e4, tt))))) o
+    rw (e1, e2, e3) (rw e4 (by-test (λ moved. Carried (layout_of code homes) (graph_of code) program base (held_after (Write at (Constant c) (Constant e))) (shape_of (layout_of code homes) held (Write at (Constant c) (Constant e))) s m moved) (is_negative e) _ _ (λ h. (refl, below h)) (λ h. (q.0, refl, goes q.0 e4, tt))))) o
 
 carry-write : (p : Program) (code : Tac) (homes : List (Option Home)) (held : Option ℕ) (at : Place) (a b : Operand) (s : tac.State) (program : List (Option Instr)) (base : ℕ) (m : State) →
     StandsBefore p code homes held (Write at a b) s program base m →
-    Carried (layout_of code homes) (graph_of code) program base (words_of (Write at a b)) (held_after (Write at a b)) (shape_of (layout_of code homes) held (Write at a b)) s m (step p s)
+    Carried (layout_of code homes) (graph_of code) program base (held_after (Write at a b)) (shape_of (layout_of code homes) held (Write at a b)) s m (step p s)
 carry-write p code homes held at a b s program base m x =
     write-step p code homes held at a b s program base m x (write-below p code homes held at a b s program base m x) (write-none p code homes held at a b s program base m x)
     (write-goes p code homes held at a b s program base m x) (some-or-none (range_of s.region (value_in s.here.temps a) (value_in s.here.temps b)))
@@ -589,7 +591,7 @@ address-same s (Frame offset) = refl
 
 carry-area-move : (p : Program) (code : Tac) (homes : List (Option Home)) (held : Option ℕ) (n offset k other size : ℕ) (s : tac.State) (program : List (Option Instr)) (base : ℕ) (m : State) →
     StandsBefore p code homes held (Move (spots.Area n offset) (spots.Area k other) size) s program base m →
-    Carried (layout_of code homes) (graph_of code) program base 42 (held_after (Move (spots.Area n offset) (spots.Area k other) size)) (shape_of (layout_of code homes) held (Move (spots.Area n offset) (spots.Area k other) size)) s m (step p s)
+    Carried (layout_of code homes) (graph_of code) program base (held_after (Move (spots.Area n offset) (spots.Area k other) size)) (shape_of (layout_of code homes) held (Move (spots.Area n offset) (spots.Area k other) size)) s m (step p s)
 carry-area-move p code homes held n offset k other zero s program base m x =
     let fit = move-fits code (spots.Area n offset) (spots.Area k other) 0 x.fits in
     let i : Instruction = Move (spots.Area n offset) (spots.Area k other) 0 in
@@ -597,15 +599,15 @@ carry-area-move p code homes held n offset k other zero s program base m x =
     let e2 = x.in_function in
     let e3 = x.in_block in
     rw (e1, e2, e3)
-    (by-test (λ moved. Carried (layout_of code homes) (graph_of code) program base 42 (held_after (Move (spots.Area n offset) (spots.Area k other) 0)) (shape_of (layout_of code homes) held (Move (spots.Area n offset) (spots.Area k other) 0)) s m moved)
+    (by-test (λ moved. Carried (layout_of code homes) (graph_of code) program base (held_after (Move (spots.Area n offset) (spots.Area k other) 0)) (shape_of (layout_of code homes) held (Move (spots.Area n offset) (spots.Area k other) 0)) s m moved)
     (nat_le (other + 0) (length (s.here.areas k))) _ _
     (λ h.
-    by-test (λ moved. Carried (layout_of code homes) (graph_of code) program base 42 (held_after (Move (spots.Area n offset) (spots.Area k other) 0)) (shape_of (layout_of code homes) held (Move (spots.Area n offset) (spots.Area k other) 0)) s m moved)
+    by-test (λ moved. Carried (layout_of code homes) (graph_of code) program base (held_after (Move (spots.Area n offset) (spots.Area k other) 0)) (shape_of (layout_of code homes) held (Move (spots.Area n offset) (spots.Area k other) 0)) s m moved)
     (nat_le offset (length (s.here.areas n))) _ _
     (λ g. (
       [],
       nothing-written s.out,
-      nothing-comes (layout_of code homes) (used code s) (next code s) (world_of s) base n offset 42 program m x.stands (omega arith) (area-spot code n offset 0 fit.0.0 x.areas).0 x.holds
+      nothing-comes (layout_of code homes) (used code s) (next code s) (world_of s) base n offset 1 program m x.stands (omega arith) (area-spot code n offset 0 fit.0.0 x.areas).0 x.holds
           (housed code homes s.here.block s.here.at x.right) (fewer p code homes held i s program base m x refl),
       tt,
     ))
@@ -620,12 +622,12 @@ carry-area-move p code homes held n offset k other (suc size) s program base m x
     let e1 = x.function in
     let e2 = x.in_function in
     let e3 = x.in_block in
-    subst (λ c. Carried (layout_of code homes) (graph_of code) program base 42 None c s m (step p s)) (sym is)
+    subst (λ c. Carried (layout_of code homes) (graph_of code) program base None c s m (step p s)) (sym is)
     (rw (e1, e2, e3)
-    (by-test (λ moved. Carried (layout_of code homes) (graph_of code) program base 42 None (some_moved (layout_of code homes) held (spots.Area n offset) (spots.Area k other) (suc size)) s m moved)
+    (by-test (λ moved. Carried (layout_of code homes) (graph_of code) program base None (some_moved (layout_of code homes) held (spots.Area n offset) (spots.Area k other) (suc size)) s m moved)
     (nat_le (other + suc size) (length (s.here.areas k))) _ _
     (λ h.
-    by-test (λ moved. Carried (layout_of code homes) (graph_of code) program base 42 None (some_moved (layout_of code homes) held (spots.Area n offset) (spots.Area k other) (suc size)) s m moved)
+    by-test (λ moved. Carried (layout_of code homes) (graph_of code) program base None (some_moved (layout_of code homes) held (spots.Area n offset) (spots.Area k other) (suc size)) s m moved)
     (nat_le offset (length (s.here.areas n))) _ _
     (λ g. (
       [],
@@ -640,33 +642,28 @@ carry-area-move p code homes held n offset k other (suc size) s program base m x
 
 carry-region-move : (p : Program) (code : Tac) (homes : List (Option Home)) (held : Option ℕ) (n offset : ℕ) (at : Place) (a : Address) (size : ℕ) (s : tac.State) (program : List (Option Instr)) (base : ℕ) (m : State) →
     StandsBefore p code homes held (Move (spots.Area n offset) (spots.Region at a) size) s program base m →
-    Carried (layout_of code homes) (graph_of code) program base (words_of (Move (spots.Area n offset) (spots.Region at a) size))
-    (held_after (Move (spots.Area n offset) (spots.Region at a) size)) (shape_of (layout_of code homes) held (Move (spots.Area n offset) (spots.Region at a) size)) s m (step p s)
+    Carried (layout_of code homes) (graph_of code) program base (held_after (Move (spots.Area n offset) (spots.Region at a) size)) (shape_of (layout_of code homes) held (Move (spots.Area n offset) (spots.Region at a) size)) s m (step p s)
 carry-region-move p code homes held n offset at a zero s program base m x =
     let fit = move-fits code (spots.Area n offset) (spots.Region at a) 0 x.fits in
     let i : Instruction = Move (spots.Area n offset) (spots.Region at a) 0 in
-    let weight : ℕ = words_of i in
     let e1 = x.function in
     let e2 = x.in_function in
     let e3 = x.in_block in
     let none : range_of s.region (tac.address s a) 0 ≡ Some [] = range-none s.region (tac.address s a) 0 refl in
     rw (e1, e2, e3)
     (by-fetched at s (range_of s.region (tac.address s a) 0) (λ bs. tac.to_spot (spots.Area n offset) bs s)
-    (λ moved. Carried (layout_of code homes) (graph_of code) program base (words_of (Move (spots.Area n offset) (spots.Region at a) 0))
-    (held_after (Move (spots.Area n offset) (spots.Region at a) 0)) (shape_of (layout_of code homes) held (Move (spots.Area n offset) (spots.Region at a) 0)) s m moved)
+    (λ moved. Carried (layout_of code homes) (graph_of code) program base (held_after (Move (spots.Area n offset) (spots.Region at a) 0)) (shape_of (layout_of code homes) held (Move (spots.Area n offset) (spots.Region at a) 0)) s m moved)
     (λ bs e.
     let same : [] ≡ bs = cc in
     subst
-    (λ z. Carried (layout_of code homes) (graph_of code) program base (words_of (Move (spots.Area n offset) (spots.Region at a) 0))
-    (held_after (Move (spots.Area n offset) (spots.Region at a) 0)) (shape_of (layout_of code homes) held (Move (spots.Area n offset) (spots.Region at a) 0)) s m (tac.to_spot (spots.Area n offset) z s)) same
+    (λ z. Carried (layout_of code homes) (graph_of code) program base (held_after (Move (spots.Area n offset) (spots.Region at a) 0)) (shape_of (layout_of code homes) held (Move (spots.Area n offset) (spots.Region at a) 0)) s m (tac.to_spot (spots.Area n offset) z s)) same
     (by-test
-    (λ moved. Carried (layout_of code homes) (graph_of code) program base (words_of (Move (spots.Area n offset) (spots.Region at a) 0))
-    (held_after (Move (spots.Area n offset) (spots.Region at a) 0)) (shape_of (layout_of code homes) held (Move (spots.Area n offset) (spots.Region at a) 0)) s m moved)
+    (λ moved. Carried (layout_of code homes) (graph_of code) program base (held_after (Move (spots.Area n offset) (spots.Region at a) 0)) (shape_of (layout_of code homes) held (Move (spots.Area n offset) (spots.Region at a) 0)) s m moved)
     (nat_le offset (length (s.here.areas n))) _ _
     (λ g. (
       [],
       nothing-written s.out,
-      nothing-comes (layout_of code homes) (used code s) (next code s) (world_of s) base n offset (words_of (Move (spots.Area n offset) (spots.Region at a) 0)) program m x.stands (omega arith)
+      nothing-comes (layout_of code homes) (used code s) (next code s) (world_of s) base n offset 1 program m x.stands (omega arith)
           (area-spot code n offset 0 fit.0.0 x.areas).0 x.holds (housed code homes s.here.block s.here.at x.right) (fewer p code homes held i s program base m x refl),
       tt,
     ))
@@ -685,15 +682,13 @@ carry-region-move p code homes held n offset at a (suc size) s program base m x 
     (address-reached code (layout_of code homes) held (used code s) s at (suc size) a fit.0.1 x.frame (reads p code homes held i s program base m x) x.asked) (omega arith) to.0 to.1 x.holds
     (housed code homes s.here.block s.here.at x.right) (fewer p code homes held i s program base m x refl) in
     let there = address-same s a in
-    subst (λ c. Carried (layout_of code homes) (graph_of code) program base (words_of (Move (spots.Area n offset) (spots.Region at a) (suc size))) None c s m (step p s)) (sym is)
+    subst (λ c. Carried (layout_of code homes) (graph_of code) program base None c s m (step p s)) (sym is)
     (rw (e1, e2, e3)
     (by-fetched at s (range_of s.region (tac.address s a) (suc size)) (λ bs. tac.to_spot (spots.Area n offset) bs s)
-    (λ moved. Carried (layout_of code homes) (graph_of code) program base (words_of (Move (spots.Area n offset) (spots.Region at a) (suc size)))
-    None (some_moved (layout_of code homes) held (spots.Area n offset) (spots.Region at a) (suc size)) s m moved)
+    (λ moved. Carried (layout_of code homes) (graph_of code) program base None (some_moved (layout_of code homes) held (spots.Area n offset) (spots.Region at a) (suc size)) s m moved)
     (λ bs e.
     by-test
-    (λ moved. Carried (layout_of code homes) (graph_of code) program base (words_of (Move (spots.Area n offset) (spots.Region at a) (suc size)))
-    None (some_moved (layout_of code homes) held (spots.Area n offset) (spots.Region at a) (suc size)) s m moved)
+    (λ moved. Carried (layout_of code homes) (graph_of code) program base None (some_moved (layout_of code homes) held (spots.Area n offset) (spots.Region at a) (suc size)) s m moved)
     (nat_le offset (length (s.here.areas n))) _ _
     (λ g. ([], nothing-written s.out, both.0 bs (ap (λ z. range_of s.region z (suc size)) there ∙ e) (leb-true offset (length (s.here.areas n)) g), tt))
     (λ g. tt))
@@ -701,8 +696,7 @@ carry-region-move p code homes held n offset at a (suc size) s program base m x 
 
 carry-move-out : (p : Program) (code : Tac) (homes : List (Option Home)) (held : Option ℕ) (at : Place) (a : Address) (n offset size : ℕ) (s : tac.State) (program : List (Option Instr)) (base : ℕ) (m : State) →
     StandsBefore p code homes held (Move (spots.Region at a) (spots.Area n offset) size) s program base m →
-    Carried (layout_of code homes) (graph_of code) program base (words_of (Move (spots.Region at a) (spots.Area n offset) size))
-    (held_after (Move (spots.Region at a) (spots.Area n offset) size)) (shape_of (layout_of code homes) held (Move (spots.Region at a) (spots.Area n offset) size)) s m (step p s)
+    Carried (layout_of code homes) (graph_of code) program base (held_after (Move (spots.Region at a) (spots.Area n offset) size)) (shape_of (layout_of code homes) held (Move (spots.Region at a) (spots.Area n offset) size)) s m (step p s)
 carry-move-out p code homes held at a n offset zero s program base m x =
     let i : Instruction = Move (spots.Region at a) (spots.Area n offset) 0 in
     let e1 = x.function in
@@ -711,20 +705,18 @@ carry-move-out p code homes held at a n offset zero s program base m x =
     let none : put_bytes s.region (tac.address s a) [] ≡ Some s.region = put-none s.region (tac.address s a) in
     rw (e1, e2, e3)
     (by-test
-    (λ moved. Carried (layout_of code homes) (graph_of code) program base (words_of (Move (spots.Region at a) (spots.Area n offset) 0))
-    (held_after (Move (spots.Region at a) (spots.Area n offset) 0)) (shape_of (layout_of code homes) held (Move (spots.Region at a) (spots.Area n offset) 0)) s m moved)
+    (λ moved. Carried (layout_of code homes) (graph_of code) program base (held_after (Move (spots.Region at a) (spots.Area n offset) 0)) (shape_of (layout_of code homes) held (Move (spots.Region at a) (spots.Area n offset) 0)) s m moved)
     (nat_le (offset + 0) (length (s.here.areas n))) _ _
     (λ h.
     by-written at s (put_bytes s.region (tac.address s a) [])
-    (λ moved. Carried (layout_of code homes) (graph_of code) program base (words_of (Move (spots.Region at a) (spots.Area n offset) 0))
-    (held_after (Move (spots.Region at a) (spots.Area n offset) 0)) (shape_of (layout_of code homes) held (Move (spots.Region at a) (spots.Area n offset) 0)) s m moved)
+    (λ moved. Carried (layout_of code homes) (graph_of code) program base (held_after (Move (spots.Region at a) (spots.Area n offset) 0)) (shape_of (layout_of code homes) held (Move (spots.Region at a) (spots.Area n offset) 0)) s m moved)
     (λ r e.
     let same : s.region ≡ r = cc in (
       [],
       nothing-written s.out,
-      subst (λ z. Comes (layout_of code homes) program (next code s) (with_region (world_of s) z) base (words_of (Move (spots.Region at a) (spots.Area n offset) 0))
+      subst (λ z. Comes (layout_of code homes) program (next code s) (with_region (world_of s) z) base 1
           (behind m (shape_of (layout_of code homes) held (Move (spots.Region at a) (spots.Area n offset) 0))) [] m) same
-          (nothing-happens (layout_of code homes) (used code s) (next code s) (world_of s) base (words_of (Move (spots.Region at a) (spots.Area n offset) 0)) program m x.stands (omega arith) x.holds
+          (nothing-happens (layout_of code homes) (used code s) (next code s) (world_of s) base 1 program m x.stands (omega arith) x.holds
           (housed code homes s.here.block s.here.at x.right) (fewer p code homes held i s program base m x refl)),
       tt,
     ))
@@ -739,11 +731,10 @@ carry-move-out p code homes held at a n offset (suc size) s program base m x =
     let e2 = x.in_function in
     let e3 = x.in_block in
     let there = address-same s a in
-    subst (λ c. Carried (layout_of code homes) (graph_of code) program base (words_of (Move (spots.Region at a) (spots.Area n offset) (suc size))) None c s m (step p s)) (sym is)
+    subst (λ c. Carried (layout_of code homes) (graph_of code) program base None c s m (step p s)) (sym is)
     (rw (e1, e2, e3)
     (by-test
-    (λ moved. Carried (layout_of code homes) (graph_of code) program base (words_of (Move (spots.Region at a) (spots.Area n offset) (suc size)))
-    None (some_moved (layout_of code homes) held (spots.Region at a) (spots.Area n offset) (suc size)) s m moved)
+    (λ moved. Carried (layout_of code homes) (graph_of code) program base None (some_moved (layout_of code homes) held (spots.Region at a) (spots.Area n offset) (suc size)) s m moved)
     (nat_le (offset + suc size) (length (s.here.areas n))) _ _
     (λ h.
     let both =
@@ -752,8 +743,7 @@ carry-move-out p code homes held at a n offset (suc size) s program base m x =
     (λ t u. reads p code homes held i s program base m x t (has-left (address_reads a) [] t u)) (λ t u. x.asked t (has-left (address_asks held a) [] t u))) (omega arith) from.0
     (leb-true (offset + suc size) (length (s.here.areas n)) h) x.holds (housed code homes s.here.block s.here.at x.right) (fewer p code homes held i s program base m x refl) in
     by-written at s (put_bytes s.region (tac.address s a) (part (s.here.areas n) offset (suc size)))
-    (λ moved. Carried (layout_of code homes) (graph_of code) program base (words_of (Move (spots.Region at a) (spots.Area n offset) (suc size)))
-    None (some_moved (layout_of code homes) held (spots.Region at a) (spots.Area n offset) (suc size)) s m moved)
+    (λ moved. Carried (layout_of code homes) (graph_of code) program base None (some_moved (layout_of code homes) held (spots.Region at a) (spots.Area n offset) (suc size)) s m moved)
     (λ r e. ([], nothing-written s.out, both.0 r (ap (λ z. put_bytes s.region z (part (s.here.areas n) offset (suc size))) there ∙ e), tt))
     (λ e. (refl, both.1 (ap (λ z. put_bytes s.region z (part (s.here.areas n) offset (suc size))) there ∙ e))))
     (λ h. tt)))

@@ -27,7 +27,7 @@ use Rattle.rv_select.proofs.Numbers.{immediate-is}
 use Rattle.rv_select.proofs.Parts.{none-written, part-of-written, written-twice}
 use Rattle.rv_select.proofs.Words.{overwritten-bytes}
 use Rattle.rv_select.proofs.Straight.{Loads, behind-both, goes-both, loads-five, low-below, low-first, low-here}
-use Rattle.rv_select.proofs.Frames.{framed-address, framed-count, framed-some}
+use Rattle.rv_select.proofs.Frames.{framed-address, framed-some}
 use Rattle.rv_select.proofs.Ways.{straight-way}
 use Rattle.rv_select.proofs.Homes.{region-small}
 use Rattle.rv_select.proofs.Areas.{AreaSet, Saves, area-comes, area-near, area-room, saved, then-saves}
@@ -147,7 +147,7 @@ zero-are-bytes (suc n) = (omega arith, zero-are-bytes n)
 
 pub clears : (y : Layout) (n size : ℕ) (Used Next : ℕ → Type 0) (w : World) (base : ℕ) (program : List (Option Instr)) (m : State) →
     Stands program m.pc (cleared y n size) → n < y.areas → size ≤ most_moved → Holds y Used w base m → Housed y Used → AreFewer Used Next →
-    Comes y program Next (with_area w n (nulls size)) base 19 (behind m (cleared y n size)) [] m
+    Comes y program Next (with_area w n (nulls size)) base (length (cleared y n size)) (behind m (cleared y n size)) [] m
 clears y n size Used Next w base program m stands there most p h f =
     let A : List Instr = area_reached y x5 n 0 in
     let k : ℕ = (size + 7) / 8 in
@@ -164,10 +164,9 @@ clears y n size Used Next w base program m stands there most p h f =
     (zeros-fill k l.after at 0 (subst (λ z. z < 2 ^ 64) (sym l.behind) (low-below (m.pc + 4 * length A))) l.gives (omega arith)
     (subst (λ z. at + 0 + 8 * k ≤ length z) (sym l.private) zeros-there) (subst (λ z. length z ≤ 603979776) (sym l.private) p.frame.private)
     (subst (λ z. length z ≤ 67108864) (sym l.region) (region-small y Used w base m p)))) in
-    let few-a : length A ≤ 3 = framed-count (λ r far. RegisterImmediate Addi x5 r far) (area_offset y n + 0) in
     let some-a : 1 ≤ length A = framed-some (λ r far. RegisterImmediate Addi x5 r far) (area_offset y n + 0) in
     let count : length (A ++ B) ≡ length A + k = length-append A B ∙ ap (λ z. length A + z) (zeros-count k 0) in
-    area-comes y Used Next w base n (length (A ++ B)) 19 (behind m (A ++ B)) (nulls size) program m s.after
+    area-comes y Used Next w base n (length (A ++ B)) (length (A ++ B)) (behind m (A ++ B)) (nulls size) program m s.after
     (straight-way program (A ++ B) m s.after stands s.straight s.goes) s.behind (subst (λ z. z < 2 ^ 64) (sym s.behind) (low-below (m.pc + 4 * length (A ++ B))))
     (cleared-area y base n size k m s.after (nulls-count (8 * k)) all (omega arith) (omega arith) most s.keeps s.region (s.private ∙ ap (λ z. overwritten m.private z (nulls (8 * k))) here) p.frame.bytes)
     p h f there (omega arith) (omega arith)

@@ -30,8 +30,6 @@ use Rattle.terra_words.specs.Runs.{Stuck}
 use Rattle.tac_form.specs.Graph.{block_of, exit_next, graph_of, instruction_reads, operand_reads, step_of}
 use Rattle.tac_form.specs.Live.{InUse, IsLive, has, read_within}
 use Rattle.tac_form.specs.Fits.{edge_fits, operand_fits}
-use Rattle.tac_form.specs.Weights as weights
-use Rattle.tac_form.specs.Weights.{exit_words, words_of}
 use Rattle.rv_operators.specs.Codes.{is_comparison}
 use Rattle.rv_operators.proofs.Values.{signed-less}
 use Rattle.rv_select.specs.Asked.{both_ask, is_second}
@@ -42,9 +40,7 @@ use Rattle.rv_select.specs.Settings.{follower}
 use Rattle.rv_select.specs.Compared.{ComparesAreCarried, ComparesKeepWithin, StandsAtCompare, below_condition, compared, compared_shape}
 use Rattle.rv_select.specs.Compared.{condition_of, first_register, least_condition, left_of, operands_taken, right_of, second_register}
 use Rattle.rv_select.specs.Steps.{AreFewer, Comes, Left, with_temp, world_of}
-use Rattle.rv_select.proofs.Straight.{Loads, Scratch, loads-five, loads-six, scratch-both}
-use Rattle.rv_select.proofs.Homes.{first-count, first-few, operand-count, take-first, take-operand, taken-count}
-use Rattle.rv_select.proofs.Moves.{fewer-holds, first-small, scratch-holds, unused-holds, value-small}
+use Rattle.rv_select.proofs.Moves.{at-most, fewer-holds, unused-holds}
 use Rattle.rv_select.proofs.Sides.{Sides, sides-count, sides-few, sides-taken}
 use Rattle.rv_select.proofs.Numbers.{pushed_words}
 use Rattle.rv_select.proofs.Lives.{housed, read-live, step-in-graph, use-follows}
@@ -127,7 +123,7 @@ module _ (p : Program) (code : Tac) (homes : List (Option Home)) (held : Option 
   A = operands_taken y held a b
 
   abbrev weight : ℕ
-  weight = words_of (Compute d op form a b) + exit_words (Branch (Temp d) e f)
+  weight = length (compared_shape y x.setting held m.pc starts op form a b e f)
 
   all-housed : Housed y used
   all-housed = housed code homes s.here.block s.here.at x.right
@@ -188,7 +184,6 @@ module _ (p : Program) (code : Tac) (homes : List (Option Home)) (held : Option 
       let l : Register = first_register held a b in
       let r : Register = second_register held a b in
       let k : Sides A m l r va vb = sides-taken y held used (world_of s) base m a b x.five x.holds all-housed in-order turned-round in
-      let count : length A ≤ weights.operand_words a + weights.operand_words b = sides-count y held a b in
       let few : length A ≤ 16 = sides-few y held a b in
       let o : Follows = follower x.setting.next e.block f.block in
       let C : List Instr = compared_shape y x.setting held m.pc starts op form a b e f in
@@ -199,7 +194,7 @@ module _ (p : Program) (code : Tac) (homes : List (Option Home)) (held : Option 
       chosen-comes y (without used d) (InUse (graph_of code) c 0) (world_of after_it) base (starts e.block) (starts f.block) (starts c) weight x.setting.near x.setting.short o
       (condition_of form.signed op) (left_of op l r) (right_of op l r) taken_it A program m k.after
       k.scratch (unread-holds y used (world_of s) base d result m x.holds) (record { homes = λ t u k. all-housed.homes t u.0 k; apart = λ t u i j k o g. all-housed.apart t u i.0 j.0 k o g }) (next-here c unread h)
-      (omega (arith, count)) few x.near (x.blocks e.block) (x.blocks f.block) (edge-reach code starts m.pc x.setting.short e x.short_is x.reach fit-e)
+      (at-most weight) few x.near (x.blocks e.block) (x.blocks f.block) (edge-reach code starts m.pc x.setting.short e x.short_is x.reach fit-e)
       (edge-reach code starts m.pc x.setting.short f x.short_is x.reach fit-f) (edge-near code starts m.pc x.setting.near e x.near_is x.reach fit-e)
       (edge-near code starts m.pc x.setting.near f x.near_is x.reach fit-f) first-next second-next x.stands
       (compare-is (width_of form) op va vb x.compares (small a fits-a read-a) (small b fits-both.1 read-b) l r k.after k.first k.second ∙ is)
@@ -239,8 +234,10 @@ compares p code homes held d op form a b e f starts s program base m x =
     let e3 = x.in_block in
     let zero : Bool = divides op && nat_eq (tac.operand s b) 0 in
     let first : step p s ≡ (if zero then tac.stop s Stuck else Goes (tac.ahead (tac.set_temp d (applied (width_of form) op (tac.operand s a) (tac.operand s b)) s))) = rw (e1, e2, e3) refl in
-    subst (λ moved. Left (layout_of code homes) (graph_of code) program base (words_of (Compute d op form a b) + exit_words (Branch (Temp d) e f)) starts s m (steps p 1 moved)) (sym first)
-    (by-test (λ moved. Left (layout_of code homes) (graph_of code) program base (words_of (Compute d op form a b) + exit_words (Branch (Temp d) e f)) starts s m (steps p 1 moved)) zero _ _ (λ h. tt) (λ h. leave))
+    subst (λ moved. Left (layout_of code homes) (graph_of code) program base
+    (length (compared_shape (layout_of code homes) x.setting held m.pc starts op form a b e f)) starts s m (steps p 1 moved)) (sym first)
+    (by-test (λ moved. Left (layout_of code homes) (graph_of code) program base
+    (length (compared_shape (layout_of code homes) x.setting held m.pc starts op form a b e f)) starts s m (steps p 1 moved)) zero _ _ (λ h. tt) (λ h. leave))
 
 -- how many words there are
 compared-count : (y : Layout) (near short : Bool) (o : Follows) (held : Option ℕ) (signed : Bool) (op : BinaryOperator) (a b : Operand) (at first second : ℕ) →

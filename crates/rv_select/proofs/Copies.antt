@@ -25,7 +25,7 @@ use Rattle.rv_select.proofs.Moves.{scratch-holds}
 use Rattle.rv_select.proofs.Stands.{both-true}
 use Rattle.rv_select.proofs.Straight.{Loads, loads-six}
 use Rattle.rv_select.proofs.Transfers.{Moving, all-moved}
-use Rattle.rv_select.proofs.Transports.{area-address, area-count, area-inside, area-some, carried-count, small-after, transfer-saves}
+use Rattle.rv_select.proofs.Transports.{area-address, area-inside, area-some, small-after, transfer-saves}
 use Rattle.rv_select.proofs.Ways.{straight-way}
 use Rattle.rv_select.proofs.Words.{overwritten-bytes}
 
@@ -65,7 +65,7 @@ pub copies-there : (y : Layout) (n size s : ℕ) (X : List ℕ) (Used Next : ℕ
     Stands program m.pc (to_area y n 0 size) → n < y.areas → size ≤ 128 → length X ≡ size → m.registers 5 ≡ 2 ^ 32 + s →
     s + size ≤ length m.private → (s + size ≤ base + area_offset y n) ⊎ (base + area_offset y n + 128 ≤ s) →
     take size (drop s m.private) ≡ X → AreBytes X → Holds y Used w base m → Housed y Used → AreFewer Used Next →
-    Comes y program Next (with_area w n X) base 39 (behind m (to_area y n 0 size)) [] m
+    Comes y program Next (with_area w n X) base (length (to_area y n 0 size)) (behind m (to_area y n 0 size)) [] m
 copies-there y n size s X Used Next w base program m stands there short count five inside apart reads are p h f =
     let B : List Instr = area_reached y x6 n 0 in
     let C : List Instr = all_carried x5 x6 size in
@@ -94,9 +94,7 @@ copies-there y n size s X Used Next w base program m stands there short count fi
     then-saves B C m l.after d X (loads-six B m (2 ^ 32 + d) l)
     (transfer-saves C l.after d X (all-moved x5 x6 (Private s) (Private d) X size l.after move count)) in
     let all : length (B ++ C) ≡ length B + length C = length-append B C in
-    let few-b : length B ≤ 3 = area-count y x6 n 0 in
     let some-b : 1 ≤ length B = area-some y x6 n 0 in
-    let few-c : length C ≤ 36 = carried-count x5 x6 size short in
-    area-comes y Used Next w base n (length (B ++ C)) 39 (behind m (B ++ C)) X program m r.after
+    area-comes y Used Next w base n (length (B ++ C)) (length (B ++ C)) (behind m (B ++ C)) X program m r.after
     (straight-way program (B ++ C) m r.after stands r.straight r.goes) r.behind (small-after (B ++ C) m r.after r.behind)
     (area-whole y Used w base n X (B ++ C) m r p there (omega (arith, count, short)) are) p h f there (omega arith) (omega arith)

@@ -1,13 +1,11 @@
 -- A comparison and the branch on its result: two steps at once.
 use Rattle.std.proofs.Common.{◌≡◌, ℕ, suc, ◌+◌, ◌-◌, ◌*◌, ◌^◌, ◌≤◌, Bool, true, false, ◌&&◌, ◌||◌, List, length, take, Option, Some, None}
-use Rattle.std.proofs.Common.{refl, sym, ap, ◌∙◌, subst, arith}
+use Rattle.std.proofs.Common.{refl, sym, ap, ◌∙◌, subst}
 use Rattle.std.specs.Prelude.{if◌then◌else◌, nat_eq, slice_get}
 use Rattle.std.proofs.lemmas.Bool.{eq-eqb}
 use Rattle.rv_isa.specs.declared.instr.Instr.{Instr}
-use Rattle.terra_words.specs.Runs.{Fault, More, Over, Returned, Stuck}
+use Rattle.terra_words.specs.Runs.{Stuck}
 use Rattle.terra_words.specs.Words.{applied, divides}
-use Rattle.tac_form.specs.declared.tac.Operand.TheVariants.{Temp}
-use Rattle.tac_form.specs.declared.tac.Exit.TheVariants.{Branch}
 use Rattle.tac_form.specs.declared.tac.Block.{Block}
 use Rattle.tac_form.specs.declared.tac.Tac.{Tac}
 use Rattle.tac_form.specs.Flow as tac
@@ -15,8 +13,7 @@ use Rattle.tac_form.specs.Flow.{Goes, Program, Stops, Temps, put, step, steps, w
 use Rattle.tac_form.specs.Graph.{block_of, exit_reads, graph_of, step_of}
 use Rattle.tac_form.specs.Live.{IsLive, has}
 use Rattle.tac_form.specs.Fits.{exit_fits}
-use Rattle.rv_select.specs.Steps.{IsReached}
-use Rattle.tac_form.specs.Weights.{exit_words, words_of}
+use Rattle.rv_select.specs.Steps.{IsReached, Left}
 use Rattle.rv_machine.specs.Machine.{State}
 use Rattle.rv_operators.specs.Runs.{Stands}
 use Rattle.rv_select.specs.declared.pairs.Pair.{Pair}
@@ -27,15 +24,15 @@ use Rattle.rv_select.specs.Shapes.{has_exit_shape, start_of}
 use Rattle.rv_select.specs.Compared.{StandsAtCompare, compared_shape}
 use Rattle.rv_select.specs.Calls.{block_starts, pair_code}
 use Rattle.rv_select.specs.Waiting.{Image, IsLinked, IsPlaced, StandsIn, Stepped, held_in, place_in, plain_in}
-use Rattle.rv_select.specs.Whole.{AreShort, steps_left}
+use Rattle.rv_select.specs.Whole.{AreShort}
 use Rattle.rv_select.proofs.Asking.{pair-homes}
 use Rattle.rv_select.proofs.Carries.{by-test}
 use Rattle.rv_select.proofs.Compares.{carry-leave}
-use Rattle.rv_select.proofs.Falls.{FallsIf, falls-exit, falls-inner}
-use Rattle.rv_select.proofs.Inner.{LeavesIf, Stays, leave-to}
+use Rattle.rv_select.proofs.Falls.{FallsIf, falls-exit}
+use Rattle.rv_select.proofs.Inner.{LeavesIf, leave-to}
 use Rattle.rv_select.proofs.Lives.{step-in-graph}
 use Rattle.rv_select.proofs.Pairing.{IsPair, compare_of, pair-place}
-use Rattle.rv_select.proofs.Stands.{AtExit, at-exit, exit-within, instruction-within, within-parts}
+use Rattle.rv_select.proofs.Stands.{AtExit, exit-within, instruction-within, within-parts}
 use Rattle.rv_select.proofs.Through.{left-joined}
 use Rattle.rv_select.proofs.Reached.{exit-reaches, starts-small}
 use Rattle.rv_select.proofs.Unread.{unread-begins}
@@ -94,15 +91,16 @@ pub pair-steps : (p : Program) (image : Image) (program : List (Option Instr)) (
     slice_get x.code.blocks s.here.block ≡ Some block → slice_get (plain_of (reads_of x.code) block) s.here.at ≡ None →
     pair_of (reads_of x.code) block ≡ Some pair →
     (k : IsPair (reads_of x.code) (slice_get block.instructions (length block.instructions - 1)) block.exit pair) →
-    Stepped p image program most size (words_of (compare_of pair k.result) + exit_words block.exit) s m (steps p 2 (Goes s))
-pair-steps p image program most size linked s base m x block pair in-f in-p is k =
-    subst (λ e. Stepped p image program most size (words_of (compare_of pair k.result) + exit_words e) s m (steps p 2 (Goes s)))
-    (sym k.exit_is)
-    (subst (λ moved. Stepped p image program most size weight s m (steps p 1 moved)) (sym both.first)
-    (by-test (λ moved. Stepped p image program most size weight s m (steps p 1 moved)) (stuck-at s pair) _ _ (λ h. tt)
+    (found : AtExit p image program x.code (image s.here.function) s.here.block (held_in x.code s.here.block s.here.at) (Some pair) block.exit
+    (place_in p image x.code (image s.here.function) s.here.block s.here.at)) →
+    Stepped p image program most size found.own s m (steps p 2 (Goes s))
+pair-steps p image program most size linked s base m x block pair in-f in-p is k found =
+    subst (λ moved. Stepped p image program most size found.own s m (steps p 1 moved)) (sym both.first)
+    (by-test (λ moved. Stepped p image program most size found.own s m (steps p 1 moved)) (stuck-at s pair) _ _ (λ h. tt)
     (λ h.
-    left-joined p image program most size weight linked s (suc s.here.at) (after_temps s pair k.result) base m x block.exit
+    left-joined p image program most size found.own linked s (suc s.here.at) (after_temps s pair k.result) base m x block.exit
     (step p (after_it s pair k.result)) both.leaves
+    (subst (λ n. Left y (graph_of x.code) program base n starts s m (step p (after_it s pair k.result))) (sym own-is)
     (carry-leave p x.code (image s.here.function).homes held k.result pair.operator pair.form pair.a pair.b pair.first pair.second starts s
     program
     base m before))))
@@ -119,14 +117,8 @@ pair-steps p image program most size linked s base m x block pair in-f in-p is k
     starts : ℕ → ℕ
     starts = start_of (block_starts (layout_of x.code (image s.here.function).homes) x.code (image s.here.function).at)
 
-    weight : ℕ
-    weight = words_of (compare_of pair k.result) + exit_words (Branch (Temp k.result) pair.first pair.second)
-
-    found : AtExit p image program x.code (image s.here.function) (held_in x.code s.here.block s.here.at) (Some pair) block.exit
-        (place_in p image x.code (image s.here.function) s.here.block s.here.at)
-    found = subst (λ o. AtExit p image program x.code (image s.here.function) (held_in x.code s.here.block s.here.at) o block.exit
-        (place_in p image x.code (image s.here.function) s.here.block s.here.at)) is
-        (at-exit p image program most x.code (image s.here.function) s.here.block s.here.at block pl in-f in-p)
+    y : Layout
+    y = layout_of x.code (image s.here.function).homes
 
     at : ℕ
     at = place_in p image x.code (image s.here.function) s.here.block s.here.at
@@ -138,6 +130,9 @@ pair-steps p image program most size linked s base m x block pair in-f in-p is k
 
     code-is : pair_code (layout_of x.code (image s.here.function).homes) found.setting held at starts pair ≡ shape-at at
     code-is = pair-is (layout_of x.code (image s.here.function).homes) found.setting held at starts pair
+
+    own-is : found.own ≡ length (shape-at m.pc)
+    own-is = found.own_is ∙ (ap length code-is ∙ ap (λ q. length (shape-at q)) (sym x.pc))
 
     unread : (c : ℕ) → IsLive (graph_of x.code) c 0 k.result → ⊥
     unread c =
@@ -179,54 +174,22 @@ pair-steps p image program most size linked s base m x block pair in-f in-p is k
       five = x.five;
     }
 
--- two steps take what both are given
-falls-both : (p : Program) (words first second : ℕ) (s t : tac.State) (moved : tac.Moved) →
-    first + steps_left p words t ≤ steps_left p words s → t.left ≡ s.left → FallsIf p words second t moved →
-    FallsIf p words (first + second) s moved
-falls-both p words first second s t (Goes u) h e g =
-    (goes (steps_left p words s) (steps_left p words t) (steps_left p words u) h g.0, subst (λ n. n ≤ suc u.left) e g.1)
-  where
-    goes : (a b c : ℕ) → first + b ≤ a → second + c ≤ b → first + second + c ≤ a
-    goes a b c i j = omega (arith, i, j)
-falls-both p words first second s t (Stops (Over (Returned v) out)) h e g = ends (steps_left p words s) (steps_left p words t) h g
-  where
-    ends : (a b : ℕ) → first + b ≤ a → second ≤ b → first + second ≤ a
-    ends a b i j = omega (arith, i, j)
-falls-both p words first second s t (Stops (Over (Fault kind at) out)) h e g = ends (steps_left p words s) (steps_left p words t) h g
-  where
-    ends : (a b : ℕ) → first + b ≤ a → second ≤ b → first + second ≤ a
-    ends a b i j = omega (arith, i, j)
-falls-both p words first second s t (Stops (Over Stuck out)) h e g = tt
-falls-both p words first second s t (Stops (More out)) h e g = tt
-
 pub falls-pair : (p : Program) (image : Image) (program : List (Option Instr)) (most size words : ℕ) → IsLinked p image program most →
-    AreShort p words → (s : tac.State) (base : ℕ) (m : State) (x : StandsIn p image program most size s base m) (block : Block)
+    AreShort p image words → (s : tac.State) (base : ℕ) (m : State) (x : StandsIn p image program most size s base m) (block : Block)
     (pair : Pair) →
     slice_get x.code.blocks s.here.block ≡ Some block → slice_get (plain_of (reads_of x.code) block) s.here.at ≡ None →
     pair_of (reads_of x.code) block ≡ Some pair →
     (k : IsPair (reads_of x.code) (slice_get block.instructions (length block.instructions - 1)) block.exit pair) →
-    FallsIf p words (words_of (compare_of pair k.result) + exit_words block.exit) s (steps p 2 (Goes s))
-falls-pair p image program most size words linked short s base m x block pair in-f in-p is k =
-    subst (λ moved. FallsIf p words (words_of (compare_of pair k.result) + exit_words block.exit) s (steps p 1 moved)) (sym both.first)
-    (by-test (λ moved. FallsIf p words (words_of (compare_of pair k.result) + exit_words block.exit) s (steps p 1 moved))
-    (stuck-at s pair) _ _
-    (λ h. tt)
+    (found : AtExit p image program x.code (image s.here.function) s.here.block (held_in x.code s.here.block s.here.at) (Some pair) block.exit
+    (place_in p image x.code (image s.here.function) s.here.block s.here.at)) →
+    FallsIf p image words found.own s (steps p 2 (Goes s))
+falls-pair p image program most size words linked short s base m x block pair in-f in-p is k found =
+    subst (λ moved. FallsIf p image words found.own s (steps p 1 moved)) (sym both.first)
+    (by-test (λ moved. FallsIf p image words found.own s (steps p 1 moved)) (stuck-at s pair) _ _ (λ h. tt)
     (λ h.
-    falls-both p words (words_of (compare_of pair k.result)) (exit_words block.exit) s (after_it s pair k.result)
-    (step p (after_it s pair k.result))
-    (falls-inner p words x.code block (compare_of pair k.result) s (Goes (after_it s pair k.result)) x.function in-f both.here stays).0 refl
-    (falls-exit p words x.code block (after_it s pair k.result) (step p (after_it s pair k.result)) x.function in-f
-    (linked s.here.function x.code x.function).counted (short s.here.function x.code x.function) both.leaves)))
+    falls-exit p image program most words short x.code block (suc s.here.at) (after_temps s pair k.result) s
+    (step p (after_it s pair k.result)) (linked s.here.function x.code x.function) x.function in-f (Some pair) (held_in x.code s.here.block s.here.at) found
+    both.leaves))
   where
     both : Couple p s block pair k.result
     both = couple p x.code s block pair x.function in-f in-p x.before_end is k
-
-    stays : Stays s (after_it s pair k.result)
-    stays = record {
-      temps = after_temps s pair k.result;
-      areas = s.here.areas;
-      region = s.region;
-      out = s.out;
-      is = refl;
-      long = refl;
-    }

@@ -17,7 +17,7 @@ use Rattle.terra_words.specs.declared.words.FaultKind.TheVariants.{StackFull}
 use Rattle.terra_words.specs.Words.{fault_number}
 use Rattle.rv_machine.specs.Word.{low, difference}
 use Rattle.rv_machine.specs.Machine.{State, GoesOn, Throws, act, at_with, run_of}
-use Rattle.rv_operators.specs.Codes.{x0, x5, x6, zero_immediate}
+use Rattle.rv_operators.specs.Codes.{x0, x5, zero_immediate}
 use Rattle.rv_operators.specs.Runs.{Stands}
 use Rattle.rv_select.specs.Numbers.{constant, immediate_of, register_of, upper_of}
 use Rattle.rv_select.specs.Places.{AreBytes, Layout, private_word, uses}
@@ -30,8 +30,8 @@ use Rattle.rv_select.proofs.Faults.{branch-way, later-ends, small-load, throws}
 use Rattle.terra_memory.specs.Numbers.{number_of}
 use Rattle.rv_select.proofs.Homes.{word_stored}
 use Rattle.rv_select.proofs.Kept.{Saved, Stored, saves, stored-none, stored-one, word-stored}
-use Rattle.rv_select.proofs.Numbers.{constant-count, constant-loads}
-use Rattle.rv_select.proofs.Pointers.{down-count, down-some, goes-down}
+use Rattle.rv_select.proofs.Numbers.{constant-loads}
+use Rattle.rv_select.proofs.Pointers.{down-some, goes-down}
 use Rattle.rv_select.proofs.Straight.{Loads, loads-both, loads-one, low-below, low-small, written-elsewhere, written-there}
 use Rattle.rv_select.proofs.Ways.{Near, Way, at_pc, low-none, near-both, near-pc, stands-back, stands-front, step-way, straight-way}
 use Rattle.rv_select.proofs.Ways.{throw-step, way-both, way-none}
@@ -103,7 +103,7 @@ pub record Passed (program : List (Option Instr)) (frame : ℕ) (rest : List Ins
   pub after : State
   pub steps : ℕ
   pub way : Way program steps m after
-  pub few : steps ≤ 14
+  pub few : steps ≤ length (stack_tested frame)
   pub near : Near m after
   pub five : after.registers 5 ≡ frame
   pub pc : after.pc ≡ low (m.pc + 4 * length (stack_tested frame))
@@ -177,6 +177,9 @@ module _ (program : List (Option Instr)) (m : State) (frame size placed : ℕ) (
     private = k.private ∙ l.private;
   }
 
+  tested-words : length (stack_tested frame) ≡ length A + 9
+  tested-words = length-append A (limit_found ++ stack_branch)
+
   pub passes : limit + frame ≤ placed → Passed program frame rest m
   passes h =
       let d : State = at_pc c (low (c.pc + 16)) in
@@ -184,20 +187,19 @@ module _ (program : List (Option Instr)) (m : State) (frame size placed : ℕ) (
       branch-way program Geu x8 x7 16 c true (omega arith) (omega arith) behind-b.1.0
       (ap (λ x. not (nat_lt x (c.registers 7))) eight-c ∙ ap not (le-ltb placed (limit + frame) h)) in
       let pc-c : d.pc ≡ low (b.pc + 4 * 5) = pc-branch b.pc c.pc d.pc refl refl in
-      let count : length (stack_tested frame) ≡ length A + 9 = length-append A (limit_found ++ stack_branch) in
       let pc-d : d.pc ≡ low (m.pc + 4 * (length A + (4 + 5))) = pc-all m.pc (length A) 4 a.pc b.pc d.pc l.behind k.behind pc-c in
       record {
         after = d;
         steps = length A + 4 + 1 + 1;
         way = way-both program (length A + 4 + 1) 1 m c d way-c branch;
-        few = omega (arith, constant-count x5 frame);
+        few = omega (arith, tested-words);
         near = near-both m c d near-c (near-pc c (low (c.pc + 16)));
         five = five-c;
-        pc = pc-d ∙ ap (λ n. low (m.pc + 4 * n)) (sym count);
+        pc = pc-d ∙ ap (λ n. low (m.pc + 4 * n)) (sym tested-words);
         there = subst (λ q. Stands program q rest) (sym (pc-fifth c.pc)) behind-b.1.1.1.1.1;
       }
 
-  pub refuses : (at : Place) → m.registers 11 ≡ place_number at → placed < limit + frame → Ends program StackFull at 17 m
+  pub refuses : (at : Place) → m.registers 11 ≡ place_number at → placed < limit + frame → Ends program StackFull at (length (stack_tested frame)) m
   refuses at e h =
       let d : State = at_pc c (low (c.pc + 4)) in
       let branch : Way program 1 c d =
@@ -206,14 +208,15 @@ module _ (program : List (Option Instr)) (m : State) (frame size placed : ℕ) (
       let eleven : d.registers 11 ≡ place_number at = near-c.keeps 11 (λ z. omega (arith, z)) (λ z. omega (arith, z)) (λ z. omega (arith, z)) ∙ e in
       let last : Ends program StackFull at 3 d =
       call-fails program d StackFull at eleven (omega arith) (omega arith) (stands-front program d.pc (fault_call StackFull) rest behind-b.1.1) in
-      later-ends program StackFull at (length A + 4 + 1 + 1) 3 17 m d (way-both program (length A + 4 + 1) 1 m c d way-c branch) last (omega (arith, constant-count x5 frame))
+      later-ends program StackFull at (length A + 4 + 1 + 1) 3 (length (stack_tested frame)) m d (way-both program (length A + 4 + 1) 1 m c d way-c branch) last
+      (omega (arith, tested-words))
 
--- The frame in the region is taken or given back, in no more than so many steps.
-pub record Placed (program : List (Option Instr)) (code rest : List Instr) (most under : ℕ) (m : State) : Type 0 where
+-- The frame in the region is taken or given back, in no more steps than the code has words.
+pub record Placed (program : List (Option Instr)) (code rest : List Instr) (under : ℕ) (m : State) : Type 0 where
   pub after : State
   pub steps : ℕ
   pub way : Way program steps m after
-  pub few : steps ≤ most
+  pub few : steps ≤ length code
   pub eight : after.registers 8 ≡ under
   pub keeps : (r : ℕ) → r ≢ 5 → r ≢ 6 → r ≢ 7 → r ≢ 8 → after.registers r ≡ m.registers r
   pub region : after.region ≡ m.region
@@ -222,9 +225,9 @@ pub record Placed (program : List (Option Instr)) (code rest : List Instr) (most
   pub there : Stands program after.pc rest
 
 -- an empty one needs no code
-pub placed-still : (program : List (Option Instr)) (rest : List Instr) (most under : ℕ) (m : State) → m.pc < 2 ^ 64 →
-    m.registers 8 ≡ under → Stands program m.pc rest → Placed program [] rest most under m
-placed-still program rest most under m p eight there = record {
+pub placed-still : (program : List (Option Instr)) (rest : List Instr) (under : ℕ) (m : State) → m.pc < 2 ^ 64 →
+    m.registers 8 ≡ under → Stands program m.pc rest → Placed program [] rest under m
+placed-still program rest under m p eight there = record {
   after = m;
   steps = 0;
   way = way-none program m;
@@ -243,10 +246,10 @@ pc-one p n a e = omega arith
 
 pub takes-region : (program : List (Option Instr)) (frame size placed : ℕ) (rest : List Instr) (m : State) → m.pc < 2 ^ 64 → frame < 2 ^ 63 →
     m.registers 4 ≡ 2 ^ 30 + size → size ≤ 67108864 → m.registers 8 ≡ placed → placed < 2 ^ 63 → 2 ^ 30 + size - size / 4 + frame ≤ placed →
-    Stands program m.pc (region_taken frame ++ rest) → Placed program (region_taken frame) rest 15 (placed - frame) m
+    Stands program m.pc (region_taken frame ++ rest) → Placed program (region_taken frame) rest (placed - frame) m
 takes-region program zero size placed rest m p small four most eight placed-small fits there =
     let same : placed ≡ placed - 0 = omega arith in
-    placed-still program rest 15 (placed - 0) m p (eight ∙ same) there
+    placed-still program rest (placed - 0) m p (eight ∙ same) there
 takes-region program (suc n) size placed rest m p small four most eight placed-small fits there =
     let A : List Instr = stack_tested (suc n) in
     let S : List Instr = RegisterRegister Sub x8 x8 x5 ∷ [] in
@@ -263,7 +266,7 @@ takes-region program (suc n) size placed rest m p small four most eight placed-s
       after = b;
       steps = t.steps + 1;
       way = way-both program t.steps 1 m t.after b t.way (step-way program (RegisterRegister Sub x8 x8 x5) t.after b t.there.0 to-b);
-      few = omega (arith, t.few);
+      few = omega (arith, t.few, count);
       eight = written-there t.after.registers 8 (placed - suc n) (λ z. omega (arith, z));
       keeps = λ r five six seven eight'. written-elsewhere t.after.registers 8 (placed - suc n) r eight' ∙ t.near.keeps r five six seven;
       region = t.near.region;
@@ -276,20 +279,22 @@ takes-region program (suc n) size placed rest m p small four most eight placed-s
 pub region-refused : (program : List (Option Instr)) (frame size placed : ℕ) (rest : List Instr) (m : State) → m.pc < 2 ^ 64 → frame < 2 ^ 63 →
     m.registers 4 ≡ 2 ^ 30 + size → size ≤ 67108864 → m.registers 8 ≡ placed → placed < 2 ^ 63 → 2 ^ 30 + size - size / 4 ≤ placed →
     Stands program m.pc (region_taken frame ++ rest) → (at : Place) → (0 < frame → m.registers 11 ≡ place_number at) →
-    placed < 2 ^ 30 + size - size / 4 + frame → Ends program StackFull at 17 m
+    placed < 2 ^ 30 + size - size / 4 + frame → Ends program StackFull at (length (region_taken frame)) m
 region-refused program zero size placed rest m p small four most eight placed-small above there at e h = absurd (omega (arith, above, h))
 region-refused program (suc n) size placed rest m p small four most eight placed-small above there at e h =
     let A : List Instr = stack_tested (suc n) in
     let S : List Instr = RegisterRegister Sub x8 x8 x5 ∷ [] in
+    let r : Ends program StackFull at (length A) m =
     refuses program m (suc n) size placed (S ++ rest) p small four most eight placed-small
-    (subst (λ z. Stands program m.pc z) (append_assoc A S rest) there) at (e (omega arith)) h
+    (subst (λ z. Stands program m.pc z) (append_assoc A S rest) there) at (e (omega arith)) h in
+    record { steps = r.steps; last = r.last; few = omega (arith, r.few, length-append A S); runs = r.runs }
 
 -- The frame in private memory is taken, and what callers rest on is kept.
 pub record Taken (program : List (Option Instr)) (y : Layout) (bytes base : ℕ) (rest : List Instr) (m : State) : Type 0 where
   pub after : State
   pub steps : ℕ
   pub way : Way program steps m after
-  pub few : steps ≤ 14
+  pub few : steps ≤ length (frame_taken y bytes)
   pub some : 1 ≤ steps
   pub pointer : after.registers 2 ≡ 2 ^ 32 + base
   pub others : (r : ℕ) → r ≢ 2 → r ≢ 6 → r ≢ 7 → after.registers r ≡ m.registers r
@@ -381,7 +386,7 @@ takes-frame program y bytes top rest m p two-is least room within most region th
       after = t5;
       steps = length C + length K + length S;
       way = way-5;
-      few = omega (arith, saved-count y 10 18, down-count bytes, one-if y.extent.calls (Store Sd x2 x1 zero_immediate));
+      few = omega (arith, count);
       some = omega (arith, down-some bytes);
       pointer = sv.is.registers 2 ∙ (s1.is.registers 2 ∙ l.gives);
       others = λ r two six seven. sv.is.registers r ∙ (s1.is.registers r ∙ same r two six seven);

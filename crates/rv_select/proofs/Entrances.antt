@@ -13,8 +13,8 @@ use Rattle.tac_form.specs.Live.{InUse}
 use Rattle.rv_select.specs.Places.{AreBytes, Housed, Layout, frame_bytes, layout_of}
 use Rattle.rv_select.proofs.Lives.{housed}
 use Rattle.rv_select.specs.Steps.{Ends}
-use Rattle.rv_select.specs.Entering.{entered, frame_taken, region_taken}
-use Rattle.rv_select.specs.Calls.{call_begun}
+use Rattle.rv_select.specs.Entering.{entered, frame_taken, left, region_taken}
+use Rattle.rv_select.specs.Calls.{call_begun, returned}
 use Rattle.rv_select.specs.Frames.{BeforeEntering, Calls, CallsAreBegun, Enters, FunctionsAreEntered, FunctionsAreLeft, Returns, part_value}
 use Rattle.rv_select.proofs.Callings.{Begun, begins, too-deep}
 use Rattle.rv_select.proofs.Enters.{Placed, Taken, region-refused, takes-frame, takes-region}
@@ -27,8 +27,8 @@ more-ends program kind at weight whole m h e = record { steps = e.steps; last = 
 
 -- both frames are taken
 both-entered : (program : List (Option Instr)) (y : Layout) (bytes frame top placed size : ℕ) (at : Place) (m : State) → BeforeEntering program y bytes frame top placed size at m →
-    (p : Placed program (region_taken frame) (frame_taken y bytes) 15 (placed - frame) m) → Taken program y bytes (top - bytes) [] p.after →
-    Enters program y (top - bytes) (placed - frame) (low (m.pc + 4 * length (entered y bytes frame))) m
+    (p : Placed program (region_taken frame) (frame_taken y bytes) (placed - frame) m) → Taken program y bytes (top - bytes) [] p.after →
+    Enters program y (top - bytes) (placed - frame) (length (entered y bytes frame)) (low (m.pc + 4 * length (entered y bytes frame))) m
 both-entered program y bytes frame top placed size at m h p t =
     let way : Way program (p.steps + t.steps) m t.after = way-both program p.steps t.steps m p.after t.after p.way t.way in
     let count : length (entered y bytes frame) ≡ length (region_taken frame) + length (frame_taken y bytes) = length-append (region_taken frame) (frame_taken y bytes) in
@@ -36,7 +36,7 @@ both-entered program y bytes frame top placed size at m h p t =
       steps = p.steps + t.steps;
       after = t.after;
       some = omega (arith, t.some);
-      few = omega (arith, p.few, t.few);
+      few = omega (arith, p.few, t.few, count);
       runs = way.runs;
       at = pc-both m.pc p.after.pc t.after.pc (length (region_taken frame)) (length (frame_taken y bytes)) p.pc t.pc ∙ ap (λ n. low (m.pc + 4 * n)) (sym count);
       pointer = t.pointer;
@@ -55,13 +55,14 @@ pub functions-entered : FunctionsAreEntered
 functions-entered program y bytes frame top placed size at m h =
     let most : size ≤ 67108864 = h.region_is in
     let placed-small : placed < 2 ^ 63 = omega (arith, h.below) in (
-      λ less. more-ends program _ at 17 36 m (omega arith)
+      λ less. more-ends program _ at (length (region_taken frame)) (length (entered y bytes frame)) m
+          (omega (arith, length-append (region_taken frame) (frame_taken y bytes)))
           (region-refused program frame size placed (frame_taken y bytes) m h.pc h.small h.limit most h.placed_is placed-small h.above h.stands at h.place less),
       λ fits. taken (takes-region program frame size placed (frame_taken y bytes) m h.pc h.small h.limit most h.placed_is placed-small fits h.stands),
     )
   where
-    taken : (p : Placed program (region_taken frame) (frame_taken y bytes) 15 (placed - frame) m) →
-        Enters program y (top - bytes) (placed - frame) (low (m.pc + 4 * length (entered y bytes frame))) m
+    taken : (p : Placed program (region_taken frame) (frame_taken y bytes) (placed - frame) m) →
+        Enters program y (top - bytes) (placed - frame) (length (entered y bytes frame)) (low (m.pc + 4 * length (entered y bytes frame))) m
     taken p =
         both-entered program y bytes frame top placed size at m h p
         (takes-frame program y bytes top [] p.after (subst (λ q. q < 2 ^ 64) (sym p.pc) (low-below (m.pc + 4 * length (region_taken frame))))
@@ -103,13 +104,17 @@ functions-left code homes held block step program w base frame last link v m set
     (goes-back program (layout_of code homes) held (InUse (graph_of code) block step) w base frame last link 0 v m setting p
     (housed code homes block step right) five reads near small even reach behind fits link-is link-even link-small there leaves)
   where
-    made : BackIn program (layout_of code homes) (frame_bytes (layout_of code homes)) base (w.placed + frame) link (part_value (layout_of code homes) base w v) m →
-        Returns program (layout_of code homes) base (w.placed + frame) link (part_value (layout_of code homes) base w v) m
+    made : BackIn program (layout_of code homes) (frame_bytes (layout_of code homes)) base (w.placed + frame) link (part_value (layout_of code homes) base w v)
+        (length (returned (layout_of code homes) setting held m.pc last v)
+        + length (left (layout_of code homes) (frame_bytes (layout_of code homes)) frame)) m →
+        Returns program (layout_of code homes) base (w.placed + frame) link (part_value (layout_of code homes) base w v)
+        (length (returned (layout_of code homes) setting held m.pc last v)
+        + length (left (layout_of code homes) (frame_bytes (layout_of code homes)) frame)) m
     made b = record {
       steps = b.steps;
       after = b.after;
       some = b.some;
-      few = omega (arith, b.few);
+      few = b.few;
       runs = b.way.runs;
       at = b.pc;
       result = b.ten;

@@ -1,12 +1,13 @@
--- Each step takes no more of the machine's steps than are taken off what is left of them.
-use Rattle.std.proofs.Common.{◌≡◌, ℕ, zero, suc, ◌+◌, ◌*◌, ◌<◌, ◌≤◌, Bool, true, false, ◌&&◌, ◌||◌, List, [], ◌∷◌, length, drop, sum_by}
+-- Each step takes no more of the machine's steps than a quarter of the bytes that are taken off what is left of them.
+use Rattle.std.proofs.Common.{◌≡◌, ℕ, zero, suc, ◌+◌, ◌-◌, ◌*◌, ◌<◌, ◌≤◌, Bool, true, false, ◌&&◌, ◌||◌, List, [], ◌∷◌, ◌++◌, length}
 use Rattle.std.proofs.Common.{Option, Some, None, refl, sym, ap, ◌∙◌, subst, ⊎_elim, inl, inr, arith}
 use Rattle.std.specs.Prelude.{nat_le, nat_lt, slice_get, ◌⊎◌}
 use Rattle.std.proofs.Math.Nat.{suc-mul}
 use Rattle.std.proofs.lemmas.Bool.{cases_Bool, ltb-true}
-use Rattle.std.proofs.lemmas.List.Sums.{sum_by-cons}
+use Rattle.std.proofs.lemmas.List.{length-append}
 use Rattle.tl_base.specs.declared.ids.FnId.{FnId}
 use Rattle.tl_base.specs.declared.place.Place.{Place}
+use Rattle.rv_isa.specs.declared.instr.Instr.{Instr}
 use Rattle.terra_memory.specs.Region.{heap_limit}
 use Rattle.terra_words.specs.Words.{most_calls}
 use Rattle.terra_words.specs.Runs.{Fault, More, Over, Returned, Run, Stuck, Value}
@@ -16,127 +17,82 @@ use Rattle.tac_form.specs.declared.tac.Exit.TheVariants.{Branch, Fail, Jump, Ret
 use Rattle.tac_form.specs.declared.tac.Part.{Part}
 use Rattle.tac_form.specs.declared.tac.Destination.{Destination}
 use Rattle.tac_form.specs.declared.tac.Destination.TheVariants.{Temp, Area}
-use Rattle.tac_form.specs.declared.tac.Instruction.{Instruction}
 use Rattle.tac_form.specs.declared.tac.Instruction.TheVariants.{Call}
 use Rattle.tac_form.specs.declared.tac.Block.{Block}
 use Rattle.tac_form.specs.declared.tac.Tac.{Tac}
 use Rattle.tac_form.specs.Flow as tac
-use Rattle.tac_form.specs.Flow.{Activation, Caller, Goes, Program, Stops, accepts, accepts_all, enter, give, given, step, takes, takes_all}
+use Rattle.tac_form.specs.Flow.{Activation, Caller, Goes, Program, Stops, Temps, accepts, accepts_all, enter, give, given, step, takes, takes_all}
 use Rattle.tac_form.specs.Flow.{value_of, values_of}
-use Rattle.tac_form.specs.Fits.{blocks_count}
-use Rattle.tac_form.specs.Weights.{block_words, code_words, exit_words, words_of}
-use Rattle.rv_select.specs.Entering.{receiving, result_words}
-use Rattle.rv_select.specs.Whole.{AreShort, block_behind, steps_left, waiting_words, words_behind}
+use Rattle.tac_form.specs.Fits.{blocks_count, edge_fits, exit_fits, operand_fits}
+use Rattle.rv_select.specs.declared.pairs.Pair.{Pair}
+use Rattle.rv_select.specs.Places.{Layout, frame_bytes, layout_of}
+use Rattle.rv_select.specs.Entering.{left}
+use Rattle.rv_select.specs.Calls.{call_ended, call_jump, head_code, instruction_code, last_address}
+use Rattle.rv_select.specs.Waiting.{Image, IsLinked, IsPlaced, entries_of, held_in, place_in}
+use Rattle.rv_select.specs.Whole.{AreShort, bytes_behind, bytes_left, bytes_waiting, end_in, ended_words}
 use Rattle.rv_select.proofs.Backs.{return_most}
-use Rattle.rv_select.proofs.Calling.{entered_state, fresh_call, takes-is, taking}
+use Rattle.rv_select.proofs.Calling.{begun_in, call_most, entered_state, first-start, fresh_call, takes-is, taking}
 use Rattle.rv_select.proofs.Carries.{by-test}
+use Rattle.rv_select.proofs.Finds.{FoundFunction}
 use Rattle.rv_select.proofs.Inner.{IsNext, LeavesIf, StaysIf}
-use Rattle.rv_select.proofs.Taken.{params-least}
+use Rattle.rv_select.proofs.Stands.{AtExit, AtPlace, both-true, end-is, exit-within, last-within, starts-behind, the-function}
+use Rattle.rv_select.proofs.Stands.{within-parts}
 
-abbrev pub FallsIf : Program → (words bound : ℕ) → tac.State → tac.Moved → Type 0
-FallsIf p words bound s (Goes t) = (bound + steps_left p words t ≤ steps_left p words s) × (s.left ≤ suc t.left)
-FallsIf p words bound s (Stops (Over (Returned v) out)) = bound ≤ steps_left p words s
-FallsIf p words bound s (Stops (Over (Fault kind at) out)) = bound ≤ steps_left p words s
-FallsIf p words bound s (Stops (Over Stuck out)) = Unit {0}
-FallsIf p words bound s (Stops (More out)) = Unit {0}
+abbrev pub FallsIf : Program → Image → (words bound : ℕ) → tac.State → tac.Moved → Type 0
+FallsIf p image words bound s (Goes t) = (4 * bound + bytes_left p image words t ≤ bytes_left p image words s) × (s.left ≤ suc t.left)
+FallsIf p image words bound s (Stops (Over (Returned v) out)) = 4 * bound ≤ bytes_left p image words s
+FallsIf p image words bound s (Stops (Over (Fault kind at) out)) = 4 * bound ≤ bytes_left p image words s
+FallsIf p image words bound s (Stops (Over Stuck out)) = Unit {0}
+FallsIf p image words bound s (Stops (More out)) = Unit {0}
 
-stops-if : (p : Program) (words bound : ℕ) (s : tac.State) (r : Run) → bound ≤ steps_left p words s → FallsIf p words bound s (Stops r)
-stops-if p words bound s (Over (Returned v) out) h = h
-stops-if p words bound s (Over (Fault kind at) out) h = h
-stops-if p words bound s (Over Stuck out) h = tt
-stops-if p words bound s (More out) h = tt
+stops-if : (p : Program) (image : Image) (words bound : ℕ) (s : tac.State) (r : Run) → 4 * bound ≤ bytes_left p image words s →
+    FallsIf p image words bound s (Stops r)
+stops-if p image words bound s (Over (Returned v) out) h = h
+stops-if p image words bound s (Over (Fault kind at) out) h = h
+stops-if p image words bound s (Over Stuck out) h = tt
+stops-if p image words bound s (More out) h = tt
 
--- sums of what is left of a list
-drop-get : {A : Type 0} (f : A → ℕ) (xs : List A) (k : ℕ) (x : A) → slice_get xs k ≡ Some x →
-    sum_by f (drop k xs) ≡ f x + sum_by f (drop (suc k) xs)
-drop-get f [] k x e = cc
-drop-get f (y ∷ xs) zero x e = let same : y ≡ x = cc in sum_by-cons f y xs ∙ ap (λ z. f z + sum_by f xs) same
-drop-get f (y ∷ xs) (suc k) x e = drop-get f xs k x e
+-- what stands behind a place of a function that has code
+pub behind-is : (p : Program) (image : Image) (f : FnId) (code : Tac) (b k : ℕ) → p.code f ≡ Some code →
+    bytes_behind p image f (p.code f) b k ≡ end_in p image code (image f) - place_in p image code (image f) b k
+behind-is p image f code b k e = ap (λ o. bytes_behind p image f o b k) e
 
-drop-less : {A : Type 0} (f : A → ℕ) (xs : List A) (b : ℕ) → sum_by f (drop b xs) ≤ sum_by f xs
-drop-less f xs zero = omega arith
-drop-less f [] (suc b) = omega arith
-drop-less f (x ∷ xs) (suc b) = less (sum_by f (drop b xs)) (sum_by f xs) (sum_by f (x ∷ xs)) (f x) (drop-less f xs b) (sum_by-cons f x xs)
-  where
-    less : (a b c n : ℕ) → a ≤ b → c ≡ n + b → a ≤ c
-    less a b c n h e = omega (arith, h, e)
+-- no function ends behind more than so many words
+pub end-short : (p : Program) (image : Image) (words : ℕ) → AreShort p image words → (f : FnId) (code : Tac) → p.code f ≡ Some code →
+    end_in p image code (image f) ≤ (image f).at + 4 * words
+end-short p image words short f code e = let few = short f code e in omega (arith, few)
 
-drop-more : {A : Type 0} (f : A → ℕ) (xs : List A) (a b : ℕ) → a ≤ b → sum_by f (drop b xs) ≤ sum_by f (drop a xs)
-drop-more f xs zero b h = drop-less f xs b
-drop-more f xs (suc a) zero h = absurd (omega (arith, h))
-drop-more f [] (suc a) (suc b) h = omega arith
-drop-more f (x ∷ xs) (suc a) (suc b) h = drop-more f xs a b (omega (arith, h))
-
--- the words from a block on
-pub behind-le : (code : Tac) (c d : ℕ) → d ≤ c → words_behind (Some code) c 0 ≤ sum_by block_words (drop d code.blocks)
-behind-le code c d h = go (slice_get code.blocks c) refl
-  where
-    go : (o : Option Block) → slice_get code.blocks c ≡ o →
-        block_behind o 0 + sum_by block_words (drop (suc c) code.blocks) ≤ sum_by block_words (drop d code.blocks)
-    go None e = let least = drop-more block_words code.blocks d (suc c) (omega (arith, h)) in omega (arith, least)
-    go (Some b) e =
-        let first : sum_by block_words (drop c code.blocks) ≡ block_words b + sum_by block_words (drop (suc c) code.blocks) = drop-get
-        block_words code.blocks c b e in
-        let more : sum_by block_words (drop c code.blocks) ≤ sum_by block_words (drop d code.blocks) = drop-more block_words code.blocks d
-        c h in
-        subst (λ n. n ≤ sum_by block_words (drop d code.blocks)) first more
-
-pub call-least : (to : Destination) (place : Place) (f : FnId) (arguments : List Part) →
-    22 + result_words to + 11 * length arguments ≤ words_of (Call to place f arguments)
-call-least (Temp d) place f arguments = omega arith
-call-least (Area n) place f arguments = omega arith
-
--- the words behind an instruction, and those of an exit
-pub behind-next : (code : Tac) (b k : ℕ) (block : Block) (i : Instruction) → slice_get code.blocks b ≡ Some block →
-    slice_get block.instructions k ≡ Some i →
-    words_behind (Some code) b k ≡ words_of i + words_behind (Some code) b (suc k)
-behind-next code b k block i e g =
-    ap (λ o. block_behind o k + sum_by block_words (drop (suc b) code.blocks)) e
-    ∙ (moves (sum_by words_of (drop k block.instructions)) (words_of i) (sum_by words_of (drop (suc k) block.instructions))
-    (exit_words block.exit) (sum_by block_words (drop (suc b) code.blocks))
-    (drop-get words_of block.instructions k i g) ∙ ap
-    (λ o. words_of i + (block_behind o (suc k) + sum_by block_words (drop (suc b) code.blocks))) (sym e))
-  where
-    moves : (a i r x d : ℕ) → a ≡ i + r → a + x + d ≡ i + (r + x + d)
-    moves a i r x d h = omega (arith, h)
-
-pub behind-exit : (code : Tac) (b k : ℕ) (block : Block) → slice_get code.blocks b ≡ Some block →
-    exit_words block.exit + sum_by block_words (drop (suc b) code.blocks) ≤ words_behind (Some code) b k
-behind-exit code b k block e =
-    subst (λ o. exit_words block.exit + sum_by block_words (drop (suc b) code.blocks) ≤ block_behind o k + sum_by block_words
-    (drop (suc b) code.blocks)) (sym e)
-    (more (sum_by words_of (drop k block.instructions)) (exit_words block.exit) (sum_by block_words (drop (suc b) code.blocks)))
-  where
-    more : (a x d : ℕ) → x + d ≤ a + x + d
-    more a x d = omega arith
+suc-le : (n : ℕ) → n ≤ suc n
+suc-le n = omega arith
 
 -- an instruction that stays
-pub falls-inner : (p : Program) (words : ℕ) (code : Tac) (block : Block) (i : Instruction) (s : tac.State) (moved : tac.Moved) →
-    p.code s.here.function ≡ Some code → slice_get code.blocks s.here.block ≡ Some block →
-    slice_get block.instructions s.here.at ≡ Some i → StaysIf s moved → FallsIf p words (words_of i) s moved
-falls-inner p words code block i s (Goes t) e f g st =
-    subst (λ z. FallsIf p words (words_of i) s (Goes z)) (sym st.is)
-    (sums first (ap (λ o. words_behind o s.here.block (suc s.here.at)) e), suc-le s.left)
+pub falls-inner : (p : Program) (image : Image) (words : ℕ) (code : Tac) (s : tac.State) (moved : tac.Moved) (own : ℕ) →
+    p.code s.here.function ≡ Some code →
+    place_in p image code (image s.here.function) s.here.block (suc s.here.at)
+    ≡ place_in p image code (image s.here.function) s.here.block s.here.at + 4 * own →
+    place_in p image code (image s.here.function) s.here.block s.here.at + 4 * own ≤ end_in p image code (image s.here.function) →
+    StaysIf s moved → FallsIf p image words own s moved
+falls-inner p image words code s (Goes t) own e next within st =
+    subst (λ z. FallsIf p image words own s (Goes z)) (sym st.is) (
+      sums (place_in p image code (image s.here.function) s.here.block s.here.at) (end_in p image code (image s.here.function))
+          (place_in p image code (image s.here.function) s.here.block (suc s.here.at))
+          (bytes_behind p image s.here.function (p.code s.here.function) s.here.block s.here.at)
+          (bytes_behind p image s.here.function (p.code s.here.function) s.here.block (suc s.here.at)) (bytes_waiting p image s.callers)
+          (s.left * words) next within (behind-is p image s.here.function code s.here.block s.here.at e)
+          (behind-is p image s.here.function code s.here.block (suc s.here.at) e),
+      suc-le s.left,
+    )
   where
-    first : words_behind (p.code s.here.function) s.here.block s.here.at ≡ words_of i + words_behind (Some code) s.here.block
-        (suc s.here.at)
-    first = ap (λ o. words_behind o s.here.block s.here.at) e ∙ behind-next code s.here.block s.here.at block i f g
-
-    sums : {a b c : ℕ} → a ≡ words_of i + b → c ≡ b →
-        words_of i + (c + 26 + waiting_words p s.callers + s.left * words) ≤ a + 26 + waiting_words p s.callers + s.left * words
-    sums {a} {b} {c} h k = omega (arith, h, k)
-
-    suc-le : (n : ℕ) → n ≤ suc n
-    suc-le n = omega arith
-falls-inner p words code block i s (Stops r) e f g st = stops-if p words (words_of i) s r
-    (least (words_behind (p.code s.here.function) s.here.block s.here.at) (words_behind (Some code) s.here.block (suc s.here.at)) first)
+    sums : (q z n a c w y : ℕ) → n ≡ q + 4 * own → q + 4 * own ≤ z → a ≡ z - q → c ≡ z - n → 4 * own + (c + w + 4 * y) ≤ a + w + 4 * y
+    sums q z n a c w y h g i j = omega (arith, h, g, i, j)
+falls-inner p image words code s (Stops r) own e next within st =
+    stops-if p image words own s r
+    (sums (place_in p image code (image s.here.function) s.here.block s.here.at) (end_in p image code (image s.here.function))
+    (bytes_behind p image s.here.function (p.code s.here.function) s.here.block s.here.at) (bytes_waiting p image s.callers)
+    (s.left * words) within (behind-is p image s.here.function code s.here.block s.here.at e))
   where
-    first : words_behind (p.code s.here.function) s.here.block s.here.at ≡ words_of i + words_behind (Some code) s.here.block
-        (suc s.here.at)
-    first = ap (λ o. words_behind o s.here.block s.here.at) e ∙ behind-next code s.here.block s.here.at block i f g
-
-    least : (a b : ℕ) → a ≡ words_of i + b → words_of i ≤ a + 26 + waiting_words p s.callers + s.left * words
-    least a b h = omega (arith, h)
+    sums : (q z a w y : ℕ) → q + 4 * own ≤ z → a ≡ z - q → 4 * own ≤ a + w + 4 * y
+    sums q z a w y g i = omega (arith, g, i)
 
 -- every way round the graph counts
 one-counts : (bs : List Block) (from k : ℕ) (b : Block) → blocks_count from bs ≡ true → slice_get bs k ≡ Some b →
@@ -187,211 +143,312 @@ edge-counts from b (Branch a e f) x is h n =
 edge-counts from b (Return v) x is h n = absurd n
 edge-counts from b (Fail kind at) x is h n = absurd n
 
--- an exit that stays in its function
-pub falls-exit : (p : Program) (words : ℕ) (code : Tac) (block : Block) (s : tac.State) (moved : tac.Moved) →
+-- an exit leads to blocks of its function
+edge-within : (code : Tac) (exit : Exit) (x : Edge) → exit_fits code exit ≡ true → IsNext exit x → x.block < length code.blocks
+edge-within code (Jump e) x h n = subst (λ z. z.block < length code.blocks) (sym n) (ltb-true e.block (length code.blocks) h)
+edge-within code (Branch a e f) x h n =
+    let two = both-true (operand_fits code a && edge_fits code e) (edge_fits code f) h in
+    let one = both-true (operand_fits code a) (edge_fits code e) two.0 in
+    ⊎_elim (λ k. subst (λ z. z.block < length code.blocks) (sym k) (ltb-true e.block (length code.blocks) one.1))
+    (λ k. subst (λ z. z.block < length code.blocks) (sym k) (ltb-true f.block (length code.blocks) two.1)) n
+edge-within code (Return v) x h n = absurd n
+edge-within code (Fail kind at) x h n = absurd n
+
+-- An exit that stays in its function, from where three-address code may have gone on by an instruction that has no code of its own.
+pub falls-exit : (p : Program) (image : Image) (program : List (Option Instr)) (most words : ℕ) → AreShort p image words → (code : Tac)
+    (block : Block) (at : ℕ) (temps : Temps) (s : tac.State) (moved : tac.Moved) → IsPlaced p image program most code (image s.here.function) →
     p.code s.here.function ≡ Some code → slice_get code.blocks s.here.block ≡ Some block →
-    blocks_count 0 code.blocks ≡ true → code_words code ≤ words → LeavesIf block.exit s moved →
-    FallsIf p words (exit_words block.exit) s moved
-falls-exit p words code block s (Goes t) e f counted short l =
-    subst (λ z. FallsIf p words (exit_words block.exit) s (Goes z)) (sym l.is)
+    (o : Option Pair) (held : Option ℕ) →
+    (found : AtExit p image program code (image s.here.function) s.here.block held o block.exit
+    (place_in p image code (image s.here.function) s.here.block s.here.at)) →
+    LeavesIf block.exit (record s { here = record s.here { at = at; temps = temps } }) moved → FallsIf p image words found.own s moved
+falls-exit p image program most words short code block at temps s (Goes t) pl e f o held found l =
+    subst (λ z. FallsIf p image words found.own s (Goes z)) (sym l.is)
     (⊎_elim (λ c. paid c) (λ free. ⊎_elim (λ c. paid c) (λ c. unpaid c free) (cases_Bool l.edge.counts))
-    (⊎_elim (λ c. inl c) (λ c. inr c) (edge-counts s.here.block block block.exit l.edge refl here l.next)))
+    (edge-counts s.here.block block block.exit l.edge refl here l.next))
   where
     here : blocks_count s.here.block (block ∷ []) ≡ true
     here = let none : 0 + s.here.block ≡ s.here.block = omega arith in subst (λ z. blocks_count z (block ∷ []) ≡ true) none
-        (one-counts code.blocks 0 s.here.block block counted f)
+        (one-counts code.blocks 0 s.here.block block pl.counted f)
 
-    first : exit_words block.exit + sum_by block_words (drop (suc s.here.block) code.blocks) ≤ words_behind (p.code s.here.function)
-        s.here.block s.here.at
-    first = subst (λ o. exit_words block.exit + sum_by block_words (drop (suc s.here.block) code.blocks) ≤ words_behind o s.here.block
-        s.here.at) (sym e) (behind-exit code s.here.block s.here.at block f)
+    place : ℕ
+    place = place_in p image code (image s.here.function) s.here.block s.here.at
 
-    whole : words_behind (p.code s.here.function) l.edge.block 0 ≤ words
-    whole =
-        subst (λ o. words_behind o l.edge.block 0 ≤ words) (sym e)
-        (under (words_behind (Some code) l.edge.block 0) (sum_by block_words code.blocks) (receiving code.parameters) (code_words code)
-        (behind-le code l.edge.block 0 (omega arith)) (params-least code) short)
+    start : ℕ
+    start = place_in p image code (image s.here.function) l.edge.block 0
+
+    end : ℕ
+    end = end_in p image code (image s.here.function)
+
+    inside : l.edge.block < length code.blocks
+    inside = edge-within code block.exit l.edge (exit-within code s.here.block block
+        (within-parts p image program most code (image s.here.function) pl).blocks f) l.next
+
+    within : place + 4 * found.own ≤ end
+    within = under (place + 4 * found.own) (last_address (layout_of code (image s.here.function).homes) code (image s.here.function).at) end
+        found.within (last-within p image program most code (image s.here.function) pl)
       where
-        under : (a b n c : ℕ) → a ≤ b → 79 + n + b ≤ c → c ≤ words → a ≤ words
-        under a b n c h g k = omega (arith, h, g, k)
+        under : (a b c : ℕ) → a ≤ b → b ≤ c → a ≤ c
+        under a b c h g = omega (arith, h, g)
 
-    later : s.here.block < l.edge.block →
-        words_behind (p.code s.here.function) l.edge.block 0 ≤ sum_by block_words (drop (suc s.here.block) code.blocks)
-    later h = subst (λ o. words_behind o l.edge.block 0 ≤ sum_by block_words (drop (suc s.here.block) code.blocks)) (sym e)
-        (behind-le code l.edge.block (suc s.here.block) (omega (arith, h)))
+    -- where a count is taken, a function's words pay for any way back
+    with-count : (q z a c n w y k l x r : ℕ) → q + 4 * found.own ≤ z → z ≤ a + 4 * n → a ≤ c → x ≡ z - q → r ≡ z - c → k ≡ y + n →
+        4 * found.own + (r + w + 4 * y) ≤ x + w + 4 * k
+    with-count q z a c n w y k l x r h g i u v e = omega (arith, h, g, i, u, v, e)
 
-    with-count : (x a b d w n k : ℕ) → x + d ≤ a → b ≤ words → k ≡ suc n → (x + (b + 26 + w + n * words) ≤ a + 26 + w + k * words) ×
-        (k ≤ suc n)
-    with-count x a b d w n k h g q =
-        let split : suc n * words ≡ n * words + words = suc-mul n words in (
-          subst (λ z. x + (b + 26 + w + n * words) ≤ a + 26 + w + z * words) (sym q) (enough (n * words) (suc n * words) split),
-          omega
-              (arith, q),
-        )
-      where
-        enough : (y z : ℕ) → z ≡ y + words → x + (b + 26 + w + y) ≤ a + 26 + w + z
-        enough y z r = omega (arith, h, g, r)
+    without : (q z c w y x r : ℕ) → q + 4 * found.own ≤ z → q + 4 * found.own ≤ c → x ≡ z - q → r ≡ z - c →
+        4 * found.own + (r + w + 4 * y) ≤ x + w + 4 * y
+    without q z c w y x r h g u v = omega (arith, h, g, u, v)
 
-    without : (x a b d w n k : ℕ) → x + d ≤ a → b ≤ d → k ≡ n → (x + (b + 26 + w + n * words) ≤ a + 26 + w + k * words) × (k ≤ suc n)
-    without x a b d w n k h g q =
-        (subst (λ z. x + (b + 26 + w + n * words) ≤ a + 26 + w + z * words) (sym q) (enough (n * words)), omega (arith, q))
-      where
-        enough : (y : ℕ) → x + (b + 26 + w + y) ≤ a + 26 + w + y
-        enough y = omega (arith, h, g)
+    first : (a h s : ℕ) → a + 4 * h ≤ s → a ≤ s
+    first a h s g = omega (arith, g)
 
-    paid : l.edge.counts ≡ true →
-        FallsIf p words (exit_words block.exit) s (Goes (record s { here = record s.here { block = l.edge.block; at = 0 }; left = l.left }))
-    paid c =
-        with-count (exit_words block.exit) (words_behind (p.code s.here.function) s.here.block s.here.at)
-        (words_behind (p.code s.here.function) l.edge.block 0)
-        (sum_by block_words (drop (suc s.here.block) code.blocks)) (waiting_words p s.callers) l.left s.left first whole (l.counts c)
-
-    unpaid : l.edge.counts ≡ false → s.here.block < l.edge.block →
-        FallsIf p words (exit_words block.exit) s (Goes (record s { here = record s.here { block = l.edge.block; at = 0 }; left = l.left }))
-    unpaid c h =
-        without (exit_words block.exit) (words_behind (p.code s.here.function) s.here.block s.here.at)
-        (words_behind (p.code s.here.function) l.edge.block 0)
-        (sum_by block_words (drop (suc s.here.block) code.blocks)) (waiting_words p s.callers) l.left s.left first (later h) (l.free c)
-falls-exit p words code block s (Stops r) e f counted short l =
-    stops-if p words (exit_words block.exit) s r
-    (under (exit_words block.exit) (words_behind (p.code s.here.function) s.here.block s.here.at)
-    (sum_by block_words (drop (suc s.here.block) code.blocks)) first)
-  where
-    first : exit_words block.exit + sum_by block_words (drop (suc s.here.block) code.blocks) ≤ words_behind (p.code s.here.function)
-        s.here.block s.here.at
-    first = subst (λ o. exit_words block.exit + sum_by block_words (drop (suc s.here.block) code.blocks) ≤ words_behind o s.here.block
-        s.here.at) (sym e) (behind-exit code s.here.block s.here.at block f)
-
-    under : (x a d : ℕ) → x + d ≤ a → x ≤ a + 26 + waiting_words p s.callers + s.left * words
-    under x a d h = omega (arith, h)
-
--- a call, which has a count
-call-falls : (words n q z wc wn we wb ws l k : ℕ) → 22 + z + 11 * n ≤ wc → ws ≡ wc + wn → we ≤ wb → 79 + q + wb ≤ words → (w : ℕ) →
-    k ≡ suc l →
-    (49 + 11 * n + q + (we + 26 + (wn + (28 + z) + w) + l * words) ≤ ws + 26 + w + k * words) × (k ≤ suc l)
-call-falls words n q z wc wn we wb ws l k a b c d w f =
-    let split : suc l * words ≡ l * words + words = suc-mul l words in (
-      subst (λ x. 49 + 11 * n + q + (we + 26 + (wn + (28 + z) + w) + l * words) ≤ ws + 26 + w + x * words) (sym f)
-          (enough (l * words) (suc l * words) split),
-      omega (arith, f),
+    paid : l.edge.counts ≡ true → FallsIf p image words found.own s
+        (Goes (record s { here = record s.here { block = l.edge.block; at = 0; temps = temps }; left = l.left }))
+    paid c = (
+      subst (λ z. 4 * found.own + (bytes_behind p image s.here.function (p.code s.here.function) l.edge.block 0 + bytes_waiting p image s.callers
+          + 4 * (l.left * words)) ≤ bytes_behind p image s.here.function (p.code s.here.function) s.here.block s.here.at
+          + bytes_waiting p image s.callers + 4 * (z * words)) (sym (l.counts c))
+          (with-count place end (image s.here.function).at start words (bytes_waiting p image s.callers) (l.left * words) (suc l.left * words) 0
+          (bytes_behind p image s.here.function (p.code s.here.function) s.here.block s.here.at)
+          (bytes_behind p image s.here.function (p.code s.here.function) l.edge.block 0) within
+          (end-short p image words short s.here.function code e)
+          (first (image s.here.function).at (length (head_code (layout_of code (image s.here.function).homes) code)) start
+          (starts-behind code (image s.here.function) l.edge.block inside)) (behind-is p image s.here.function code s.here.block s.here.at e)
+          (behind-is p image s.here.function code l.edge.block 0 e) (suc-mul l.left words)),
+      omega (arith, l.counts c),
     )
-  where
-    enough : (y x : ℕ) → x ≡ y + words → 49 + 11 * n + q + (we + 26 + (wn + (28 + z) + w) + y) ≤ ws + 26 + w + x
-    enough y x r = omega (arith, a, b, c, d, r)
 
-pub falls-call : (p : Program) (words : ℕ) → AreShort p words →
+    unpaid : l.edge.counts ≡ false → s.here.block < l.edge.block → FallsIf p image words found.own s
+        (Goes (record s { here = record s.here { block = l.edge.block; at = 0; temps = temps }; left = l.left }))
+    unpaid c h = (
+      subst (λ z. 4 * found.own + (bytes_behind p image s.here.function (p.code s.here.function) l.edge.block 0 + bytes_waiting p image s.callers
+          + 4 * (l.left * words)) ≤ bytes_behind p image s.here.function (p.code s.here.function) s.here.block s.here.at
+          + bytes_waiting p image s.callers + 4 * (z * words)) (sym (l.free c))
+          (without place end start (bytes_waiting p image s.callers) (l.left * words)
+          (bytes_behind p image s.here.function (p.code s.here.function) s.here.block s.here.at)
+          (bytes_behind p image s.here.function (p.code s.here.function) l.edge.block 0) within (found.later l.edge.block h inside)
+          (behind-is p image s.here.function code s.here.block s.here.at e) (behind-is p image s.here.function code l.edge.block 0 e)),
+      omega (arith, l.free c),
+    )
+falls-exit p image program most words short code block at temps s (Stops r) pl e f o held found l =
+    stops-if p image words found.own s r
+    (under (place_in p image code (image s.here.function) s.here.block s.here.at) (end_in p image code (image s.here.function))
+    (last_address (layout_of code (image s.here.function).homes) code (image s.here.function).at)
+    (bytes_behind p image s.here.function (p.code s.here.function) s.here.block s.here.at) (bytes_waiting p image s.callers) (s.left * words)
+    found.within (last-within p image program most code (image s.here.function) pl) (behind-is p image s.here.function code s.here.block s.here.at e))
+  where
+    under : (q z a x w y : ℕ) → q + 4 * found.own ≤ a → a ≤ z → x ≡ z - q → 4 * found.own ≤ x + w + 4 * y
+    under q z a x w y h g u = omega (arith, h, g, u)
+
+-- A call, which has a count. Behind its jump the caller waits, and the callee's words pay for all that it takes before its first block.
+call-falls : (b t n q z r x v w y k a c d m j : ℕ) → r ≡ q + 4 * (b + (2 + n)) → r ≤ z → x ≡ z - q → v ≡ z - r → a + 4 * t ≤ c → c ≤ d →
+    d ≤ a + 4 * m → j ≡ d - c → k ≡ y + m → 4 * (b + 2 + t) + (j + (v + 4 * n + w) + 4 * y) ≤ x + w + 4 * k
+call-falls b t n q z r x v w y k a c d m j e f g h i l o u s = omega (arith, e, f, g, h, i, l, o, u, s)
+
+call-stops : (b t n q z r x w y k a c d m : ℕ) → r ≡ q + 4 * (b + (2 + n)) → r ≤ z → x ≡ z - q → a + 4 * t ≤ c → c ≤ d →
+    d ≤ a + 4 * m → k ≡ y + m → 4 * (b + 2 + t) ≤ x + w + 4 * k
+call-stops b t n q z r x w y k a c d m e f g i l o s = omega (arith, e, f, g, i, l, o, s)
+
+jump-two : (from to : ℕ) (rest : List Instr) → length (call_jump from to ++ rest) ≡ 2 + length rest
+jump-two from to rest = omega arith
+
+-- where a callee's first block begins, and where its code ends
+record Callee (p : Program) (image : Image) (words : ℕ) (f : FnId) (code : Tac) : Type 0 where
+  enters : (image f).at + 4 * taking image f (Some code) ≤ place_in p image code (image f) 0 0
+  ends : place_in p image code (image f) 0 0 ≤ end_in p image code (image f)
+  few : end_in p image code (image f) ≤ (image f).at + 4 * words
+
+pub falls-call : (p : Program) (image : Image) (program : List (Option Instr)) (most words : ℕ) → IsLinked p image program most →
+    AreShort p image words →
     (code : Tac) (block : Block) (to : Destination) (place : Place) (f : FnId) (arguments : List Part) (s : tac.State) →
     p.code s.here.function ≡ Some code →
     slice_get code.blocks s.here.block ≡ Some block → slice_get block.instructions s.here.at ≡ Some (Call to place f arguments) →
-    FallsIf p words (49 + 11 * length arguments + taking (p.code f)) s (step p s)
-falls-call p words short code block to place f arguments s e in-f in-b =
-    rw (e, in-f, in-b) (counts s.left refl)
+    AtPlace p image program code (image s.here.function) s.here.block s.here.at (Call to place f arguments)
+    (place_in p image code (image s.here.function) s.here.block s.here.at) →
+    FallsIf p image words (call_most p image code s.here place f arguments) s (step p s)
+falls-call p image program most words linked short code block to place f arguments s e in-f in-b found =
+    falls (call_most p image code s.here place f arguments) refl
   where
-    here : words_behind (p.code s.here.function) s.here.block s.here.at ≡ words_of (Call to place f arguments) + words_behind
-        (p.code s.here.function) s.here.block (suc s.here.at)
-    here = subst (λ o. words_behind o s.here.block s.here.at ≡ words_of (Call to place f arguments) + words_behind o s.here.block
-        (suc s.here.at)) (sym e)
-        (behind-next code s.here.block s.here.at block (Call to place f arguments) in-f in-b)
+    x : ℕ
+    x = bytes_behind p image s.here.function (p.code s.here.function) s.here.block s.here.at
+
+    q : ℕ
+    q = place_in p image code (image s.here.function) s.here.block s.here.at
+
+    next : ℕ
+    next = place_in p image code (image s.here.function) s.here.block (suc s.here.at)
+
+    B : ℕ
+    B = length (begun_in image code s.here place arguments)
+
+    E : ℕ
+    E = length (call_ended (layout_of code (image s.here.function).homes) code.areas to)
+
+    waits : ℕ
+    waits = bytes_waiting p image s.callers
+
+    whole : length (instruction_code (layout_of code (image s.here.function).homes) code.areas (entries_of p image) q
+        (held_in code s.here.block s.here.at) (Call to place f arguments)) ≡ B + (2 + E)
+    whole = length-append (begun_in image code s.here place arguments) (call_jump (q + 4 * B) (entries_of p image f) ++
+        call_ended (layout_of code (image s.here.function).homes) code.areas to)
+        ∙ ap (λ n. B + n) (jump-two (q + 4 * B) (entries_of p image f) (call_ended (layout_of code (image s.here.function).homes) code.areas to))
+
+    returns : next ≡ q + 4 * (B + (2 + E))
+    returns = found.next ∙ ap (λ n. q + 4 * n) whole
+
+    within : next ≤ end_in p image code (image s.here.function)
+    within = under q (length (instruction_code (layout_of code (image s.here.function).homes) code.areas (entries_of p image) q
+        (held_in code s.here.block s.here.at) (Call to place f arguments))) next
+        (last_address (layout_of code (image s.here.function).homes) code (image s.here.function).at) (end_in p image code (image s.here.function))
+        found.next found.within (last-within p image program most code (image s.here.function) (linked s.here.function code e))
+      where
+        under : (q n r a z : ℕ) → r ≡ q + 4 * n → q + 4 * n ≤ a → a ≤ z → r ≤ z
+        under q n r a z h g i = omega (arith, h, g, i)
+
+    the-callee : (callee : Tac) → p.code f ≡ Some callee → Callee p image words f callee
+    the-callee callee g =
+        let pl : IsPlaced p image program most callee (image f) = linked f callee g in
+        let y : Layout = layout_of callee (image f).homes in
+        let fn : FoundFunction program y callee (entries_of p image) (image f).at = the-function p image program most callee (image f) pl in
+        let first = first-start y callee (image f).at (within-parts p image program most callee (image f) pl).entered in
+        record {
+          enters = omega (arith, fn.first, first);
+          ends = omega (arith, first, fn.whole, last-within p image program most callee (image f) pl);
+          few = end-short p image words short f callee g;
+        }
 
     paid : (l : ℕ) (callee : Tac) → s.left ≡ suc l → p.code f ≡ Some callee → (a : Activation) →
         a ≡ record (fresh_call f callee s) { temps = a.temps; areas = a.areas } →
-        FallsIf p words (49 + 11 * length arguments + receiving callee.parameters) s (Goes (entered_state s to l a))
-    paid l callee q g a is =
-        subst (λ b. FallsIf p words (49 + 11 * length arguments + receiving callee.parameters) s (Goes (entered_state s to l b))) (sym is)
-        (call-falls words (length arguments) (receiving callee.parameters) (result_words to) (words_of (Call to place f arguments))
-        (words_behind (p.code s.here.function) s.here.block (suc s.here.at)) (words_behind (p.code f) 0 0)
-        (sum_by block_words callee.blocks) (words_behind (p.code s.here.function) s.here.block s.here.at) l s.left
-        (call-least to place f arguments) here
-        (subst (λ o. words_behind o 0 0 ≤ sum_by block_words callee.blocks) (sym g) (behind-le callee 0 0 (omega arith)))
-        (under _ _ (params-least callee) (short f callee g)) (waiting_words p s.callers) q)
-      where
-        under : (a b : ℕ) → a ≤ b → b ≤ words → a ≤ words
-        under a b h k = omega (arith, h, k)
+        FallsIf p image words (B + 2 + taking image f (Some callee)) s (Goes (entered_state s to l a))
+    paid l callee h g a is =
+        subst (λ b. FallsIf p image words (B + 2 + taking image f (Some callee)) s (Goes (entered_state s to l b))) (sym is) (
+          subst (λ z. 4 * (B + 2 + taking image f (Some callee)) + (bytes_behind p image f (p.code f) 0 0
+              + (bytes_behind p image s.here.function (p.code s.here.function) s.here.block (suc s.here.at)
+              + 4 * ended_words image s.here.function (p.code s.here.function) to + waits) + 4 * (l * words)) ≤ x + waits + 4 * (z * words)) (sym h)
+              (subst (λ o. 4 * (B + 2 + taking image f (Some callee)) + (bytes_behind p image f (p.code f) 0 0
+              + (bytes_behind p image s.here.function (p.code s.here.function) s.here.block (suc s.here.at)
+              + 4 * ended_words image s.here.function o to + waits) + 4 * (l * words)) ≤ x + waits + 4 * (suc l * words)) (sym e)
+              (let k : Callee p image words f callee = the-callee callee g in
+              call-falls B (taking image f (Some callee)) E q (end_in p image code (image s.here.function)) next x
+              (bytes_behind p image s.here.function (p.code s.here.function) s.here.block (suc s.here.at)) waits (l * words) (suc l * words)
+              (image f).at (place_in p image callee (image f) 0 0) (end_in p image callee (image f)) words (bytes_behind p image f (p.code f) 0 0)
+              returns within (behind-is p image s.here.function code s.here.block s.here.at e)
+              (behind-is p image s.here.function code s.here.block (suc s.here.at) e) k.enters k.ends k.few
+              (behind-is p image f callee 0 0 g) (suc-mul l words))),
+          omega (arith, h),
+        )
 
-    unpaid : (l : ℕ) → s.left ≡ suc l → (q : ℕ) → 79 + q ≤ words → 49 + 11 * length arguments + q ≤ steps_left p words s
-    unpaid l e q h =
-        subst (λ z. 49 + 11 * length arguments + q ≤ words_behind (p.code s.here.function) s.here.block s.here.at + 26 + waiting_words p
-        s.callers + z * words) (sym e)
-        (enough (words_behind (p.code s.here.function) s.here.block s.here.at) (words_of (Call to place f arguments))
-        (words_behind (p.code s.here.function) s.here.block (suc s.here.at)) (waiting_words p s.callers)
-        (l * words) (suc l * words) (result_words to) here (call-least to place f arguments) (suc-mul l words))
-      where
-        enough : (ws wc wn w y z r : ℕ) → ws ≡ wc + wn → 22 + r + 11 * length arguments ≤ wc → z ≡ y + words →
-            49 + 11 * length arguments + q ≤ ws + 26 + w + z
-        enough ws wc wn w y z r a b c = omega (arith, a, b, c, h)
+    unpaid : (l : ℕ) (callee : Tac) → s.left ≡ suc l → p.code f ≡ Some callee →
+        4 * (B + 2 + taking image f (Some callee)) ≤ bytes_left p image words s
+    unpaid l callee h g =
+        let k : Callee p image words f callee = the-callee callee g in
+        subst (λ z. 4 * (B + 2 + taking image f (Some callee)) ≤ x + waits + 4 * (z * words)) (sym h)
+        (call-stops B (taking image f (Some callee)) E q (end_in p image code (image s.here.function)) next x waits (l * words) (suc l * words)
+        (image f).at (place_in p image callee (image f) 0 0) (end_in p image callee (image f)) words returns within
+        (behind-is p image s.here.function code s.here.block s.here.at e) k.enters k.ends k.few (suc-mul l words))
 
     with-code : (l : ℕ) (o : Option Tac) → s.left ≡ suc l → p.code f ≡ o →
-        FallsIf p words (49 + 11 * length arguments + taking o) s
+        FallsIf p image words (B + 2 + taking image f o) s
         (enter place f o (values_of s arguments) s.here.base (record { waits = record s.here { at = suc s.here.at }; to = to } ∷ s.callers)
         (record s { left = l }))
-    with-code l None q g = tt
-    with-code l (Some callee) q g =
-        let stops : 49 + 11 * length arguments + receiving callee.parameters ≤ steps_left p words s = unpaid l q (receiving callee.parameters)
-        (under _ _ _ (params-least callee) (short f callee g)) in
-        by-test (FallsIf p words (49 + 11 * length arguments + receiving callee.parameters) s) (nat_le most_calls (suc (length s.callers))) _ _ (λ h. stops)
-        (λ h.
-        by-test (FallsIf p words (49 + 11 * length arguments + receiving callee.parameters) s) (nat_lt s.here.base (heap_limit s.region + callee.frame)) _ _ (λ h. stops)
-        (λ h.
-        by-test (FallsIf p words (49 + 11 * length arguments + receiving callee.parameters) s) (accepts_all callee callee.parameters (values_of s arguments)) _ _
-        (λ h. paid l callee q g (takes_all callee.parameters (values_of s arguments) (fresh_call f callee s))
+    with-code l None h g = tt
+    with-code l (Some callee) h g =
+        let most : ℕ = B + 2 + taking image f (Some callee) in
+        let stops : 4 * most ≤ bytes_left p image words s = unpaid l callee h g in
+        by-test (FallsIf p image words most s) (nat_le most_calls (suc (length s.callers))) _ _ (λ h. stops)
+        (λ n.
+        by-test (FallsIf p image words most s) (nat_lt s.here.base (heap_limit s.region + callee.frame)) _ _ (λ h. stops)
+        (λ n.
+        by-test (FallsIf p image words most s) (accepts_all callee callee.parameters (values_of s arguments)) _ _
+        (λ n. paid l callee h g (takes_all callee.parameters (values_of s arguments) (fresh_call f callee s))
         (takes-is callee.parameters (values_of s arguments) (fresh_call f callee s)))
-        (λ h. tt)))
-      where
-        under : (a b c : ℕ) → a + b ≤ c → c ≤ words → a ≤ words
-        under a b c h k = omega (arith, h, k)
+        (λ n. tt)))
 
     counts : (l : ℕ) → s.left ≡ l →
-        FallsIf p words (49 + 11 * length arguments + taking (p.code f)) s
+        FallsIf p image words (call_most p image code s.here place f arguments) s
         (tac.counted l s (λ z. enter place f (p.code f) (values_of s arguments) z.here.base
         (record { waits = (tac.ahead z).here; to = to } ∷ z.callers) z))
-    counts zero q = tt
-    counts (suc l) q = with-code l (p.code f) q refl
+    counts zero h = tt
+    counts (suc l) h = with-code l (p.code f) h refl
 
-back-sums : (ws wc w r y z : ℕ) → 10 ≤ ws → w ≡ wc + (28 + z) + r → 36 + z + (wc + 26 + r + y) ≤ ws + 26 + w + y
-back-sums ws wc w r y z a b = omega (arith, a, b)
+    falls : (n : ℕ) → call_most p image code s.here place f arguments ≡ n → FallsIf p image words n s (step p s)
+    falls n same =
+        rw (e, in-f, in-b) (subst (λ z. FallsIf p image words z s
+        (tac.counted s.left s (λ z. enter place f (p.code f) (values_of s arguments) z.here.base
+        (record { waits = (tac.ahead z).here; to = to } ∷ z.callers) z))) same (counts s.left refl))
+
+back-sums : (own ended b r q z x y : ℕ) → q + 4 * own ≤ z → x ≡ z - q →
+    4 * (own + ended) + (b + r + 4 * y) ≤ x + (b + 4 * ended + r) + 4 * y
+back-sums own ended b r q z x y h e = omega (arith, h, e)
 
 -- a return
-back-falls : (p : Program) (words : ℕ) (s : tac.State) (v : Value) (a : Activation) (d : Destination) (cs : List Caller) →
-    10 ≤ words_behind (p.code s.here.function) s.here.block s.here.at →
-    waiting_words p s.callers ≡ words_behind (p.code a.function) a.block a.at + (28 + result_words d) + waiting_words p cs →
-    FallsIf p words (36 + result_words d) s (Goes (record s { here = takes d v a; callers = cs }))
-back-falls p words s v a (Temp t) cs h e = (
-  back-sums (words_behind (p.code s.here.function) s.here.block s.here.at) (words_behind (p.code a.function) a.block a.at)
-      (waiting_words p s.callers) (waiting_words p cs) (s.left * words) 3 h e,
-  omega arith,
-)
-back-falls p words s v a (Area n) cs h e = (
-  back-sums (words_behind (p.code s.here.function) s.here.block s.here.at) (words_behind (p.code a.function) a.block a.at)
-      (waiting_words p s.callers) (waiting_words p cs) (s.left * words) 39 h e,
-  omega arith,
-)
+back-falls : (p : Program) (image : Image) (words own q z : ℕ) (s : tac.State) (v : Value) (a : Activation) (d : Destination) (cs : List Caller) →
+    q + 4 * own ≤ z → bytes_behind p image s.here.function (p.code s.here.function) s.here.block s.here.at ≡ z - q →
+    bytes_waiting p image s.callers ≡ bytes_behind p image a.function (p.code a.function) a.block a.at
+    + 4 * ended_words image a.function (p.code a.function) d + bytes_waiting p image cs →
+    FallsIf p image words (own + ended_words image a.function (p.code a.function) d) s (Goes (record s { here = takes d v a; callers = cs }))
+back-falls p image words own q z s v a d cs within behind e = (taken d e, suc-le s.left)
+  where
+    x : ℕ
+    x = bytes_behind p image s.here.function (p.code s.here.function) s.here.block s.here.at
 
-pub falls-return : (p : Program) (words : ℕ) (code : Tac) (block : Block) (v : Part) (s : tac.State) → p.code s.here.function ≡ Some code →
-    slice_get code.blocks s.here.block ≡ Some block →
-    slice_get block.instructions s.here.at ≡ None → block.exit ≡ Return v → FallsIf p words (return_most s.callers) s (step p s)
-falls-return p words code block v s e in-f in-b is =
+    sum : (ended : ℕ) → bytes_waiting p image s.callers ≡ bytes_behind p image a.function (p.code a.function) a.block a.at
+        + 4 * ended + bytes_waiting p image cs →
+        4 * (own + ended) + (bytes_behind p image a.function (p.code a.function) a.block a.at + bytes_waiting p image cs + 4 * (s.left * words))
+        ≤ x + bytes_waiting p image s.callers + 4 * (s.left * words)
+    sum ended g = subst (λ w. 4 * (own + ended) + (bytes_behind p image a.function (p.code a.function) a.block a.at + bytes_waiting p image cs
+        + 4 * (s.left * words)) ≤ x + w + 4 * (s.left * words)) (sym g)
+        (back-sums own ended (bytes_behind p image a.function (p.code a.function) a.block a.at) (bytes_waiting p image cs) q z x (s.left * words)
+        within behind)
+
+    taken : (d : Destination) → bytes_waiting p image s.callers ≡ bytes_behind p image a.function (p.code a.function) a.block a.at
+        + 4 * ended_words image a.function (p.code a.function) d + bytes_waiting p image cs →
+        4 * (own + ended_words image a.function (p.code a.function) d) + bytes_left p image words (record s { here = takes d v a; callers = cs })
+        ≤ bytes_left p image words s
+    taken (Temp t) g = sum (ended_words image a.function (p.code a.function) (Temp t)) g
+    taken (Area n) g = sum (ended_words image a.function (p.code a.function) (Area n)) g
+
+pub falls-return : (p : Program) (image : Image) (program : List (Option Instr)) (most words : ℕ) (code : Tac) (block : Block) (v : Part)
+    (s : tac.State) → IsPlaced p image program most code (image s.here.function) → p.code s.here.function ≡ Some code →
+    slice_get code.blocks s.here.block ≡ Some block → slice_get block.instructions s.here.at ≡ None → block.exit ≡ Return v →
+    (held : Option ℕ) (found : AtExit p image program code (image s.here.function) s.here.block held None block.exit
+    (place_in p image code (image s.here.function) s.here.block s.here.at)) →
+    FallsIf p image words (return_most p image (found.own + length (left (layout_of code (image s.here.function).homes)
+    (frame_bytes (layout_of code (image s.here.function).homes)) code.frame)) s.callers) s (step p s)
+falls-return p image program most words code block v s pl e in-f in-b is held found =
     rw (e, in-f, in-b) (rw is (go s.callers refl))
   where
-    least : 10 ≤ words_behind (p.code s.here.function) s.here.block s.here.at
-    least =
-        subst (λ o. 10 ≤ words_behind o s.here.block s.here.at) (sym e)
-        (under (words_behind (Some code) s.here.block s.here.at) (sum_by block_words (drop (suc s.here.block) code.blocks))
-        (subst (λ x. exit_words x + sum_by block_words (drop (suc s.here.block) code.blocks) ≤ words_behind (Some code) s.here.block
-        s.here.at) is (behind-exit code s.here.block s.here.at block in-f)))
-      where
-        under : (a d : ℕ) → 10 + d ≤ a → 10 ≤ a
-        under a d h = omega (arith, h)
+    q : ℕ
+    q = place_in p image code (image s.here.function) s.here.block s.here.at
 
-    over : (a w y : ℕ) → 10 ≤ a → 36 ≤ a + 26 + w + y
-    over a w y h = omega (arith, h)
+    z : ℕ
+    z = end_in p image code (image s.here.function)
+
+    L : ℕ
+    L = length (left (layout_of code (image s.here.function).homes) (frame_bytes (layout_of code (image s.here.function).homes)) code.frame)
+
+    within : q + 4 * (found.own + L) ≤ z
+    within = sums q found.own L (last_address (layout_of code (image s.here.function).homes) code (image s.here.function).at) z found.within
+        (end-is p image program most code (image s.here.function) pl)
+      where
+        sums : (q o l a z : ℕ) → q + 4 * o ≤ a → a + 4 * l ≡ z → q + 4 * (o + l) ≤ z
+        sums q o l a z h g = omega (arith, h, g)
+
+    over : (x w y : ℕ) → x ≡ z - q → 4 * (found.own + L) ≤ x + w + 4 * y
+    over x w y h = omega (arith, h, within)
 
     taken : (c : Caller) (cs : List Caller) → s.callers ≡ c ∷ cs → (o : Option Tac) →
-        FallsIf p words (36 + result_words c.to) s (given (value_of s v) o c cs s)
-    taken c cs q None = tt
-    taken c cs q (Some t) =
-        by-test (FallsIf p words (36 + result_words c.to) s) (accepts t c.to (value_of s v)) _ _
-        (λ h. back-falls p words s (value_of s v) c.waits c.to cs least (ap (waiting_words p) q)) (λ h. tt)
+        FallsIf p image words (found.own + L + ended_words image c.waits.function (p.code c.waits.function) c.to) s
+        (given (value_of s v) o c cs s)
+    taken c cs h None = tt
+    taken c cs h (Some t) =
+        by-test (FallsIf p image words (found.own + L + ended_words image c.waits.function (p.code c.waits.function) c.to) s)
+        (accepts t c.to (value_of s v)) _ _
+        (λ n. back-falls p image words (found.own + L) q z s (value_of s v) c.waits c.to cs within
+        (behind-is p image s.here.function code s.here.block s.here.at e) (ap (bytes_waiting p image) h)) (λ n. tt)
 
-    go : (cs : List Caller) → s.callers ≡ cs → FallsIf p words (return_most cs) s (give p (value_of s v) cs s)
-    go [] q = over (words_behind (p.code s.here.function) s.here.block s.here.at) (waiting_words p s.callers) (s.left * words) least
-    go (c ∷ cs) q = taken c cs q (p.code c.waits.function)
+    go : (cs : List Caller) → s.callers ≡ cs → FallsIf p image words (return_most p image (found.own + L) cs) s (give p (value_of s v) cs s)
+    go [] h = over (bytes_behind p image s.here.function (p.code s.here.function) s.here.block s.here.at) (bytes_waiting p image s.callers)
+        (s.left * words) (behind-is p image s.here.function code s.here.block s.here.at e)
+    go (c ∷ cs) h = taken c cs h (p.code c.waits.function)

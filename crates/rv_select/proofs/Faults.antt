@@ -39,7 +39,7 @@ throws s kind place e f g h k =
     ∙ (ap (λ b. if b then Throws kind (s.registers 11) else Faults BadCall) (le-leb kind 5 k) ∙ ap (Throws kind) g)))
 
 pub fails : (program : List (Option Instr)) (m : State) (kind : FaultKind) (at : Place) → m.pc < 2 ^ 64 → place_number at < 2 ^ 64 →
-    1 ≤ fault_number kind → fault_number kind ≤ 5 → Stands program m.pc (failed kind at) → Ends program kind at 11 m
+    1 ≤ fault_number kind → fault_number kind ≤ 5 → Stands program m.pc (failed kind at) → Ends program kind at (length (failed kind at)) m
 fails program m kind at p h l u there =
     let code : List Instr = constant x11 (place_number at) in
     let k : Loads 11 code m (place_number at) = constant-loads x11 m (place_number at) (λ e. omega (arith, e)) (λ e. omega (arith, e)) h in
@@ -54,11 +54,10 @@ fails program m kind at p h l u there =
     let three : Way program 1 b c = step-way program (RegisterImmediate Addi x17 x0 (immediate_of 1024)) b c rest.1.0 (small-load x17 1024 b (λ e. omega (arith, e)) (omega arith)) in
     let way : Way program (length code + 1 + 1) m c = way-both program (length code + 1) 1 m b c (way-both program (length code) 1 m a b one two) three in
     let last : act Ecall c ≡ Throws (fault_number kind) (place_number at) = throws c (fault_number kind) (place_number at) refl refl k.gives l u in
-    let few : length code ≤ 8 = constant-count x11 (place_number at) in
     record {
       steps = length code + 3;
       last = c;
-      few = omega arith;
+      few = omega (arith, length-append code (fault_call kind));
       runs = λ more.
           let e : length code + 3 + more ≡ length code + 1 + 1 + suc more = omega arith in
           ap (run_of program m) e ∙ (way.runs (suc more) ∙ throw-step program Ecall c (fault_number kind) (place_number at) more rest.1.1.0 last);

@@ -195,6 +195,25 @@ starts-least y sizes (j ∷ bs) (suc k) at h =
     least : (z n : ℕ) → at + 4 * n ≤ z → at ≤ z
     least z n e = omega (arith, e)
 
+-- blocks behind a block begin behind its code
+pub starts-later : (y : Layout) (sizes : List ℕ) (places : FnId → ℕ) (starts : ℕ → ℕ) (last from : ℕ) (bs : List Block) (k c : ℕ) (b : Block)
+    (at : ℕ) → slice_get bs k ≡ Some b → k < c → c < length bs →
+    start_of (starts_from y sizes at bs) k + 4 * length (block_code y sizes places starts last from (length (drop (suc k) bs)) b)
+    ≤ start_of (starts_from y sizes at bs) c
+starts-later y sizes places starts last from [] k c b at e l h = cc
+starts-later y sizes places starts last from (j ∷ bs) zero zero b at e l h = absurd (omega (arith, l))
+starts-later y sizes places starts last from (j ∷ bs) zero (suc c) b at e l h =
+    let same : j ≡ b = cc in
+    let count : length (block_code y sizes (λ f. 0) (λ c. 0) 0 0 (length bs) j) ≡ length (block_code y sizes places starts last from (length bs) b) =
+    block-length y sizes (λ f. 0) places (λ c. 0) starts 0 last 0 from (length bs) j
+    ∙ ap (λ z. length (block_code y sizes places starts last from (length bs) z)) same in
+    subst (λ n. at + 4 * n ≤ start_of (starts_from y sizes (at + 4 * length (block_code y sizes (λ f. 0) (λ c. 0) 0 0 (length bs) j)) bs) c) count
+    (starts-least y sizes bs c (at + 4 * length (block_code y sizes (λ f. 0) (λ c. 0) 0 0 (length bs) j)) (omega (arith, h)))
+starts-later y sizes places starts last from (j ∷ bs) (suc k) zero b at e l h = absurd (omega (arith, l))
+starts-later y sizes places starts last from (j ∷ bs) (suc k) (suc c) b at e l h =
+    starts-later y sizes places starts last from bs k c b (at + 4 * length (block_code y sizes (λ f. 0) (λ c. 0) 0 0 (length bs) j)) e
+    (omega (arith, l)) (omega (arith, h))
+
 pub instruction-aligned : (y : Layout) (sizes : List ℕ) (places : FnId → ℕ) (held : Option ℕ) (is : List Instruction) (k at : ℕ) →
     at % 4 ≡ 0 → instruction_at y sizes places at held is k % 4 ≡ 0
 instruction-aligned y sizes places held is zero at h = h

@@ -12,7 +12,6 @@ use Rattle.rv_isa.specs.declared.operation.BranchCondition.{BranchCondition}
 use Rattle.rv_isa.specs.declared.operation.BranchCondition.TheVariants.{Ne}
 use Rattle.rv_isa.specs.declared.operand.Register.{Register}
 use Rattle.reg_alloc.specs.declared.assignment.Home.{Home}
-use Rattle.rv_machine.specs.Word.{low}
 use Rattle.rv_machine.specs.Arithmetic.{is_taken}
 use Rattle.rv_machine.specs.Machine.{State, value_at}
 use Rattle.terra_words.specs.declared.words.FaultKind.{FaultKind}
@@ -30,26 +29,26 @@ use Rattle.tac_form.specs.Flow.{Program, step}
 use Rattle.tac_form.specs.Graph.{block_of, exit_next, exit_reads, graph_of, step_of}
 use Rattle.tac_form.specs.Live.{InUse, IsLive, at_place, at_step, has, read_within}
 use Rattle.tac_form.specs.Fits.{edge_fits, operand_fits}
-use Rattle.tac_form.specs.Weights.{code_words, exit_words}
+use Rattle.tac_form.specs.Weights.{code_words}
 use Rattle.rv_operators.specs.Codes.{x0, x5}
 use Rattle.rv_operators.specs.Runs.{Stands}
 use Rattle.rv_select.specs.Places.{Holds, Housed, Layout, World, is_near, is_short, layout_of, value_in}
 use Rattle.rv_select.specs.declared.settings.Follows.{Follows}
 use Rattle.rv_select.specs.declared.settings.Follows.TheVariants.{First, Second}
 use Rattle.rv_select.specs.Settings.{falls, follower, is_next}
-use Rattle.rv_select.specs.Shapes.{branched_bytes, chosen, exit_shape, first_taken, jump}
+use Rattle.rv_select.specs.Shapes.{branched_bytes, chosen, exit_shape, failed, first_taken, jump}
 use Rattle.rv_select.specs.Steps.{AreFewer, Comes, ExitsAreCarried, IsReached, Left, Remains, StandsAtExit, world_of}
 use Rattle.rv_select.proofs.Straight.{Loads, Scratch, loads-five}
-use Rattle.rv_select.proofs.Ways.{Near, Way, at_pc, near-both, near-pc, near-same, scratch-near, stands-back, stands-front, straight-way}
+use Rattle.rv_select.proofs.Ways.{Near, Way, near-both, near-same, scratch-near, stands-back, stands-front, straight-way}
 use Rattle.rv_select.proofs.Ways.{way-both, way-none}
-use Rattle.rv_select.proofs.Homes.{first-count, first-few, take-first}
-use Rattle.rv_select.proofs.Faults.{branch-way, fails}
+use Rattle.rv_select.proofs.Homes.{first-few, take-first}
+use Rattle.rv_select.proofs.Faults.{fails}
 use Rattle.rv_select.proofs.Divisors.{stays}
-use Rattle.rv_select.proofs.Moves.{fewer-holds}
+use Rattle.rv_select.proofs.Moves.{at-most, fewer-holds}
 use Rattle.rv_select.proofs.Lives.{housed}
 use Rattle.rv_select.proofs.Carries.{both-true, by-test, first-read, place-small}
 use Rattle.rv_select.proofs.Branched.{IsNearby, Turned, branched-few, chosen-turns, follower-first, follower-second, is-next, low-near}
-use Rattle.rv_select.proofs.Jumps.{Jumped, Reaches, jump-few, jump_words, jumps-there}
+use Rattle.rv_select.proofs.Jumps.{Jumped, Reaches, chosen-count, chosen_words, jump-count, jump-few, jump_words, jumps-there}
 
 -- the exit of a block in the flow graph
 pub exit-in-graph : (code : Tac) (b : Block) (block at : ℕ) → slice_get code.blocks block ≡ Some b → slice_get b.instructions at ≡ None →
@@ -92,13 +91,13 @@ next-live graph block at t f c e g h u =
 pub jump-comes : (y : Layout) (Used Next : ℕ → Type 0) (w : World) (base k weight from to : ℕ) (short : Bool) (program : List (Option Instr))
     (m n : State) →
     Holds y Used w base m → Housed y Used → AreFewer Used Next → Way program k m n → Near m n → n.pc ≡ from → from < 2 ^ 30 → to < 2 ^ 30 → to % 2 ≡ 0 →
-    Reaches short from to → Stands program from (jump short from to) → k + 2 ≤ weight → Comes y program Next w base weight to [] m
+    Reaches short from to → Stands program from (jump short from to) → k + length (jump short from to) ≤ weight → Comes y program Next w base weight to [] m
 jump-comes y Used Next w base k weight from to short program m n p h f way near e small few even reach there enough =
     let j : Jumped program (jump_words short) to n = jumps-there program n short from to e small few even reach there in
     let c : (1 ≤ jump_words short) × (jump_words short ≤ 2) = jump-few short in
     stays y Used Next w base (k + jump_words short) weight to program m j.after p h f (way-both program k (jump_words short) m n j.after way j.way)
     (near-both m n j.after near j.near)
-    (subst (λ q. q < 2 ^ 64) (sym j.pc) (omega arith)) (omega (arith, c.0)) (omega (arith, c.1, enough)) j.pc
+    (subst (λ q. q < 2 ^ 64) (sym j.pc) (omega arith)) (omega (arith, c.0)) (omega (arith, jump-count short from to, enough)) j.pc
 
 -- within a function, from an address and from what stands close behind it
 abbrev pub InReach : (short : Bool) → (from to : ℕ) → Type 0
@@ -114,7 +113,8 @@ reach-behind short from to n h r e = (omega (arith, h, (r e).0), omega (arith, h
 pub chosen-comes : (y : Layout) (Used Next : ℕ → Type 0) (w : World) (base first second to weight : ℕ) (near-by short : Bool) (o : Follows)
     (condition : BranchCondition)
     (a b : Register) (taken_it : Bool) (A : List Instr) (program : List (Option Instr)) (m k : State) →
-    Scratch A m k → Holds y Used w base m → Housed y Used → AreFewer Used Next → length A + 3 ≤ weight → length A ≤ 16 → m.pc + 256 ≤ 2 ^ 30 →
+    Scratch A m k → Holds y Used w base m → Housed y Used → AreFewer Used Next →
+    length (A ++ chosen near-by short o condition a b (m.pc + 4 * length A) first second) ≤ weight → length A ≤ 16 → m.pc + 256 ≤ 2 ^ 30 →
     (first < 2 ^ 30) × (first % 2 ≡ 0) → (second < 2 ^ 30) × (second % 2 ≡ 0) → InReach short m.pc first → InReach short m.pc second →
     InNear near-by m.pc first → InNear near-by m.pc second →
     (o ≡ First → first ≡ m.pc + 4 * length (A ++ chosen near-by short o condition a b (m.pc + 4 * length A) first second)) →
@@ -132,7 +132,7 @@ chosen-comes y Used Next w base first second to weight near-by short o condition
     let rest : Stands program at B =
     subst (λ q. Stands program q B) (low-near at (omega (arith, few, near))) (stands-back program m.pc A B p.pc there) in
     let one : Way program (length A) m k = straight-way program A m k (stands-front program m.pc A B there) l.straight l.goes in
-    let t : Turned program 3 (if taken_it then first else second) k =
+    let t : Turned program (chosen_words near-by short o) (if taken_it then first else second) k =
     chosen-turns program k near-by short condition a b at first second at-is (omega (arith, few, near)) first-near.0 first-near.1 second-near.0 second-near.1
     (later first (4 * length A + 4) (at + 4) (omega arith) (omega (arith, few)) first-reach)
     (later second (4 * length A + 4) (at + 4) (omega arith) (omega (arith, few)) second-reach)
@@ -142,7 +142,7 @@ chosen-comes y Used Next w base first second to weight near-by short o condition
     (λ q. omega (arith, first-next q, count)) (λ q. omega (arith, second-next q, count)) rest in
     stays y Used Next w base (length A + t.steps) weight to program m t.after p h f (way-both program (length A) t.steps m k t.after one t.way)
     (near-both m k t.after (scratch-near A m k l) t.near) (subst (λ q. q < 2 ^ 64) (sym t.pc) (small taken_it)) (omega (arith, t.some))
-    (omega (arith, t.few, enough)) (t.pc ∙ is)
+    (omega (arith, t.few, enough, length-append A B, chosen-count near-by short o condition a b at first second)) (t.pc ∙ is)
   where
     later : (to n from : ℕ) → m.pc + n ≡ from → n ≤ 256 → InReach short m.pc to → Reaches short from to
     later to n from e few r = subst (λ q. Reaches short q to) e (reach-behind short m.pc to n few r)
@@ -209,11 +209,13 @@ reach-here short from to r e = (omega (arith, (r e).0), omega (arith, (r e).1))
 -- a jump to a block that doesn't stand behind, or takes a count
 jump-goes : (p : Program) (code : Tac) (homes : List (Option Home)) (held : Option ℕ) (e : Edge) (starts : ℕ → ℕ) (s : tac.State) (program : List (Option Instr)) (base : ℕ) (m : State) →
     (x : StandsAtExit p code homes held (Jump e) starts s program base m) → falls x.setting.next e ≡ false →
-    Comes (layout_of code homes) program (InUse (graph_of code) e.block 0) (world_of s) base 2 (starts e.block) [] m
+    Comes (layout_of code homes) program (InUse (graph_of code) e.block 0) (world_of s) base
+    (length (jump x.setting.short m.pc (starts e.block))) (starts e.block) [] m
 jump-goes p code homes held e starts s program base m x apart =
     let there : Stands program m.pc (jump x.setting.short m.pc (starts e.block)) =
     subst (λ b. Stands program m.pc (if b then [] else jump x.setting.short m.pc (starts e.block))) apart x.stands in
-    jump-comes (layout_of code homes) (InUse (graph_of code) s.here.block s.here.at) (InUse (graph_of code) e.block 0) (world_of s) base 0 2 m.pc (starts e.block)
+    jump-comes (layout_of code homes) (InUse (graph_of code) s.here.block s.here.at) (InUse (graph_of code) e.block 0) (world_of s) base 0
+    (length (jump x.setting.short m.pc (starts e.block))) m.pc (starts e.block)
     x.setting.short program m m x.holds
     (where-housed p code homes held (Jump e) starts s program base m x)
     (next-here p code homes held (Jump e) starts s program base m x e.block (λ q h. or-left (q e.block) false h)) (way-none program m) (near-same m) refl (omega (arith, x.near))
@@ -236,16 +238,23 @@ jump-remains p code homes held e starts s program base m x behind =
     }
 
 carry-jump : (p : Program) (code : Tac) (homes : List (Option Home)) (held : Option ℕ) (e : Edge) (starts : ℕ → ℕ) (s : tac.State) (program : List (Option Instr)) (base : ℕ) (m : State) →
-    StandsAtExit p code homes held (Jump e) starts s program base m → Left (layout_of code homes) (graph_of code) program base 2 starts s m (step p s)
+    (x : StandsAtExit p code homes held (Jump e) starts s program base m) →
+    Left (layout_of code homes) (graph_of code) program base (length (exit_shape (layout_of code homes) x.setting held m.pc starts (Jump e))) starts s m
+    (step p s)
 carry-jump p code homes held e starts s program base m x =
-    let goes = jump-goes p code homes held e starts s program base m x in
+    let most : ℕ = length (if falls x.setting.next e then [] else jump x.setting.short m.pc (starts e.block)) in
+    let goes : falls x.setting.next e ≡ false → Comes (layout_of code homes) program (InUse (graph_of code) e.block 0) (world_of s) base most
+    (starts e.block) [] m =
+    λ apart. subst (λ b. Comes (layout_of code homes) program (InUse (graph_of code) e.block 0) (world_of s) base
+    (length (if b then [] else jump x.setting.short m.pc (starts e.block))) (starts e.block) [] m) (sym apart)
+    (jump-goes p code homes held e starts s program base m x apart) in
     let remains = jump-remains p code homes held e starts s program base m x in
     let e1 = x.function in
     let e2 = x.in_function in
     let e3 = x.in_block in
     let e4 = x.is in
     rw (e1, e2, e3) (rw e4
-    (by-test (λ moved. Left (layout_of code homes) (graph_of code) program base 2 starts s m moved) e.counts _ _
+    (by-test (λ moved. Left (layout_of code homes) (graph_of code) program base most starts s m moved) e.counts _ _
     (λ h.
     let comes = goes (ap (λ b. not b && is_next x.setting.next e.block) h) in
     ⊎_elim (λ z. rw z tt) (λ z. let q = z.1 in rw q (refl, inl comes)) (zero-or-more s.left))
@@ -253,7 +262,7 @@ carry-jump p code homes held e starts s program base m x =
 
 carry-fail : (p : Program) (code : Tac) (homes : List (Option Home)) (held : Option ℕ) (kind : FaultKind) (at : Place) (starts : ℕ → ℕ) (s : tac.State) (program : List (Option Instr)) (base : ℕ) (m : State) →
     nat_le (fault_number kind) 5 ≡ true → StandsAtExit p code homes held (Fail kind at) starts s program base m →
-    Left (layout_of code homes) (graph_of code) program base 11 starts s m (step p s)
+    Left (layout_of code homes) (graph_of code) program base (length (failed kind at)) starts s m (step p s)
 carry-fail p code homes held kind at starts s program base m few x =
     let e1 = x.function in
     let e2 = x.in_function in
@@ -270,13 +279,13 @@ carry-fail p code homes held kind at starts s program base m few x =
     some BadCall = omega arith
 
 carry-branch : (p : Program) (code : Tac) (homes : List (Option Home)) (held : Option ℕ) (a : Operand) (e f : Edge) (starts : ℕ → ℕ) (s : tac.State) (program : List (Option Instr)) (base : ℕ) (m : State) →
-    StandsAtExit p code homes held (Branch a e f) starts s program base m →
-    Left (layout_of code homes) (graph_of code) program base (exit_words (Branch a e f)) starts s m (step p s)
+    (x : StandsAtExit p code homes held (Branch a e f) starts s program base m) →
+    Left (layout_of code homes) (graph_of code) program base (length (exit_shape (layout_of code homes) x.setting held m.pc starts (Branch a e f))) starts s
+    m (step p s)
 carry-branch p code homes held a e f starts s program base m x =
     let y : Layout = layout_of code homes in
     let used : ℕ → Type 0 = InUse (graph_of code) s.here.block s.here.at in
     let v : ℕ = value_in s.here.temps a in
-    let few : length (first_taken y held a) + 3 ≤ exit_words (Branch a e f) = omega (arith, first-count y held a) in
     let fit = both-true (operand_fits code a && edge_fits code e) (edge_fits code f) x.fits in
     let fit-a = both-true (operand_fits code a) (edge_fits code e) fit.0 in
     let h : Housed y used = where-housed p code homes held (Branch a e f) starts s program base m x in
@@ -292,18 +301,19 @@ carry-branch p code homes held a e f starts s program base m x =
     (first-read code y held used a fit-a.0 (reads-here p code homes held (Branch a e f) starts s program base m x) x.asked) in
     let o : Follows = follower x.setting.next e.block f.block in
     let C : List Instr = exit_shape y x.setting held m.pc starts (Branch a e f) in
+    let few : length C ≤ length C = at-most (length C) in
     let first-next : o ≡ First → starts e.block ≡ m.pc + 4 * length C =
     λ q. x.next_there e.block (follower-first x.setting.next e.block f.block q) in
     let second-next : o ≡ Second → starts f.block ≡ m.pc + 4 * length C =
     λ q. x.next_there f.block (follower-second x.setting.next e.block f.block q) in
-    let first : v ≢ 0 → Comes y program (InUse (graph_of code) e.block 0) (world_of s) base (exit_words (Branch a e f)) (starts e.block) [] m =
-    λ n. chosen-comes y used (InUse (graph_of code) e.block 0) (world_of s) base (starts e.block) (starts f.block) (starts e.block) (exit_words (Branch a e f))
+    let first : v ≢ 0 → Comes y program (InUse (graph_of code) e.block 0) (world_of s) base (length C) (starts e.block) [] m =
+    λ n. chosen-comes y used (InUse (graph_of code) e.block 0) (world_of s) base (starts e.block) (starts f.block) (starts e.block) (length C)
     x.setting.near x.setting.short o Ne x5 x0 true (first_taken y held a) program m l.after (loads-five (first_taken y held a) m v l) x.holds h
     (next-here p code homes held (Branch a e f) starts s program base m x e.block (λ q g. or-left (q e.block) (q f.block || false) g)) few short
     x.near (x.blocks e.block) (x.blocks f.block) reach-e reach-f near-e near-f first-next second-next x.stands
     (ap (λ q. not (nat_eq q 0)) l.gives ∙ ap not (ne_eqb v 0 n)) refl in
-    let second : v ≡ 0 → Comes y program (InUse (graph_of code) f.block 0) (world_of s) base (exit_words (Branch a e f)) (starts f.block) [] m =
-    λ z. chosen-comes y used (InUse (graph_of code) f.block 0) (world_of s) base (starts e.block) (starts f.block) (starts f.block) (exit_words (Branch a e f))
+    let second : v ≡ 0 → Comes y program (InUse (graph_of code) f.block 0) (world_of s) base (length C) (starts f.block) [] m =
+    λ z. chosen-comes y used (InUse (graph_of code) f.block 0) (world_of s) base (starts e.block) (starts f.block) (starts f.block) (length C)
     x.setting.near x.setting.short o Ne x5 x0 false (first_taken y held a) program m l.after (loads-five (first_taken y held a) m v l) x.holds h
     (next-here p code homes held (Branch a e f) starts s program base m x f.block (λ q g. or-second (q e.block) (q f.block || false) (or-left (q f.block) false g))) few short
     x.near (x.blocks e.block) (x.blocks f.block) reach-e reach-f near-e near-f first-next second-next x.stands
@@ -313,14 +323,14 @@ carry-branch p code homes held a e f starts s program base m x =
     let e3 = x.in_block in
     let e4 = x.is in
     rw (e1, e2, e3) (rw e4
-    (by-test (λ moved. Left (layout_of code homes) (graph_of code) program base (exit_words (Branch a e f)) starts s m moved) (nat_eq (value_in s.here.temps a) 0) _ _
+    (by-test (λ moved. Left (layout_of code homes) (graph_of code) program base (length C) starts s m moved) (nat_eq (value_in s.here.temps a) 0) _ _
     (λ z.
     let comes = second (eqb-true (value_in s.here.temps a) 0 z) in
-    by-test (λ moved. Left (layout_of code homes) (graph_of code) program base (exit_words (Branch a e f)) starts s m moved) f.counts _ _
+    by-test (λ moved. Left (layout_of code homes) (graph_of code) program base (length C) starts s m moved) f.counts _ _
     (λ c. ⊎_elim (λ k. rw k tt) (λ k. let q = k.1 in rw q (refl, inl comes)) (zero-or-more s.left)) (λ c. (refl, inl comes)))
     (λ z.
     let comes = first (λ o. let t : nat_eq (value_in s.here.temps a) 0 ≡ true = eq-eqb (value_in s.here.temps a) 0 o in let none : true ≡ false = sym t ∙ z in cc) in
-    by-test (λ moved. Left (layout_of code homes) (graph_of code) program base (exit_words (Branch a e f)) starts s m moved) e.counts _ _
+    by-test (λ moved. Left (layout_of code homes) (graph_of code) program base (length C) starts s m moved) e.counts _ _
     (λ c. ⊎_elim (λ k. rw k tt) (λ k. let q = k.1 in rw q (refl, inl comes)) (zero-or-more s.left)) (λ c. (refl, inl comes)))))
 
 pub exits : ExitsAreCarried

@@ -24,9 +24,7 @@ use Rattle.tac_form.specs.declared.tac.Size.{Size}
 use Rattle.tac_form.specs.declared.tac.Size.TheVariants.{One, Two, Four, Eight}
 use Rattle.tac_form.specs.declared.tac.Operand.{Operand}
 use Rattle.tac_form.specs.declared.tac.Operand.TheVariants.{Temp, Constant}
-use Rattle.tac_form.specs.declared.tac.Instruction.TheVariants.{Compute, Copy}
 use Rattle.tac_form.specs.Flow.{Temps, put, bytes_of, width_of}
-use Rattle.tac_form.specs.Weights.{words_of}
 use Rattle.rv_operators.specs.Claims.{Leads}
 use Rattle.rv_operators.specs.Codes.{x0, x5, x6, code_of, is_width}
 use Rattle.rv_operators.specs.Runs.{Stands}
@@ -43,11 +41,10 @@ use Rattle.rv_select.proofs.Claims.{CopiesAreCarried, Gives, OperatorsAreCarried
 use Rattle.rv_select.proofs.Straight.{Loads, Scratch, behind-both, leads-scratch, loads-five, loads-six, low-below, low-here, scratch-both}
 use Rattle.rv_select.proofs.Ways.{Near, Way, scratch-near, stands-back, stands-front, straight-way, way-both}
 use Rattle.rv_select.proofs.Frames.{framed-some}
-use Rattle.rv_select.proofs.Homes.{Puts, first-count, from-five, home-apart, home-inside, put-count, put-home, put-is, put-none}
+use Rattle.rv_select.proofs.Homes.{Puts, from-five, home-apart, home-inside, put-home, put-is, put-none}
 use Rattle.rv_select.proofs.Homes.{region-small, take-first, take-operand, held-is}
-use Rattle.rv_select.proofs.Holding.{applied-count, applied-some, folded-few, folds}
+use Rattle.rv_select.proofs.Holding.{applied-some, folded-few, folds}
 use Rattle.rv_select.proofs.Numbers.{constant-loads}
-use Rattle.rv_select.proofs.Sequences.{operator-count}
 use Rattle.rv_select.proofs.Small.{applied-small}
 
 -- a word at a home depends on neither scratch registers nor the region
@@ -277,11 +274,11 @@ pub record PutsAway (y : Layout) (program : List (Option Instr)) (Next : ℕ →
 
 pub put-away : (y : Layout) (Used Next : ℕ → Type 0) (w : World) (base d v k weight target : ℕ) (program : List (Option Instr)) (m n : State) →
     Holds y Used w base m → Housed y Used → Housed y Next → Next d → Follows Used Next d → Way program k m n → Near m n → n.pc < 2 ^ 64 →
-    n.registers 5 ≡ v → v < 2 ^ 64 → k + 3 ≤ weight → Stands program n.pc (put_at y d) → low (n.pc + 4 * length (put_at y d)) ≡ target →
+    n.registers 5 ≡ v → v < 2 ^ 64 → k + length (put_at y d) ≤ weight → Stands program n.pc (put_at y d) → low (n.pc + 4 * length (put_at y d)) ≡ target →
     PutsAway y program Next (with_temp w d v) base k weight target d m
 put-away y Used Next w base d v k weight target program m n p h h' u follows way near small e l few stands to =
     ⊎_elim
-    (λ has. home has (subst (λ c. Stands program n.pc c) (put-is y d has) stands) (ap (λ c. low (n.pc + 4 * length c)) (sym (put-is y d has)) ∙ to))
+    (λ has. home has (subst (λ c. k + length c ≤ weight) (put-is y d has) few) (subst (λ c. Stands program n.pc c) (put-is y d has) stands) (ap (λ c. low (n.pc + 4 * length c)) (sym (put-is y d has)) ∙ to))
     (λ none. nowhere none (ap (λ c. low (n.pc + 4 * length c)) (sym (put-none y d none)) ∙ to))
     (cases_Bool (is_given (slice_get y.homes d)))
   where
@@ -291,13 +288,12 @@ put-away y Used Next w base d v k weight target program m n p h h' u follows way
     there : v ≡ put w.temps d v d
     there = sym (ap (λ c. if c then v else w.temps d) (eq-eqb d d refl))
 
-    home : HasHome y d → Stands program n.pc (put_to (home_of y d)) → low (n.pc + 4 * length (put_to (home_of y d))) ≡ target →
+    home : HasHome y d → k + length (put_to (home_of y d)) ≤ weight → Stands program n.pc (put_to (home_of y d)) → low (n.pc + 4 * length (put_to (home_of y d))) ≡ target →
         PutsAway y program Next (with_temp w d v) base k weight target d m
-    home has stands to =
+    home has short stands to =
         let b : List Instr = put_to (home_of y d) in
         let r : Puts y base b n (home_of y d) v =
         put-home y base v x5 n (home_of y d) small q.frame (region-small y Used w base n q) (h'.homes d u has) (λ t same. same ∙ e) l in
-        let most : length b ≤ 3 = put-count x5 (home_of y d) in
         let least : 1 ≤ length b = some-put x5 (home_of y d) in
         let whole : Way program (k + length b) m r.after =
         way-both program k (length b) m n r.after way (straight-way program b n r.after stands r.straight r.goes) in
@@ -305,7 +301,7 @@ put-away y Used Next w base d v k weight target program m n p h h' u follows way
           settles = record {
             steps = k + length b;
             after = r.after;
-            few = omega arith;
+            few = short;
             runs = whole.runs;
             at = r.behind ∙ to;
             holds = put-holds y Used Next w base d v b n r q h' u has follows l;
@@ -333,7 +329,7 @@ put-away y Used Next w base d v k weight target program m n p h h' u follows way
 
 pub then-put : (y : Layout) (Used Next : ℕ → Type 0) (w : World) (base d v k weight target : ℕ) (program : List (Option Instr)) (m n : State) →
     Holds y Used w base m → Housed y Used → Housed y Next → Next d → Follows Used Next d → Way program k m n → Near m n → n.pc < 2 ^ 64 →
-    n.registers 5 ≡ v → v < 2 ^ 64 → k + 3 ≤ weight → (1 ≤ k) ⊎ HasHome y d → Stands program n.pc (put_at y d) →
+    n.registers 5 ≡ v → v < 2 ^ 64 → k + length (put_at y d) ≤ weight → (1 ≤ k) ⊎ HasHome y d → Stands program n.pc (put_at y d) →
     low (n.pc + 4 * length (put_at y d)) ≡ target →
     Gives y program Next (with_temp w d v) base weight target d m
 then-put y Used Next w base d v k weight target program m n p h h' u follows way near small e l few some stands to =
@@ -356,13 +352,13 @@ then-put y Used Next w base d v k weight target program m n p h h' u follows way
 -- straight code that leaves a word in x5, and a put
 pub straight-put : (y : Layout) (Used Next : ℕ → Type 0) (w : World) (base d v weight : ℕ) (a : List Instr) (program : List (Option Instr)) (m n : State) →
     Holds y Used w base m → Housed y Used → Housed y Next → Next d → Follows Used Next d → Scratch a m n → n.registers 5 ≡ v → v < 2 ^ 64 →
-    length a + 3 ≤ weight → (1 ≤ length a) ⊎ HasHome y d → Stands program m.pc (a ++ put_at y d) →
+    length (a ++ put_at y d) ≤ weight → (1 ≤ length a) ⊎ HasHome y d → Stands program m.pc (a ++ put_at y d) →
     Gives y program Next (with_temp w d v) base weight (behind m (a ++ put_at y d)) d m
 straight-put y Used Next w base d v weight a program m n p h h' u follows s e l few some stands =
     let b : List Instr = put_at y d in
     then-put y Used Next w base d v (length a) weight (behind m (a ++ b)) program m n p h h' u follows
     (straight-way program a m n (stands-front program m.pc a b stands) s.straight s.goes) (scratch-near a m n s)
-    (subst (λ z. z < 2 ^ 64) (sym s.behind) (low-below (m.pc + 4 * length a))) e l few some
+    (subst (λ z. z < 2 ^ 64) (sym s.behind) (low-below (m.pc + 4 * length a))) e l (subst (λ n. n ≤ weight) (length-append a b) few) some
     (subst (λ z. Stands program z b) (sym s.behind) (stands-back program m.pc a b p.pc stands))
     (behind-both a b m.pc n.pc (low (n.pc + 4 * length b)) s.behind refl)
 
@@ -375,31 +371,34 @@ pub first-small : (held : Option ℕ) (Used : ℕ → Type 0) (y : Layout) (w : 
 first-small held Used y w base m (Temp t) p r = p.words t r.0
 first-small held Used y w base m (Constant c) p r = r
 
+pub at-most : (n : ℕ) → n ≤ n
+at-most n = omega arith
+
 -- a copy by x5, and one of x0
 copied-by-five : (y : Layout) (held : Option ℕ) (d : ℕ) (a : Operand) (Used Next : ℕ → Type 0) (w : World) (base : ℕ)
     (program : List (Option Instr)) (m : State) → Stands program m.pc (first_taken y held a ++ put_at y d) → IsHeld held w.temps m → Holds y Used w base m → Housed y Used →
     Housed y Next → IsFirst y held Used a → Next d → HasHome y d → Follows Used Next d →
-    Gives y program Next (with_temp w d (value_in w.temps a)) base (words_of (Copy d a)) (behind m (first_taken y held a ++ put_at y d)) d m
+    Gives y program Next (with_temp w d (value_in w.temps a)) base (length (first_taken y held a ++ put_at y d))
+    (behind m (first_taken y held a ++ put_at y d)) d m
 copied-by-five y held d a Used Next w base program m stands f p h h' r u has follows =
     let A : List Instr = first_taken y held a in
     let l : Loads 5 A m (value_in w.temps a) = take-first y held Used w base m a f p h r in
-    straight-put y Used Next w base d (value_in w.temps a) (words_of (Copy d a)) A program m l.after p h h' u follows
-    (loads-five A m (value_in w.temps a) l) l.gives (first-small held Used y w base m a p r) (omega (arith, first-count y held a)) (inr has) stands
+    straight-put y Used Next w base d (value_in w.temps a) (length (A ++ put_at y d)) A program m l.after p h h' u follows
+    (loads-five A m (value_in w.temps a) l) l.gives (first-small held Used y w base m a p r) (at-most (length (A ++ put_at y d))) (inr has) stands
 
 zero-put : (y : Layout) (d weight : ℕ) (Used Next : ℕ → Type 0) (w : World) (base : ℕ) (program : List (Option Instr)) (m : State) →
     Stands program m.pc (put_from x0 (home_of y d)) → Holds y Used w base m → Housed y Next → Next d → HasHome y d → Follows Used Next d →
-    3 ≤ weight → Comes y program Next (with_temp w d 0) base weight (behind m (put_from x0 (home_of y d))) [] m
+    length (put_from x0 (home_of y d)) ≤ weight → Comes y program Next (with_temp w d 0) base weight (behind m (put_from x0 (home_of y d))) [] m
 zero-put y d weight Used Next w base program m stands p h u has follows few =
     let b : List Instr = put_from x0 (home_of y d) in
     let r : Puts y base b m (home_of y d) 0 =
     put-home y base 0 x0 m (home_of y d) p.pc p.frame (region-small y Used w base m p) (h.homes d u has) (λ n same. refl) (omega arith) in
-    let most : length b ≤ 3 = put-count x0 (home_of y d) in
     let way : Way program (length b) m r.after = straight-way program b m r.after stands r.straight r.goes in
     record {
       steps = length b;
       after = r.after;
       some = some-put x0 (home_of y d);
-      few = omega (arith, most, few);
+      few = few;
       runs = way.runs;
       at = r.behind;
       holds = put-holds y Used Next w base d 0 b m r p h u has follows (omega arith);
@@ -412,15 +411,17 @@ copies y held d (Temp t) Used Next w base program m stands f p h h' r u has foll
 copies y held d (Constant c) Used Next w base program m stands f p h h' r u has follows = either (nat_eq c 0) refl stands
   where
     either : (b : Bool) → nat_eq c 0 ≡ b → Stands program m.pc (if b then put_from x0 (home_of y d) else constant x5 c ++ put_at y d) →
-        (k : Comes y program Next (with_temp w d c) base (words_of (Copy d (Constant c)))
+        (k : Comes y program Next (with_temp w d c) base
+        (length (if b then put_from x0 (home_of y d) else constant x5 c ++ put_at y d))
         (behind m (if b then put_from x0 (home_of y d) else constant x5 c ++ put_at y d)) [] m) ×
         IsHeld (if b then None else Some d) (with_temp w d c).temps k.after
     either false e there =
         let g = copied-by-five y held d (Constant c) Used Next w base program m there f p h h' r u has follows in (g.comes, g.five)
     either true e there = (
-      subst (λ v. Comes y program Next (with_temp w d v) base (words_of (Copy d (Constant c))) (behind m (put_from x0 (home_of y d))) [] m)
+      subst (λ v. Comes y program Next (with_temp w d v) base (length (put_from x0 (home_of y d))) (behind m (put_from x0 (home_of y d))) [] m)
           (sym (eqb-true c 0 e))
-          (zero-put y d (words_of (Copy d (Constant c))) Used Next w base program m there p h' u has follows (omega arith)),
+          (zero-put y d (length (put_from x0 (home_of y d))) Used Next w base program m there p h' u has follows
+          (at-most (length (put_from x0 (home_of y d))))),
       tt,
     )
 
@@ -487,7 +488,7 @@ OperandsAreCarried =
     Stands program m.pc (operated y held d op (width_of form) a b) → IsHeld held w.temps m → (divides op ≡ true → value_in w.temps b ≢ 0) →
     Holds y Used w base m → Housed y Used → Housed y Next → IsFirst y held Used a → IsRead y Used b → Next d → Follows Used Next d →
     Gives y program Next (with_temp w d (applied (width_of form) op (value_in w.temps a) (value_in w.temps b))) base
-    (words_of (Compute d op form a b)) (behind m (operated y held d op (width_of form) a b)) d m
+    (length (operated y held d op (width_of form) a b)) (behind m (operated y held d op (width_of form) a b)) d m
 
 in-order : OperandsAreCarried
 in-order y held d op form a b Used Next w base program m stands f divisor p h h' ra rb u follows =
@@ -500,13 +501,11 @@ in-order y held d op form a b Used Next w base program m stands f divisor p h h'
     let l : Loads 5 A m va = take-first y held Used w base m a f p h ra in
     let q : Holds y Used w base l.after = scratch-holds y Used w base A m l.after p h (loads-five A m va l) in
     let o : Applies S l.after (applied wide op va vb) = applies y Used w base op wide b l.after va (wide-size form.size) divisor l.gives sa q h rb in
-    let few : length (A ++ S) + 3 ≤ words_of (Compute d op form a b) =
-    omega (arith, length-append A S, first-count y held a, applied-count y wide op b) in
     let some : 1 ≤ length (A ++ S) = omega (arith, length-append A S, applied-some y wide op b) in
-    subst (λ x. Gives y program Next (with_temp w d (applied wide op va vb)) base (words_of (Compute d op form a b)) (behind m x) d m)
+    subst (λ x. Gives y program Next (with_temp w d (applied wide op va vb)) base (length x) (behind m x) d m)
     (append_assoc A S (put_at y d))
-    (straight-put y Used Next w base d (applied wide op va vb) (words_of (Compute d op form a b)) (A ++ S) program m o.after p h h' u follows
-    (scratch-both A S m l.after o.after (loads-five A m va l) o.scratch) o.gives (applied-small wide op va vb (wide-size form.size)) few (inl some)
+    (straight-put y Used Next w base d (applied wide op va vb) (length ((A ++ S) ++ put_at y d)) (A ++ S) program m o.after p h h' u follows
+    (scratch-both A S m l.after o.after (loads-five A m va l) o.scratch) o.gives (applied-small wide op va vb (wide-size form.size)) (at-most (length ((A ++ S) ++ put_at y d))) (inl some)
     (subst (λ x. Stands program m.pc x) (sym (append_assoc A S (put_at y d))) stands))
 
 -- where x5 holds the second operand
@@ -520,7 +519,7 @@ second-held : (y : Layout) (held : Option ℕ) (d : ℕ) (op : BinaryOperator) (
     (divides op ≡ true → w.temps t ≢ 0) → Holds y Used w base m → Housed y Used → Housed y Next → IsFirst y held Used a → Used t → Next d →
     Follows Used Next d →
     Gives y program Next (with_temp w d (applied (width_of form) op (value_in w.temps a) (w.temps t))) base
-    (words_of (Compute d op form a (Temp t))) (behind m (operated_second y held d op (width_of form) a)) d m
+    (length (operated_second y held d op (width_of form) a)) (behind m (operated_second y held d op (width_of form) a)) d m
 second-held y held d op form a t Used Next w base program m stands f e divisor p h h' ra used u follows =
     let wide : Width = width_of form in
     let va = value_in w.temps a in
@@ -546,12 +545,10 @@ second-held y held d op form a t Used Next w base program m stands f e divisor p
     let gives : o.after.registers 5 ≡ applied wide op va vb =
     o.gives ∙ (ap (λ x. applied wide op x (r.registers 6)) l.gives ∙ ap (λ x. applied wide op va x) six) in
     let one : length (M ++ (A ++ C)) ≡ suc (length (A ++ C)) = refl in
-    let few : length (M ++ (A ++ C)) + 3 ≤ words_of (Compute d op form a (Temp t)) =
-    omega (arith, one, length-append A C, first-count y held a, operator-count wide op) in
-    subst (λ x. Gives y program Next (with_temp w d (applied wide op va vb)) base (words_of (Compute d op form a (Temp t))) (behind m x) d m)
+    subst (λ x. Gives y program Next (with_temp w d (applied wide op va vb)) base (length x) (behind m x) d m)
     (ap (λ x. moved x6 x5 ∷ x) (append_assoc A C (put_at y d)))
-    (straight-put y Used Next w base d (applied wide op va vb) (words_of (Compute d op form a (Temp t))) (M ++ (A ++ C)) program m o.after p h h'
-    u follows scratch gives (applied-small wide op va vb (wide-size form.size)) few (inl (omega (arith, one)))
+    (straight-put y Used Next w base d (applied wide op va vb) (length ((M ++ (A ++ C)) ++ put_at y d)) (M ++ (A ++ C)) program m o.after p h h'
+    u follows scratch gives (applied-small wide op va vb (wide-size form.size)) (at-most (length ((M ++ (A ++ C)) ++ put_at y d))) (inl (omega (arith, one)))
     (subst (λ x. Stands program m.pc x) (ap (λ x. moved x6 x5 ∷ x) (sym (append_assoc A C (put_at y d)))) stands))
 
 -- operands that change places
@@ -611,14 +608,15 @@ operators y held d op form a b Used Next w base program m stands f divisor p h h
     second : (b : Operand) → is_second held b ≡ true → IsFirst y held Used b → (divides op ≡ true → value_in w.temps b ≢ 0) →
         IsFirst y held Used a → Stands program m.pc (operated_second y held d op (width_of form) a) →
         Gives y program Next (with_temp w d (applied (width_of form) op (value_in w.temps a) (value_in w.temps b))) base
-        (words_of (Compute d op form a b)) (behind m (operated_second y held d op (width_of form) a)) d m
+        (length (operated_second y held d op (width_of form) a)) (behind m (operated_second y held d op (width_of form) a)) d m
     second (Temp t) e r never ra there =
         second-held y held d op form a t Used Next w base program m there f e never p h h' ra r.0 u follows
     second (Constant c) e r never ra there = cc
 
     in-turn : is_turned held op b ≡ false → (c : Bool) → is_second held b ≡ c →
         Stands program m.pc (if c then operated_second y held d op (width_of form) a else operated y held d op (width_of form) a b) →
-        Gives y program Next (with_temp w d (applied (width_of form) op (value_in w.temps a) (value_in w.temps b))) base (words_of (Compute d op form a b))
+        Gives y program Next (with_temp w d (applied (width_of form) op (value_in w.temps a) (value_in w.temps b))) base
+        (length (if c then operated_second y held d op (width_of form) a else operated y held d op (width_of form) a b))
         (behind m (if c then operated_second y held d op (width_of form) a else operated y held d op (width_of form) a b)) d m
     in-turn e false g there =
         (let r = plain e g in in-order y held d op form a b Used Next w base program m there f divisor p h h' r.0 r.1 u follows)
@@ -627,7 +625,9 @@ operators y held d op form a b Used Next w base program m stands f divisor p h h
     either : (c : Bool) → is_turned held op b ≡ c →
         Stands program m.pc (if c then operated y held d op (width_of form) b a
         else if is_second held b then operated_second y held d op (width_of form) a else operated y held d op (width_of form) a b) →
-        Gives y program Next (with_temp w d (applied (width_of form) op (value_in w.temps a) (value_in w.temps b))) base (words_of (Compute d op form a b))
+        Gives y program Next (with_temp w d (applied (width_of form) op (value_in w.temps a) (value_in w.temps b))) base
+        (length (if c then operated y held d op (width_of form) b a
+        else if is_second held b then operated_second y held d op (width_of form) a else operated y held d op (width_of form) a b))
         (behind m (if c then operated y held d op (width_of form) b a
         else if is_second held b then operated_second y held d op (width_of form) a else operated y held d op (width_of form) a b)) d m
     either false e there = in-turn e (is_second held b) refl there
@@ -635,10 +635,7 @@ operators y held d op form a b Used Next w base program m stands f divisor p h h
         let t = turned b e in
         let r = turn e in
         let never : divides op ≡ true → value_in w.temps a ≢ 0 = λ g. let none : false ≡ true = sym t.1 ∙ g in cc in
-        let same : words_of (Compute d op form b a) ≡ words_of (Compute d op form a b) = omega arith in
-        subst (λ n. Gives y program Next (with_temp w d (applied (width_of form) op (value_in w.temps a) (value_in w.temps b))) base n
-        (behind m (operated y held d op (width_of form) b a)) d m) same
-        (subst (λ v. Gives y program Next (with_temp w d v) base (words_of (Compute d op form b a))
+        subst (λ v. Gives y program Next (with_temp w d v) base (length (operated y held d op (width_of form) b a))
         (behind m (operated y held d op (width_of form) b a)) d m)
         (symmetric (width_of form) op (value_in w.temps b) (value_in w.temps a) t.0)
-        (in-order y held d op form b a Used Next w base program m there f never p h h' r.0 r.1 u follows))
+        (in-order y held d op form b a Used Next w base program m there f never p h h' r.0 r.1 u follows)

@@ -34,7 +34,7 @@ use Rattle.rv_select.proofs.Areas.{Saves, area-near}
 use Rattle.rv_select.proofs.Bytes.{other-than-word, stored-length, stored-word}
 use Rattle.rv_select.proofs.Frames.{framed-address, framed-count}
 use Rattle.rv_select.proofs.Homes.{from-five, held-is, region-small, take-operand, taken-count, word_stored, first-few, take-first}
-use Rattle.rv_select.proofs.Moves.{near-holds, value-small, first-small}
+use Rattle.rv_select.proofs.Moves.{near-holds, first-small}
 use Rattle.rv_select.proofs.Jumps.{sum-of}
 use Rattle.rv_select.proofs.Kept.{store-word}
 use Rattle.rv_select.proofs.Numbers.{below-is, constant-count, constant-loads}
@@ -253,7 +253,7 @@ pub record PassedParts (y : Layout) (held : Option ℕ) (base i : ℕ) (ps : Lis
   pub after : State
   pub steps : ℕ
   pub way : Way program steps m after
-  pub few : steps ≤ 11 * length ps
+  pub few : steps ≤ length (passed y held i ps)
   pub beneath : Beneath (base - 8 * i) m after
   pub words : (k : ℕ) (p : Part) → slice_get ps k ≡ Some p → private_word after (base - 8 * (i + k + 1)) ≡ part_value y base w p
   pub pc : after.pc ≡ low (m.pc + 4 * length (passed y held i ps))
@@ -334,7 +334,7 @@ passes y held Used w base program i (q ∷ ps) rest m there f p h reads room =
       after = more.after;
       steps = length A + length B + more.steps;
       way = way;
-      few = omega (arith, first-part-count y held q, below-count x5 (8 * (i + 1)), more.few);
+      few = omega (arith, more.few, length-append A (B ++ C), length-append B C);
       beneath = beneath-both (base - 8 * i) (base - 8 * (i + 1)) m u more.after (omega arith) two more.beneath;
       words = λ k o e. word more.after k o e first more.words;
       pc = pc-three m.pc t.pc u.pc more.after.pc (length A) (length B) (length C) l.behind s.behind more.pc

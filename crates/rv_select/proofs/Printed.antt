@@ -1,7 +1,7 @@
 -- Bytes that go to the output.
 use Rattle.std.proofs.Common.{◌≡◌, ℕ, ◌+◌, ◌*◌, ◌%◌, ◌^◌, ◌<◌, ◌≤◌, List, [], ◌∷◌, ◌++◌, length, take, drop, Option, refl, sym, ap, ◌∙◌}
 use Rattle.std.proofs.Common.{subst, arith}
-use Rattle.std.proofs.lemmas.List.{length-drop, length-take-le}
+use Rattle.std.proofs.lemmas.List.{length-append, length-drop, length-take-le}
 use Rattle.rv_isa.specs.declared.instr.Instr.{Instr}
 use Rattle.rv_isa.specs.declared.instr.Instr.TheVariants.{Ecall, Load, RegisterImmediate, Store}
 use Rattle.rv_isa.specs.declared.operation.ImmediateOp.TheVariants.{Addi}
@@ -162,29 +162,30 @@ byte-count y held (Constant c) = let few : length (constant x5 (c % 256)) ≤ 2 
 
 -- the state after a byte, and a way before it
 byte-ends : (y : Layout) (Used Next : ℕ → Type 0) (w : World) (base v x : ℕ) (A : List Instr) (program : List (Option Instr)) (m t z : State) →
-    Holds y Used w base m → Housed y Used → AreFewer Used Next → length A ≤ 3 → Way program (length A) m t → Calm m t → t.pc ≡ low (m.pc + 4 * length A) → v % 256 ≡ x % 256 →
-    Wrote program 8 (v % 256 ∷ []) t z → Calm t z → z.pc ≡ low (t.pc + 4 * 8) → Comes y program Next w base 11 (behind m (A ++ byte_written)) (x % 256 ∷ []) m
-byte-ends y Used Next w base v x A program m t z p h f few first calm to same second calm' pc =
-    calm-comes y Used Next w base (length A + 8) 11 (behind m (A ++ byte_written)) (x % 256 ∷ []) program m z p h f
+    Holds y Used w base m → Housed y Used → AreFewer Used Next → Way program (length A) m t → Calm m t → t.pc ≡ low (m.pc + 4 * length A) → v % 256 ≡ x % 256 →
+    Wrote program 8 (v % 256 ∷ []) t z → Calm t z → z.pc ≡ low (t.pc + 4 * 8) → Comes y program Next w base (length (A ++ byte_written)) (behind m (A ++ byte_written)) (x % 256 ∷ []) m
+byte-ends y Used Next w base v x A program m t z p h f first calm to same second calm' pc =
+    calm-comes y Used Next w base (length A + 8) (length (A ++ byte_written)) (behind m (A ++ byte_written)) (x % 256 ∷ []) program m z p h f
     (subst (λ b. Wrote program (length A + 8) (b ∷ []) m z) same (then-wrote program (length A) 8 (v % 256 ∷ []) m t z first second))
-    (calm-both m t z calm calm') (subst (λ q. q < 2 ^ 64) (sym pc) (low-below (t.pc + 4 * 8))) (omega arith) (omega arith) (behind-both A byte_written m.pc t.pc z.pc to pc)
+    (calm-both m t z calm calm') (subst (λ q. q < 2 ^ 64) (sym pc) (low-below (t.pc + 4 * 8))) (omega arith)
+    (omega (arith, length-append A byte_written)) (behind-both A byte_written m.pc t.pc z.pc to pc)
 
 byte-comes : (y : Layout) (Used Next : ℕ → Type 0) (w : World) (base v x : ℕ) (A : List Instr) (program : List (Option Instr)) (m : State) (l : Loads 5 A m v) →
-    Holds y Used w base m → Housed y Used → AreFewer Used Next → length A ≤ 3 → v % 256 ≡ x % 256 → Stands program m.pc (A ++ byte_written) →
-    Comes y program Next w base 11 (behind m (A ++ byte_written)) (x % 256 ∷ []) m
-byte-comes y Used Next w base v x A program m l p h f few same stands =
+    Holds y Used w base m → Housed y Used → AreFewer Used Next → v % 256 ≡ x % 256 → Stands program m.pc (A ++ byte_written) →
+    Comes y program Next w base (length (A ++ byte_written)) (behind m (A ++ byte_written)) (x % 256 ∷ []) m
+byte-comes y Used Next w base v x A program m l p h f same stands =
     let t : State = l.after in
     let g =
     byte-goes program t base v l.gives (l.keeps 2 (λ e. omega (arith, e)) (λ e. omega (arith, e)) ∙ p.frame.pointer)
     (subst (λ z. base + 8 ≤ length z) (sym l.private) (omega (arith, p.frame.within))) (subst (λ z. length z ≤ 603979776) (sym l.private) p.frame.private)
     (subst (λ z. length z ≤ 67108864) (sym l.region) (region-small y Used w base m p)) (subst AreBytes (sym l.private) p.frame.bytes)
     (subst (λ q. Stands program q byte_written) (sym l.behind) (stands-back program m.pc A byte_written p.pc stands)) in
-    byte-ends y Used Next w base v x A program m t g.0 p h f few (straight-way program A m t (stands-front program m.pc A byte_written stands) l.straight l.goes)
+    byte-ends y Used Next w base v x A program m t g.0 p h f (straight-way program A m t (stands-front program m.pc A byte_written stands) l.straight l.goes)
     (near-calm m t (scratch-near A m t (loads-five A m v l))) l.behind same g.1 g.2 g.3
 
 pub byte-puts : (y : Layout) (held : Option ℕ) (a : Operand) (Used Next : ℕ → Type 0) (w : World) (base : ℕ) (program : List (Option Instr)) (m : State) →
     Stands program m.pc (byte_put y held a) → IsHeld held w.temps m → Holds y Used w base m → Housed y Used → IsFirst y held Used a → AreFewer Used Next →
-    Comes y program Next w base 11 (behind m (byte_put y held a)) (value_in w.temps a % 256 ∷ []) m
+    Comes y program Next w base (length (byte_put y held a)) (behind m (byte_put y held a)) (value_in w.temps a % 256 ∷ []) m
 byte-puts y held a Used Next w base program m stands five p h r f =
     let g = byte-loads y held Used w base m a five p h r in
-    byte-comes y Used Next w base g.0 (value_in w.temps a) (byte_taken y held a) program m g.1 p h f (byte-count y held a) g.2 stands
+    byte-comes y Used Next w base g.0 (value_in w.temps a) (byte_taken y held a) program m g.1 p h f g.2 stands

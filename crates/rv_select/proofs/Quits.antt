@@ -16,20 +16,20 @@ use Rattle.rv_select.specs.Numbers.{constant, immediate_of, register_of}
 use Rattle.rv_select.specs.Places.{Layout, link_in, private_word, uses}
 use Rattle.rv_select.specs.Shapes.{x2, x8}
 use Rattle.rv_select.specs.Entering.{if_used, kept_offset, left, link_put_back, pointer_up, put_back, region_given, x1}
-use Rattle.rv_select.proofs.Enters.{Placed, one-if, pc-one, placed-still, used-count, zero-sum}
+use Rattle.rv_select.proofs.Enters.{Placed, pc-one, placed-still, used-count, zero-sum}
 use Rattle.rv_select.proofs.Kept.{PutBack, load-word, puts-back}
-use Rattle.rv_select.proofs.Numbers.{constant-count, constant-loads}
-use Rattle.rv_select.proofs.Pointers.{goes-up, up-count}
+use Rattle.rv_select.proofs.Numbers.{constant-loads}
+use Rattle.rv_select.proofs.Pointers.{goes-up}
 use Rattle.rv_select.proofs.Straight.{Loads, loads-as, loads-one, low-below, low-here, low-small, written-elsewhere, written-there}
 use Rattle.rv_select.proofs.Ways.{Way, stands-back, stands-front, step-way, straight-way, way-both}
 
 -- A function is left: both frames are given back, its caller's registers are as it found them, and the machine goes on where the
 -- return address says.
-pub record Quit (program : List (Option Instr)) (y : Layout) (bytes base over link : ℕ) (m : State) : Type 0 where
+pub record Quit (program : List (Option Instr)) (y : Layout) (bytes base over link most : ℕ) (m : State) : Type 0 where
   pub after : State
   pub steps : ℕ
   pub way : Way program steps m after
-  pub few : steps ≤ 24
+  pub few : steps ≤ most
   pub some : 1 ≤ steps
   pub pc : after.pc ≡ link
   pub pointer : after.registers 2 ≡ 2 ^ 32 + (base + bytes)
@@ -50,10 +50,10 @@ even-target x link e even small = omega arith
 
 -- the frame in the region is given back
 gives-region : (program : List (Option Instr)) (frame under : ℕ) (rest : List Instr) (m : State) → m.pc < 2 ^ 64 → m.registers 8 ≡ under →
-    under + frame < 2 ^ 63 → Stands program m.pc (region_given frame ++ rest) → Placed program (region_given frame) rest 9 (under + frame) m
+    under + frame < 2 ^ 63 → Stands program m.pc (region_given frame ++ rest) → Placed program (region_given frame) rest (under + frame) m
 gives-region program zero under rest m p eight small there =
     let same : under ≡ under + 0 = omega arith in
-    placed-still program rest 9 (under + 0) m p (eight ∙ same) there
+    placed-still program rest (under + 0) m p (eight ∙ same) there
 gives-region program (suc n) under rest m p eight small there =
     let B : List Instr = constant x5 (suc n) in
     let S : List Instr = RegisterRegister Add x8 x8 x5 ∷ [] in
@@ -73,7 +73,7 @@ gives-region program (suc n) under rest m p eight small there =
       steps = length B + 1;
       way = way-both program (length B) 1 m t b (straight-way program B m t (stands-front program m.pc B (S ++ rest) all) l.straight l.goes)
           (step-way program (RegisterRegister Add x8 x8 x5) t b behind.0 to-b);
-      few = omega (arith, constant-count x5 (suc n));
+      few = omega (arith, count);
       eight = written-there t.registers 8 (under + suc n) (λ z. omega (arith, z));
       keeps = λ r five six seven eight'. written-elsewhere t.registers 8 (under + suc n) r eight' ∙ l.keeps r five seven;
       region = l.region;
@@ -114,7 +114,7 @@ not-low r h = (
 
 pub quits : (program : List (Option Instr)) (y : Layout) (bytes base under frame link : ℕ) (m : State) → m.pc < 2 ^ 64 → m.registers 2 ≡ 2 ^ 32 + base → m.registers 8 ≡ under →
     under + frame < 2 ^ 63 → 88 ≤ bytes → base + bytes ≤ length m.private → length m.private ≤ 603979776 → length m.region ≤ 67108864 →
-    link_in y base m ≡ link → link % 2 ≡ 0 → link < 2 ^ 64 → Stands program m.pc (left y bytes frame) → Quit program y bytes base (under + frame) link m
+    link_in y base m ≡ link → link % 2 ≡ 0 → link < 2 ^ 64 → Stands program m.pc (left y bytes frame) → Quit program y bytes base (under + frame) link (length (left y bytes frame)) m
 quits program y bytes base under frame link m p two-is eight-is small least within most region link-is even link-small there =
     let A : List Instr = put_back y 10 18 in
     let B : List Instr = region_given frame in
@@ -135,7 +135,7 @@ quits program y bytes base under frame link m p two-is eight-is small least with
     let all-1 : Stands program t1.pc (A ++ (B ++ E)) =
     subst (λ q. Stands program q (A ++ (B ++ E))) (sym lk.behind) (stands-back program m.pc L (A ++ (B ++ E)) p there) in
     let after-2 : Stands program t2.pc (B ++ E) = subst (λ q. Stands program q (B ++ E)) (sym pb.behind) (stands-back program t1.pc A (B ++ E) pc-1 all-1) in
-    let l : Placed program B E 9 (under + frame) t2 =
+    let l : Placed program B E (under + frame) t2 =
     gives-region program frame under E t2 pc-2 (pb.outside 8 (inl (omega arith)) ∙ (lk.keeps 8 (λ z. omega (arith, z)) (λ z. omega (arith, z)) ∙ eight-is))
     small after-2 in
     let t3 : State = l.after in
@@ -167,7 +167,7 @@ quits program y bytes base under frame link m p two-is eight-is small least with
       after = t7;
       steps = length L + length A + l.steps + length C + 1;
       way = way-7;
-      few = omega (arith, one-if y.extent.calls (Load Ld x1 x2 zero_immediate), put-back-count y 10 18, l.few, up-count bytes);
+      few = omega (arith, l.few, length-append L (A ++ (B ++ E)), length-append A (B ++ E), length-append B E, length-append C F);
       some = omega arith;
       pc = even-target (t6.registers 1) link one-6 even link-small;
       pointer = k.gives;

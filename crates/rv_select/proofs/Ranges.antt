@@ -14,8 +14,6 @@ use Rattle.terra_memory.specs.Numbers.{part}
 use Rattle.terra_memory.specs.Region.{Contents, end_address, first_address, is_inside, range_of}
 use Rattle.terra_words.specs.declared.words.FaultKind.TheVariants.{BadAddress}
 use Rattle.tac_form.specs.declared.tac.Operand.{Operand}
-use Rattle.tac_form.specs.declared.tac.Instruction.TheVariants as instructions
-use Rattle.tac_form.specs.Weights.{operand_words, words_of}
 use Rattle.rv_machine.specs.declared.memory.Place.TheVariants as places
 use Rattle.rv_machine.specs.Word.{low, difference}
 use Rattle.rv_machine.specs.Memory.{place_of}
@@ -28,7 +26,7 @@ use Rattle.rv_select.specs.Shapes.{failed, offset_of, over, range_tested, range_
 use Rattle.rv_select.specs.Steps.{AreFewer, Comes, Ends, IsPlace, behind}
 use Rattle.rv_select.proofs.Straight.{Loads, behind-both, low-below, written-elsewhere}
 use Rattle.rv_select.proofs.Ways.{Way, at_pc, near-pc, stands-back, stands-front, step-way, straight-way, way-both, way-none}
-use Rattle.rv_select.proofs.Homes.{operand-count, take-operand}
+use Rattle.rv_select.proofs.Homes.{take-operand}
 use Rattle.rv_select.proofs.Faults.{branch-way, failed-count, fails, later-ends, small-load}
 use Rattle.rv_select.proofs.Regions.{end-small, inside-true, outside-false, region-place}
 use Rattle.rv_select.proofs.Calm.{Calm, Wrote, calm-both, calm-comes, calm-holds, calm-loads, held-not, near-calm, then-wrote, way-wrote}
@@ -153,23 +151,24 @@ module _ (program : List (Option Instr)) (t : State) (at : Place) (F : List Inst
   fault-there : Stands program (low (s5.pc + 4)) F
   fault-there = stands-front program (low (s5.pc + 4)) F write_call there.1.1.1.1.1.1
 
-  pub outside : F ≡ failed BadAddress at → IsPlace at → (va < 2 ^ 30) ⊎ ((2 ^ 30 ≤ va) × (end < va + vb)) → Ends program BadAddress at 17 t
+  pub outside : F ≡ failed BadAddress at → IsPlace at → (va < 2 ^ 30) ⊎ ((2 ^ 30 ≤ va) × (end < va + vb)) → Ends program BadAddress at (6 + length F) t
   outside is place o =
+      let last : length (failed BadAddress at) ≡ length F = ap length (sym is) in
       ⊎_elim
       (λ h.
-      later-ends program BadAddress at 3 11 17 t low_fails (to-low h)
+      later-ends program BadAddress at 3 (length (failed BadAddress at)) (6 + length F) t low_fails (to-low h)
       (fails program low_fails BadAddress at (low-below (s2.pc + 16)) place (omega arith) (omega arith)
-      (subst (λ c. Stands program low_fails.pc c) is (subst (λ q. Stands program q F) (pc-sixteen s1.pc) fault-there))) (omega arith))
+      (subst (λ c. Stands program low_fails.pc c) is (subst (λ q. Stands program q F) (pc-sixteen s1.pc) fault-there))) (omega (arith, last)))
       (λ h.
       ⊎_elim
       (λ far.
-      later-ends program BadAddress at 4 11 17 t far_fails (to-far h.0 far)
+      later-ends program BadAddress at 4 (length (failed BadAddress at)) (6 + length F) t far_fails (to-far h.0 far)
       (fails program far_fails BadAddress at (low-below (s3.pc + 12)) place (omega arith) (omega arith)
-      (subst (λ c. Stands program far_fails.pc c) is (subst (λ q. Stands program q F) (pc-twelve s2.pc) fault-there))) (omega arith))
+      (subst (λ c. Stands program far_fails.pc c) is (subst (λ q. Stands program q F) (pc-twelve s2.pc) fault-there))) (omega (arith, last)))
       (λ near.
-      later-ends program BadAddress at 6 11 17 t high_fails (to-high h.0 near h.1)
+      later-ends program BadAddress at 6 (length (failed BadAddress at)) (6 + length F) t high_fails (to-high h.0 near h.1)
       (fails program high_fails BadAddress at (low-below (s5.pc + 4)) place (omega arith) (omega arith)
-      (subst (λ c. Stands program high_fails.pc c) is fault-there)) (omega arith))
+      (subst (λ c. Stands program high_fails.pc c) is fault-there)) (omega (arith, last)))
       (cases_lt end va))
       o
 
@@ -224,46 +223,47 @@ tail-count : (at : Place) → length (tail at) ≡ suc (suc (suc (suc (suc (suc 
 tail-count at = ap (λ n. suc (suc (suc (suc (suc (suc n)))))) (length-append (failed BadAddress at) write_call)
 
 -- Bytes of the region are written: none, or some that lie in it; and where one doesn't, the run ends by a fault.
-pub record RangeWritten (y : Layout) (program : List (Option Instr)) (Next : ℕ → Type 0) (w : World) (base weight va vb target : ℕ) (at : Place) (m : State) : Type 0 where
-  pub nothing : vb ≡ 0 → Comes y program Next w base weight target [] m
-  pub inside : vb ≢ 0 → first_address ≤ va → va + vb ≤ end_address w.region → Comes y program Next w base weight target (part w.region.bytes (va - first_address) vb) m
-  pub outside : vb ≢ 0 → (va < first_address) ⊎ ((first_address ≤ va) × (end_address w.region < va + vb)) → Ends program BadAddress at weight m
+pub record RangeWritten (y : Layout) (program : List (Option Instr)) (Next : ℕ → Type 0) (w : World) (base most va vb target : ℕ) (at : Place) (m : State) : Type 0 where
+  pub nothing : vb ≡ 0 → Comes y program Next w base most target [] m
+  pub inside : vb ≢ 0 → first_address ≤ va → va + vb ≤ end_address w.region → Comes y program Next w base most target (part w.region.bytes (va - first_address) vb) m
+  pub outside : vb ≢ 0 → (va < first_address) ⊎ ((first_address ≤ va) × (end_address w.region < va + vb)) → Ends program BadAddress at most m
 
-range-ends : (y : Layout) (Used Next : ℕ → Type 0) (w : World) (base weight va vb : ℕ) (at : Place) (A : List Instr) (program : List (Option Instr)) (m t : State) →
-    Holds y Used w base m → Housed y Used → AreFewer Used Next → IsPlace at → length A + 17 ≤ weight → Way program (length A) m t → Calm m t → t.pc ≡ low (m.pc + 4 * length A) → t.pc < 2 ^ 64 →
-    t.registers 11 ≡ va → t.registers 12 ≡ vb → Stands program t.pc (tail at) → RangeWritten y program Next w base weight va vb (behind m (A ++ tail at)) at m
-range-ends y Used Next w base weight va vb at A program m t p h f place few first calm to small eleven twelve there =
+range-ends : (y : Layout) (Used Next : ℕ → Type 0) (w : World) (base va vb : ℕ) (at : Place) (A : List Instr) (program : List (Option Instr)) (m t : State) →
+    Holds y Used w base m → Housed y Used → AreFewer Used Next → IsPlace at → Way program (length A) m t → Calm m t → t.pc ≡ low (m.pc + 4 * length A) → t.pc < 2 ^ 64 →
+    t.registers 11 ≡ va → t.registers 12 ≡ vb → Stands program t.pc (tail at) → RangeWritten y program Next w base (length (A ++ tail at)) va vb (behind m (A ++ tail at)) at m
+range-ends y Used Next w base va vb at A program m t p h f place first calm to small eleven twelve there =
     let e = end-small y Used w base m p in
     let most : length w.region.bytes ≤ 67108864 = p.lawful.sized.2 in
     let four : t.registers 4 ≡ end_address w.region = calm.keeps 4 refl ∙ p.limit in
     let region : t.region ≡ w.region.bytes = calm.region ∙ p.region in
     let short : length (failed BadAddress at) ≤ 11 = failed-count BadAddress at in
+    let whole : length (A ++ tail at) ≡ length A + (length (failed BadAddress at) + 9) = omega (arith, length-append A (tail at), tail-count at) in
     record {
       nothing = λ none.
           let n : ℕ = length (range_tested at ++ write_call) in
           let z : State = at_pc t (low (t.pc + 4 * (n + 1))) in
           let count : n ≡ suc (suc (suc (suc (suc (length (failed BadAddress at) + 3))))) = ap (λ n. suc (suc (suc (suc (suc n))))) (length-append (failed BadAddress at) write_call) in
-          calm-comes y Used Next w base (length A + 1) weight (behind m (A ++ tail at)) [] program m z p h f
+          calm-comes y Used Next w base (length A + 1) (length (A ++ tail at)) (behind m (A ++ tail at)) [] program m z p h f
           (way-wrote program (length A + 1) m z
           (way-both program (length A) 1 m t z first
           (branch-way program Eq x12 x0 (4 * (n + 1)) t true (omega (arith, count)) (omega arith) there.0 (ap (λ x. nat_eq x 0) twelve ∙ eq-eqb vb 0 none))))
-          (calm-both m t z calm (near-calm t z (near-pc t (low (t.pc + 4 * (n + 1)))))) (low-below (t.pc + 4 * (n + 1))) (omega arith) (omega arith)
+          (calm-both m t z calm (near-calm t z (near-pc t (low (t.pc + 4 * (n + 1)))))) (low-below (t.pc + 4 * (n + 1))) (omega arith) (omega (arith, whole))
           (over-pc t.pc n ∙ behind-both A (tail at) m.pc t.pc (low (t.pc + 4 * suc n)) to refl);
       inside = λ many i j.
           let g =
           range-goes program t at (failed BadAddress at) va vb (end_address w.region) eleven twelve four (omega arith) many short there w.region.bytes region refl i j in
-          calm-comes y Used Next w base (length A + 9) weight (behind m (A ++ tail at)) (part w.region.bytes (va - first_address) vb) program m g.0 p h f
+          calm-comes y Used Next w base (length A + 9) (length (A ++ tail at)) (behind m (A ++ tail at)) (part w.region.bytes (va - first_address) vb) program m g.0 p h f
           (then-wrote program (length A) 9 (part w.region.bytes (va - first_address) vb) m t g.0 first g.1) (calm-both m t g.0 calm g.2)
-          (subst (λ q. q < 2 ^ 64) (sym g.3) (low-below _)) (omega arith) (omega arith)
+          (subst (λ q. q < 2 ^ 64) (sym g.3) (low-below _)) (omega arith) (omega (arith, whole))
           (behind-both A (tail at) m.pc t.pc g.0.pc to (g.3 ∙ ap (λ n. low (t.pc + 4 * n)) (sym (tail-count at))));
       outside = λ many o.
-          later-ends program BadAddress at (length A) 17 weight m t first
-          (outside program t at (failed BadAddress at) va vb (end_address w.region) eleven twelve four (omega arith) many short there refl place o) (omega arith);
+          later-ends program BadAddress at (length A) (6 + length (failed BadAddress at)) (length (A ++ tail at)) m t first
+          (outside program t at (failed BadAddress at) va vb (end_address w.region) eleven twelve four (omega arith) many short there refl place o) (omega (arith, whole));
     }
 
 pub ranges : (y : Layout) (at : Place) (a b : Operand) (Used Next : ℕ → Type 0) (w : World) (base : ℕ) (program : List (Option Instr)) (m : State) →
     Stands program m.pc (range_written y at a b) → IsPlace at → IsRead y Used a → IsRead y Used b → Holds y Used w base m → Housed y Used → AreFewer Used Next →
-    RangeWritten y program Next w base (words_of (instructions.Write at a b)) (value_in w.temps a) (value_in w.temps b) (behind m (range_written y at a b)) at m
+    RangeWritten y program Next w base (length (range_written y at a b)) (value_in w.temps a) (value_in w.temps b) (behind m (range_written y at a b)) at m
 ranges y at a b Used Next w base program m stands place ra rb p h f =
     let A : List Instr = taken y x11 a in
     let B : List Instr = taken y x12 b in
@@ -282,10 +282,8 @@ ranges y at a b Used Next w base program m stands place ra rb p h f =
     way-both program (length A) (length B) m l.after k.after (straight-way program A m l.after (stands-front program m.pc A (B ++ tail at) stands) l.straight l.goes)
     (straight-way program B l.after k.after (stands-front program l.after.pc B (tail at) rest) k.straight k.goes) in
     let count : length (A ++ B) ≡ length A + length B = length-append A B in
-    let few-a : length A ≤ operand_words a = operand-count y x11 a in
-    let few-b : length B ≤ operand_words b = operand-count y x12 b in
-    subst (λ code. RangeWritten y program Next w base (words_of (instructions.Write at a b)) va vb (behind m code) at m) (append_assoc A B (tail at))
-    (range-ends y Used Next w base (words_of (instructions.Write at a b)) va vb at (A ++ B) program m k.after p h f place (omega (arith, count)) (subst (λ n. Way program n m k.after) (sym count) way)
+    subst (λ code. RangeWritten y program Next w base (length code) va vb (behind m code) at m) (append_assoc A B (tail at))
+    (range-ends y Used Next w base va vb at (A ++ B) program m k.after p h f place (subst (λ n. Way program n m k.after) (sym count) way)
     (calm-both m l.after k.after calm-l calm-k) (behind-both A B m.pc l.after.pc k.after.pc l.behind k.behind) pc-k
     (k.keeps 11 (λ e. omega (arith, e)) (λ e. omega (arith, e)) ∙ l.gives) k.gives last)
 

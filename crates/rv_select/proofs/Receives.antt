@@ -29,7 +29,7 @@ use Rattle.rv_select.specs.Places.{HasHome, Holds, Housed, IsHome, Keeps, Layout
 use Rattle.rv_select.specs.Places.{is_given, layout_of, or_first, private_word, slot_offset, with_homes, word_at}
 use Rattle.rv_select.specs.Shapes.{framed, put_at, to_area}
 use Rattle.rv_select.specs.Steps.{Comes, behind, with_temp}
-use Rattle.rv_select.specs.Entering.{is_before, received, received_one, receiving, size_in, words_offset}
+use Rattle.rv_select.specs.Entering.{is_before, received, received_one, size_in, words_offset}
 pub use Rattle.rv_select.specs.Frames.{HasWords, IsWordOf, LiesAt, ParametersAreReceived, Received, seen, without_words}
 use Rattle.reg_alloc.specs.declared.assignment.Home.{Home}
 use Rattle.reg_alloc.specs.declared.assignment.Home.TheVariants as homes
@@ -42,9 +42,9 @@ use Rattle.rv_select.proofs.Copies.{copies-there, size-small}
 use Rattle.rv_select.proofs.Granted.{asked-length, asked-own}
 use Rattle.rv_select.proofs.Lives.{housed}
 use Rattle.rv_select.proofs.Bytes.{private-place}
-use Rattle.rv_select.proofs.Frames.{framed-count, framed-loads, framed-some}
+use Rattle.rv_select.proofs.Frames.{framed-loads, framed-some}
 use Rattle.rv_select.proofs.Homes.{frame-sum, region-small}
-use Rattle.rv_select.proofs.Moves.{fewer-holds, keeps-both, near-keeps, scratch-holds, straight-put, unused-holds}
+use Rattle.rv_select.proofs.Moves.{at-most, fewer-holds, keeps-both, near-keeps, scratch-holds, straight-put, unused-holds}
 use Rattle.rv_select.proofs.Stands.{both-true}
 use Rattle.rv_select.proofs.Straight.{Loads, Scratch, behind-both, loads-five, pc-both}
 use Rattle.rv_select.proofs.Transports.{later-comes}
@@ -97,10 +97,10 @@ housed-fewer y U V f h = record {
 }
 
 -- All parameters are taken.
-pub record GotAll (program : List (Option Instr)) (y : Layout) (Fin : ℕ → Type 0) (w : World) (base most : ℕ) (code rest : List Instr) (m : State) : Type 0 where
+pub record GotAll (program : List (Option Instr)) (y : Layout) (Fin : ℕ → Type 0) (w : World) (base : ℕ) (code rest : List Instr) (m : State) : Type 0 where
   pub steps : ℕ
   pub after : State
-  pub few : steps ≤ most
+  pub few : steps ≤ length code
   pub way : Way program steps m after
   pub holds : Holds y Fin w base after
   pub keeps : Keeps y base m after
@@ -139,11 +139,11 @@ word-value y base last at v m n (Some (Some (homes.Slot s))) k l out own some e 
     ap (λ z. private_word n (base + z)) (own s refl (not-before last s (Some (Some (homes.Slot s))) out refl))
     ∙ (ap number_of (k.outside (base + at) 8 (omega arith) (inr (omega (arith, l)))) ∙ e)
 
-with-stayed : (program : List (Option Instr)) (y : Layout) (Fin : ℕ → Type 0) (w : World) (base most last at d : ℕ) (code rest : List Instr) (m : State) →
+with-stayed : (program : List (Option Instr)) (y : Layout) (Fin : ℕ → Type 0) (w : World) (base last at d : ℕ) (code rest : List Instr) (m : State) →
     is_before last (slice_get y.homes d) ≡ false → ((s : ℕ) → slice_get y.homes d ≡ Some (Some (homes.Slot s)) → last ≤ slot_offset s → slot_offset s ≡ at) →
     frame_bytes y ≤ at → private_word m (base + at) ≡ w.temps d → w.temps d < 2 ^ 64 →
-    GotAll program y (λ t. Fin t × (t ≢ d)) w base most code rest m → GotAll program y Fin w base most code rest m
-with-stayed program y Fin w base most last at d code rest m out own l e small g = record {
+    GotAll program y (λ t. Fin t × (t ≢ d)) w base code rest m → GotAll program y Fin w base code rest m
+with-stayed program y Fin w base last at d code rest m out own l e small g = record {
   steps = g.steps;
   after = g.after;
   few = g.few;
@@ -197,7 +197,8 @@ area-taken : (program : List (Option Instr)) (y : Layout) (sizes : List ℕ) (Us
     Stands program m.pc (received_one y sizes last (Area n) at) → Holds y Used w base m → Housed y Used → n < y.areas →
     list_all area_fits sizes ≡ true → length bs ≡ size_in sizes n → LiesAt m (base + last) bs (private_word m (base + at)) →
     frame_bytes y ≤ last → base + at + 8 ≤ length m.private →
-    Comes y program Used (with_area w n bs) base 42 (low (m.pc + 4 * length (received_one y sizes last (Area n) at))) [] m
+    Comes y program Used (with_area w n bs) base
+    (length (received_one y sizes last (Area n) at)) (low (m.pc + 4 * length (received_one y sizes last (Area n) at))) [] m
 area-taken program y sizes Used w base last at n bs m there p h area small count lies within room =
     let A : List Instr = framed (λ r far. Load Ld x5 r far) at in
     let B : List Instr = to_area y n 0 (size_in sizes n) in
@@ -212,13 +213,13 @@ area-taken program y sizes Used w base last at n bs m there p h area small count
     let reads : take (size_in sizes n) (drop lies.offset l.after.private) ≡ bs =
     ap (λ z. take (size_in sizes n) (drop lies.offset z)) l.private
     ∙ (ap (λ z. take z (drop lies.offset m.private)) (sym count) ∙ lies.bytes_are) in
-    let c : Comes y program Used (with_area w n bs) base 39 (behind l.after B) [] l.after =
+    let c : Comes y program Used (with_area w n bs) base (length B) (behind l.after B) [] l.after =
     copies-there y n (size_in sizes n) lies.offset bs Used Used w base program l.after after-a area (size-small sizes n small) count
     (l.gives ∙ lies.address_is) inside (inr (beyond lies.offset lies.high)) reads lies.are_bytes q h (λ t u. u) in
-    later-comes y program Used (with_area w n bs) base (length A) 39 42 (low (m.pc + 4 * length (A ++ B))) m l.after
+    later-comes y program Used (with_area w n bs) base (length A) (length B) (length (A ++ B)) (low (m.pc + 4 * length (A ++ B))) m l.after
     (straight-way program A m l.after (stands-front program m.pc A B there) l.straight l.goes) (scratch-near A m l.after s)
-    (omega (arith, framed-count (λ r far. Load Ld x5 r far) at))
-    (subst (λ z. Comes y program Used (with_area w n bs) base 39 z [] l.after) (behind-both A B m.pc l.after.pc (behind l.after B) l.behind refl) c)
+    (omega (arith, length-append A B))
+    (subst (λ z. Comes y program Used (with_area w n bs) base (length B) z [] l.after) (behind-both A B m.pc l.after.pc (behind l.after B) l.behind refl) c)
   where
     beyond : (s : ℕ) → base + last ≤ s → base + area_offset y n + 128 ≤ s
     beyond s e = omega (arith, e, within, area)
@@ -229,7 +230,7 @@ pub receives : (program : List (Option Instr)) (y : Layout) (code : Tac) (U Used
     ((t : ℕ) → list_any (goes_to t) ds ≡ true → is_before last (slice_get y.homes t) ≡ true → U t) → ((t : ℕ) → Fin t → (list_any (goes_to t) ds ≡ true) ⊎ Used t) → y.areas ≡ length code.areas → list_all area_fits code.areas ≡ true →
     list_all (destination_fits code) ds ≡ true → accepts_all code ds vs ≡ true →
     HasWords base last ds vs m → frame_bytes y ≤ last → base + (last + 8 * length ds) ≤ length m.private →
-    GotAll program y Fin (seen (takes_all ds vs a) region depth) base (receiving ds) (received y code.areas last ds) rest m
+    GotAll program y Fin (seen (takes_all ds vs a) region depth) base (received y code.areas last ds) rest m
 receives program y code U Used Fin base last first depth region [] [] a rest m there p h sub in-r own begin goes fin whole small are accepts words within room = record {
   steps = 0;
   after = m;
@@ -251,20 +252,20 @@ receives program y code U Used Fin base last first depth region (Area n ∷ ds) 
     let e = both-true (nat_eq (length bs) (area_size code n)) (accepts_all code ds vs) accepts in
     let f = both-true (destination_fits code (Area n)) (list_all (destination_fits code) ds) are in
     let all : Stands program m.pc (A ++ (C ++ rest)) = subst (λ z. Stands program m.pc z) (append_assoc A C rest) there in
-    let one : Comes y program Used (with_area w n bs) base 42 (low (m.pc + 4 * length A)) [] m =
+    let one : Comes y program Used (with_area w n bs) base (length A) (low (m.pc + 4 * length A)) [] m =
     area-taken program y code.areas Used w base last at n bs m (stands-front program m.pc A (C ++ rest) all) p (housed-fewer y U Used sub h)
     (subst (λ z. n < z) (sym whole) (ltb-true n (length code.areas) f.0)) small (eqb-true (length bs) (area_size code n) e.0) words.0 within
     (omega (arith, room)) in
     let t : State = one.after in
     let after-t : Stands program t.pc (C ++ rest) = subst (λ q. Stands program q (C ++ rest)) (sym one.at) (stands-back program m.pc A (C ++ rest) p.pc all) in
-    let more : GotAll program y Fin (seen (takes_all ds vs (takes (Area n) (bytes bs) a)) region depth) base (receiving ds) C rest t =
+    let more : GotAll program y Fin (seen (takes_all ds vs (takes (Area n) (bytes bs) a)) region depth) base C rest t =
     receives program y code U Used Fin base last first depth region ds vs (takes (Area n) (bytes bs) a) rest t after-t one.holds h sub in-r own.1 begin
     (λ s g. goes s g) (λ s u. fin s u) whole small f.1 e.1
     (words-keep y base last ds vs m t one.keeps within words.1) within (subst (λ z. base + (last + 8 * length ds) ≤ z) (sym one.keeps.long) (omega (arith, room))) in
     record {
       steps = one.steps + more.steps;
       after = more.after;
-      few = omega (arith, one.few, more.few);
+      few = omega (arith, one.few, more.few, length-append A C);
       way = way-both program one.steps more.steps m t more.after (record { runs = one.runs }) more.way;
       holds = more.holds;
       keeps = keeps-both y base m t more.after one.keeps more.keeps;
@@ -285,27 +286,27 @@ receives program y code U Used Fin base last first depth region (Temp d ∷ ds) 
     subst (λ z. Stands program m.pc z) (append_assoc (A ++ B) C rest) (subst (λ z. Stands program m.pc ((z ++ C) ++ rest)) one-is there) in
     let l : Loads 5 A m (private_word m (base + at)) =
     word-loads base at m p.pc p.frame.pointer (omega (arith, room)) p.frame.private (region-small y Used w base m p) in
-    let one : Comes y program Next (with_temp w d x) base 6 (low (m.pc + 4 * length (A ++ B))) [] m =
-    (straight-put y Used Next w base d x 6 A program m l.after p (housed-fewer y U Used sub h) (housed-fewer y U Next in-u h) (inl refl) (λ t u. u)
-    (loads-five A m (private_word m (base + at)) l) (l.gives ∙ words.0.0) words.0.1 (omega (arith, framed-count (λ r far. Load Ld x5 r far) at))
+    let one : Comes y program Next (with_temp w d x) base (length (A ++ B)) (low (m.pc + 4 * length (A ++ B))) [] m =
+    (straight-put y Used Next w base d x (length (A ++ B)) A program m l.after p (housed-fewer y U Used sub h) (housed-fewer y U Next in-u h) (inl refl) (λ t u. u)
+    (loads-five A m (private_word m (base + at)) l) (l.gives ∙ words.0.0) words.0.1 (at-most (length (A ++ B)))
     (inl (framed-some (λ r far. Load Ld x5 r far) at)) (stands-front program m.pc (A ++ B) (C ++ rest) all)).comes in
     let t : State = one.after in
     let after-t : Stands program t.pc (C ++ rest) = subst (λ q. Stands program q (C ++ rest)) (sym one.at) (stands-back program m.pc (A ++ B) (C ++ rest) p.pc all) in
-    let more : GotAll program y Fin (seen (takes_all ds vs b) region depth) base (receiving ds) C rest t =
+    let more : GotAll program y Fin (seen (takes_all ds vs b) region depth) base C rest t =
     receives program y code U Next Fin base last first depth region ds vs b rest t after-t one.holds h in-u in-r own.1 begin
     (λ s e. goes s (or-second (nat_eq d s) (list_any (goes_to s) ds) e)) (λ s u. split-any s d ds (Used s) (fin s u)) whole small fits accepts
     (words-keep y base last ds vs m t one.keeps within words.1) within (subst (λ z. base + (last + 8 * length ds) ≤ z) (sym one.keeps.long) (omega (arith, room))) in
-    let got : GotAll program y Fin (seen (takes_all ds vs b) region depth) base (6 + receiving ds) ((A ++ B) ++ C) rest m = record {
+    let got : GotAll program y Fin (seen (takes_all ds vs b) region depth) base ((A ++ B) ++ C) rest m = record {
       steps = one.steps + more.steps;
       after = more.after;
-      few = omega (arith, one.few, more.few);
+      few = omega (arith, one.few, more.few, length-append (A ++ B) C);
       way = way-both program one.steps more.steps m t more.after (record { runs = one.runs }) more.way;
       holds = more.holds;
       keeps = keeps-both y base m t more.after one.keeps more.keeps;
       pc = pc-both m.pc t.pc more.after.pc (length (A ++ B)) (length C) one.at more.pc ∙ ap (λ n. low (m.pc + 4 * n)) (sym (length-append (A ++ B) C));
       there = more.there;
     } in
-    subst (λ z. GotAll program y Fin (seen (takes_all ds vs b) region depth) base (6 + receiving ds) (z ++ C) rest m) (sym one-is) got)
+    subst (λ z. GotAll program y Fin (seen (takes_all ds vs b) region depth) base (z ++ C) rest m) (sym one-is) got)
     (λ out.
     let A : List Instr = framed (λ r far. Load Ld x5 r far) at ++ put_at y d in
     let one-is : received_one y code.areas last (Temp d) at ≡ [] = ap (λ b. if b then A else []) out in
@@ -316,30 +317,21 @@ receives program y code U Used Fin base last first depth region (Temp d ∷ ds) 
     let goes-on : (t : ℕ) → list_any (goes_to t) ds ≡ true → is_before last (slice_get y.homes t) ≡ true → U t =
     λ s e. goes s (or-second (nat_eq d s) (list_any (goes_to s) ds) e) in
     let short : base + (last + 8 * length ds) ≤ length m.private = omega (arith, room) in
-    let got : GotAll program y Fin (seen (takes_all ds vs b) region depth) base (receiving ds) C rest m =
+    let got : GotAll program y Fin (seen (takes_all ds vs b) region depth) base C rest m =
     ⊎_elim
     (λ again.
     receives program y code U Used Fin base last first depth region ds vs b rest m all q h sub in-r own.1 begin goes-on
     (λ s u. behind-again s again (fin s u)) whole small fits accepts words.1 within short)
     (λ only.
-    with-stayed program y Fin (seen (takes_all ds vs b) region depth) base (receiving ds) last at d C rest m out
+    with-stayed program y Fin (seen (takes_all ds vs b) region depth) base last at d C rest m out
     (λ s e l. own-offset s (own.0 s e (first-offset s l) only)) (omega (arith, within))
     (words.0.0 ∙ sym (takes-other ds vs b d only ∙ put-here a.temps d x))
     (subst (λ z. z < 2 ^ 64) (sym (takes-other ds vs b d only ∙ put-here a.temps d x)) words.0.1)
     (receives program y code U Used (λ t. Fin t × (t ≢ d)) base last first depth region ds vs b rest m all q h sub in-r own.1 begin goes-on
     (λ s u. behind-other s u.1 (fin s u.0)) whole small fits accepts words.1 within short))
     (cases_Bool (list_any (goes_to d) ds)) in
-    subst (λ z. GotAll program y Fin (seen (takes_all ds vs b) region depth) base (6 + receiving ds) (z ++ C) rest m) (sym one-is)
-    (record {
-      steps = got.steps;
-      after = got.after;
-      few = omega (arith, got.few);
-      way = got.way;
-      holds = got.holds;
-      keeps = got.keeps;
-      pc = got.pc;
-      there = got.there;
-    }))
+    subst (λ z. GotAll program y Fin (seen (takes_all ds vs b) region depth) base (z ++ C) rest m) (sym one-is)
+    got)
     (cases_Bool (is_before last (slice_get y.homes d)))
   where
     at : ℕ
@@ -443,14 +435,15 @@ parameters-received code homes program values a region depth base m fits right a
     }
 
     made : received (without_words (layout_of code homes)) code.areas (words_offset (layout_of code homes)) code.parameters ≡ received (layout_of code homes) code.areas (words_offset (layout_of code homes)) code.parameters →
-        GotAll program (without_words (layout_of code homes)) (InUse (graph_of code) 0 0) (seen (takes_all code.parameters values a) region depth) base (receiving code.parameters)
+        GotAll program (without_words (layout_of code homes)) (InUse (graph_of code) 0 0) (seen (takes_all code.parameters values a) region depth) base
         (received (without_words (layout_of code homes)) code.areas (words_offset (layout_of code homes)) code.parameters) [] m →
-        Received program (without_words (layout_of code homes)) (InUse (graph_of code) 0 0) (seen (takes_all code.parameters values a) region depth) base (receiving code.parameters)
+        Received program (without_words (layout_of code homes)) (InUse (graph_of code) 0 0) (seen (takes_all code.parameters values a) region depth) base
+        (length (received (layout_of code homes) code.areas (words_offset (layout_of code homes)) code.parameters))
         (low (m.pc + 4 * length (received (layout_of code homes) code.areas (words_offset (layout_of code homes)) code.parameters))) m
     made same g = record {
       steps = g.steps;
       after = g.after;
-      few = g.few;
+      few = subst (λ c. g.steps ≤ length c) same g.few;
       runs = g.way.runs;
       at = g.pc ∙ ap (λ c. low (m.pc + 4 * length c)) same;
       holds = g.holds;

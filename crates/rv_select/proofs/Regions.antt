@@ -1,9 +1,9 @@
 -- Loads from the region and stores to it.
-use Rattle.std.proofs.Common.{◌≡◌, ℕ, zero, suc, ◌+◌, ◌-◌, ◌*◌, ◌^◌, ◌<◌, ◌≤◌, true, false, not, List, [], ◌∷◌, ◌++◌, length, take, drop}
+use Rattle.std.proofs.Common.{◌≡◌, ℕ, zero, suc, ◌+◌, ◌-◌, ◌*◌, ◌^◌, ◌<◌, ◌≤◌, true, false, not, List, ◌∷◌, ◌++◌, length, take, drop}
 use Rattle.std.proofs.Common.{Option, Some, None, refl, sym, ap, ◌∙◌, subst, ⊎_elim, inl, inr, arith}
 use Rattle.std.specs.Prelude.{if◌then◌else◌, nat_le, nat_lt, ◌⊎◌, ◌&&◌}
 use Rattle.std.proofs.lemmas.Bool.{cases_lt, le-leb, lt-leb, le-ltb, lt-ltb}
-use Rattle.std.proofs.lemmas.List.{length-drop, length-take-le}
+use Rattle.std.proofs.lemmas.List.{length-append, length-drop, length-take-le}
 use Rattle.tl_base.specs.declared.place.Place.{Place}
 use Rattle.rv_isa.specs.declared.instr.Instr.{Instr}
 use Rattle.rv_isa.specs.declared.instr.Instr.TheVariants.{Branch, Load, RegisterImmediate}
@@ -20,39 +20,36 @@ use Rattle.terra_words.specs.Words.{wrapped}
 use Rattle.tac_form.specs.declared.tac.Number.{Number}
 use Rattle.tac_form.specs.declared.tac.Operand.{Operand}
 use Rattle.tac_form.specs.declared.tac.Address.TheVariants.{Word, Frame}
-use Rattle.tac_form.specs.declared.tac.Spot.TheVariants as spots
-use Rattle.tac_form.specs.declared.tac.Instruction.TheVariants as instructions
 use Rattle.tac_form.specs.Flow.{bytes_of, width_of}
-use Rattle.tac_form.specs.Weights.{operand_words, words_of}
 use Rattle.rv_operators.specs.Codes.{x5, x6, zero_immediate}
 use Rattle.rv_operators.specs.Runs.{Stands}
-use Rattle.rv_select.specs.Places.{AreBytes, World, Holds, Housed, IsFirst, IsHeld, Layout, home_of, value_in}
+use Rattle.rv_select.specs.Places.{AreBytes, World, Holds, Housed, IsFirst, IsHeld, Layout, value_in}
 use Rattle.rv_select.specs.Numbers.{below_zero}
 use Rattle.rv_select.specs.Shapes as shapes
 use Rattle.rv_select.specs.Shapes.{bounds_tested, failed, first_taken, load_of, loaded, located, offset_of, over, put_at, reached, store_of}
 use Rattle.rv_select.specs.Shapes.{stored, x4}
-use Rattle.rv_select.specs.Steps.{Comes, Ends, Follows, IsPlace, behind, with_temp}
+use Rattle.rv_select.specs.Steps.{Ends, Follows, IsPlace, behind, with_temp}
 use Rattle.rv_select.proofs.Straight.{Loads, behind-both, loads-five, low-below, low-small, written-elsewhere, written-there}
 use Rattle.rv_select.proofs.Numbers.{below-is}
 use Rattle.rv_select.proofs.Ways.{Near, Way, at_pc, near-both, near-pc, scratch-near, stands-back, stands-front, step-way, straight-way}
 use Rattle.rv_select.proofs.Ways.{way-both}
-use Rattle.rv_select.proofs.Homes.{first-count, take-first}
+use Rattle.rv_select.proofs.Homes.{take-first}
 use Rattle.rv_select.proofs.Words.{load-bytes, load-is, size-range, take-bytes, drop-bytes}
 use Rattle.rv_select.proofs.Claims.{Gives, RegionLoadsAreCarried}
 use Rattle.rv_select.proofs.Small.{wrapped-small}
 use Rattle.rv_select.proofs.Moves.{first-small, then-put, wide-size}
 use Rattle.rv_select.proofs.Faults.{branch-way, failed-count, fails, later-ends}
-use Rattle.rv_select.proofs.Divisors.{located-count, located-loads}
+use Rattle.rv_select.proofs.Divisors.{located-loads}
 
 -- Code after which an address stands in x5.
-pub record Reached (program : List (Option Instr)) (code : List Instr) (m : State) (address most : ℕ) : Type 0 where
+pub record Reached (program : List (Option Instr)) (code : List Instr) (m : State) (address : ℕ) : Type 0 where
   pub steps : ℕ
   pub after : State
   pub way : Way program steps m after
   pub near : Near m after
   pub five : after.registers 5 ≡ address
   pub pc : after.pc ≡ low (m.pc + 4 * length code)
-  pub few : steps ≤ most
+  pub few : steps ≤ length code
 
 near-six : (m : State) (pc v : ℕ) → Near m (at_with m pc 6 v)
 near-six m pc v = record { keeps = λ r five six seven. written-elsewhere m.registers 6 v r six; region = refl; private = refl }
@@ -131,7 +128,7 @@ module _ (program : List (Option Instr)) (m : State) (at : Place) (F : List Inst
       (near-pc three (low (three.pc + 4 * (length F + 1))))
 
   passes : 2 ^ 30 ≤ v → v + size ≤ end →
-      Reached program (shapes.first_address ∷ Branch Ltu x5 x6 (offset_of 12) ∷ RegisterImmediate Addi x6 x4 (below_zero (size - 1)) ∷ Branch Geu x6 x5 (over F) ∷ F) m v 4
+      Reached program (shapes.first_address ∷ Branch Ltu x5 x6 (offset_of 12) ∷ RegisterImmediate Addi x6 x4 (below_zero (size - 1)) ∷ Branch Geu x6 x5 (over F) ∷ F) m v
   passes h k = record {
     steps = 4;
     after = past;
@@ -142,17 +139,18 @@ module _ (program : List (Option Instr)) (m : State) (at : Place) (F : List Inst
     few = omega arith;
   }
 
-  outside : F ≡ failed BadAddress at → IsPlace at → (v < 2 ^ 30) ⊎ ((2 ^ 30 ≤ v) × (end < v + size)) → Ends program BadAddress at 15 m
+  outside : F ≡ failed BadAddress at → IsPlace at → (v < 2 ^ 30) ⊎ ((2 ^ 30 ≤ v) × (end < v + size)) → Ends program BadAddress at (suc (suc (suc (suc (length F))))) m
   outside is place o =
+      let last : length (failed BadAddress at) ≡ length F = ap length (sym is) in
       ⊎_elim
       (λ h.
-      later-ends program BadAddress at 2 11 15 m low_fails (to-low h)
+      later-ends program BadAddress at 2 (length (failed BadAddress at)) (suc (suc (suc (suc (length F))))) m low_fails (to-low h)
       (fails program low_fails BadAddress at (low-below (one.pc + 12)) place (omega arith) (omega arith)
-      (subst (λ c. Stands program low_fails.pc c) is (subst (λ q. Stands program q F) (pc-three m.pc) there.1.1.1.1))) (omega arith))
+      (subst (λ c. Stands program low_fails.pc c) is (subst (λ q. Stands program q F) (pc-three m.pc) there.1.1.1.1))) (omega (arith, last)))
       (λ h.
-      later-ends program BadAddress at 4 11 15 m high_fails (to-high h.0 h.1)
+      later-ends program BadAddress at 4 (length (failed BadAddress at)) (suc (suc (suc (suc (length F))))) m high_fails (to-high h.0 h.1)
       (fails program high_fails BadAddress at (low-below (three.pc + 4)) place (omega arith) (omega arith)
-      (subst (λ c. Stands program high_fails.pc c) is there.1.1.1.1)) (omega arith))
+      (subst (λ c. Stands program high_fails.pc c) is there.1.1.1.1)) (omega (arith, last)))
       o
 
 -- the end of the region is a small number, and larger than an access
@@ -163,16 +161,16 @@ end-small y Used w base m h =
     (omega arith, omega arith)
 
 -- first one piece of code, and then another
-pub reached-both : (program : List (Option Instr)) (a b : List Instr) (m n : State) (v first most : ℕ) → Way program (length a) m n → Near m n → n.pc ≡ low (m.pc + 4 * length a) →
-    length a ≤ first → Reached program b n v most → Reached program (a ++ b) m v (first + most)
-reached-both program a b m n v first most way near pc short r = record {
+pub reached-both : (program : List (Option Instr)) (a b : List Instr) (m n : State) (v : ℕ) → Way program (length a) m n → Near m n → n.pc ≡ low (m.pc + 4 * length a) →
+    Reached program b n v → Reached program (a ++ b) m v
+reached-both program a b m n v way near pc r = record {
   steps = length a + r.steps;
   after = r.after;
   way = way-both program (length a) r.steps m n r.after way r.way;
   near = near-both m n r.after near r.near;
   five = r.five;
   pc = behind-both a b m.pc n.pc r.after.pc pc r.pc;
-  few = omega (arith, r.few);
+  few = omega (arith, r.few, length-append a b);
 }
 
 -- an address in a word, with its test
@@ -191,27 +189,28 @@ module _ (y : Layout) (held : Option ℕ) (Used : ℕ → Type 0) (w : World) (b
   taken-four : (l : Loads 5 (first_taken y held a) m (value_in w.temps a)) → l.after.registers 4 ≡ end_address w.region
   taken-four l = l.keeps 4 (λ e. omega (arith, e)) (λ e. omega (arith, e)) ∙ p.limit
 
-  pub word-inside : first_address ≤ value_in w.temps a → value_in w.temps a + size ≤ end_address w.region → Reached program (first_taken y held a ++ bounds_tested at size) m (value_in w.temps a) (operand_words a + 4)
+  pub word-inside : first_address ≤ value_in w.temps a → value_in w.temps a + size ≤ end_address w.region → Reached program (first_taken y held a ++ bounds_tested at size) m (value_in w.temps a)
   word-inside i j =
       let l : Loads 5 (first_taken y held a) m (value_in w.temps a) = taken-load in
       let e = end-small y Used w base m p in
-      reached-both program (first_taken y held a) (bounds_tested at size) m l.after (value_in w.temps a) (operand_words a) 4 (taken-way l)
-      (scratch-near (first_taken y held a) m l.after (loads-five (first_taken y held a) m (value_in w.temps a) l)) l.behind (first-count y held a)
+      reached-both program (first_taken y held a) (bounds_tested at size) m l.after (value_in w.temps a) (taken-way l)
+      (scratch-near (first_taken y held a) m l.after (loads-five (first_taken y held a) m (value_in w.temps a) l)) l.behind
       (passes program l.after at (failed BadAddress at) (value_in w.temps a) (end_address w.region) size l.gives (taken-four l) e.0 some few (omega (arith, e.1))
       (failed-count BadAddress at) (taken-rest l) i j)
 
   pub word-outside : IsPlace at → (value_in w.temps a < first_address) ⊎ ((first_address ≤ value_in w.temps a) × (end_address w.region < value_in w.temps a + size)) →
-      Ends program BadAddress at (operand_words a + 15) m
+      Ends program BadAddress at (length (first_taken y held a ++ bounds_tested at size)) m
   word-outside place o =
       let l : Loads 5 (first_taken y held a) m (value_in w.temps a) = taken-load in
       let e = end-small y Used w base m p in
-      later-ends program BadAddress at (length (first_taken y held a)) 15 (operand_words a + 15) m l.after (taken-way l)
+      later-ends program BadAddress at (length (first_taken y held a)) (length (bounds_tested at size))
+      (length (first_taken y held a ++ bounds_tested at size)) m l.after (taken-way l)
       (outside program l.after at (failed BadAddress at) (value_in w.temps a) (end_address w.region) size l.gives (taken-four l) e.0 some few (omega (arith, e.1))
-      (failed-count BadAddress at) (taken-rest l) refl place o) (omega (arith, first-count y held a))
+      (failed-count BadAddress at) (taken-rest l) refl place o) (omega (arith, length-append (first_taken y held a) (bounds_tested at size)))
 
 -- an address of the frame
 pub frame-reached : (y : Layout) (Used : ℕ → Type 0) (w : World) (base : ℕ) (program : List (Option Instr)) (m : State) (offset : ℕ) → Holds y Used w base m → w.placed + offset < 2 ^ 64 →
-    Stands program m.pc (located offset) → Reached program (located offset) m (w.placed + offset) 9
+    Stands program m.pc (located offset) → Reached program (located offset) m (w.placed + offset)
 frame-reached y Used w base program m offset p small there =
     let l : Loads 5 (located offset) m (w.placed + offset) = located-loads m w.placed offset p.placed small in
     record {
@@ -221,7 +220,7 @@ frame-reached y Used w base program m offset p small there =
       near = scratch-near (located offset) m l.after (loads-five (located offset) m (w.placed + offset) l);
       five = l.gives;
       pc = l.behind;
-      few = located-count offset;
+      few = omega arith;
     }
 
 -- where an access lies in the region
@@ -270,13 +269,14 @@ unfolding low
 pc-more p n = omega arith
 
 -- the load and the put, once the address stands in x5
-load-ends : (y : Layout) (d : ℕ) (form : Number) (Used Next : ℕ → Type 0) (w : World) (base most a : ℕ) (code : List Instr) (program : List (Option Instr)) (m : State) →
-    Reached program code m a most → Holds y Used w base m → Housed y Used → Housed y Next → Next d → Follows Used Next d →
+load-ends : (y : Layout) (d : ℕ) (form : Number) (Used Next : ℕ → Type 0) (w : World) (base a : ℕ) (code : List Instr) (program : List (Option Instr)) (m : State) →
+    Reached program code m a → Holds y Used w base m → Housed y Used → Housed y Next → Next d → Follows Used Next d →
     a < 2 ^ 64 → first_address ≤ a → a + bytes_of form.size ≤ end_address w.region → wrapped (width_of form) (number_of (accessed w.region a (bytes_of form.size))) < 2 ^ 64 →
     Stands program m.pc (code ++ (Load (load_of form.signed form.size) x5 x5 zero_immediate ∷ put_at y d)) →
-    Gives y program Next (with_temp w d (wrapped (width_of form) (number_of (accessed w.region a (bytes_of form.size))))) base (most + 4)
+    Gives y program Next (with_temp w d (wrapped (width_of form) (number_of (accessed w.region a (bytes_of form.size))))) base
+    (length (code ++ (Load (load_of form.signed form.size) x5 x5 zero_immediate ∷ put_at y d)))
     (behind m (code ++ (Load (load_of form.signed form.size) x5 x5 zero_immediate ∷ put_at y d))) d m
-load-ends y d form Used Next w base most a code program m r p h h' u follows small low-end high-end value there =
+load-ends y d form Used Next w base a code program m r p h h' u follows small low-end high-end value there =
     let i : Instr = Load (load_of form.signed form.size) x5 x5 zero_immediate in
     let b : List Instr = put_at y d in
     let v : ℕ = wrapped (width_of form) (number_of (accessed w.region a (bytes_of form.size))) in
@@ -286,8 +286,9 @@ load-ends y d form Used Next w base most a code program m r p h h' u follows sma
     let way : Way program (r.steps + 1) m t =
     way-both program r.steps 1 m n t r.way
     (step-way program i n t rest.0 (load-act m n w.region form a (r.near.region ∙ p.region) r.five small p.bytes low-end high-end)) in
-    then-put y Used Next w base d v (r.steps + 1) (most + 4) (behind m (code ++ (i ∷ b))) program m t p h h' u follows way
-    (near-both m n t r.near (near-five n (low (n.pc + 4)) v)) (low-below (n.pc + 4)) (written-there n.registers 5 v (λ e. omega (arith, e))) value (omega (arith, r.few)) (inl (omega arith)) rest.1
+    then-put y Used Next w base d v (r.steps + 1) (length (code ++ (i ∷ b))) (behind m (code ++ (i ∷ b))) program m t p h h' u follows way
+    (near-both m n t r.near (near-five n (low (n.pc + 4)) v)) (low-below (n.pc + 4)) (written-there n.registers 5 v (λ e. omega (arith, e))) value
+    (omega (arith, r.few, length-append code (i ∷ b))) (inl (omega arith)) rest.1
     (pc-more n.pc (length b) ∙ behind-both code (i ∷ b) m.pc n.pc (low (n.pc + 4 * suc (length b))) r.pc refl)
 
 -- what a range is
@@ -314,27 +315,8 @@ outside-false r a size o =
     (λ h. ap (λ b. b && nat_le (a + size) (end_address r)) (le-leb first_address a h.0) ∙ lt-leb (a + size) (end_address r) h.1)
     o
 
-pub weaker : (y : Layout) (program : List (Option Instr)) (Next : ℕ → Type 0) (w : World) (base weight more target : ℕ) (out : List ℕ) (m : State) →
-    weight ≤ more → Comes y program Next w base weight target out m → Comes y program Next w base more target out m
-weaker y program Next w base weight more target out m h c = record {
-  steps = c.steps;
-  after = c.after;
-  some = c.some;
-  few = omega (arith, c.few);
-  runs = c.runs;
-  at = c.at;
-  holds = c.holds;
-  keeps = c.keeps;
-}
-
-weaker-gives : (y : Layout) (program : List (Option Instr)) (Next : ℕ → Type 0) (w : World) (base weight more target d : ℕ) (m : State) →
-    weight ≤ more → Gives y program Next w base weight target d m → Gives y program Next w base more target d m
-unfolding weaker
-weaker-gives y program Next w base weight more target d m h g =
-    record { comes = weaker y program Next w base weight more target [] m h g.comes; five = g.five }
-
-pub weaker-ends : (program : List (Option Instr)) (at : Place) (weight more : ℕ) (m : State) → weight ≤ more → Ends program BadAddress at weight m → Ends program BadAddress at more m
-weaker-ends program at weight more m h e = record { steps = e.steps; last = e.last; few = omega (arith, e.few); runs = e.runs }
+pub weaker-ends : (program : List (Option Instr)) (at : Place) (few more : ℕ) (m : State) → few ≤ more → Ends program BadAddress at few m → Ends program BadAddress at more m
+weaker-ends program at few more m h e = record { steps = e.steps; last = e.last; few = omega (arith, e.few); runs = e.runs }
 
 -- a load by whether the access is inside
 load-cases : (y : Layout) (d : ℕ) (form : Number) (at : Place) (Next : ℕ → Type 0) (w : World) (base weight target a : ℕ) (program : List (Option Instr)) (m : State) →
@@ -372,25 +354,23 @@ region-loads y held d form at (Word a) Used Next w base program m there five pla
     let some : 1 ≤ bytes_of form.size = (size-range form.size).0 in
     let few : bytes_of form.size ≤ 8 = (size-range form.size).1 in
     let front : Stands program m.pc code = stands-front program m.pc code rest there in
-    load-cases y d form at Next w base (words_of (instructions.Load d form (spots.Region at (Word a)))) (behind m (code ++ rest)) v program m
+    load-cases y d form at Next w base (length (code ++ rest)) (behind m (code ++ rest)) v program m
     (λ i.
-    weaker-gives y program Next _ base (operand_words a + 4 + 4) (words_of (instructions.Load d form (spots.Region at (Word a)))) (behind m (code ++ rest)) d m (omega arith)
-    (load-ends y d form Used Next w base (operand_words a + 4) v code program m
+    load-ends y d form Used Next w base v code program m
     (word-inside y held Used w base program m at a (bytes_of form.size) five p h r some (omega arith) front i.0 i.1)
-    p h h' u follows (first-small held Used y w base m a p r) i.0 i.1 (wrapped-small (width_of form) _ (wide-size form.size)) there))
+    p h h' u follows (first-small held Used y w base m a p r) i.0 i.1 (wrapped-small (width_of form) _ (wide-size form.size)) there)
     (λ o.
-    weaker-ends program at (operand_words a + 15) (words_of (instructions.Load d form (spots.Region at (Word a)))) m (omega arith) (word-outside y held Used w base program m at a (bytes_of form.size) five p h r some (omega arith) front place o))
+    weaker-ends program at (length code) (length (code ++ rest)) m (omega (arith, length-append code rest)) (word-outside y held Used w base program m at a (bytes_of form.size) five p h r some (omega arith) front place o))
 region-loads y held d form at (Frame offset) Used Next w base program m there five place r p h h' u follows =
     let code : List Instr = located offset in
     let rest : List Instr = Load (load_of form.signed form.size) x5 x5 zero_immediate ∷ put_at y d in
     let a : ℕ = w.placed + offset in
     let e = end-small y Used w base m p in
     let small : a < 2 ^ 64 = omega (arith, r, e.0) in
-    load-cases y d form at Next w base 14 (behind m (code ++ rest)) a program m
+    load-cases y d form at Next w base (length (code ++ rest)) (behind m (code ++ rest)) a program m
     (λ i.
-    weaker-gives y program Next _ base 13 14 (behind m (code ++ rest)) d m (omega arith)
-    (load-ends y d form Used Next w base 9 a code program m
+    load-ends y d form Used Next w base a code program m
     (frame-reached y Used w base program m offset p small (stands-front program m.pc code rest there))
-    p h h' u follows small i.0 i.1 (wrapped-small (width_of form) _ (wide-size form.size)) there))
+    p h h' u follows small i.0 i.1 (wrapped-small (width_of form) _ (wide-size form.size)) there)
     (λ o.
     absurd (⊎_elim (λ k. omega (arith, k, low-enough y Used w base offset m p)) (λ k. omega (arith, k.1, r)) o))

@@ -1,5 +1,5 @@
 -- Returns.
-use Rattle.std.proofs.Common.{◌≡◌, ◌≢◌, ℕ, suc, ◌+◌, ◌-◌, ◌*◌, ◌%◌, ◌^◌, ◌<◌, ◌≤◌, Bool, true, false, ◌||◌, List, ◌∷◌, ◌++◌, length, take}
+use Rattle.std.proofs.Common.{◌≡◌, ◌≢◌, ℕ, suc, ◌+◌, ◌-◌, ◌*◌, ◌%◌, ◌^◌, ◌<◌, ◌≤◌, Bool, true, false, ◌||◌, List, ◌∷◌, length, take}
 use Rattle.std.proofs.Common.{drop, Option, Some, None, refl, sym, ap, ◌∙◌, subst, ⊎_elim, inl, inr, arith}
 use Rattle.std.specs.Prelude.{if◌then◌else◌, nat_eq, ◌⊎◌}
 use Rattle.std.proofs.lemmas.List.{length-append}
@@ -25,7 +25,7 @@ use Rattle.rv_select.specs.Entering.{kept_offset, left, x28}
 use Rattle.rv_select.specs.declared.settings.Setting.{Setting}
 use Rattle.rv_select.specs.Calls.{jump_unless_last, part_given, returned}
 use Rattle.rv_select.specs.Waiting.{Image, IsLinked, Waiting, restored}
-use Rattle.rv_select.proofs.Jumps.{Jumped, Reaches, jumps-there, last-few, last_words}
+use Rattle.rv_select.proofs.Jumps.{Jumped, Reaches, jumps-there, last-count, last_words}
 use Rattle.rv_select.proofs.Lives.{housed}
 use Rattle.rv_select.proofs.Homes.{region-small}
 use Rattle.rv_select.proofs.Numbers.{below-is}
@@ -36,11 +36,11 @@ use Rattle.rv_select.proofs.Waits.{SameAbove, link-same, same-home}
 use Rattle.rv_select.proofs.Ways.{Way, near-same, stands-back, stands-front, step-way, straight-way, way-both, way-none}
 
 -- The result is in x10, and the machine goes on where the return address says, with the caller's frames and registers.
-pub record BackIn (program : List (Option Instr)) (y : Layout) (bytes base over link v : ℕ) (m : State) : Type 0 where
+pub record BackIn (program : List (Option Instr)) (y : Layout) (bytes base over link v most : ℕ) (m : State) : Type 0 where
   pub after : State
   pub steps : ℕ
   pub way : Way program steps m after
-  pub few : steps ≤ 34
+  pub few : steps ≤ most
   pub some : 1 ≤ steps
   pub pc : after.pc ≡ link
   pub ten : after.registers 10 ≡ v
@@ -92,7 +92,8 @@ pub goes-back : (program : List (Option Instr)) (y : Layout) (held : Option ℕ)
     (setting.next ≡ None → last ≡ m.pc + 4 * length (returned y setting held m.pc last v)) → w.placed + frame < 2 ^ 63 → link_in y base m ≡ link → link % 2 ≡ 0 →
     link < 2 ^ 64 →
     Stands program m.pc (returned y setting held m.pc last v) → Stands program last (left y (frame_bytes y) frame) →
-    BackIn program y (frame_bytes y) base (w.placed + frame) link (part_value y base w v) m
+    BackIn program y (frame_bytes y) base (w.placed + frame) link (part_value y base w v)
+    (length (returned y setting held m.pc last v) + length (left y (frame_bytes y) frame)) m
 goes-back program y held Used w base frame last link from v m setting p h five reads near last-small last-even reach behind fits link-is even link-small there leaves =
     let A : List Instr = part_given y held v in
     let at : ℕ = m.pc + 4 * length A in
@@ -107,7 +108,7 @@ goes-back program y held Used w base frame last link from v m setting p h five r
     subst (λ q. Stands program q J) (low-small (m.pc + 4 * length A) (omega (arith, near, few)))
     (stands-back program m.pc A J p.pc there) in
     let words : ℕ = last_words setting.short setting.next in
-    let c : words ≤ 2 = last-few setting.short setting.next in
+    let c : length J ≡ words = last-count setting.short setting.next at last in
     let reaches : Reaches setting.short at last = λ q. (omega (arith, few, (reach q).0), omega (arith, (reach q).1)) in
     let j : Jumped program words last t1 =
     comes-there program t1 setting.short setting.next at last at-is (omega (arith, near, few)) last-small last-even reaches
@@ -118,7 +119,7 @@ goes-back program y held Used w base frame last link from v m setting p h five r
     let private-2 : t2.private ≡ m.private = j.near.private ∙ l.private in
     let region-2 : t2.region ≡ m.region = j.near.region ∙ l.region in
     let within : base + frame_bytes y ≤ length t2.private = subst (λ z. base + frame_bytes y ≤ length z) (sym private-2) p.frame.within in
-    let q : Quit program y (frame_bytes y) base (w.placed + frame) link t2 =
+    let q : Quit program y (frame_bytes y) base (w.placed + frame) link (length (left y (frame_bytes y) frame)) t2 =
     quits program y (frame_bytes y) base w.placed frame link t2 (subst (λ z. z < 2 ^ 64) (sym j.pc) (omega (arith, last-small)))
     (same-2 2 (λ z. omega (arith, z)) (λ z. omega (arith, z)) (λ z. omega (arith, z)) (λ z. omega (arith, z)) ∙ p.frame.pointer)
     (same-2 8 (λ z. omega (arith, z)) (λ z. omega (arith, z)) (λ z. omega (arith, z)) (λ z. omega (arith, z)) ∙ p.placed) fits
@@ -143,7 +144,7 @@ goes-back program y held Used w base frame last link from v m setting p h five r
       after = q.after;
       steps = length A + words + q.steps;
       way = way-both program (length A + words) q.steps m t2 q.after (way-both program (length A) words m t1 t2 one j.way) q.way;
-      few = omega (arith, few, c, q.few);
+      few = omega (arith, c, q.few, length-append A J);
       some = omega (arith, q.some);
       pc = q.pc;
       ten = q.others 10 (λ z. omega (arith, z)) (λ z. omega (arith, z)) (λ z. omega (arith, z)) (λ z. omega (arith, z))

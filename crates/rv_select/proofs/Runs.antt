@@ -22,24 +22,24 @@ use Rattle.tac_form.specs.declared.tac.Block.{Block}
 use Rattle.tac_form.specs.declared.tac.Tac.{Tac}
 use Rattle.tac_form.specs.Flow as tac
 use Rattle.tac_form.specs.Flow.{Goes, Program, Stops, step, steps}
-use Rattle.tac_form.specs.Weights.{exit_words, words_of}
 use Rattle.rv_select.specs.declared.pairs.Pair.{Pair}
 use Rattle.rv_select.specs.Pairs.{but_pair, pair_of, plain_of, reads_of}
-use Rattle.rv_select.specs.Places.{Layout, layout_of}
-use Rattle.rv_select.specs.Shapes.{has_exit_shape, has_shape, held_after, start_of}
+use Rattle.rv_select.specs.Places.{Layout, frame_bytes, layout_of}
+use Rattle.rv_select.specs.Shapes.{has_exit_shape, has_shape, held_after, shape_of, start_of}
+use Rattle.rv_select.specs.Entering.{left}
 use Rattle.rv_select.specs.Calls.{block_code, block_has_code, block_starts, has_code, has_exit_code, head_code, instruction_code}
-use Rattle.rv_select.specs.Calls.{starts_from}
+use Rattle.rv_select.specs.Calls.{last_address, starts_from}
 use Rattle.rv_select.specs.Waiting.{Arrives, Image, IsLinked, IsPlaced, Placed, StandsIn, Stepped, entries_of, instruction_at, place_in}
-use Rattle.rv_select.specs.Waiting.{plain_in}
-use Rattle.rv_select.specs.Whole.{AreShort, Ended, RunsAreCarried, StepsAreCarried, block_count, pair_count, steps_at_once, steps_left}
+use Rattle.rv_select.specs.Waiting.{held_in, plain_in}
+use Rattle.rv_select.specs.Whole.{AreShort, Ended, RunsAreCarried, StepsAreCarried, block_count, bytes_left, pair_count, steps_at_once}
 use Rattle.rv_select.proofs.Backs.{return-steps, return_most}
-use Rattle.rv_select.proofs.Calling.{call-step, taking}
+use Rattle.rv_select.proofs.Calling.{call-step, call_most}
 use Rattle.rv_select.proofs.Coupled.{falls-pair, pair-steps}
 use Rattle.rv_select.proofs.Falls.{FallsIf, falls-call, falls-exit, falls-inner, falls-return}
 use Rattle.rv_select.proofs.Inner.{act-stays, leave-to}
-use Rattle.rv_select.proofs.Pairing.{IsPair, compare_of, pair-parts, past, plain-get}
-use Rattle.rv_select.proofs.Stands.{both-true, list-all-get}
-use Rattle.rv_select.proofs.Through.{exit-step, inner-step}
+use Rattle.rv_select.proofs.Pairing.{IsPair, pair-parts, past, plain-get}
+use Rattle.rv_select.proofs.Stands.{AtExit, AtPlace, at-exit, at-instruction, both-true, last-within, list-all-get}
+use Rattle.rv_select.proofs.Through.{code-is, exit-step, inner-step}
 
 -- an instruction stands nowhere below where the first does, nor a block below where the first does
 at-least : (y : Layout) (sizes : List ℕ) (places : FnId → ℕ) (at : ℕ) (held : Option ℕ) (is : List Instruction) (k : ℕ) →
@@ -90,7 +90,7 @@ pub record Done (p : Program) (image : Image) (program : List (Option Instr)) (m
   pub count_is : count ≡ steps_at_once (p.code s.here.function) s.here.block s.here.at
   pub bound : ℕ
   pub stepped : Stepped p image program most size bound s m (steps p count (Goes s))
-  pub falls : AreShort p words → FallsIf p words bound s (steps p count (Goes s))
+  pub falls : AreShort p image words → FallsIf p image words bound s (steps p count (Goes s))
   pub there : (out : List ℕ) → steps p count (Goes s) ≡ Stops (More out) → m.pc ≢ 0
 
 -- how many steps there are at once, by what stands at the place
@@ -148,7 +148,7 @@ a-step p image program most size words linked s base m x = in-block (slice_get x
       count_is = sym (ap (λ o. steps_at_once o s.here.block s.here.at) x.function ∙ ap (λ o. block_count (reads_of x.code) o s.here.at) e);
       bound = 0;
       stepped = subst (λ moved. Stepped p image program most size 0 s m moved) (sym (stuck-is e)) tt;
-      falls = λ short. subst (λ moved. FallsIf p words 0 s moved) (sym (stuck-is e)) tt;
+      falls = λ short. subst (λ moved. FallsIf p image words 0 s moved) (sym (stuck-is e)) tt;
       there = λ out q. absurd (not-more Stuck s.out out (sym (stuck-is e) ∙ q));
     }
 
@@ -170,6 +170,19 @@ a-step p image program most size words linked s base m x = in-block (slice_get x
     high : (block : Block) → slice_get x.code.blocks s.here.block ≡ Some block → m.pc ≢ 0
     high block e z = place-high p image x.code (image s.here.function) s.here.block s.here.at block e (sym x.pc ∙ z)
 
+    under : {a b c : ℕ} → a ≤ b → b ≤ c → a ≤ c
+    under {a} {b} {c} h g = omega (arith, h, g)
+
+    -- the end of a block
+    the-end : (block : Block) → slice_get x.code.blocks s.here.block ≡ Some block →
+        slice_get (plain_of (reads_of x.code) block) s.here.at ≡ None → (o : Option Pair) → pair_of (reads_of x.code) block ≡ o →
+        AtExit p image program x.code (image s.here.function) s.here.block (held_in x.code s.here.block s.here.at) o block.exit
+        (place_in p image x.code (image s.here.function) s.here.block s.here.at)
+    the-end block e g o q =
+        subst (λ z. AtExit p image program x.code (image s.here.function) s.here.block (held_in x.code s.here.block s.here.at) z block.exit
+        (place_in p image x.code (image s.here.function) s.here.block s.here.at)) q
+        (at-exit p image program most x.code (image s.here.function) s.here.block s.here.at block pl e g)
+
     inside : (block : Block) (i : Instruction) → slice_get x.code.blocks s.here.block ≡ Some block →
         slice_get (plain_of (reads_of x.code) block) s.here.at ≡ Some i → has_shape i ≡ true →
         Done p image program most size words s m
@@ -177,37 +190,52 @@ a-step p image program most size words linked s base m x = in-block (slice_get x
       count = 1;
       some = omega arith;
       count_is = one-here block i e g;
-      bound = words_of i;
+      bound = length (shape_of (layout_of x.code (image s.here.function).homes) (held_in x.code s.here.block s.here.at) i);
       stepped = inner-step p image program most size linked s base m x block i e g h;
       falls = λ short. let here = whole block i g in
-          falls-inner p words x.code block i s (step p s) x.function e here (let e1 = x.function in rw (e1, e, here) (act-stays p i s h));
+          let q : ℕ = place_in p image x.code (image s.here.function) s.here.block s.here.at in
+          let y : Layout = layout_of x.code (image s.here.function).homes in
+          let held : Option ℕ = held_in x.code s.here.block s.here.at in
+          let found : AtPlace p image program x.code (image s.here.function) s.here.block s.here.at i q =
+          at-instruction p image program most x.code (image s.here.function) s.here.block s.here.at block i pl e g in
+          let same : length (instruction_code y x.code.areas (entries_of p image) q held i) ≡ length (shape_of y held i) =
+          ap length (code-is y x.code.areas (entries_of p image) q held i h) in
+          falls-inner p image words x.code s (step p s) (length (shape_of y held i)) x.function (found.next ∙ ap (λ n. q + 4 * n) same)
+          (under (subst (λ n. q + 4 * n ≤ last_address y x.code (image s.here.function).at) same found.within)
+          (last-within p image program most x.code (image s.here.function) pl))
+          (let e1 = x.function in rw (e1, e, here) (act-stays p i s h));
       there = λ out q. high block e;
     }
 
     leaving : (block : Block) → slice_get x.code.blocks s.here.block ≡ Some block →
         slice_get block.instructions s.here.at ≡ None → pair_of (reads_of x.code) block ≡ None → has_exit_shape block.exit ≡ true →
+        AtExit p image program x.code (image s.here.function) s.here.block (held_in x.code s.here.block s.here.at) None block.exit
+        (place_in p image x.code (image s.here.function) s.here.block s.here.at) →
         Done p image program most size words s m
-    leaving block e g alone h = record {
+    leaving block e g alone h found = record {
       count = 1;
       some = omega arith;
       count_is = one-alone block e alone;
-      bound = exit_words block.exit;
-      stepped = exit-step p image program most size linked s base m x block e g alone h;
-      falls = λ short. falls-exit p words x.code block s (step p s) x.function e pl.counted (short s.here.function x.code x.function)
-          (let e1 = x.function in rw (e1, e, g) (leave-to p block.exit s h));
+      bound = found.own;
+      stepped = exit-step p image program most size linked s base m x block e g alone h found;
+      falls = λ short. falls-exit p image program most words short x.code block s.here.at s.here.temps s (step p s) pl x.function e None
+          (held_in x.code s.here.block s.here.at) found (let e1 = x.function in rw (e1, e, g) (leave-to p block.exit s h));
       there = λ out q. high block e;
     }
 
     returns : (block : Block) (v : Part) → slice_get x.code.blocks s.here.block ≡ Some block →
         slice_get block.instructions s.here.at ≡ None → pair_of (reads_of x.code) block ≡ None → block.exit ≡ Return v →
+        AtExit p image program x.code (image s.here.function) s.here.block (held_in x.code s.here.block s.here.at) None block.exit
+        (place_in p image x.code (image s.here.function) s.here.block s.here.at) →
         Done p image program most size words s m
-    returns block v e g alone is = record {
+    returns block v e g alone is found = record {
       count = 1;
       some = omega arith;
       count_is = one-alone block e alone;
-      bound = return_most s.callers;
-      stepped = return-steps p image program most size linked s base m x block v e g alone is;
-      falls = λ short. falls-return p words x.code block v s x.function e g is;
+      bound = return_most p image (found.own + length (left (layout_of x.code (image s.here.function).homes)
+          (frame_bytes (layout_of x.code (image s.here.function).homes)) x.code.frame)) s.callers;
+      stepped = return-steps p image program most size linked s base m x block v e g alone is found;
+      falls = λ short. falls-return p image program most words x.code block v s pl x.function e g is (held_in x.code s.here.block s.here.at) found;
       there = λ out q. high block e;
     }
 
@@ -218,21 +246,24 @@ a-step p image program most size words linked s base m x = in-block (slice_get x
       count = 1;
       some = omega arith;
       count_is = one-here block (Call to place f arguments) e g;
-      bound = 49 + 11 * length arguments + taking (p.code f);
+      bound = call_most p image x.code s.here place f arguments;
       stepped = call-step p image program most size linked s base m x block to place f arguments e g;
-      falls = λ short. falls-call p words short x.code block to place f arguments s x.function e
-          (whole block (Call to place f arguments) g);
+      falls = λ short. falls-call p image program most words linked short x.code block to place f arguments s x.function e
+          (whole block (Call to place f arguments) g)
+          (at-instruction p image program most x.code (image s.here.function) s.here.block s.here.at block (Call to place f arguments) pl e g);
       there = λ out q. high block e;
     }
 
     an-exit : (block : Block) → slice_get x.code.blocks s.here.block ≡ Some block →
         slice_get block.instructions s.here.at ≡ None → pair_of (reads_of x.code) block ≡ None → (exit : Exit) → block.exit ≡ exit →
         has_exit_code exit ≡ true →
+        AtExit p image program x.code (image s.here.function) s.here.block (held_in x.code s.here.block s.here.at) None block.exit
+        (place_in p image x.code (image s.here.function) s.here.block s.here.at) →
         Done p image program most size words s m
-    an-exit block e g alone (Return v) is h = returns block v e g alone is
-    an-exit block e g alone (Jump d) is h = leaving block e g alone (ap has_exit_shape is ∙ h)
-    an-exit block e g alone (Branch a d f) is h = leaving block e g alone (ap has_exit_shape is ∙ h)
-    an-exit block e g alone (Fail kind at) is h = leaving block e g alone (ap has_exit_shape is ∙ h)
+    an-exit block e g alone (Return v) is h found = returns block v e g alone is found
+    an-exit block e g alone (Jump d) is h found = leaving block e g alone (ap has_exit_shape is ∙ h) found
+    an-exit block e g alone (Branch a d f) is h found = leaving block e g alone (ap has_exit_shape is ∙ h) found
+    an-exit block e g alone (Fail kind at) is h found = leaving block e g alone (ap has_exit_shape is ∙ h) found
 
     an-instruction : (block : Block) → slice_get x.code.blocks s.here.block ≡ Some block → (i : Instruction) →
         slice_get (plain_of (reads_of x.code) block) s.here.at ≡ Some i → has_code i ≡ true →
@@ -254,17 +285,18 @@ a-step p image program most size words linked s base m x = in-block (slice_get x
     an-end : (block : Block) → slice_get x.code.blocks s.here.block ≡ Some block →
         slice_get (plain_of (reads_of x.code) block) s.here.at ≡ None →
         (o : Option Pair) → pair_of (reads_of x.code) block ≡ o → Done p image program most size words s m
-    an-end block e g None q = an-exit block e (over block g q) q block.exit refl (parts block e).1
+    an-end block e g None q = an-exit block e (over block g q) q block.exit refl (parts block e).1 (the-end block e g None q)
     an-end block e g (Some pair) q =
         let k : IsPair (reads_of x.code) (slice_get block.instructions (length block.instructions - 1)) block.exit pair =
         pair-parts (reads_of x.code) (slice_get block.instructions (length block.instructions - 1)) block.exit pair q in
+        let found = the-end block e g (Some pair) q in
         record {
           count = 2;
           some = omega arith;
           count_is = two-here block pair e g q;
-          bound = words_of (compare_of pair k.result) + exit_words block.exit;
-          stepped = pair-steps p image program most size linked s base m x block pair e g q k;
-          falls = λ short. falls-pair p image program most size words linked short s base m x block pair e g q k;
+          bound = found.own;
+          stepped = pair-steps p image program most size linked s base m x block pair e g q k found;
+          falls = λ short. falls-pair p image program most size words linked short s base m x block pair e g q k found;
           there = λ out q. high block e;
         }
 
@@ -298,33 +330,43 @@ outs-both : (s t out a b : List ℕ) → t ≡ s ++ a → out ≡ t ++ b → out
 outs-both s t out a b e f = f ∙ (ap (λ z. z ++ b) e ∙ append_assoc s a b)
 
 -- a bound on what a step and all that follows take
-abbrev pub FallsTo : Program → (words top bound : ℕ) → tac.State → tac.Moved → Type 0
-FallsTo p words top bound s (Goes t) = (bound + steps_left p words t ≤ top) × (s.left ≤ suc t.left)
-FallsTo p words top bound s (Stops (Over (Returned v) out)) = bound ≤ top
-FallsTo p words top bound s (Stops (Over (Fault kind at) out)) = bound ≤ top
-FallsTo p words top bound s (Stops (Over Stuck out)) = Unit {0}
-FallsTo p words top bound s (Stops (More out)) = Unit {0}
+abbrev pub FallsTo : Program → Image → (words top bound : ℕ) → tac.State → tac.Moved → Type 0
+FallsTo p image words top bound s (Goes t) = (4 * bound + bytes_left p image words t ≤ 4 * top) × (s.left ≤ suc t.left)
+FallsTo p image words top bound s (Stops (Over (Returned v) out)) = bound ≤ top
+FallsTo p image words top bound s (Stops (Over (Fault kind at) out)) = bound ≤ top
+FallsTo p image words top bound s (Stops (Over Stuck out)) = Unit {0}
+FallsTo p image words top bound s (Stops (More out)) = Unit {0}
 
-falls-to : (p : Program) (words bound : ℕ) (s : tac.State) (moved : tac.Moved) → FallsIf p words bound s moved →
-    FallsTo p words (steps_left p words s) bound s moved
-falls-to p words bound s (Goes t) h = h
-falls-to p words bound s (Stops (Over (Returned v) out)) h = h
-falls-to p words bound s (Stops (Over (Fault kind at) out)) h = h
-falls-to p words bound s (Stops (Over Stuck out)) h = tt
-falls-to p words bound s (Stops (More out)) h = tt
+falls-to : (p : Program) (image : Image) (words bound top : ℕ) (s : tac.State) (moved : tac.Moved) → bytes_left p image words s ≤ 4 * top →
+    FallsIf p image words bound s moved → FallsTo p image words top bound s moved
+falls-to p image words bound top s (Goes t) few h =
+    (under (4 * bound + bytes_left p image words t) (bytes_left p image words s) (4 * top) h.0 few, h.1)
+  where
+    under : (a b c : ℕ) → a ≤ b → b ≤ c → a ≤ c
+    under a b c g i = omega (arith, g, i)
+falls-to p image words bound top s (Stops (Over (Returned v) out)) few h = fourth bound (bytes_left p image words s) top h few
+  where
+    fourth : (a b c : ℕ) → 4 * a ≤ b → b ≤ 4 * c → a ≤ c
+    fourth a b c g i = omega (arith, g, i)
+falls-to p image words bound top s (Stops (Over (Fault kind at) out)) few h = fourth bound (bytes_left p image words s) top h few
+  where
+    fourth : (a b c : ℕ) → 4 * a ≤ b → b ≤ 4 * c → a ≤ c
+    fourth a b c g i = omega (arith, g, i)
+falls-to p image words bound top s (Stops (Over Stuck out)) few h = tt
+falls-to p image words bound top s (Stops (More out)) few h = tt
 
 -- some steps, and a run from there
-then-ended : (p : Program) (image : Image) (program : List (Option Instr)) (most size words bound top : ℕ) (out : List ℕ) (s t : tac.State)
+then-ended : (p : Program) (image : Image) (program : List (Option Instr)) (most size bound top : ℕ) (out : List ℕ) (s t : tac.State)
     (m : State) (r : Run) → t.out ≡ s.out ++ out →
-    (a : Arrives p image program most size bound s.left out t m) → bound + steps_left p words t ≤ top →
-    Ended program (steps_left p words t) t a.after r → Ended program top s m r
-then-ended p image program most size words bound top out s t m (Over (Returned v) all) e a falls (rest, o, d) = (
+    (a : Arrives p image program most size bound s.left out t m) → bound ≤ top → Ended program (top - bound) t a.after r →
+    Ended program top s m r
+then-ended p image program most size bound top out s t m (Over (Returned v) all) e a falls (rest, o, d) = (
   out ++ rest,
   outs-both s.out t.out all out rest e o,
   record {
     count = a.steps + d.count;
     last = d.last;
-    few = sum (steps_left p words t) top a.steps d.count falls a.few d.few;
+    few = sum top a.steps d.count falls a.few d.few;
     runs = λ more.
         let split : a.steps + d.count + more ≡ a.steps + (d.count + more) = omega arith in
         ap (run_of program m) split ∙ (a.runs (d.count + more) ∙ (ap (after_output out) (d.runs more) ∙ both-outputs out rest _));
@@ -332,25 +374,25 @@ then-ended p image program most size words bound top out s t m (Over (Returned v
   },
 )
   where
-    sum : (l n k c : ℕ) → bound + l ≤ n → k ≤ bound → c ≤ l → k + c ≤ n
-    sum l n k c f g h = omega (arith, f, g, h)
-then-ended p image program most size words bound top out s t m (Over (Fault kind at) all) e a falls (rest, o, d) = (
+    sum : (n k c : ℕ) → bound ≤ n → k ≤ bound → c ≤ n - bound → k + c ≤ n
+    sum n k c f g h = omega (arith, f, g, h)
+then-ended p image program most size bound top out s t m (Over (Fault kind at) all) e a falls (rest, o, d) = (
   out ++ rest,
   outs-both s.out t.out all out rest e o,
   record {
     count = a.steps + d.count;
     last = d.last;
-    few = sum (steps_left p words t) top a.steps d.count falls a.few d.few;
+    few = sum top a.steps d.count falls a.few d.few;
     runs = λ more.
         let split : a.steps + d.count + more ≡ a.steps + (d.count + more) = omega arith in
         ap (run_of program m) split ∙ (a.runs (d.count + more) ∙ (ap (after_output out) (d.runs more) ∙ both-outputs out rest _));
   },
 )
   where
-    sum : (l n k c : ℕ) → bound + l ≤ n → k ≤ bound → c ≤ l → k + c ≤ n
-    sum l n k c f g h = omega (arith, f, g, h)
-then-ended p image program most size words bound top out s t m (Over Stuck all) e a falls d = tt
-then-ended p image program most size words bound top out s t m (More all) e a falls (rest, o, d) = (
+    sum : (n k c : ℕ) → bound ≤ n → k ≤ bound → c ≤ n - bound → k + c ≤ n
+    sum n k c f g h = omega (arith, f, g, h)
+then-ended p image program most size bound top out s t m (Over Stuck all) e a falls d = tt
+then-ended p image program most size bound top out s t m (More all) e a falls (rest, o, d) = (
   out ++ rest,
   outs-both s.out t.out all out rest e o,
   record {
@@ -358,15 +400,15 @@ then-ended p image program most size words bound top out s t m (More all) e a fa
     after = d.after;
     there = d.there;
     enough = least s.left t.left a.steps d.count a.enough d.enough;
-    few = sum (steps_left p words t) top a.steps d.count falls a.few d.few;
+    few = sum top a.steps d.count falls a.few d.few;
     runs = λ more.
         let split : a.steps + d.count + more ≡ a.steps + (d.count + more) = omega arith in
         ap (run_of program m) split ∙ (a.runs (d.count + more) ∙ (ap (after_output out) (d.runs more) ∙ both-outputs out rest _));
   },
 )
   where
-    sum : (l n k c : ℕ) → bound + l ≤ n → k ≤ bound → c ≤ l → k + c ≤ n
-    sum l n k c f g h = omega (arith, f, g, h)
+    sum : (n k c : ℕ) → bound ≤ n → k ≤ bound → c ≤ n - bound → k + c ≤ n
+    sum n k c f g h = omega (arith, f, g, h)
 
     least : (l n k c : ℕ) → l ≤ n + k → n ≤ c → l ≤ k + c
     least l n k c f g = omega (arith, f, g)
@@ -374,7 +416,7 @@ then-ended p image program most size words bound top out s t m (More all) e a fa
 -- the step by which the run is over
 at-end : (p : Program) (image : Image) (program : List (Option Instr)) (most size words bound top : ℕ) (s : tac.State) (m : State)
     (r : Run) → ((out : List ℕ) → Stops r ≡ Stops (More out) → m.pc ≢ 0) → Stepped p image program most size bound s m (Stops r) →
-    FallsTo p words top bound s (Stops r) → Ended program top s m r
+    FallsTo p image words top bound s (Stops r) → Ended program top s m r
 at-end p image program most size words bound top s m (Over (Returned v) out) live (e, d) falls = (
   [],
   sym (append-nil s.out ∙ sym e),
@@ -421,12 +463,19 @@ same-run a b e = cc
 
 pub behind-step : (p : Program) (image : Image) (program : List (Option Instr)) (most size words k bound top : ℕ) (r : Run) (s : tac.State)
     (m : State) →
-    ((t : tac.State) (base : ℕ) (n : State) → StandsIn p image program most size t base n → steps p k (Goes t) ≡ Stops r →
-    Ended program (steps_left p words t) t n r) → (moved : tac.Moved) → ((out : List ℕ) → moved ≡ Stops (More out) → m.pc ≢ 0) →
-    Stepped p image program most size bound s m moved → FallsTo p words top bound s moved → steps p k moved ≡ Stops r →
+    ((t : tac.State) (base : ℕ) (n : State) (rest : ℕ) → StandsIn p image program most size t base n → bytes_left p image words t ≤ 4 * rest →
+    steps p k (Goes t) ≡ Stops r → Ended program rest t n r) → (moved : tac.Moved) → ((out : List ℕ) → moved ≡ Stops (More out) → m.pc ≢ 0) →
+    Stepped p image program most size bound s m moved → FallsTo p image words top bound s moved → steps p k moved ≡ Stops r →
     Ended program top s m r
 behind-step p image program most size words k bound top r s m more (Goes t) live (out, e, a) falls ends =
-    then-ended p image program most size words bound top out s t m r e a falls.0 (more t a.base a.after a.stands ends)
+    then-ended p image program most size bound top out s t m r e a (fits (bytes_left p image words t) falls.0)
+    (more t a.base a.after (top - bound) a.stands (rest (bytes_left p image words t) falls.0) ends)
+  where
+    fits : (l : ℕ) → 4 * bound + l ≤ 4 * top → bound ≤ top
+    fits l h = omega (arith, h)
+
+    rest : (l : ℕ) → 4 * bound + l ≤ 4 * top → l ≤ 4 * (top - bound)
+    rest l h = omega (arith, h)
 behind-step p image program most size words k bound top r s m more (Stops q) live d falls ends =
     let same : q ≡ r = same-run q r (sym (steps-stopped p k q) ∙ ends) in
     subst (λ z. Ended program top s m z) same (at-end p image program most size words bound top s m q live d falls)
@@ -464,26 +513,26 @@ steps-behind p count k r moved e = ⊎_elim
 
 -- a run of at most so many steps
 runs-within : (p : Program) (image : Image) (program : List (Option Instr)) (most size words : ℕ) → IsLinked p image program most →
-    AreShort p words →
-    (fuel k : ℕ) → k ≤ fuel → (r : Run) (s : tac.State) (base : ℕ) (m : State) → StandsIn p image program most size s base m →
-    steps p k (Goes s) ≡ Stops r → Ended program (steps_left p words s) s m r
-runs-within p image program most size words linked short zero k h r s base m x e =
+    AreShort p image words →
+    (fuel k : ℕ) → k ≤ fuel → (r : Run) (s : tac.State) (base : ℕ) (m : State) (top : ℕ) → StandsIn p image program most size s base m →
+    bytes_left p image words s ≤ 4 * top → steps p k (Goes s) ≡ Stops r → Ended program top s m r
+runs-within p image program most size words linked short zero k h r s base m top x few e =
     let none : k ≡ 0 = omega (arith, h) in
     let no : Goes s ≡ Stops r = ap (λ n. steps p n (Goes s)) (sym none) ∙ e in
     cc
-runs-within p image program most size words linked short (suc fuel) k h r s base m x e =
+runs-within p image program most size words linked short (suc fuel) k h r s base m top x few e =
     let d = a-step p image program most size words linked s base m x in
-    behind-step p image program most size words (k - d.count) d.bound (steps_left p words s) r s m
-    (λ t b n y g. runs-within p image program most size words linked short fuel (k - d.count) (less k d.count h d.some) r t b n y g)
+    behind-step p image program most size words (k - d.count) d.bound top r s m
+    (λ t b n rest y l g. runs-within p image program most size words linked short fuel (k - d.count) (less k d.count h d.some) r t b n rest y l g)
     (steps p d.count (Goes s)) d.there d.stepped
-    (falls-to p words d.bound s (steps p d.count (Goes s)) (d.falls short)) (steps-behind p d.count k r (Goes s) e)
+    (falls-to p image words d.bound top s (steps p d.count (Goes s)) few (d.falls short)) (steps-behind p d.count k r (Goes s) e)
   where
     less : (k c : ℕ) → k ≤ suc fuel → 1 ≤ c → k - c ≤ fuel
     less k c h g = omega (arith, h, g)
 
 pub runs-carried : RunsAreCarried
-runs-carried p image program most size words k r s base m linked short x e =
-    runs-within p image program most size words linked short k k (at-most k) r s base m x e
+runs-carried p image program most size words top k r s base m linked short x few e =
+    runs-within p image program most size words linked short k k (at-most k) r s base m top x few e
   where
     at-most : (n : ℕ) → n ≤ n
     at-most n = omega arith

@@ -17,15 +17,16 @@ use Rattle.rv_operators.specs.Runs.{Stands}
 use Rattle.rv_select.specs.declared.pairs.Pair.{Pair}
 use Rattle.rv_select.specs.declared.settings.Setting.{Setting}
 use Rattle.rv_select.specs.Settings.{next_of, setting_of}
-use Rattle.rv_select.specs.Pairs.{but_pair, pair_of, plain_of, reads_of}
+use Rattle.rv_select.specs.Pairs.{pair_of, plain_of, reads_of}
 use Rattle.rv_select.specs.Places.{Layout, frame_bytes, is_near, is_short, layout_of}
 use Rattle.rv_select.specs.Shapes.{start_of}
 use Rattle.rv_select.specs.Entering.{left}
 use Rattle.rv_select.specs.Calls.{block_starts, blocks_length, end_code, head_code, held_behind, instruction_code, instructions_code}
-use Rattle.rv_select.specs.Calls.{last_address}
+use Rattle.rv_select.specs.Calls.{body_code, last_address}
+use Rattle.rv_select.specs.Whole.{end_in}
 use Rattle.rv_select.specs.Waiting.{Image, IsPlaced, Placed, entries_of, held_at, held_in, instruction_at, place_in, plain_in}
 use Rattle.rv_select.proofs.Finds.{Found, FoundBlock, FoundFunction, find-block, find-exit, find-function, find-instruction, held-last}
-use Rattle.rv_select.proofs.Finds.{instruction-aligned, starts-last, starts-least, starts-next}
+use Rattle.rv_select.proofs.Finds.{instruction-aligned, starts-last, starts-later, starts-least, starts-next}
 
 pub both-true : (a b : Bool) → (a && b) ≡ true → (a ≡ true) × (b ≡ true)
 both-true true b e = (refl, e)
@@ -91,11 +92,14 @@ pub record AtPlace (p : Program) (image : Image) (program : List (Option Instr))
   pub next : place_in p image code x b (suc k) ≡ at + 4 * length
       (instruction_code (layout_of code x.homes) code.areas (entries_of p image) at (held_in code b k) i)
   pub near : at + 4 * length (instruction_code (layout_of code x.homes) code.areas (entries_of p image) at (held_in code b k) i) + 256 ≤ 2 ^ 30
+  pub within : at + 4 * length (instruction_code (layout_of code x.homes) code.areas (entries_of p image) at (held_in code b k) i)
+      ≤ last_address (layout_of code x.homes) code x.at
   pub aligned : at % 4 ≡ 0
 
--- And so does that of an exit, or of a comparison and an exit. Behind it stands the next block, or the code that leaves the function.
-pub record AtExit (p : Program) (image : Image) (program : List (Option Instr)) (code : Tac) (x : Placed) (held : Option ℕ)
-    (o : Option Pair) (e : Exit) (at : ℕ) : Type 0 where
+-- And so does that of the exit of a block, or of a comparison and the exit: so many words. Behind them stands the next block, or the code
+-- that leaves the function.
+pub record AtExit (p : Program) (image : Image) (program : List (Option Instr)) (code : Tac) (x : Placed) (b : ℕ)
+    (held : Option ℕ) (o : Option Pair) (e : Exit) (at : ℕ) : Type 0 where
   pub setting : Setting
   pub near_is : setting.near ≡ is_near code
   pub short_is : setting.short ≡ is_short code
@@ -112,6 +116,12 @@ pub record AtExit (p : Program) (image : Image) (program : List (Option Instr)) 
   pub aligned : at % 4 ≡ 0
   pub low : x.at ≤ at
   pub high : at ≤ last_address (layout_of code x.homes) code x.at
+  pub own : ℕ
+  pub own_is : own ≡ length
+      (end_code (layout_of code x.homes) setting held at (start_of (block_starts (layout_of code x.homes) code x.at))
+      (last_address (layout_of code x.homes) code x.at) o e)
+  pub within : at + 4 * own ≤ last_address (layout_of code x.homes) code x.at
+  pub later : (c : ℕ) → b < c → c < length code.blocks → at + 4 * own ≤ start_of (block_starts (layout_of code x.homes) code x.at) c
 
 pub the-function : (p : Program) (image : Image) (program : List (Option Instr)) (most : ℕ) (code : Tac) (x : Placed) →
     IsPlaced p image program most code x →
@@ -163,13 +173,14 @@ at-instruction p image program most code x b k block i h e g =
       stands = found.stands;
       next = here (suc k) ∙ found.next;
       near = omega (arith, found.near, fb.near, f.near, count);
+      within = omega (arith, found.near, fb.near, count);
       aligned = instruction-aligned y code.areas places None is k S fb.aligned;
     })
 
 pub at-exit : (p : Program) (image : Image) (program : List (Option Instr)) (most : ℕ) (code : Tac) (x : Placed) (b k : ℕ) (block : Block)
     → IsPlaced p image program most code x →
     slice_get code.blocks b ≡ Some block → slice_get (plain_of (reads_of code) block) k ≡ None →
-    AtExit p image program code x (held_in code b k) (pair_of (reads_of code) block) block.exit (place_in p image code x b k)
+    AtExit p image program code x b (held_in code b k) (pair_of (reads_of code) block) block.exit (place_in p image code x b k)
 at-exit p image program most code x b k block h e g =
     let y : Layout = layout_of code x.homes in
     let is : List Instruction = plain_of (reads_of code) block in
@@ -187,8 +198,8 @@ at-exit p image program most code x b k block h e g =
     fe.0 in
     let held : held_in code b k ≡ held_behind None is =
     ap (λ o. held_at None (plain_in (reads_of code) o) k) e ∙ held-last None is k g in
-    subst (λ at. AtExit p image program code x (held_in code b k) (pair_of (reads_of code) block) block.exit at) (sym here)
-    (subst (λ o. AtExit p image program code x o (pair_of (reads_of code) block) block.exit (S + 4 * length A)) (sym held)
+    subst (λ at. AtExit p image program code x b (held_in code b k) (pair_of (reads_of code) block) block.exit at) (sym here)
+    (subst (λ o. AtExit p image program code x b o (pair_of (reads_of code) block) block.exit (S + 4 * length A)) (sym held)
     (record {
       setting = setting_of y.extent (length (drop (suc b) code.blocks));
       near_is = refl;
@@ -206,8 +217,17 @@ at-exit p image program most code x b k block h e g =
       low = from-first x.at S (length (head_code y code)) (length A)
           (starts-least y code.areas code.blocks b (x.at + 4 * length (head_code y code)) (slice_get_within code.blocks b block e));
       high = omega (arith, fb.near, count);
+      own = length E;
+      own_is = refl;
+      within = omega (arith, fb.near, count);
+      later = λ c l h.
+          from-next S (length A) (length E) (length (A ++ E)) _ count
+          (starts-later y code.areas places (start_of (block_starts y code x.at)) (last_address y code x.at) S code.blocks b c block first e l h);
     }))
   where
+    from-next : (s a c d z : ℕ) → d ≡ a + c → s + 4 * d ≤ z → s + 4 * a + 4 * c ≤ z
+    from-next s a c d z e h = omega (arith, e, h)
+
     from-first : (a s n k : ℕ) → a + 4 * n ≤ s → a ≤ s + 4 * k
     from-first a s n k h = omega (arith, h)
 
@@ -239,12 +259,35 @@ at-exit p image program most code x b k block h e g =
         there (omega (arith, none, follow, within)) in
         omega (arith, count, all)
 
--- the end of a block whose exit has code of its own
-pub at-plain-exit : (p : Program) (image : Image) (program : List (Option Instr)) (most : ℕ) (code : Tac) (x : Placed) (b k : ℕ)
-    (block : Block)
-    → IsPlaced p image program most code x →
-    slice_get code.blocks b ≡ Some block → slice_get block.instructions k ≡ None → pair_of (reads_of code) block ≡ None →
-    AtExit p image program code x (held_in code b k) None block.exit (place_in p image code x b k)
-at-plain-exit p image program most code x b k block h e g alone =
-    subst (λ o. AtExit p image program code x (held_in code b k) o block.exit (place_in p image code x b k)) alone
-    (at-exit p image program most code x b k block h e (ap (λ o. slice_get (but_pair o block.instructions) k) alone ∙ g))
+-- the code that leaves a function ends it
+pub end-is : (p : Program) (image : Image) (program : List (Option Instr)) (most : ℕ) (code : Tac) (x : Placed) →
+    IsPlaced p image program most code x →
+    last_address (layout_of code x.homes) code x.at + 4 * length (left (layout_of code x.homes) (frame_bytes (layout_of code x.homes)) code.frame)
+    ≡ end_in p image code x
+end-is p image program most code x h =
+    let y : Layout = layout_of code x.homes in
+    let f : FoundFunction program y code (entries_of p image) x.at = the-function p image program most code x h in
+    let H : List Instr = head_code y code in
+    let D : List Instr = body_code y code (entries_of p image) x.at in
+    let L : List Instr = left y (frame_bytes y) code.frame in
+    sums (length H) (length D) (length L) (length (D ++ L)) (length (H ++ (D ++ L))) (last_address y code x.at) f.whole (length-append D L)
+    (length-append H (D ++ L))
+  where
+    sums : (h d l r n z : ℕ) → x.at + 4 * h + 4 * d ≡ z → r ≡ d + l → n ≡ h + r → z + 4 * l ≡ x.at + 4 * n
+    sums h d l r n z e g k = omega (arith, e, g, k)
+
+-- so it ends no earlier than its blocks
+pub last-within : (p : Program) (image : Image) (program : List (Option Instr)) (most : ℕ) (code : Tac) (x : Placed) →
+    IsPlaced p image program most code x → last_address (layout_of code x.homes) code x.at ≤ end_in p image code x
+last-within p image program most code x h =
+    under (last_address (layout_of code x.homes) code x.at) (end_in p image code x)
+    (length (left (layout_of code x.homes) (frame_bytes (layout_of code x.homes)) code.frame)) (end-is p image program most code x h)
+  where
+    under : (z e l : ℕ) → z + 4 * l ≡ e → z ≤ e
+    under z e l h = omega (arith, h)
+
+-- Each block begins behind the code that enters the function.
+pub starts-behind : (code : Tac) (x : Placed) (c : ℕ) → c < length code.blocks →
+    x.at + 4 * length (head_code (layout_of code x.homes) code) ≤ start_of (block_starts (layout_of code x.homes) code x.at) c
+starts-behind code x c h =
+    starts-least (layout_of code x.homes) code.areas code.blocks c (x.at + 4 * length (head_code (layout_of code x.homes) code)) h

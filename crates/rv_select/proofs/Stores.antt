@@ -2,6 +2,7 @@
 use Rattle.std.proofs.Common.{◌≡◌, ℕ, ◌+◌, ◌-◌, ◌*◌, ◌/◌, ◌%◌, ◌^◌, ◌<◌, ◌≤◌, List, [], ◌∷◌, ◌++◌, length, Option, Some, None, refl, sym}
 use Rattle.std.proofs.Common.{ap, ◌∙◌, subst, ⊎_elim, arith}
 use Rattle.std.specs.Prelude.{if◌then◌else◌, ◌⊎◌}
+use Rattle.std.proofs.lemmas.List.{length-append}
 use Rattle.tl_base.specs.declared.place.Place.{Place}
 use Rattle.rv_isa.specs.declared.instr.Instr.{Instr}
 use Rattle.rv_isa.specs.declared.instr.Instr.TheVariants.{Store}
@@ -17,10 +18,7 @@ use Rattle.terra_words.specs.Runs.{put_bytes}
 use Rattle.tac_form.specs.declared.tac.Size.{Size}
 use Rattle.tac_form.specs.declared.tac.Operand.{Operand}
 use Rattle.tac_form.specs.declared.tac.Address.TheVariants.{Word, Frame}
-use Rattle.tac_form.specs.declared.tac.Spot.TheVariants as spots
-use Rattle.tac_form.specs.declared.tac.Instruction.TheVariants as instructions
 use Rattle.tac_form.specs.Flow.{bytes_of}
-use Rattle.tac_form.specs.Weights.{operand_words, words_of}
 use Rattle.rv_operators.specs.Codes.{x5, x6, zero_immediate}
 use Rattle.rv_operators.specs.Runs.{Stands}
 use Rattle.reg_alloc.specs.declared.assignment.Home.{Home}
@@ -30,12 +28,12 @@ use Rattle.rv_select.specs.Shapes.{bounds_tested, first_taken, located, store_of
 use Rattle.rv_select.specs.Steps.{AreFewer, Comes, Ends, behind}
 use Rattle.rv_select.proofs.Straight.{Loads, behind-both, loads-six, low-below, low-first, low-small}
 use Rattle.rv_select.proofs.Ways.{Near, Way, near-both, scratch-near, stands-back, stands-front, step-way, straight-way, way-both}
-use Rattle.rv_select.proofs.Homes.{operand-count, take-operand}
+use Rattle.rv_select.proofs.Homes.{take-operand}
 use Rattle.rv_select.proofs.Words.{low-are-bytes, overwritten-bytes, size-range, store-bytes}
 use Rattle.rv_select.proofs.Claims.{RegionStoresAreCarried, with_region}
-use Rattle.rv_select.proofs.Moves.{first-small, near-holds, near-keeps, value-small}
+use Rattle.rv_select.proofs.Moves.{first-small, near-holds, near-keeps}
 use Rattle.rv_select.proofs.Regions.{Reached, end-small, frame-reached, inside-true, insides, low-enough, outside-false, region-place}
-use Rattle.rv_select.proofs.Regions.{weaker, weaker-ends, word-inside, word-outside}
+use Rattle.rv_select.proofs.Regions.{weaker-ends, word-inside, word-outside}
 
 -- the region after a store
 abbrev pub stored-region : Contents → ℕ → List ℕ → Contents
@@ -102,13 +100,14 @@ pc-more : (p n : ℕ) → low (low (p + 4 * n) + 4) ≡ low (p + 4 * (n + 1))
 unfolding low
 pc-more p n = omega arith
 
-store-ends : (y : Layout) (size : Size) (b : Operand) (Used Next : ℕ → Type 0) (w : World) (base most a : ℕ) (code : List Instr) (program : List (Option Instr)) (m : State) →
-    Reached program code m a most → Holds y Used w base m → Housed y Used → AreFewer Used Next → IsRead y Used b →
+store-ends : (y : Layout) (size : Size) (b : Operand) (Used Next : ℕ → Type 0) (w : World) (base a : ℕ) (code : List Instr) (program : List (Option Instr)) (m : State) →
+    Reached program code m a → Holds y Used w base m → Housed y Used → AreFewer Used Next → IsRead y Used b →
     a < 2 ^ 64 → first_address ≤ a → a + bytes_of size ≤ end_address w.region →
     Stands program m.pc (code ++ (taken y x6 b ++ Store (store_of size) x5 x6 zero_immediate ∷ [])) →
-    Comes y program Next (with_region w (stored-region w.region a (low_bytes (bytes_of size) (value_in w.temps b)))) base (most + (operand_words b + 1))
+    Comes y program Next (with_region w (stored-region w.region a (low_bytes (bytes_of size) (value_in w.temps b)))) base
+    (length (code ++ (taken y x6 b ++ Store (store_of size) x5 x6 zero_immediate ∷ [])))
     (behind m (code ++ (taken y x6 b ++ Store (store_of size) x5 x6 zero_immediate ∷ []))) [] m
-store-ends y size b Used Next w base most a code program m r p h f rb small low-end high-end there =
+store-ends y size b Used Next w base a code program m r p h f rb small low-end high-end there =
     let i : Instr = Store (store_of size) x5 x6 zero_immediate in
     let B : List Instr = taken y x6 b in
     let v : ℕ = value_in w.temps b in
@@ -134,12 +133,11 @@ store-ends y size b Used Next w base most a code program m r p h f rb small low-
     way-both program (r.steps + length B) 1 m t z
     (way-both program r.steps (length B) m n t r.way (straight-way program B n t (stands-front program n.pc B (i ∷ []) rest) l.straight l.goes))
     (step-way program i t z last.0 (store-act t w.region size a v s.region five l.gives small low-end high-end)) in
-    let few : length B ≤ operand_words b = operand-count y x6 b in
     record {
       steps = r.steps + length B + 1;
       after = z;
       some = omega arith;
-      few = omega (arith, r.few);
+      few = omega (arith, r.few, length-append code (B ++ i ∷ []), length-append B (i ∷ []));
       runs = way.runs;
       at = behind-both code (B ++ i ∷ []) m.pc n.pc z.pc r.pc (behind-both B (i ∷ []) n.pc t.pc z.pc l.behind (low-first t.pc));
       holds = region-holds y Used Next w base t new (stored-region w.region a bs) s f is (stored-count w.region a bs low-end (omega (arith, count))) refl
@@ -190,25 +188,23 @@ region-stores y held size at (Word a) b Used Next w base program m there five pl
     let some : 1 ≤ bytes_of size = (size-range size).0 in
     let few : bytes_of size ≤ 8 = (size-range size).1 in
     let front : Stands program m.pc code = stands-front program m.pc code rest there in
-    store-cases y size at Next w base (words_of (instructions.Store (spots.Region at (Word a)) size b)) (behind m (code ++ rest)) v (value_in w.temps b) program m
+    store-cases y size at Next w base (length (code ++ rest)) (behind m (code ++ rest)) v (value_in w.temps b) program m
     (λ i.
-    weaker y program Next _ base (operand_words a + 4 + (operand_words b + 1)) (words_of (instructions.Store (spots.Region at (Word a)) size b)) (behind m (code ++ rest)) [] m (omega arith)
-    (store-ends y size b Used Next w base (operand_words a + 4) v code program m
+    store-ends y size b Used Next w base v code program m
     (word-inside y held Used w base program m at a (bytes_of size) five p h r some (omega arith) front i.0 i.1)
-    p h f rb (first-small held Used y w base m a p r) i.0 i.1 there))
+    p h f rb (first-small held Used y w base m a p r) i.0 i.1 there)
     (λ o.
-    weaker-ends program at (operand_words a + 15) (words_of (instructions.Store (spots.Region at (Word a)) size b)) m (omega arith) (word-outside y held Used w base program m at a (bytes_of size) five p h r some (omega arith) front place o))
+    weaker-ends program at (length code) (length (code ++ rest)) m (omega (arith, length-append code rest)) (word-outside y held Used w base program m at a (bytes_of size) five p h r some (omega arith) front place o))
 region-stores y held size at (Frame offset) b Used Next w base program m there five place r rb p h f =
     let code : List Instr = located offset in
     let rest : List Instr = taken y x6 b ++ Store (store_of size) x5 x6 zero_immediate ∷ [] in
     let a : ℕ = w.placed + offset in
     let e = end-small y Used w base m p in
     let small : a < 2 ^ 64 = omega (arith, r, e.0) in
-    store-cases y size at Next w base (words_of (instructions.Store (spots.Region at (Frame offset)) size b)) (behind m (code ++ rest)) a (value_in w.temps b) program m
+    store-cases y size at Next w base (length (code ++ rest)) (behind m (code ++ rest)) a (value_in w.temps b) program m
     (λ i.
-    weaker y program Next _ base (9 + (operand_words b + 1)) (words_of (instructions.Store (spots.Region at (Frame offset)) size b)) (behind m (code ++ rest)) [] m (omega arith)
-    (store-ends y size b Used Next w base 9 a code program m
+    store-ends y size b Used Next w base a code program m
     (frame-reached y Used w base program m offset p small (stands-front program m.pc code rest there))
-    p h f rb small i.0 i.1 there))
+    p h f rb small i.0 i.1 there)
     (λ o.
     absurd (⊎_elim (λ k. omega (arith, k, low-enough y Used w base offset m p)) (λ k. omega (arith, k.1, r)) o))

@@ -1,5 +1,5 @@
 -- Steps that stay within a function, in a program of several functions.
-use Rattle.std.proofs.Common.{◌≡◌, ℕ, suc, ◌+◌, ◌*◌, ◌^◌, ◌≤◌, Bool, true, List, [], ◌++◌, length, Option, Some, None, refl, sym, ap, ◌∙◌}
+use Rattle.std.proofs.Common.{◌≡◌, ℕ, suc, ◌+◌, ◌*◌, ◌^◌, ◌≤◌, true, List, [], ◌++◌, length, Option, Some, None, refl, sym, ap, ◌∙◌}
 use Rattle.std.proofs.Common.{subst, ⊎_elim, arith}
 use Rattle.std.specs.Prelude.{slice_get}
 use Rattle.std.proofs.lemmas.Bool.{cases_Bool}
@@ -16,7 +16,6 @@ use Rattle.tac_form.specs.Flow as tac
 use Rattle.tac_form.specs.Flow.{Goes, Program, Stops, Temps, act, leave, step}
 use Rattle.tac_form.specs.Graph.{graph_of}
 use Rattle.tac_form.specs.Live.{InUse}
-use Rattle.tac_form.specs.Weights.{exit_words, words_of}
 use Rattle.rv_machine.specs.Word.{low}
 use Rattle.rv_machine.specs.Machine.{State, after_output, run_of}
 use Rattle.rv_operators.specs.Runs.{Stands}
@@ -33,7 +32,7 @@ use Rattle.rv_select.proofs.Finds.{held-next}
 use Rattle.rv_select.proofs.Inner.{LeavesIf, LeavesTo, Stays, StaysIf, act-stays, leave-to}
 use Rattle.rv_select.proofs.Leaves.{exits}
 use Rattle.rv_select.proofs.Pairing.{before-next, plain-get}
-use Rattle.rv_select.proofs.Stands.{AtExit, AtPlace, at-plain-exit, at-instruction, exit-within, instruction-within, within-parts}
+use Rattle.rv_select.proofs.Stands.{AtExit, AtPlace, at-instruction, exit-within, instruction-within, within-parts}
 use Rattle.rv_select.proofs.Reached.{exit-reaches, starts-small}
 use Rattle.rv_select.proofs.Waits.{waits-keeps}
 use Rattle.rv_select.proofs.Moves.{near-keeps}
@@ -120,20 +119,20 @@ arrives p image program most size weight linked s t base m x out target held st 
       };
     }
 
-joined : (p : Program) (image : Image) (program : List (Option Instr)) (most size weight : ℕ) → IsLinked p image program most →
+joined : (p : Program) (image : Image) (program : List (Option Instr)) (most size : ℕ) → IsLinked p image program most →
     (s : tac.State) (base : ℕ) (m : State)
     (x : StandsIn p image program most size s base m) (held : Option ℕ) (code : List Instr) (moved : tac.Moved) →
     behind m code ≡ place_in p image x.code (image s.here.function) s.here.block (suc s.here.at) →
     held_in x.code s.here.block (suc s.here.at) ≡ held →
     suc s.here.at ≤ length (plain_in (reads_of x.code) (slice_get x.code.blocks s.here.block)) → StaysIf s moved →
-    Carried (layout_of x.code (image s.here.function).homes) (graph_of x.code) program base weight held code s m moved →
-    Stepped p image program most size weight s m moved
-joined p image program most size weight linked s base m x held code (Goes t) to behind-it inside st c =
-    (c.0, c.1, arrives p image program most size weight linked s t base m x c.0 (behind m code) held st to behind-it inside c.2 c.3)
-joined p image program most size weight linked s base m x held code (Stops (Over (Fault kind at) out)) to behind-it inside st c = c
-joined p image program most size weight linked s base m x held code (Stops (Over (Returned v) out)) to behind-it inside st c = absurd c
-joined p image program most size weight linked s base m x held code (Stops (Over Stuck out)) to behind-it inside st c = tt
-joined p image program most size weight linked s base m x held code (Stops (More out)) to behind-it inside st c = absurd c
+    Carried (layout_of x.code (image s.here.function).homes) (graph_of x.code) program base held code s m moved →
+    Stepped p image program most size (length code) s m moved
+joined p image program most size linked s base m x held code (Goes t) to behind-it inside st c =
+    (c.0, c.1, arrives p image program most size (length code) linked s t base m x c.0 (behind m code) held st to behind-it inside c.2 c.3)
+joined p image program most size linked s base m x held code (Stops (Over (Fault kind at) out)) to behind-it inside st c = c
+joined p image program most size linked s base m x held code (Stops (Over (Returned v) out)) to behind-it inside st c = absurd c
+joined p image program most size linked s base m x held code (Stops (Over Stuck out)) to behind-it inside st c = tt
+joined p image program most size linked s base m x held code (Stops (More out)) to behind-it inside st c = absurd c
 
 -- an instruction that stays within its function
 pub inner-step : (p : Program) (image : Image) (program : List (Option Instr)) (most size : ℕ) → IsLinked p image program most →
@@ -141,9 +140,10 @@ pub inner-step : (p : Program) (image : Image) (program : List (Option Instr)) (
     (x : StandsIn p image program most size s base m) (block : Block) (i : Instruction) →
     slice_get x.code.blocks s.here.block ≡ Some block → slice_get (plain_of (reads_of x.code) block) s.here.at ≡ Some i →
     has_shape i ≡ true →
-    Stepped p image program most size (words_of i) s m (step p s)
+    Stepped p image program most size
+    (length (shape_of (layout_of x.code (image s.here.function).homes) (held_in x.code s.here.block s.here.at) i)) s m (step p s)
 inner-step p image program most size linked s base m x block i in-f in-p h =
-    joined p image program most size (words_of i) linked s base m x (held_after i)
+    joined p image program most size linked s base m x (held_after i)
     (shape_of (layout_of x.code (image s.here.function).homes) held i) (step p s) to behind-it
     (before-next x.code s.here.block s.here.at block i in-f in-p) stays
     (instructions p x.code (image s.here.function).homes held i s program base m h before)
@@ -328,22 +328,19 @@ pub exit-step : (p : Program) (image : Image) (program : List (Option Instr)) (m
     (s : tac.State) (base : ℕ) (m : State)
     (x : StandsIn p image program most size s base m) (block : Block) → slice_get x.code.blocks s.here.block ≡ Some block →
     slice_get block.instructions s.here.at ≡ None → pair_of (reads_of x.code) block ≡ None → has_exit_shape block.exit ≡ true →
-    Stepped p image program most size (exit_words block.exit) s m (step p s)
-exit-step p image program most size linked s base m x block in-f in-b alone h =
-    left-joined p image program most size (exit_words block.exit) linked s s.here.at s.here.temps base m x block.exit (step p s) leaves
-    (exits p x.code (image s.here.function).homes held block.exit
-    (start_of (block_starts (layout_of x.code (image s.here.function).homes) x.code (image s.here.function).at)) s program base m h
-    before)
+    (found : AtExit p image program x.code (image s.here.function) s.here.block (held_in x.code s.here.block s.here.at) None block.exit
+    (place_in p image x.code (image s.here.function) s.here.block s.here.at)) →
+    Stepped p image program most size found.own s m (step p s)
+exit-step p image program most size linked s base m x block in-f in-b alone h found =
+    left-joined p image program most size found.own linked s s.here.at s.here.temps base m x block.exit (step p s) leaves
+    (subst (λ n. Left y (graph_of x.code) program base n starts s m (step p s)) (sym own-is)
+    (exits p x.code (image s.here.function).homes held block.exit starts s program base m h before))
   where
     pl : IsPlaced p image program most x.code (image s.here.function)
     pl = linked s.here.function x.code x.function
 
     held : Option ℕ
     held = held_in x.code s.here.block s.here.at
-
-    found : AtExit p image program x.code (image s.here.function) held None block.exit
-        (place_in p image x.code (image s.here.function) s.here.block s.here.at)
-    found = at-plain-exit p image program most x.code (image s.here.function) s.here.block s.here.at block pl in-f in-b alone
 
     leaves : LeavesIf block.exit s (step p s)
     leaves = let e1 = x.function in rw (e1, in-f, in-b) (leave-to p block.exit s h)
@@ -360,6 +357,9 @@ exit-step p image program most size linked s base m x block in-f in-b alone h =
     code-is : exit_code y found.setting held at starts (last_address y x.code (image s.here.function).at) block.exit
         ≡ exit_shape y found.setting held at starts block.exit
     code-is = exit-is y found.setting held at (last_address y x.code (image s.here.function).at) starts block.exit h
+
+    own-is : found.own ≡ length (exit_shape y found.setting held m.pc starts block.exit)
+    own-is = found.own_is ∙ (ap length code-is ∙ ap (λ q. length (exit_shape y found.setting held q starts block.exit)) (sym x.pc))
 
     before : StandsAtExit p x.code (image s.here.function).homes held block.exit
         (start_of (block_starts (layout_of x.code (image s.here.function).homes) x.code (image s.here.function).at)) s program base m

@@ -24,8 +24,6 @@ use Rattle.tac_form.specs.declared.tac.Address.{Address}
 use Rattle.tac_form.specs.declared.tac.Address.TheVariants.{Word, Frame}
 use Rattle.tac_form.specs.declared.tac.Spot.{Spot}
 use Rattle.tac_form.specs.declared.tac.Spot.TheVariants as spots
-use Rattle.tac_form.specs.declared.tac.Instruction.TheVariants.{Move}
-use Rattle.tac_form.specs.Weights.{operand_words, words_of}
 use Rattle.rv_operators.specs.Codes.{x0, x5, x6}
 use Rattle.rv_operators.specs.Runs.{Stands}
 use Rattle.rv_operators.proofs.Runs.{straight-both}
@@ -37,15 +35,15 @@ use Rattle.rv_select.proofs.Claims.{IsReached, address_in, with_area, with_regio
 use Rattle.rv_select.proofs.Areas.{Saves, area-comes, area-near, area-room, area-written, then-saves}
 use Rattle.rv_select.proofs.Frames.{framed-address, framed-count, framed-some}
 use Rattle.rv_select.proofs.Homes.{region-small}
-use Rattle.rv_select.proofs.Moves.{fewer-holds, home-keeps, keeps-both, lasts-not, near-holds, near-keeps, scratch-holds}
+use Rattle.rv_select.proofs.Moves.{home-keeps, keeps-both, lasts-not, near-holds, near-keeps, scratch-holds}
 use Rattle.rv_select.proofs.Nothing.{nothing-done}
 use Rattle.rv_select.proofs.Parts.{none-written, part-within}
-use Rattle.rv_select.proofs.Regions.{Reached, end-small, frame-reached, inside-true, insides, low-enough, outside-false, range-is, weaker}
+use Rattle.rv_select.proofs.Regions.{Reached, end-small, frame-reached, inside-true, insides, low-enough, outside-false, range-is}
 use Rattle.rv_select.proofs.Regions.{weaker-ends, word-inside, word-outside}
 use Rattle.rv_select.proofs.Stores.{lawful-still, put-is, stored-count, stored-region}
-use Rattle.rv_select.proofs.Straight.{Loads, Scratch, behind-both, goes-both, loads-five, loads-six, low-below, low-first}
+use Rattle.rv_select.proofs.Straight.{Loads, Scratch, behind-both, goes-both, loads-five, loads-six, low-below}
 use Rattle.rv_select.proofs.Transfers.{Moving, Transfer, all-moved, if-some}
-use Rattle.rv_select.proofs.Ways.{Near, Way, scratch-near, stands-back, stands-front, straight-way, way-both}
+use Rattle.rv_select.proofs.Ways.{Near, Way, stands-back, stands-front, straight-way, way-both}
 use Rattle.rv_select.proofs.Words.{drop-bytes, overwritten-bytes, take-bytes}
 
 -- bytes that go to private memory
@@ -128,7 +126,8 @@ small-after code m z e = subst (λ k. k < 2 ^ 64) (sym e) (low-below (m.pc + 4 *
 pub area-moves : (y : Layout) (held : Option ℕ) (n offset k other size : ℕ) (Used Next : ℕ → Type 0) (w : World) (base : ℕ) (program : List (Option Instr)) (m : State) →
     Stands program m.pc (some_moved y held (spots.Area n offset) (spots.Area k other) size) → n < y.areas → k < y.areas → n ≢ k → offset ≤ length (w.areas n) → offset + size ≤ 128 →
     other + size ≤ length (w.areas k) → Holds y Used w base m → Housed y Used → AreFewer Used Next →
-    Comes y program Next (with_area w n (overwritten (w.areas n) offset (part (w.areas k) other size))) base 42 (behind m (some_moved y held (spots.Area n offset) (spots.Area k other) size)) [] m
+    Comes y program Next (with_area w n (overwritten (w.areas n) offset (part (w.areas k) other size))) base
+    (length (some_moved y held (spots.Area n offset) (spots.Area k other) size)) (behind m (some_moved y held (spots.Area n offset) (spots.Area k other) size)) [] m
 area-moves y held n offset k other size Used Next w base program m stands there from-there differ within most source p h f =
     let A : List Instr = area_reached y x5 n offset in
     let B : List Instr = area_reached y x6 k other in
@@ -164,19 +163,16 @@ area-moves y held n offset k other size Used Next w base program m stands there 
     then-saves A (B ++ C) m l.after d X (loads-five A m (2 ^ 32 + d) l)
     (then-saves B C l.after g.after d X (loads-six B l.after (2 ^ 32 + s) g) (transfer-saves C g.after d X (all-moved x6 x5 (Private s) (Private d) X size g.after move count))) in
     let all : length (A ++ (B ++ C)) ≡ length A + (length B + length C) = length-append A (B ++ C) ∙ ap (λ i. length A + i) (length-append B C) in
-    let few-a : length A ≤ 3 = area-count y x5 n offset in
     let some-a : 1 ≤ length A = area-some y x5 n offset in
-    let few-b : length B ≤ 3 = area-count y x6 k other in
-    let few-c : length C ≤ 36 = carried-count x6 x5 size (omega arith) in
-    area-comes y Used Next w base n (length (A ++ (B ++ C))) 42 (behind m (A ++ (B ++ C))) (overwritten (w.areas n) offset X) program m r.after
+    area-comes y Used Next w base n (length (A ++ (B ++ C))) (length (A ++ (B ++ C))) (behind m (A ++ (B ++ C))) (overwritten (w.areas n) offset X) program m r.after
     (straight-way program (A ++ (B ++ C)) m r.after stands r.straight r.goes) r.behind (small-after (A ++ (B ++ C)) m r.after r.behind)
     (area-written y Used w base n offset X (A ++ (B ++ C)) m r p there within (omega (arith, count)) (part-bytes (w.areas k) other size (p.area_bytes k from-there)))
     p h f there (omega arith) (omega arith)
 
 -- first a way to a state near
-pub later-comes : (y : Layout) (program : List (Option Instr)) (Next : ℕ → Type 0) (w : World) (base k weight more target : ℕ) (m n : State) → Way program k m n → Near m n → k + weight ≤ more →
-    Comes y program Next w base weight target [] n → Comes y program Next w base more target [] m
-later-comes y program Next w base k weight more target m n way near few c = record {
+pub later-comes : (y : Layout) (program : List (Option Instr)) (Next : ℕ → Type 0) (w : World) (base k most more target : ℕ) (m n : State) → Way program k m n → Near m n → k + most ≤ more →
+    Comes y program Next w base most target [] n → Comes y program Next w base more target [] m
+later-comes y program Next w base k most more target m n way near few c = record {
   steps = k + c.steps;
   after = c.after;
   some = omega (arith, c.some);
@@ -188,11 +184,12 @@ later-comes y program Next w base k weight more target m n way near few c = reco
 }
 
 -- from the region to an area, once the address stands in x5
-to-area : (y : Layout) (n offset size : ℕ) (Used Next : ℕ → Type 0) (w : World) (base most a : ℕ) (F : List Instr) (program : List (Option Instr)) (m : State) →
-    Reached program F m a most → Stands program m.pc (F ++ to_area y n offset size) → n < y.areas → offset ≤ length (w.areas n) → offset + size ≤ 128 →
+to-area : (y : Layout) (n offset size : ℕ) (Used Next : ℕ → Type 0) (w : World) (base a : ℕ) (F : List Instr) (program : List (Option Instr)) (m : State) →
+    Reached program F m a → Stands program m.pc (F ++ to_area y n offset size) → n < y.areas → offset ≤ length (w.areas n) → offset + size ≤ 128 →
     first_address ≤ a → a + size ≤ end_address w.region → Holds y Used w base m → Housed y Used → AreFewer Used Next →
-    Comes y program Next (with_area w n (overwritten (w.areas n) offset (part w.region.bytes (a - first_address) size))) base (most + 39) (behind m (F ++ to_area y n offset size)) [] m
-to-area y n offset size Used Next w base most a F program m r stands there within short low-end high-end p h f =
+    Comes y program Next (with_area w n (overwritten (w.areas n) offset (part w.region.bytes (a - first_address) size))) base
+    (length (F ++ to_area y n offset size)) (behind m (F ++ to_area y n offset size)) [] m
+to-area y n offset size Used Next w base a F program m r stands there within short low-end high-end p h f =
     let B : List Instr = area_reached y x6 n offset in
     let C : List Instr = all_carried x5 x6 size in
     let z : State = r.after in
@@ -225,11 +222,10 @@ to-area y n offset size Used Next w base most a F program m r stands there withi
     then-saves B C z l.after d X (loads-six B z (2 ^ 32 + d) l) (transfer-saves C l.after d X (all-moved x5 x6 (Region (a - 2 ^ 30)) (Private d) X size l.after move count)) in
     let rest : Stands program z.pc (B ++ C) = subst (λ i. Stands program i (B ++ C)) (sym r.pc) (stands-back program m.pc F (B ++ C) p.pc stands) in
     let all : length (B ++ C) ≡ length B + length C = length-append B C in
-    let few-b : length B ≤ 3 = area-count y x6 n offset in
     let some-b : 1 ≤ length B = area-some y x6 n offset in
-    let few-c : length C ≤ 36 = carried-count x5 x6 size (omega arith) in
-    later-comes y program Next (with_area w n (overwritten (w.areas n) offset X)) base r.steps 39 (most + 39) (behind m (F ++ (B ++ C))) m z r.way r.near (omega (arith, r.few))
-    (area-comes y Used Next w base n (length (B ++ C)) 39 (behind m (F ++ (B ++ C))) (overwritten (w.areas n) offset X) program z s.after
+    later-comes y program Next (with_area w n (overwritten (w.areas n) offset X)) base r.steps (length (B ++ C)) (length (F ++ (B ++ C)))
+    (behind m (F ++ (B ++ C))) m z r.way r.near (omega (arith, r.few, length-append F (B ++ C)))
+    (area-comes y Used Next w base n (length (B ++ C)) (length (B ++ C)) (behind m (F ++ (B ++ C))) (overwritten (w.areas n) offset X) program z s.after
     (straight-way program (B ++ C) z s.after rest s.straight s.goes) (behind-both F (B ++ C) m.pc z.pc s.after.pc r.pc s.behind) (small-after (B ++ C) z s.after s.behind)
     (area-written y Used w base n offset X (B ++ C) z s q there within (omega (arith, count)) (part-bytes w.region.bytes (a - first_address) size p.bytes))
     q h f there (omega arith) (omega arith))
@@ -263,11 +259,12 @@ written-holds y Used Next w base m z r p h f keeps private region long heap are 
 }
 
 -- from an area to the region, once the address stands in x5
-from-area : (y : Layout) (n offset size : ℕ) (Used Next : ℕ → Type 0) (w : World) (base most a : ℕ) (F : List Instr) (program : List (Option Instr)) (m : State) →
-    Reached program F m a most → Stands program m.pc (F ++ from_area y n offset size) → n < y.areas → offset + size ≤ length (w.areas n) →
+from-area : (y : Layout) (n offset size : ℕ) (Used Next : ℕ → Type 0) (w : World) (base a : ℕ) (F : List Instr) (program : List (Option Instr)) (m : State) →
+    Reached program F m a → Stands program m.pc (F ++ from_area y n offset size) → n < y.areas → offset + size ≤ length (w.areas n) →
     first_address ≤ a → a + size ≤ end_address w.region → Holds y Used w base m → Housed y Used → AreFewer Used Next →
-    Comes y program Next (with_region w (stored-region w.region a (part (w.areas n) offset size))) base (most + 39) (behind m (F ++ from_area y n offset size)) [] m
-from-area y n offset size Used Next w base most a F program m r stands there source low-end high-end p h f =
+    Comes y program Next (with_region w (stored-region w.region a (part (w.areas n) offset size))) base
+    (length (F ++ from_area y n offset size)) (behind m (F ++ from_area y n offset size)) [] m
+from-area y n offset size Used Next w base a F program m r stands there source low-end high-end p h f =
     let B : List Instr = area_reached y x6 n offset in
     let C : List Instr = all_carried x6 x5 size in
     let z : State = r.after in
@@ -311,14 +308,12 @@ from-area y n offset size Used Next w base most a F program m r stands there sou
     way-both program r.steps (length (B ++ C)) m z e r.way
     (straight-way program (B ++ C) z e rest (straight-both B C l.straight c.straight) (goes-both B C z l.after e l.goes c.goes)) in
     let all : length (B ++ C) ≡ length B + length C = length-append B C in
-    let few-b : length B ≤ 3 = area-count y x6 n offset in
     let some-b : 1 ≤ length B = area-some y x6 n offset in
-    let few-c : length C ≤ 36 = carried-count x6 x5 size (omega arith) in
     record {
       steps = r.steps + length (B ++ C);
       after = e;
       some = omega arith;
-      few = omega (arith, r.few);
+      few = omega (arith, r.few, length-append F (B ++ C));
       runs = way.runs;
       at = behind-both F (B ++ C) m.pc z.pc e.pc r.pc behind-all;
       holds = written-holds y Used Next w base m e new p h f keeps private region (stored-count w.region a X low-end (omega (arith, count))) refl
@@ -375,27 +370,28 @@ pub region-moves : (y : Layout) (held : Option ℕ) (n offset : ℕ) (at : Place
     Stands program m.pc (some_moved y held (spots.Area n offset) (spots.Region at a) size) → IsHeld held w.temps m → IsPlace at → IsReached y held Used w size a → 1 ≤ size → n < y.areas → offset + size ≤ 128 →
     Holds y Used w base m → Housed y Used → AreFewer Used Next →
     ((bs : List ℕ) → range_of w.region (address_in w a) size ≡ Some bs → offset ≤ length (w.areas n) →
-    Comes y program Next (with_area w n (overwritten (w.areas n) offset bs)) base (words_of (Move (spots.Area n offset) (spots.Region at a) size)) (behind m (some_moved y held (spots.Area n offset) (spots.Region at a) size)) [] m)
-    × (range_of w.region (address_in w a) size ≡ None → Ends program BadAddress at (words_of (Move (spots.Area n offset) (spots.Region at a) size)) m)
+    Comes y program Next (with_area w n (overwritten (w.areas n) offset bs)) base
+    (length (some_moved y held (spots.Area n offset) (spots.Region at a) size)) (behind m (some_moved y held (spots.Area n offset) (spots.Region at a) size)) [] m)
+    × (range_of w.region (address_in w a) size ≡ None → Ends program BadAddress at (length (some_moved y held (spots.Area n offset) (spots.Region at a) size)) m)
 region-moves y held n offset at (Word a) size Used Next w base program m there five place r some area few p h f =
     let F : List Instr = first_taken y held a ++ bounds_tested at size in
     let T : List Instr = to_area y n offset size in
     let v : ℕ = value_in w.temps a in
-    let weight : ℕ = words_of (Move (spots.Area n offset) (spots.Region at (Word a)) size) in
     let front : Stands program m.pc F = stands-front program m.pc F T there in
-    range-cases w.region v size (λ bs. offset ≤ length (w.areas n) → Comes y program Next (with_area w n (overwritten (w.areas n) offset bs)) base weight (behind m (F ++ T)) [] m) (Ends program BadAddress at weight m) some
+    range-cases w.region v size (λ bs. offset ≤ length (w.areas n) → Comes y program Next (with_area w n (overwritten (w.areas n) offset bs)) base (length (F ++ T)) (behind m (F ++ T)) [] m)
+    (Ends program BadAddress at (length (F ++ T)) m) some
     (λ i within.
-    weaker y program Next _ base (operand_words a + 4 + 39) weight (behind m (F ++ T)) [] m (omega arith)
-    (to-area y n offset size Used Next w base (operand_words a + 4) v F program m (word-inside y held Used w base program m at a size five p h r some (omega arith) front i.0 i.1) there area within few i.0 i.1 p h f))
-    (λ o. weaker-ends program at (operand_words a + 15) weight m (omega arith) (word-outside y held Used w base program m at a size five p h r some (omega arith) front place o))
+    to-area y n offset size Used Next w base v F program m (word-inside y held Used w base program m at a size five p h r some (omega arith) front i.0 i.1) there area within few i.0 i.1 p h f)
+    (λ o. weaker-ends program at (length F) (length (F ++ T)) m (omega (arith, length-append F T)) (word-outside y held Used w base program m at a size five p h r some (omega arith) front place o))
 region-moves y held n offset at (Frame far) size Used Next w base program m there five place r some area few p h f =
     let F : List Instr = located far in
     let T : List Instr = to_area y n offset size in
     let a : ℕ = w.placed + far in
     let e = end-small y Used w base m p in
     let small : a < 2 ^ 64 = omega (arith, r, e.0) in
-    range-cases w.region a size (λ bs. offset ≤ length (w.areas n) → Comes y program Next (with_area w n (overwritten (w.areas n) offset bs)) base 48 (behind m (F ++ T)) [] m) (Ends program BadAddress at 48 m) some
-    (λ i within. to-area y n offset size Used Next w base 9 a F program m (frame-reached y Used w base program m far p small (stands-front program m.pc F T there)) there area within few i.0 i.1 p h f)
+    range-cases w.region a size (λ bs. offset ≤ length (w.areas n) → Comes y program Next (with_area w n (overwritten (w.areas n) offset bs)) base (length (F ++ T)) (behind m (F ++ T)) [] m)
+    (Ends program BadAddress at (length (F ++ T)) m) some
+    (λ i within. to-area y n offset size Used Next w base a F program m (frame-reached y Used w base program m far p small (stands-front program m.pc F T there)) there area within few i.0 i.1 p h f)
     (λ o. absurd (⊎_elim (λ k. omega (arith, k, low-enough y Used w base far m p)) (λ k. omega (arith, k.1, r)) o))
 
 -- from an area to the region
@@ -403,21 +399,21 @@ pub stores-moved : (y : Layout) (held : Option ℕ) (at : Place) (a : Address) (
     Stands program m.pc (some_moved y held (spots.Region at a) (spots.Area n offset) size) → IsHeld held w.temps m → IsPlace at → IsReached y held Used w size a → 1 ≤ size → n < y.areas → offset + size ≤ length (w.areas n) →
     Holds y Used w base m → Housed y Used → AreFewer Used Next →
     ((r : Contents) → put_bytes w.region (address_in w a) (part (w.areas n) offset size) ≡ Some r →
-    Comes y program Next (with_region w r) base (words_of (Move (spots.Region at a) (spots.Area n offset) size)) (behind m (some_moved y held (spots.Region at a) (spots.Area n offset) size)) [] m)
-    × (put_bytes w.region (address_in w a) (part (w.areas n) offset size) ≡ None → Ends program BadAddress at (words_of (Move (spots.Region at a) (spots.Area n offset) size)) m)
+    Comes y program Next (with_region w r) base
+    (length (some_moved y held (spots.Region at a) (spots.Area n offset) size)) (behind m (some_moved y held (spots.Region at a) (spots.Area n offset) size)) [] m)
+    × (put_bytes w.region (address_in w a) (part (w.areas n) offset size) ≡ None → Ends program BadAddress at (length (some_moved y held (spots.Region at a) (spots.Area n offset) size)) m)
 stores-moved y held at (Word a) n offset size Used Next w base program m there five place r some area source p h f =
     let F : List Instr = first_taken y held a ++ bounds_tested at size in
     let T : List Instr = from_area y n offset size in
     let v : ℕ = value_in w.temps a in
-    let weight : ℕ = words_of (Move (spots.Region at (Word a)) (spots.Area n offset) size) in
     let X : List ℕ = part (w.areas n) offset size in
     let short : length (w.areas n) ≤ 128 = p.short n area in
     let front : Stands program m.pc F = stands-front program m.pc F T there in
-    put-cases w.region v size X (λ c. Comes y program Next (with_region w c) base weight (behind m (F ++ T)) [] m) (Ends program BadAddress at weight m) some (part-length (w.areas n) offset size source)
+    put-cases w.region v size X (λ c. Comes y program Next (with_region w c) base (length (F ++ T)) (behind m (F ++ T)) [] m)
+    (Ends program BadAddress at (length (F ++ T)) m) some (part-length (w.areas n) offset size source)
     (λ i.
-    weaker y program Next _ base (operand_words a + 4 + 39) weight (behind m (F ++ T)) [] m (omega arith)
-    (from-area y n offset size Used Next w base (operand_words a + 4) v F program m (word-inside y held Used w base program m at a size five p h r some (omega arith) front i.0 i.1) there area source i.0 i.1 p h f))
-    (λ o. weaker-ends program at (operand_words a + 15) weight m (omega arith) (word-outside y held Used w base program m at a size five p h r some (omega arith) front place o))
+    from-area y n offset size Used Next w base v F program m (word-inside y held Used w base program m at a size five p h r some (omega arith) front i.0 i.1) there area source i.0 i.1 p h f)
+    (λ o. weaker-ends program at (length F) (length (F ++ T)) m (omega (arith, length-append F T)) (word-outside y held Used w base program m at a size five p h r some (omega arith) front place o))
 stores-moved y held at (Frame far) n offset size Used Next w base program m there five place r some area source p h f =
     let F : List Instr = located far in
     let T : List Instr = from_area y n offset size in
@@ -425,8 +421,9 @@ stores-moved y held at (Frame far) n offset size Used Next w base program m ther
     let X : List ℕ = part (w.areas n) offset size in
     let e = end-small y Used w base m p in
     let small : a < 2 ^ 64 = omega (arith, r, e.0) in
-    put-cases w.region a size X (λ c. Comes y program Next (with_region w c) base 48 (behind m (F ++ T)) [] m) (Ends program BadAddress at 48 m) some (part-length (w.areas n) offset size source)
-    (λ i. from-area y n offset size Used Next w base 9 a F program m (frame-reached y Used w base program m far p small (stands-front program m.pc F T there)) there area source i.0 i.1 p h f)
+    put-cases w.region a size X (λ c. Comes y program Next (with_region w c) base (length (F ++ T)) (behind m (F ++ T)) [] m)
+    (Ends program BadAddress at (length (F ++ T)) m) some (part-length (w.areas n) offset size source)
+    (λ i. from-area y n offset size Used Next w base a F program m (frame-reached y Used w base program m far p small (stands-front program m.pc F T there)) there area source i.0 i.1 p h f)
     (λ o. absurd (⊎_elim (λ k. omega (arith, k, low-enough y Used w base far m p)) (λ k. omega (arith, k.1, r)) o))
 
 -- the code of a move, by whether there are bytes

@@ -127,15 +127,15 @@ pub record StandsAtCompare (p : Program) (code : Tac) (homes : List (Option Home
   pub holds : Holds (layout_of code homes) (InUse (graph_of code) s.here.block s.here.at) (world_of s) base m
   pub five : IsHeld held s.here.temps m
 
--- The code carries out the two steps, within the weight of both.
+-- The code carries out the two steps, in at most as many of its own as it has words.
 abbrev pub ComparesAreCarried : Type 0
 ComparesAreCarried =
     (p : Program) (code : Tac) (homes : List (Option Home)) (held : Option ℕ) (d : ℕ) (op : BinaryOperator) (form : Number) (a b : Operand)
     (e f : Edge)
     (starts : ℕ → ℕ) (s : tac.State) (program : List (Option Instr)) (base : ℕ) (m : State) →
-    StandsAtCompare p code homes held d op form a b e f starts s program base m →
-    Left (layout_of code homes) (graph_of code) program base (words_of (Compute d op form a b) + exit_words (Branch (Temp d) e f)) starts s
-    m (steps p 2 (Goes s))
+    (x : StandsAtCompare p code homes held d op form a b e f starts s program base m) →
+    Left (layout_of code homes) (graph_of code) program base
+    (length (compared_shape (layout_of code homes) x.setting held m.pc starts op form a b e f)) starts s m (steps p 2 (Goes s))
 
 -- It has at most 21 words, fewer than the two weigh, and as many wherever it and the blocks stand.
 abbrev pub ComparesKeepWithin : Type 0

@@ -1,5 +1,5 @@
 -- How a function is entered and left.
-use Rattle.std.specs.Prelude.{ℕ, zero, suc, ◌+◌, ◌-◌, ◌*◌, ◌^◌, slice_get, Option, Some, None, unwrap_or, Bool, true, false, nat_le, nat_lt}
+use Rattle.std.specs.Prelude.{ℕ, zero, suc, ◌+◌, ◌-◌, ◌*◌, ◌^◌, slice_get, Option, Some, unwrap_or, Bool, true, false, nat_le, nat_lt}
 use Rattle.std.specs.Prelude.{if◌then◌else◌, List, [], ◌∷◌, ◌++◌, length}
 use Rattle.std.proofs.Common.{lit≤}
 use Rattle.tl_base.specs.declared.place.Place.{Place}
@@ -105,12 +105,12 @@ abbrev pub result_put : Layout → (sizes : List ℕ) → Destination → List I
 result_put y sizes (Temp t) = put_at y t
 result_put y sizes (Area n) = to_area y n 0 (size_in sizes n)
 
--- the most steps of that: a word takes three, and the bytes of an area as many as a copy of 128 bytes
+-- the most words of that: a word takes three, and the bytes of an area as many as a copy of 128 bytes
 abbrev pub result_words : Destination → ℕ
 result_words (Temp t) = 3
 result_words (Area n) = 39
 
--- the most steps in which parameters are taken
+-- the most words that take parameters
 abbrev pub receiving : List Destination → ℕ
 receiving [] = 0
 receiving (d ∷ ds) = 3 + result_words d + receiving ds

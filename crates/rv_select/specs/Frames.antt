@@ -1,5 +1,5 @@
 -- What the code that enters and leaves functions promises.
-use Rattle.std.specs.Prelude.{◌≡◌, Bool, ◌≢◌, ℕ, IsTrue, ◌∷◌, suc, ◌+◌, ◌-◌, ◌*◌, ◌/◌, ◌%◌, ◌^◌, ◌<◌, ◌≤◌, true, List, [], length, take}
+use Rattle.std.specs.Prelude.{◌≡◌, ◌≢◌, ℕ, IsTrue, ◌∷◌, suc, ◌+◌, ◌-◌, ◌*◌, ◌/◌, ◌%◌, ◌^◌, ◌<◌, ◌≤◌, true, List, [], length, take}
 use Rattle.std.specs.Prelude.{drop, Option, Some, None, slice_get, if◌then◌else◌}
 use Rattle.std.specs.List.{list_all}
 use Rattle.tl_base.specs.declared.limits.TheConstants.{MAX_PRIVATE, PRIVATE_ADDRESS, REGION_ADDRESS}
@@ -53,14 +53,15 @@ abbrev pub ArePassed : Layout → (held : Option ℕ) → (ℕ → Type 0) → L
 ArePassed y held Used [] = Unit {0}
 ArePassed y held Used (p ∷ ps) = IsPartFirst y held Used p × ArePassed y None Used ps
 
--- The machine enters a function whose frame in private memory begins at `base` then, and that in the region at `under`. The return address,
+-- The machine enters a function, in at most so many steps, whose frame in private memory begins at `base` then, and that in the region
+-- at `under`. The return address,
 -- where the function makes calls, and the caller's words of the registers that it uses are kept in the frame, and all that lies above them
 -- is as it was.
-pub record Enters (program : List (Option Instr)) (y : Layout) (base under target : ℕ) (m : State) : Type 0 where
+pub record Enters (program : List (Option Instr)) (y : Layout) (base under most target : ℕ) (m : State) : Type 0 where
   pub steps : ℕ
   pub after : State
   pub some : 1 ≤ steps
-  pub few : steps ≤ 36
+  pub few : steps ≤ most
   pub runs : (more : ℕ) → run_of program m (steps + more) ≡ run_of program after more
   pub at : after.pc ≡ target
   pub pointer : after.registers 2 ≡ PRIVATE_ADDRESS + base
@@ -99,9 +100,9 @@ abbrev pub FunctionsAreEntered : Type 0
 FunctionsAreEntered =
     (program : List (Option Instr)) (y : Layout) (bytes frame top placed size : ℕ) (at : Place) (m : State) →
     BeforeEntering program y bytes frame top placed size at m →
-    (placed < REGION_ADDRESS + size - size / 4 + frame → Ends program StackFull at 36 m) ×
+    (placed < REGION_ADDRESS + size - size / 4 + frame → Ends program StackFull at (length (entered y bytes frame)) m) ×
     (REGION_ADDRESS + size - size / 4 + frame ≤ placed →
-    Enters program y (top - bytes) (placed - frame) (low (m.pc + 4 * length (entered y bytes frame))) m)
+    Enters program y (top - bytes) (placed - frame) (length (entered y bytes frame)) (low (m.pc + 4 * length (entered y bytes frame))) m)
 
 -- A call has come to its jump: the words of all that it passes lie below the frame, the first uppermost, one more call waits, and
 -- x11 is the place of the call. The caller's frame and all above it are as they were.
@@ -109,7 +110,7 @@ pub record Calls (program : List (Option Instr)) (y : Layout) (held : Option ℕ
     (m : State) : Type 0 where
   pub steps : ℕ
   pub after : State
-  pub few : steps ≤ 11 + 11 * length ps
+  pub few : steps ≤ length (call_begun y held at ps)
   pub runs : (more : ℕ) → run_of program m (steps + more) ≡ run_of program after more
   pub pc : after.pc ≡ low (m.pc + 4 * length (call_begun y held at ps))
   pub place : after.registers 11 ≡ place_number at
@@ -131,16 +132,16 @@ CallsAreBegun =
     let Used : ℕ → Type 0 = InUse (graph_of code) block step in
     IsRight code homes → Holds y Used w base m → IsHeld held w.temps m → place_number at < 2 ^ 64 →
     Stands program m.pc (call_begun y held at ps) →
-    (511 ≤ w.depth → Ends program CallDepth at 13 m) ×
+    (511 ≤ w.depth → Ends program CallDepth at (length (call_begun y held at ps)) m) ×
     (w.depth < 511 → ArePassed y held Used ps → 8 * length ps ≤ base → Calls program y held base w at ps m)
 
 -- A function is left: x10 has its result, and the machine goes on at the return address, with the caller's frames, and its
 -- registers as the function found them.
-pub record Returns (program : List (Option Instr)) (y : Layout) (base over link v : ℕ) (m : State) : Type 0 where
+pub record Returns (program : List (Option Instr)) (y : Layout) (base over link v most : ℕ) (m : State) : Type 0 where
   pub steps : ℕ
   pub after : State
   pub some : 1 ≤ steps
-  pub few : steps ≤ 36
+  pub few : steps ≤ most
   pub runs : (more : ℕ) → run_of program m (steps + more) ≡ run_of program after more
   pub at : after.pc ≡ link
   pub result : after.registers 10 ≡ v
@@ -167,7 +168,8 @@ FunctionsAreLeft =
     w.placed + frame < 2 ^ 63 →
     link_in y base m ≡ link → link % 2 ≡ 0 → link < 2 ^ 64 → Stands program m.pc (returned y setting held m.pc last v) →
     Stands program last (left y (frame_bytes y) frame) →
-    Returns program y base (w.placed + frame) link (part_value y base w v) m
+    Returns program y base (w.placed + frame) link (part_value y base w v)
+    (length (returned y setting held m.pc last v) + length (left y (frame_bytes y) frame)) m
 
 -- what three-address code sees of an activation
 abbrev pub seen : Activation → Contents → (depth : ℕ) → World
@@ -222,7 +224,7 @@ ParametersAreReceived =
     Holds (without_words y) (λ t. ⊥) (seen a region depth) base m →
     HasWords base (words_offset y) code.parameters values m → base + frame_bytes y ≤ length m.private →
     Received program (without_words y) (InUse (graph_of code) 0 0) (seen (takes_all code.parameters values a) region depth) base
-    (receiving code.parameters)
+    (length (received y code.areas (words_offset y) code.parameters))
     (low (m.pc + 4 * length (received y code.areas (words_offset y) code.parameters))) m
 
 -- The code that begins a function as the entry, enters it by a call and leaves it has no more words than its weight, and so has that of a

@@ -1,6 +1,6 @@
--- What the code of an instruction promises: one step of three-address code is at least one and at most its weight of the
--- machine's steps, and the machine holds afterwards what three-address code sees then.
-use Rattle.std.specs.Prelude.{◌≡◌, Bool, ℕ, ◌+◌, ◌*◌, ◌^◌, ◌<◌, ◌≤◌, ◌%◌, List, [], ◌++◌, length, Option, Some, None, slice_get, IsTrue}
+-- What the code of an instruction promises: one step of three-address code is at least one of the machine's steps and at most as many
+-- as this code has words, and the machine holds afterwards what three-address code sees then.
+use Rattle.std.specs.Prelude.{◌≡◌, ℕ, ◌+◌, ◌*◌, ◌^◌, ◌<◌, ◌≤◌, ◌%◌, List, [], ◌++◌, length, Option, Some, None, slice_get, IsTrue}
 use Rattle.std.specs.Prelude.{◌⊎◌}
 use Rattle.std.specs.List.{list_all}
 use Rattle.tl_base.specs.declared.place.Place.{Place}
@@ -45,22 +45,22 @@ behind m code = low (m.pc + 4 * length code)
 
 -- The machine writes these bytes and comes, in at least one and at most so many steps, whatever it does then, to this address, where
 -- it holds this.
-pub record Comes (y : Layout) (program : List (Option Instr)) (Next : ℕ → Type 0) (w : World) (base weight target : ℕ) (out : List ℕ)
+pub record Comes (y : Layout) (program : List (Option Instr)) (Next : ℕ → Type 0) (w : World) (base most target : ℕ) (out : List ℕ)
     (m : State) : Type 0 where
   pub steps : ℕ
   pub after : State
   pub some : 1 ≤ steps
-  pub few : steps ≤ weight
+  pub few : steps ≤ most
   pub runs : (more : ℕ) → run_of program m (steps + more) ≡ after_output out (run_of program after more)
   pub at : after.pc ≡ target
   pub holds : Holds y Next w base after
   pub keeps : Keeps y base m after
 
--- The machine writes nothing, and ends the run in so many steps by a fault.
-pub record Ends (program : List (Option Instr)) (kind : FaultKind) (at : Place) (weight : ℕ) (m : State) : Type 0 where
+-- The machine writes nothing, and ends the run in at most so many steps by a fault.
+pub record Ends (program : List (Option Instr)) (kind : FaultKind) (at : Place) (most : ℕ) (m : State) : Type 0 where
   pub steps : ℕ
   pub last : State
-  pub few : steps ≤ weight
+  pub few : steps ≤ most
   pub runs : (more : ℕ) → run_of program m (steps + more) ≡ stands (TerraFault (fault_number kind) (place_number at)) last
 
 -- what is in use after an instruction that writes no temporary was in use before it
@@ -81,19 +81,20 @@ world_of s = record {
   depth = length s.callers;
 }
 
--- The machine does from a state what three-address code does in a step from another, on the code of one instruction. Where the step
--- goes on, it comes behind this code to a state that holds what three-address code sees then, in x5 too, and writes what it writes; where
--- the step ends the run by a fault, it ends the run by the same. Of code that is stuck nothing is promised.
-abbrev pub Carried : Layout → List FlowBlock → List (Option Instr) → (base weight : ℕ) → (held : Option ℕ) → List Instr → tac.State →
+-- The machine does from a state what three-address code does in a step from another, on the code of one instruction, in at most as many
+-- steps as this code has words. Where the step goes on, it comes behind this code to a state that holds what three-address code sees then,
+-- in x5 too, and writes what it writes; where the step ends the run by a fault, it ends the run by the same. Of code that is stuck nothing
+-- is promised.
+abbrev pub Carried : Layout → List FlowBlock → List (Option Instr) → (base : ℕ) → (held : Option ℕ) → List Instr → tac.State →
     State → tac.Moved → Type 0
-Carried y graph program base weight held code s m (Goes t) =
+Carried y graph program base held code s m (Goes t) =
     (out : List ℕ) × (t.out ≡ s.out ++ out) ×
-    (c : Comes y program (InUse graph t.here.block t.here.at) (world_of t) base weight (behind m code) out m)
+    (c : Comes y program (InUse graph t.here.block t.here.at) (world_of t) base (length code) (behind m code) out m)
     × IsHeld held t.here.temps c.after
-Carried y graph program base weight held code s m (Stops (Over (Fault kind at) out)) = (out ≡ s.out) × Ends program kind at weight m
-Carried y graph program base weight held code s m (Stops (Over (Returned v) out)) = ⊥
-Carried y graph program base weight held code s m (Stops (Over Stuck out)) = Unit {0}
-Carried y graph program base weight held code s m (Stops (More out)) = ⊥
+Carried y graph program base held code s m (Stops (Over (Fault kind at) out)) = (out ≡ s.out) × Ends program kind at (length code) m
+Carried y graph program base held code s m (Stops (Over (Returned v) out)) = ⊥
+Carried y graph program base held code s m (Stops (Over Stuck out)) = Unit {0}
+Carried y graph program base held code s m (Stops (More out)) = ⊥
 
 -- Where a function's code stands at one of its instructions: its three-address code is right for machine code, its temporaries have
 -- right homes, those have one that the instruction's code asks for, and the machine stands before this code and holds what three-address
@@ -113,14 +114,13 @@ pub record StandsBefore (p : Program) (code : Tac) (homes : List (Option Home)) 
   pub holds : Holds (layout_of code homes) (InUse (graph_of code) s.here.block s.here.at) (world_of s) base m
   pub five : IsHeld held s.here.temps m
 
--- Each instruction that has code so far is carried out by it, within its weight.
+-- Each instruction that has code so far is carried out by it.
 abbrev pub InstructionsAreCarried : Type 0
 InstructionsAreCarried =
     (p : Program) (code : Tac) (homes : List (Option Home)) (held : Option ℕ) (i : Instruction) (s : tac.State)
     (program : List (Option Instr)) (base : ℕ)
     (m : State) → IsTrue (has_shape i) → StandsBefore p code homes held i s program base m →
-    Carried (layout_of code homes) (graph_of code) program base (words_of i) (held_after i) (shape_of (layout_of code homes) held i) s m
-    (step p s)
+    Carried (layout_of code homes) (graph_of code) program base (held_after i) (shape_of (layout_of code homes) held i) s m (step p s)
 
 -- The code of an instruction has at most as many words as its weight.
 abbrev pub ShapesKeepWithin : Type 0
@@ -131,19 +131,19 @@ pub record Remains (y : Layout) (Next : ℕ → Type 0) (w : World) (base target
   pub at : m.pc ≡ target
   pub holds : Holds y Next w base m
 
--- The machine does from a state what an exit does that stays in its function: it comes to the address of the block at which
--- three-address code stands then, or stands there already, where that takes no count. Where three-address code needs one more count,
--- nothing is promised.
-abbrev pub Left : Layout → List FlowBlock → List (Option Instr) → (base weight : ℕ) → (starts : ℕ → ℕ) → tac.State → State → tac.Moved →
+-- The machine does from a state what an exit does that stays in its function, in at most so many steps: it comes to the address of the
+-- block at which three-address code stands then, or stands there already, where that takes no count. Where three-address code needs one
+-- more count, nothing is promised.
+abbrev pub Left : Layout → List FlowBlock → List (Option Instr) → (base most : ℕ) → (starts : ℕ → ℕ) → tac.State → State → tac.Moved →
     Type 0
-Left y graph program base weight starts s m (Goes t) =
+Left y graph program base most starts s m (Goes t) =
     (t.out ≡ s.out) ×
-    (Comes y program (InUse graph t.here.block t.here.at) (world_of t) base weight (starts t.here.block) [] m
+    (Comes y program (InUse graph t.here.block t.here.at) (world_of t) base most (starts t.here.block) [] m
     ⊎ ((s.left ≡ t.left) × Remains y (InUse graph t.here.block t.here.at) (world_of t) base (starts t.here.block) m))
-Left y graph program base weight starts s m (Stops (Over (Fault kind at) out)) = (out ≡ s.out) × Ends program kind at weight m
-Left y graph program base weight starts s m (Stops (Over (Returned v) out)) = ⊥
-Left y graph program base weight starts s m (Stops (Over Stuck out)) = Unit {0}
-Left y graph program base weight starts s m (Stops (More out)) = Unit {0}
+Left y graph program base most starts s m (Stops (Over (Fault kind at) out)) = (out ≡ s.out) × Ends program kind at most m
+Left y graph program base most starts s m (Stops (Over (Returned v) out)) = ⊥
+Left y graph program base most starts s m (Stops (Over Stuck out)) = Unit {0}
+Left y graph program base most starts s m (Stops (More out)) = Unit {0}
 
 -- Each block begins at most as far from an address as a function's code is long by its weight.
 abbrev pub IsReached : Tac → (starts : ℕ → ℕ) → (from : ℕ) → Type 0
@@ -173,13 +173,14 @@ pub record StandsAtExit (p : Program) (code : Tac) (homes : List (Option Home)) 
   pub holds : Holds (layout_of code homes) (InUse (graph_of code) s.here.block s.here.at) (world_of s) base m
   pub five : IsHeld held s.here.temps m
 
--- Each exit that has code so far is carried out by it, within its weight.
+-- Each exit that has code so far is carried out by it, in at most as many steps as this code has words.
 abbrev pub ExitsAreCarried : Type 0
 ExitsAreCarried =
     (p : Program) (code : Tac) (homes : List (Option Home)) (held : Option ℕ) (exit : Exit) (starts : ℕ → ℕ) (s : tac.State)
     (program : List (Option Instr))
-    (base : ℕ) (m : State) → IsTrue (has_exit_shape exit) → StandsAtExit p code homes held exit starts s program base m →
-    Left (layout_of code homes) (graph_of code) program base (exit_words exit) starts s m (step p s)
+    (base : ℕ) (m : State) → IsTrue (has_exit_shape exit) → (x : StandsAtExit p code homes held exit starts s program base m) →
+    Left (layout_of code homes) (graph_of code) program base
+    (length (exit_shape (layout_of code homes) x.setting held m.pc starts exit)) starts s m (step p s)
 
 -- The code of an exit has at most as many words as its weight, and as many wherever it and the blocks stand.
 abbrev pub ExitsKeepWithin : Type 0

@@ -1,5 +1,5 @@
 -- Runs of a whole program in the machine, and how many steps they take.
-use Rattle.std.specs.Prelude.{◌≡◌, ◌≢◌, ℕ, suc, ◌+◌, ◌*◌, ◌^◌, ◌<◌, ◌≤◌, List, [], ◌∷◌, ◌++◌, length, drop, map, sum_by, if◌then◌else◌}
+use Rattle.std.specs.Prelude.{◌≡◌, ◌≢◌, ℕ, ◌+◌, ◌-◌, ◌*◌, ◌^◌, ◌<◌, ◌≤◌, List, [], ◌∷◌, ◌++◌, length, map, if◌then◌else◌}
 use Rattle.std.specs.Prelude.{nat_eq, Option, Some, None, slice_get}
 use Rattle.tl_base.specs.declared.limits.TheConstants.{MAX_CALLS, MAX_PRIVATE, PRIVATE_ADDRESS}
 use Rattle.tl_base.specs.declared.ids.FnId.{FnId}
@@ -11,42 +11,53 @@ use Rattle.terra_words.specs.declared.words.FaultKind.{FaultKind}
 use Rattle.terra_words.specs.Words.{fault_number}
 use Rattle.terra_words.specs.Runs.{Value, word, Returned, Fault, Stuck, Run, Over, More}
 use Rattle.tac_form.specs.declared.tac.Block.{Block}
+use Rattle.tac_form.specs.declared.tac.Destination.{Destination}
 use Rattle.tac_form.specs.declared.tac.Tac.{Tac}
 use Rattle.tac_form.specs.Flow as tac
 use Rattle.tac_form.specs.Flow.{Caller, Program, Goes, Stops, TacRun, enter, steps}
-use Rattle.tac_form.specs.Weights.{block_words, code_words, exit_words, words_of}
 use Rattle.terra_memory.specs.Region.{Contents, IsLawful, end_address, fresh}
 use Rattle.rv_select.specs.declared.pairs.Reads.{Reads}
 use Rattle.rv_select.specs.declared.pairs.Pair.{Pair}
 use Rattle.rv_select.specs.Pairs.{pair_of, plain_of, reads_of}
-use Rattle.rv_select.specs.Places.{AreBytes}
-use Rattle.rv_select.specs.Entering.{begun, receiving, result_words}
+use Rattle.rv_select.specs.Places.{AreBytes, layout_of}
+use Rattle.rv_select.specs.Calls.{call_ended, function_code, head_code}
 use Rattle.rv_select.specs.Shapes.{place_number}
-use Rattle.rv_select.specs.Waiting.{Image, IsLinked, StandsIn, Stepped}
+use Rattle.rv_select.specs.Waiting.{Image, IsLinked, Placed, StandsIn, Stepped, entries_of, place_in}
 
--- the words behind a place in a block, and in a function
-abbrev pub block_behind : Option Block → (at : ℕ) → ℕ
-block_behind None k = 0
-block_behind (Some b) k = sum_by words_of (drop k b.instructions) + exit_words b.exit
+-- where the code of a function ends
+abbrev pub end_in : Program → Image → Tac → Placed → ℕ
+end_in p image code x = x.at + 4 * length (function_code (layout_of code x.homes) code (entries_of p image) x.at)
 
-abbrev pub words_behind : Option Tac → (block at : ℕ) → ℕ
-words_behind None b k = 0
-words_behind (Some code) b k = block_behind (slice_get code.blocks b) k + sum_by block_words (drop (suc b) code.blocks)
+-- how many bytes of a function's code stand behind a place in it
+abbrev pub bytes_behind : Program → Image → FnId → Option Tac → (block at : ℕ) → ℕ
+bytes_behind p image f None b k = 0
+bytes_behind p image f (Some code) b k = end_in p image code (image f) - place_in p image code (image f) b k
 
--- A function is left in at most 26 steps, and a call ends in two and those that put its result.
-abbrev pub waiting_words : Program → List Caller → ℕ
-waiting_words p [] = 0
-waiting_words p (c ∷ cs) = words_behind (p.code c.waits.function) c.waits.block c.waits.at + (28 + result_words c.to) + waiting_words p cs
+-- how many words of a function's code end a call
+abbrev pub ended_words : Image → FnId → Option Tac → Destination → ℕ
+ended_words image f None to = 0
+ended_words image f (Some code) to = length (call_ended (layout_of code (image f).homes) code.areas to)
 
--- The most steps that the machine takes from a state on, where no function has more than so many words: those of the words behind the
--- place and behind the calls that wait, and as many again for each count that is left.
-abbrev pub steps_left : Program → (words : ℕ) → tac.State → ℕ
-steps_left p words s =
-    words_behind (p.code s.here.function) s.here.block s.here.at + 26 + waiting_words p s.callers + s.left * words
+-- how many bytes stand behind the jumps of the calls that wait, each in its own function
+abbrev pub bytes_waiting : Program → Image → List Caller → ℕ
+bytes_waiting p image [] = 0
+bytes_waiting p image (c ∷ cs) =
+    bytes_behind p image c.waits.function (p.code c.waits.function) c.waits.block c.waits.at
+    + 4 * ended_words image c.waits.function (p.code c.waits.function) c.to + bytes_waiting p image cs
 
--- no function has more than so many words
-abbrev pub AreShort : Program → (words : ℕ) → Type 0
-AreShort p words = (f : FnId) (code : Tac) → p.code f ≡ Some code → code_words code ≤ words
+-- What the machine has left from a state on, where no function has more than so many words: the bytes behind the place and behind the
+-- calls that wait, and those of a function for each count. It takes a step for each four of them at most, since within a function it
+-- goes back only where it counts, and into another only by a call, which counts too.
+abbrev pub bytes_left : Program → Image → (words : ℕ) → tac.State → ℕ
+bytes_left p image words s =
+    bytes_behind p image s.here.function (p.code s.here.function) s.here.block s.here.at + bytes_waiting p image s.callers
+    + 4 * (s.left * words)
+
+-- the code of no function has more than so many words
+abbrev pub AreShort : Program → Image → (words : ℕ) → Type 0
+AreShort p image words =
+    (f : FnId) (code : Tac) → p.code f ≡ Some code →
+    length (function_code (layout_of code (image f).homes) code (entries_of p image) (image f).at) ≤ words
 
 -- The machine writes these bytes, and then the run is over in at most so many steps: it gives back a word, or fails.
 pub record RunReturns (program : List (Option Instr)) (most : ℕ) (v : Value) (out : List ℕ) (m : State) : Type 0 where
@@ -102,12 +113,14 @@ StepsAreCarried =
     (bound : ℕ) ×
     Stepped p image program most size bound s m (steps p (steps_at_once (p.code s.here.function) s.here.block s.here.at) (Goes s))
 
--- So is each run, from a state on in which the machine stands where three-address code does.
+-- So is each run, from a state on in which the machine stands where three-address code does, in at most so many steps if no more than
+-- four bytes are left for each.
 abbrev pub RunsAreCarried : Type 0
 RunsAreCarried =
-    (p : Program) (image : Image) (program : List (Option Instr)) (most size words k : ℕ) (r : Run) (s : tac.State) (base : ℕ) (m : State) →
-    IsLinked p image program most → AreShort p words → StandsIn p image program most size s base m → steps p k (Goes s) ≡ Stops r →
-    Ended program (steps_left p words s) s m r
+    (p : Program) (image : Image) (program : List (Option Instr)) (most size words top k : ℕ) (r : Run) (s : tac.State) (base : ℕ)
+    (m : State) →
+    IsLinked p image program most → AreShort p image words → StandsIn p image program most size s base m →
+    bytes_left p image words s ≤ 4 * top → steps p k (Goes s) ≡ Stops r → Ended program top s m r
 
 -- The machine at its start: before the code of a function, whose arguments stand in the registers from x10 on, with all of private memory
 -- below x2, and a region.
@@ -136,14 +149,14 @@ before_entry f region n = record {
 }
 
 -- A function begins as the entry, with at most eight words as arguments: the machine comes to where its first block begins, in at most as
--- many steps as the code before has words; or the run ends, where the data stack has no room for its frame.
+-- many steps as the code before that has words; or the run ends, where the data stack has no room for its frame.
 abbrev pub EntriesAreCarried : Type 0
 EntriesAreCarried =
     (p : Program) (image : Image) (program : List (Option Instr)) (most n : ℕ) (f : FnId) (code : Tac) (arguments : List ℕ)
     (region : Contents) (m : State) →
     IsLinked p image program most → p.code f ≡ Some code → Starts (image f).at region arguments m → length arguments ≤ 8 →
     length arguments ≡ length code.parameters → MAX_CALLS * most ≤ length m.private →
-    Stepped p image program most (length region.bytes) (length (begun code) + 36 + receiving code.parameters) (before_entry f region n) m
+    Stepped p image program most (length region.bytes) (length (head_code (layout_of code (image f).homes) code)) (before_entry f region n) m
     (enter code.place f (Some code) (map word arguments) (end_address region) [] (before_entry f region n))
 
 -- A whole run of a program, from the machine's start at the count n: it ends as that of three-address code does, with the same output, in
@@ -153,7 +166,7 @@ abbrev pub ProgramsAreCarried : Type 0
 ProgramsAreCarried =
     (p : Program) (image : Image) (program : List (Option Instr)) (most words memory n : ℕ) (statics : List ℕ) (f : FnId) (code : Tac)
     (arguments : List ℕ) (m : State)
-    (r : Run) → IsLinked p image program most → AreShort p words → p.code f ≡ Some code →
+    (r : Run) → IsLinked p image program most → AreShort p image words → p.code f ≡ Some code →
     Starts (image f).at (fresh memory statics) arguments m →
     length arguments ≤ 8 → length arguments ≡ length code.parameters → MAX_CALLS * most ≤ length m.private →
     TacRun p statics memory n f (map word arguments) r →

@@ -9,7 +9,7 @@ ghost use Rattle.rv_select.specs.Steps.{ExitsAreCarried, ExitsKeepWithin, Instru
 
 /// The code of an instruction carries it out: from each state of the machine that holds what three-address code sees in a state, it
 /// comes to one that holds what three-address code sees a step later, in at least one and at most as many steps as the
-/// instruction's weight, or ends the run by the same fault.
+/// code has words, or ends the run by the same fault.
 pub fn instructions_are_carried()
     ensures { InstructionsAreCarried }
 {}
@@ -86,8 +86,9 @@ pub fn steps_are_carried()
     ensures { StepsAreCarried }
 {}
 
-/// So is each run of three-address code: the machine's run ends as it does, with the same output, in no more steps than the words that are
-/// still before it and those of a function for each count that is left; and where more counts are needed, it has taken as many steps.
+/// So is each run of three-address code: the machine's run ends as it does, with the same output, in no more steps than the words that stand
+/// behind it and behind the calls that wait, and those of a function for each count that is left; and where more counts are needed, it has
+/// taken as many steps.
 pub fn runs_are_carried()
     ensures { RunsAreCarried }
 {}

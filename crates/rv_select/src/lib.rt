@@ -2,8 +2,8 @@
 //!
 //! `specs/Places.antt` says where the words of an activation stand in the machine: in registers that calls keep, or in slots of
 //! a frame in private memory. `specs/Shapes.antt` has the instructions that carry out one of three-address code, and
-//! `specs/Steps.antt` what they promise: a step is at least one and at most its weight of the machine's steps, and the machine
-//! holds afterwards what three-address code sees then. The laws of `law` have that of each instruction.
+//! `specs/Steps.antt` what they promise: a step is at least one and at most as many of the machine's steps as its code has words, and the
+//! machine holds afterwards what three-address code sees then. The laws of `law` have that of each instruction.
 #![tactic(auto)]
 
 mod asked;

@@ -1,5 +1,5 @@
 -- What is due for a call of an export, by what the run of its image tells.
-use Rattle.std.proofs.Common.{◌≡◌, ◌⊎◌, inl, inr, ℕ, zero, suc, ◌+◌, ◌-◌, ◌*◌, ◌<◌, ◌≤◌, Bool, true, false, cond, List, [], ◌∷◌}
+use Rattle.std.proofs.Common.{◌≡◌, ◌⊎◌, inl, inr, ℕ, zero, suc, ◌+◌, ◌-◌, ◌*◌, ◌<◌, ◌≤◌, Bool, true, false, cond, List, [], ◌∷◌, length}
 use Rattle.std.proofs.Common.{Option, Some, None, map, refl, sym, ap, subst, ◌∙◌, arith, nat_le, drop}
 use Rattle.std.proofs.lemmas.Bool.Decides.{nat_tests}
 use Rattle.std.specs.Prelude.{◌^◌, ◌%◌, slice_get, if◌then◌else◌, option_and_then}
@@ -20,7 +20,7 @@ use Rattle.terra_term.specs.declared.lists.TypedName.{TypedName}
 use Rattle.terra_term.specs.declared.store.Export.{Export}
 use Rattle.terra_term.specs.Stores.{Contents, contents_of}
 use Rattle.terra_meaning.specs.Values.{AreValues, IsValue, form_at}
-use Rattle.back_end.specs.Compiled.{AreExported, IsExported, codes_of, nodes_in, type_code}
+use Rattle.back_end.specs.Compiled.{AreExported, IsExported, codes_of, type_code}
 use Rattle.stage_image.specs.Emitted.{defined_count}
 use Rattle.terrac_call.specs.Arguments.{Arguments, Good, Bad, argument_of, arguments_of, begins_with_dash, bool_word, number_word}
 use Rattle.terrac_call.specs.Arguments.{size_of, then_arguments}
@@ -208,7 +208,7 @@ due_tells_meaning it w due x symbol values named read =
     let store = contents_of w.store in
     let manner = manner_of it (defined_count w.store) in
     let at = named_at it.call.entry x.image.exports symbol named in
-    let export = export_at store x.image (250 * nodes_in store x.compiled.functions) w.exports.list x.image.exports at.0 symbol
+    let export = export_at store x.image (length x.image.text) w.exports.list x.image.exports at.0 symbol
     x.compiled.exported at.1 in
     let is = export.2 in
     let scalar : list_all (allows param_rule) (codes_of store.types is.function.body.parameters) ≡ true =

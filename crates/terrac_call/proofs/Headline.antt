@@ -1,5 +1,5 @@
 -- What the run of a compiled image tells of Terra's meaning, by the agreement of the two.
-use Rattle.std.proofs.Common.{◌≡◌, ◌≢◌, ℕ, zero, suc, ◌+◌, ◌*◌, ◌≤◌, List, [], ◌∷◌, ◌++◌, Option, Some, map, refl, sym, ap, subst}
+use Rattle.std.proofs.Common.{◌≡◌, ◌≢◌, ℕ, zero, suc, ◌+◌, ◌*◌, ◌≤◌, List, [], ◌∷◌, ◌++◌, length, Option, Some, map, refl, sym, ap, subst}
 use Rattle.std.proofs.Common.{◌∙◌, append_assoc}
 use Rattle.std.proofs.Math.Nat.{le_trans}
 use Rattle.std.specs.Prelude.{slice_get}
@@ -18,7 +18,7 @@ use Rattle.rv_machine.specs.declared.stops.Stop.TheVariants as stops
 use Rattle.rv_machine.specs.Machine.{Ran, run_of}
 use Rattle.rv_machine.specs.ImageRun.{RvRun, image_start}
 use Rattle.back_end.specs.Agrees.{Agree, SameEnd}
-use Rattle.back_end.specs.Compiled.{AreExported, IsExported, nodes_in}
+use Rattle.back_end.specs.Compiled.{AreExported, IsExported}
 use Rattle.back_end.proofs.Composes.{Extend}
 use Rattle.back_end.proofs.Extends.{extends}
 use Rattle.terrac_call.specs.Headline.{RunsTellMeaning, TellsMeaning}
@@ -76,7 +76,7 @@ same_function store e f g p q = let both : ◌≡◌ {A = Option Callable} (Some
 
 pub runs_tell_meaning : RunsTellMeaning
 runs_tell_meaning store memory exports image compiled i e symbol function values steps ran here there is are runs =
-    let most = 250 * nodes_in store compiled.functions in
+    let most = length image.text in
     let x : IsExported store image most e symbol =
     exported_at store image most exports image.exports i e symbol compiled.exported here there in
     let same : x.function ≡ function = same_function store e x.function function x.is is in

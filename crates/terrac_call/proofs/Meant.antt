@@ -1,5 +1,5 @@
 -- What is due for a call of an image is what the exports mean.
-use Rattle.std.proofs.Common.{◌≡◌, ◌≢◌, inl, inr, ℕ, zero, suc, ◌*◌, ◌≤◌, Bool, true, cond, List, [], ◌∷◌, ◌++◌, map}
+use Rattle.std.proofs.Common.{◌≡◌, ◌≢◌, inl, inr, ℕ, zero, suc, ◌*◌, ◌≤◌, Bool, true, cond, List, [], ◌∷◌, ◌++◌, length, map}
 use Rattle.std.proofs.Common.{Option, Some, None, refl, sym, ap, subst, ◌∙◌, arith}
 use Rattle.std.specs.Prelude.{slice_get, codes}
 use Rattle.std.specs.List.{list_all}
@@ -25,7 +25,7 @@ use Rattle.rv_machine.specs.declared.stops.Stop.TheVariants as stops
 use Rattle.rv_machine.specs.Machine.{Ran}
 use Rattle.rv_machine.specs.ImageRun.{image_start}
 use Rattle.back_end.specs.Agrees.{SameEnd}
-use Rattle.back_end.specs.Compiled.{AreExported, AreReady, HasTypedPart, IsExported, codes_of, nodes_in, type_code}
+use Rattle.back_end.specs.Compiled.{AreExported, AreReady, HasTypedPart, IsExported, codes_of, type_code}
 use Rattle.exotype.specs.World.{StageState}
 use Rattle.stage_image.specs.Emitted.{defined_count}
 use Rattle.terrac_call.specs.Arguments.{Arguments, Good, Bad, arguments_of}
@@ -136,7 +136,7 @@ module _ (it : Asking) (w : StageState) (due : Due) (x : IsImageDue it w due) (h
   store = contents_of w.store
 
   abbrev most : ℕ
-  most = 250 * nodes_in (contents_of w.store) x.compiled.functions
+  most = length x.image.text
 
   abbrev manner : Manner
   manner = manner_of it (defined_count w.store)

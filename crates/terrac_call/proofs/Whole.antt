@@ -1,12 +1,11 @@
 -- What is due for a source whose staging is done is what its exports mean.
-use Rattle.std.proofs.Common.{◌≡◌, ℕ, ◌*◌, ◌≤◌, Bool, true, false, refl, subst, arith, nat_le}
+use Rattle.std.proofs.Common.{◌≡◌, ℕ, ◌*◌, ◌≤◌, Bool, true, false, length, refl, subst, arith, nat_le}
 use Rattle.std.proofs.lemmas.Bool.Decides.{nat_tests}
 use Rattle.std.specs.Prelude.{◌%◌, nat_lt, if◌then◌else◌}
 use Rattle.tl_base.specs.declared.limits.Limits.{Limits}
 use Rattle.tl_base.specs.Limits.{IsLimits}
 use Rattle.terra_term.specs.Stores.{contents_of}
 use Rattle.check_stage.specs.declared.staging.End.{End}
-use Rattle.back_end.specs.Compiled.{nodes_in}
 use Rattle.stage_image.proofs.Premises.{can_compile}
 use Rattle.terrac_call.specs.Meant.{IsCallMeant, SourcesAreMeant}
 use Rattle.terrac_call.specs.Run.{IsEndDue, IsImageDue}
@@ -51,7 +50,7 @@ sources_are_meant it items finish due x done =
     let made : IsImageDue it w rest = subst (λ (end : End). IsEndDue it w end rest) done x.is_due.rest_is in
     let can = can_compile items x.placed finish x.n limits x.ending (are_limits it.running.limits.budget it.running.limits.memory)
     x.comes done in
-    let most = 250 * nodes_in (contents_of w.store) made.compiled.functions in
+    let most = length made.image.text in
     let meant : IsCallMeant it w made.image most rest = calls_are_meant it w rest made can.typed can.ready in
     record {
       image = made.image;

@@ -1,6 +1,5 @@
 -- What the run of a compiled image tells of Terra's meaning, and so what is due for a call of what a source exports.
-use Rattle.std.specs.Prelude.{ℕ, ◌≡◌, ◌≢◌, ◌+◌, ◌*◌, ◌≤◌, List, [], map, Some, slice_get}
-use Rattle.tl_base.specs.declared.ids.FnId.{FnId}
+use Rattle.std.specs.Prelude.{ℕ, ◌≡◌, ◌≢◌, ◌+◌, ◌*◌, ◌≤◌, List, [], length, map, Some, slice_get}
 use Rattle.tl_base.specs.Outside.{IsFront}
 use Rattle.elf_image.specs.declared.image.Image.{Image}
 use Rattle.elf_image.specs.declared.image.Symbol.{Symbol}
@@ -14,7 +13,7 @@ use Rattle.rv_machine.specs.declared.stops.Stop.TheVariants as stops
 use Rattle.rv_machine.specs.Machine.{Ran}
 use Rattle.rv_machine.specs.ImageRun.{RvRun}
 use Rattle.back_end.specs.Agrees.{SameEnd}
-use Rattle.back_end.specs.Compiled.{IsCompiled, codes_of, nodes_in, type_code}
+use Rattle.back_end.specs.Compiled.{IsCompiled, codes_of, type_code}
 use Rattle.exotype.specs.World.{StageState}
 use Rattle.stage_image.specs.Emitted.{defined_count}
 use Rattle.terrac_call.specs.Arguments.{Good, arguments_of}
@@ -34,7 +33,8 @@ pub record TellsMeaning (Same : End → Ran → Type 0) (source : ℕ → Run) (
   pub prints_no_more : IsFront ran.output (output_of (source steps))
   pub prints_all : (n : ℕ) → (n + 1) * most ≤ steps → IsFront (output_of (source n)) ran.output
 
--- Each run of an export of a compiled image does so, for all arguments that are values of its parameters' types and all numbers of steps.
+-- Each run of an export of a compiled image does so, for all arguments that are values of its parameters' types and all numbers of steps,
+-- where a count takes no more steps than the image has instructions.
 abbrev pub RunsTellMeaning : Type 0
 RunsTellMeaning =
     (store : Contents) (memory : ℕ) (exports : List Export) (image : Image) (compiled : IsCompiled store memory exports image)
@@ -43,11 +43,11 @@ RunsTellMeaning =
     AreValues store.types function.body.parameters (map word values) →
     RvRun image symbol.address values steps ran →
     TellsMeaning (λ end it. SameEnd store.types function.body.result end it.stop)
-    (λ n. meaning store [] memory n e.function (map word values)) steps (250 * nodes_in store compiled.functions) ran
+    (λ n. meaning store [] memory n e.function (map word values)) steps (length image.text) ran
 
 -- What is due for a call of an export is what the export means: it is a run of the machine that tells this. As a run that tells it ends
 -- only as the function does, no fault of the machine is due, and no write that failed.
-pub record IsMeantDue (it : Asking) (w : StageState) (image : Image) (functions : List FnId) (values : List ℕ) (due : Due) : Type 0 where
+pub record IsMeantDue (it : Asking) (w : StageState) (image : Image) (values : List ℕ) (due : Due) : Type 0 where
   -- an export has the name that is called
   pub i : ℕ
   pub e : Export
@@ -63,7 +63,7 @@ pub record IsMeantDue (it : Asking) (w : StageState) (image : Image) (functions 
   pub ran : Ran
   pub tells : TellsMeaning (λ end machine. SameEnd (contents_of w.store).types function.body.result end machine.stop)
       (λ n. meaning (contents_of w.store) [] (bytes_of it.running.limits.memory) n e.function (map word values)) it.running.steps
-      (250 * nodes_in (contents_of w.store) functions) ran
+      (length image.text) ran
   -- what the run printed is due, and how it ended, with a result as the function's type says, behind the image's file where that is shown
   pub due_is : due ≡ noting (shown_file (manner_of it (defined_count w.store)) image) (after ran.output
       (due_of_stop (front_of it.generated (defined_count w.store))
@@ -74,4 +74,4 @@ abbrev pub DueTellsMeaning : Type 0
 DueTellsMeaning =
     (it : Asking) (w : StageState) (due : Due) (x : IsImageDue it w due) (symbol : Symbol) (values : List ℕ) →
     symbol_named it.call.entry x.image.exports ≡ Some symbol → arguments_of symbol.params 1 it.call.arguments ≡ Good values →
-    IsMeantDue it w x.image x.compiled.functions values due
+    IsMeantDue it w x.image values due

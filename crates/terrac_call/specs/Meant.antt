@@ -1,5 +1,5 @@
 -- What is due for a call of what a source exports, by the exports, the types of their functions and what these mean: no machine is in it.
-use Rattle.std.specs.Prelude.{ℕ, ◌≡◌, ◌≢◌, ◌↔◌, ◌+◌, ◌*◌, ◌≤◌, List, [], ◌++◌, map, Option, Some, None, slice_get, codes}
+use Rattle.std.specs.Prelude.{ℕ, ◌≡◌, ◌≢◌, ◌↔◌, ◌+◌, ◌*◌, ◌≤◌, List, [], ◌++◌, length, map, Option, Some, None, slice_get, codes}
 use Rattle.tl_base.specs.declared.place.Place.{Place}
 use Rattle.tl_base.specs.Outside.{IsFront}
 use Rattle.tl_tree.specs.Code.{Items}
@@ -12,7 +12,7 @@ use Rattle.terra_term.specs.declared.store.Export.{Export}
 use Rattle.terra_term.specs.Stores.{Callable, callable_of, contents_of}
 use Rattle.terra_meaning.specs.Values.{AreValues, form_at}
 use Rattle.terra_meaning.specs.Meaning.{meaning}
-use Rattle.back_end.specs.Compiled.{AreReady, HasTypedPart, IsCompiled, nodes_in}
+use Rattle.back_end.specs.Compiled.{AreReady, HasTypedPart, IsCompiled}
 use Rattle.exotype.specs.World.{StageState}
 use Rattle.check_stage.specs.declared.staging.End.TheVariants.{Done}
 use Rattle.stage_image.specs.Emitted.{defined_count}
@@ -89,12 +89,13 @@ pub data IsCallMeant (it : Asking) (w : StageState) (image : Image) (most : ℕ)
       (shown_file (manner_of it (defined_count w.store)) image) (front_of it.generated (defined_count w.store)) due
       → IsCallMeant it w image most due
 
--- So it is for each call of a compiled image of exports that could be compiled, as those of each staging that is done.
+-- So it is for each call of a compiled image of exports that could be compiled, as those of each staging that is done, where a count takes
+-- no more steps than the image has instructions.
 abbrev pub CallsAreMeant : Type 0
 CallsAreMeant =
     (it : Asking) (w : StageState) (due : Due) (x : IsImageDue it w due) →
     HasTypedPart (contents_of w.store) w.exports.list → AreReady (contents_of w.store) w.exports.list →
-    IsCallMeant it w x.image (250 * nodes_in (contents_of w.store) x.compiled.functions) due
+    IsCallMeant it w x.image (length x.image.text) due
 
 -- `no entry` is due exactly where no export has the name, and `bad argument` exactly where one has it whose parameters take no such words,
 -- with the least position that is bad.
@@ -109,7 +110,7 @@ pub record RefusesExactly (it : Asking) (w : StageState) (due : Due) : Type 0 wh
 pub record IsDoneMeant (it : Asking) (w : StageState) (due : Due) : Type 0 where
   pub image : Image
   pub compiled : IsCompiled (contents_of w.store) (bytes_of it.running.limits.memory) w.exports.list image
-  pub meant : IsCallMeant it w image (250 * nodes_in (contents_of w.store) compiled.functions) due
+  pub meant : IsCallMeant it w image (length image.text) due
   pub exact : RefusesExactly it w due
 
 -- So it is, behind what was printed, for each source whose staging is done.
