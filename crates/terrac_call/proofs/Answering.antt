@@ -7,11 +7,12 @@ use Rattle.terrac_call.specs.declared.status.Status.{Status}
 use Rattle.terrac_call.specs.declared.status.Status.TheVariants as statuses
 use Rattle.terrac_call.specs.declared.due.Ended.{Ended}
 use Rattle.gen_source.specs.Generated.{generated}
-use Rattle.terrac_call.specs.Words.{Call, Limits, Running, Job, Run, Emit, Exec, Check, Terms, Gen, job_of}
+use Rattle.terrac_call.specs.Words.{Call, Limits, Running, Job, Run, Emit, Exec, Check, Terms, Rename, Gen, job_of}
 use Rattle.terrac_call.specs.Due.{Due, after, noting, all_notes, line, longest}
 use Rattle.terrac_call.specs.Exec.{longest_image, IsExecDue, IsLong, IsBad, IsImage}
 use Rattle.terrac_call.specs.Check.{IsCheckDue}
 use Rattle.terrac_call.specs.Terms.{IsTermsDue}
+use Rattle.terrac_call.specs.Rename.{IsRenameDue}
 use Rattle.terrac_call.specs.Run.{of_run}
 use Rattle.terrac_call.specs.Gen.{of_gen}
 use Rattle.terrac_call.specs.Answer.{IsToldAs, IsDue, IsDueOrCut, IsWhole, IsCut, IsMade, IsUnmade, IsOwed, IsRunOwed, IsEmitOwed, Owed}
@@ -20,7 +21,7 @@ use Rattle.terrac_call.specs.Call.{AnswersExactly}
 use Rattle.terrac_call.specs.Ending.{StoppedBoth, Ends, EndsBoth}
 use Rattle.terrac_call.proofs.Endings.{ends_into, cut_into}
 use Rattle.terrac_call.proofs.Both.{both_into, front_behind, front_longer, took_both}
-use Rattle.terrac_call.proofs.Telling.{check_whole, terms_whole, run_owed_whole, emit_owed_whole}
+use Rattle.terrac_call.proofs.Telling.{check_whole, terms_whole, rename_whole, run_owed_whole, emit_owed_whole}
 
 -- what was read of a source: all of it, or more than it may have
 pub record IsEnough (most : ℕ) (text : List ℕ) (old new : Option (List ℕ)) : Type 0 where
@@ -111,6 +112,13 @@ module _ (left : Option (List ℕ)) (Rose : Type 0) where
       let w = whole (longest + 1) text left new enough in
       ends_into _ _ (λ due is. Answered w.bytes w.told (IsWhole (terms_whole limits text w.bytes due w.same is)))
       ended out_old out_new f0 f1 Same h
+
+  -- `rename` on what was read of a source
+  pub rename_owed : (text : List ℕ) (new : Option (List ℕ)) (due : Due) → IsEnough (longest + 1) text left new → IsRenameDue text due
+      → Owed (Some Rename) left Rose due
+  rename_owed text new due enough is =
+      let w = whole (longest + 1) text left new enough in
+      Answered w.bytes w.told (IsWhole (rename_whole text w.bytes due w.same is))
 
 -- the bytes that a source has left, where it tells them
 told_of : (left : Option (List ℕ)) → (bytes : List ℕ) × IsToldAs left bytes
@@ -207,6 +215,7 @@ module _ (bytes : List ℕ) (due : Due) (found : due.status ≢ statuses.NoMemor
   due_of_owed (Some (Exec call steps)) is = of_cut _ is
   due_of_owed (Some (Check limits)) is = of_cut _ is
   due_of_owed (Some (Terms limits)) is = of_cut _ is
+  due_of_owed (Some Rename) is = of_cut _ is
 
 -- where nothing fails, what is answered is what is due
 pub answers_exactly : (words : List (List ℕ)) (left : Option (List ℕ)) (RoseSource RoseOut RoseNotes : Type 0) (status : Status)

@@ -14,7 +14,7 @@ use Rattle.elf_image.specs.Loads.{Loads, BadBytes}
 use Rattle.rv_machine.specs.Machine.{Ran}
 use Rattle.rv_machine.proofs.ImageRuns.{one_run}
 use Rattle.terrac_call.specs.declared.status.ImageFault.TheVariants.{Refused}
-use Rattle.terrac_call.specs.Words.{Call, Limits, Job, Run, Emit, Exec, Check, Terms, Gen, job_of}
+use Rattle.terrac_call.specs.Words.{Call, Limits, Job, Run, Emit, Exec, Check, Terms, Rename, Gen, job_of}
 use Rattle.terrac_call.specs.Arguments.{Arguments, Good, Bad, arguments_of}
 use Rattle.terrac_call.specs.Due.{Due, Reading, IsReadingDue, IsRefused, IsTree, after, noting}
 use Rattle.terrac_call.specs.Exec.{Manner, plain, shown_file, due_of_bad_image, due_of_stop, IsRunDue, IsCallDue, IsExecDue, IsLong}
@@ -22,6 +22,7 @@ use Rattle.terrac_call.specs.Exec.{IsBad, IsImage}
 use Rattle.terrac_call.specs.Staged.{bytes_of}
 use Rattle.terrac_call.specs.Check as checks
 use Rattle.terrac_call.specs.Terms as terms
+use Rattle.terrac_call.specs.Rename as renames
 use Rattle.terrac_call.specs.Answer.{IsDue}
 use Rattle.terrac_call.specs.Call.{CompilesNothing, OneDue}
 use Rattle.terrac_call.proofs.OneReading.{one_reading}
@@ -97,6 +98,11 @@ one_of_terms settled limits (IsTree tree finish) one other p q =
     (one_ending settled (lay tree []) finish Exports p.n q.n limits.budget (bytes_of limits.memory) p.ending q.ending p.comes q.comes)
     ∙ sym q.is
 
+one_of_rename : (bytes : List ℕ) (reading : Reading) (one other : Due) → IsReadingDue (renames.IsTreeDue bytes) reading one
+    → IsReadingDue (renames.IsTreeDue bytes) reading other → one ≡ other
+one_of_rename bytes (IsRefused kind place) one other p q = p ∙ sym q
+one_of_rename bytes (IsTree tree finish) one other p q = p ∙ sym q
+
 one_of_job : Settled → (job : Option Job) (bytes : List ℕ) (one other : Due) → CompilesNothing job → IsDue job bytes one
     → IsDue job bytes other → one ≡ other
 one_of_job settled None bytes one other none p q = absurd none
@@ -110,6 +116,9 @@ one_of_job settled (Some (Check limits)) bytes one other none p q =
 one_of_job settled (Some (Terms limits)) bytes one other none p q =
     one_of_terms settled limits p.0 one other p.2
     (subst (λ (r : Reading). IsReadingDue (terms.IsTreeDue limits) r other) (one_reading bytes q.0 p.0 q.1 p.1) q.2)
+one_of_job settled (Some Rename) bytes one other none p q =
+    one_of_rename bytes p.0 one other p.2
+    (subst (λ (r : Reading). IsReadingDue (renames.IsTreeDue bytes) r other) (one_reading bytes q.0 p.0 q.1 p.1) q.2)
 
 pub one_due : Settled → OneDue
 one_due settled words bytes one other none p q = one_of_job settled (job_of words) bytes one other none p q

@@ -10,7 +10,7 @@ use Rattle.check_stage.specs.declared.staging.End.{End}
 use Rattle.check_stage.specs.declared.staging.End.TheVariants.{Done, Raised, Spent}
 use Rattle.terrac_call.specs.declared.status.Status.{Status}
 use Rattle.terrac_call.specs.declared.status.Status.TheVariants as statuses
-use Rattle.terrac_call.specs.Words.{Call, Limits, Job, Run, Emit, Exec, Check, Terms, Gen}
+use Rattle.terrac_call.specs.Words.{Call, Limits, Job, Run, Emit, Exec, Check, Terms, Rename, Gen}
 use Rattle.terrac_call.specs.Arguments.{Arguments, Good, Bad, arguments_of}
 use Rattle.terrac_call.specs.Due.{Due, Reading, IsReadingDue, IsRefused, IsTree}
 use Rattle.terrac_call.specs.Exec.{Manner, due_of_stop, plain, IsRunDue, IsCallDue, IsExecDue, IsLong, IsBad, IsImage}
@@ -21,6 +21,7 @@ use Rattle.terrac_call.specs.Emit as emits
 use Rattle.terrac_call.specs.Gen.{of_gen}
 use Rattle.terrac_call.specs.Check as checks
 use Rattle.terrac_call.specs.Terms as terms
+use Rattle.terrac_call.specs.Rename as renames
 use Rattle.terrac_call.specs.Answer.{IsDue, IsDueOrCut, IsWhole, IsCut, IsMade, IsUnmade, IsOwed, Owed, Answered, Unread, OutOfMemory}
 
 -- the statuses with which a job may end
@@ -82,6 +83,10 @@ of_terms : (limits : Limits) (reading : Reading) (due : Due) → IsReadingDue (t
 of_terms limits (IsRefused kind place) due is = as_that due _ is refl
 of_terms limits (IsTree tree finish) due is = as_that due _ is.is (of_ending is.ending.end _)
 
+of_rename : (bytes : List ℕ) (reading : Reading) (due : Due) → IsReadingDue (renames.IsTreeDue bytes) reading due → EndsJob due
+of_rename bytes (IsRefused kind place) due is = as_that due _ is refl
+of_rename bytes (IsTree tree finish) due is = as_that due _ is refl
+
 of_end_run : (it : runs.Asking) (w : StageState) (end : End) (due : Due) → runs.IsEndDue it w end due → EndsJob due
 of_end_run it w Done due is = of_call is.image it.call _ (symbol_named it.call.entry is.image.exports) due is.due_is
 of_end_run it w (Raised text place) due is = as_that due _ is refl
@@ -116,6 +121,7 @@ of_owed (Gen count running) bytes due (IsUnmade printed done is) = as_that due _
 of_owed (Exec call steps) bytes due is = of_cut _ (λ d i. of_exec call steps bytes d i) due is
 of_owed (Check limits) bytes due is = of_cut _ (λ d i. of_check limits i.0 d i.2) due is
 of_owed (Terms limits) bytes due is = of_cut _ (λ d i. of_terms limits i.0 d i.2) due is
+of_owed Rename bytes due is = of_cut _ (λ d i. of_rename bytes i.0 d i.2) due is
 
 no_usage : (due : Due) → EndsJob due → due.status ≢ statuses.Usage
 no_usage due ends is = let bad : true ≡ false = sym ends ∙ ap ends_job is in absurd cc

@@ -1,7 +1,7 @@
 -- What was read tells how the whole source reads.
 use Rattle.std.proofs.Common.{◌≡◌, ◌⊎◌, inl, inr, ◌+◌, ◌≤◌, ℕ, List, ◌++◌, length, sym, subst, arith, length-append}
 use Rattle.terrac_call.specs.Words.{Limits}
-use Rattle.terrac_call.specs.Due.{Due, Reading, IsReadAs, IsTooLong, IsNotUtf8, IsText, longest}
+use Rattle.terrac_call.specs.Due.{Due, Reading, IsReadAs, IsTooLong, IsNotUtf8, IsText, IsReadingDue, longest}
 use Rattle.terrac_call.specs.Staged.{IsPrinted}
 use Rattle.terrac_call.specs.Run.{Asking, IsSourceDue}
 use Rattle.terrac_call.specs.Emit.{IsEmitDue}
@@ -9,6 +9,8 @@ use Rattle.terrac_call.specs.Answer.{IsMade, IsUnmade, IsRunOwed, IsEmitOwed}
 use Rattle.terrac_call.proofs.Endings.{cut_into}
 use Rattle.terrac_call.specs.Check.{IsCheckDue}
 use Rattle.terrac_call.specs.Terms.{IsTermsDue}
+use Rattle.terrac_call.specs.Rename.{IsRenameDue}
+use Rattle.terrac_call.specs.Rename as renames
 
 -- a source is too long that has a front that is
 longer : (text rest : List ℕ) (reading : Reading) → longest + 1 ≤ length text → IsReadAs text reading → IsReadAs (text ++ rest) reading
@@ -64,3 +66,19 @@ pub terms_whole : (limits : Limits) (text bytes : List ℕ) (due : Due)
 terms_whole limits text bytes due (inl same) is = subst (λ (b : List ℕ). IsTermsDue limits b due) same is
 terms_whole limits text bytes due (inr long) is =
     subst (λ (b : List ℕ). IsTermsDue limits b due) (sym long.1.1) (is.0, longer text long.1.0 is.0 long.0 is.1, is.2)
+
+-- a text that is too long is refused, whatever stands in it
+too_long_renamed : (text other : List ℕ) (reading : Reading) (due : Due) → longest + 1 ≤ length text → IsReadAs text reading
+    → IsReadingDue (renames.IsTreeDue text) reading due → IsReadingDue (renames.IsTreeDue other) reading due
+too_long_renamed text other _ due long (IsTooLong l) is = is
+too_long_renamed text other _ due long (IsNotUtf8 l n) is = is
+too_long_renamed text other _ due long (IsText r l u p) is = absurd (omega arith)
+
+pub rename_whole : (text bytes : List ℕ) (due : Due)
+    → (text ≡ bytes) ⊎ ((longest + 1 ≤ length text) × ((back : List ℕ) × (bytes ≡ text ++ back)))
+    → IsRenameDue text due → IsRenameDue bytes due
+rename_whole text bytes due (inl same) is = subst (λ (b : List ℕ). IsRenameDue b due) same is
+rename_whole text bytes due (inr long) is =
+    let whole = text ++ long.1.0 in
+    subst (λ (b : List ℕ). IsRenameDue b due) (sym long.1.1)
+    (is.0, longer text long.1.0 is.0 long.0 is.1, too_long_renamed text whole is.0 due long.0 is.1 is.2)

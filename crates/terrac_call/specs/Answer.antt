@@ -5,7 +5,7 @@ use Rattle.terrac_call.specs.declared.status.Status.{Status}
 use Rattle.terrac_call.specs.declared.status.Status.TheVariants as statuses
 use Rattle.terrac_call.specs.Statuses.{text_of}
 use Rattle.gen_source.specs.Generated.{generated}
-use Rattle.terrac_call.specs.Words.{Limits, Job, Run, Emit, Exec, Check, Terms, Gen, job_of}
+use Rattle.terrac_call.specs.Words.{Limits, Job, Run, Emit, Exec, Check, Terms, Rename, Gen, job_of}
 use Rattle.terrac_call.specs.Due.{Due, after, noting, all_notes, line, longest, refused, due_of_usage}
 use Rattle.terrac_call.specs.Staged.{IsPrinted}
 use Rattle.terrac_call.specs.Run.{Asking, IsSourceDue, of_run}
@@ -14,6 +14,7 @@ use Rattle.terrac_call.specs.Gen.{of_gen, IsGenDue}
 use Rattle.terrac_call.specs.Exec.{longest_image, IsExecDue}
 use Rattle.terrac_call.specs.Check.{IsCheckDue}
 use Rattle.terrac_call.specs.Terms.{IsTermsDue}
+use Rattle.terrac_call.specs.Rename.{IsRenameDue}
 
 -- ---- what is owed, before it is written
 
@@ -30,6 +31,7 @@ IsDue (Some (Emit limits)) bytes due = IsEmitDue limits bytes due
 IsDue (Some (Exec call steps)) bytes due = IsExecDue call steps bytes due
 IsDue (Some (Check limits)) bytes due = IsCheckDue limits bytes due
 IsDue (Some (Terms limits)) bytes due = IsTermsDue limits bytes due
+IsDue (Some Rename) bytes due = IsRenameDue bytes due
 IsDue (Some (Gen count running)) bytes due = IsGenDue count running due
 
 -- what is due, unless memory runs out: then `out` takes a front of it, of a result not all, and `notes` a front of what comes before the
@@ -76,6 +78,7 @@ most_read (Some (Emit limits)) = longest + 1
 most_read (Some (Exec call steps)) = longest_image + 1
 most_read (Some (Check limits)) = longest + 1
 most_read (Some (Terms limits)) = longest + 1
+most_read (Some Rename) = longest + 1
 most_read (Some (Gen count running)) = 0
 
 -- ---- how it is written

@@ -2,7 +2,7 @@
 use Rattle.std.specs.Prelude.{ℕ, ◌≡◌, ◌≢◌, List, Option, Some, None}
 use Rattle.terrac_call.specs.declared.status.Status.{Status}
 use Rattle.terrac_call.specs.declared.status.Status.TheVariants as statuses
-use Rattle.terrac_call.specs.Words.{Job, Run, Emit, Exec, Check, Terms, Gen, job_of}
+use Rattle.terrac_call.specs.Words.{Job, Run, Emit, Exec, Check, Terms, Rename, Gen, job_of}
 use Rattle.terrac_call.specs.Due.{Due}
 use Rattle.terrac_call.specs.Answer.{IsDue, GivesDue}
 
@@ -31,6 +31,7 @@ CompilesNothing (Some (Emit limits)) = ⊥
 CompilesNothing (Some (Exec call steps)) = Unit {0}
 CompilesNothing (Some (Check limits)) = Unit {0}
 CompilesNothing (Some (Terms limits)) = Unit {0}
+CompilesNothing (Some Rename) = Unit {0}
 CompilesNothing (Some (Gen count running)) = ⊥
 
 -- Such a job on some bytes has one thing due. Of words that name none the text of `clap` is open.

@@ -14,7 +14,7 @@ use Rattle.terrac_call.specs.declared.words.Asked.{Asked}
 use Rattle.terrac_call.specs.declared.words.Asked.TheVariants as asked
 use Rattle.terrac_call.specs.declared.arguments.Arguments.{Arguments as ArgumentsValue}
 use Rattle.terrac_call.specs.declared.arguments.Arguments.TheVariants as values
-use Rattle.terrac_call.specs.Words.{Call, Limits, Running, Job, Run, Emit, Exec, Check, Terms, Gen}
+use Rattle.terrac_call.specs.Words.{Call, Limits, Running, Job, Run, Emit, Exec, Check, Terms, Rename, Gen}
 use Rattle.terrac_call.specs.Arguments.{Arguments, Good, Bad}
 use Rattle.terrac_call.specs.Due.{line}
 use Rattle.terrac_call.specs.Exec.{Manner}
@@ -45,6 +45,7 @@ shown_job (jobs.Emit limits) = Emit (shown_limits limits)
 shown_job (jobs.Exec call steps) = Exec (shown_call call) steps
 shown_job (jobs.Check limits) = Check (shown_limits limits)
 shown_job (jobs.Terms limits) = Terms (shown_limits limits)
+shown_job jobs.Rename = Rename
 shown_job (jobs.Gen count running) = Gen count (shown_running running)
 
 -- the job that was asked for, if the words name one

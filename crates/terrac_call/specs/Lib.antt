@@ -27,6 +27,8 @@ pub mod Meant
 pub mod Check
 -- what is due for `terms`
 pub mod Terms
+-- what is due for `rename`
+pub mod Rename
 -- what is owed and delivered, whatever the source and the sinks do
 pub mod Answer
 -- what is answered where nothing fails

@@ -88,6 +88,10 @@ check_command = staging_command (new_app (codes "check"))
 abbrev pub terms_command : App
 terms_command = staging_command (new_app (codes "terms"))
 
+-- rename, without options
+abbrev pub rename_command : App
+rename_command = new_app (codes "rename")
+
 -- gen N, with its options
 abbrev pub gen_command : App
 gen_command = with_rule (with_rule (staging_command (new_app (codes "gen"))) steps_rule) count_rule
@@ -102,9 +106,11 @@ command_line =
     with_subcommand
     (with_subcommand
     (with_subcommand
+    (with_subcommand
     (with_subcommand (with_subcommand (with_subcommand program run_command.top) emit_command.top) exec_command.top)
     check_command.top)
     terms_command.top)
+    rename_command.top)
     gen_command.top
 
 -- ---- the job
@@ -126,14 +132,15 @@ pub record Running : Type 0 where
   pub shows : Bool
 
 -- to run an entry of a source; to write the image of what it exports, within limits; to run an entry of an image for at most so many
--- steps; to check a source within limits; to write the terms of what it exports, within limits; to generate a source of so many functions
--- and run it
+-- steps; to check a source within limits; to write the terms of what it exports, within limits; to write a source with its locals renamed;
+-- to generate a source of so many functions and run it
 pub data Job : Type 0 where
   Run : (call : Call) (running : Running) → Job
   Emit : (limits : Limits) → Job
   Exec : (call : Call) (steps : ℕ) → Job
   Check : (limits : Limits) → Job
   Terms : (limits : Limits) → Job
+  Rename : Job
   Gen : (count : ℕ) (running : Running) → Job
 
 -- What is required or has a default is always there, and a number is one in its range; these definitions say something of other
@@ -180,7 +187,7 @@ run_of rows = Run (call_of rows) (running_of rows)
 abbrev pub gen_of : List Row → Job
 gen_of rows = Gen (number_found (codes "N") rows) (running_of rows)
 
--- the job of a command with what was found for its arguments; there is one of six
+-- the job of a command with what was found for its arguments; there is one of seven
 abbrev pub job_of_command : Option (Text × List Row) → Job
 job_of_command None = Emit (record { budget = 0; memory = 0 })
 job_of_command (Some found) =
@@ -188,7 +195,8 @@ job_of_command (Some found) =
     else (if bytes_eq found.0 (codes "exec") then exec_of found.1
     else (if bytes_eq found.0 (codes "check") then Check (limits_of found.1)
     else (if bytes_eq found.0 (codes "terms") then Terms (limits_of found.1)
-    else (if bytes_eq found.0 (codes "gen") then gen_of found.1 else Emit (limits_of found.1)))))
+    else (if bytes_eq found.0 (codes "rename") then Rename
+    else (if bytes_eq found.0 (codes "gen") then gen_of found.1 else Emit (limits_of found.1))))))
 
 -- the job that the words name, the program's own name first: none exactly where `clap` refuses them
 unfoldable pub job_of : List Text → Option Job

@@ -16,6 +16,7 @@ mod laws;
 mod lines;
 mod parsing;
 mod reading;
+mod rename;
 mod run;
 mod staged;
 pub mod status;

@@ -5,7 +5,7 @@ ghost use Rattle.clap.specs.Words.{app_of, found_of, rows_of, rule_of, subcomman
 ghost use Rattle.terrac_call.specs.Words.{entry_rule, arguments_rule, count_rule, steps_rule, budget_rule, memory_rule};
 ghost use Rattle.clap.specs.declared.builder.command.Command.{out-Command};
 ghost use Rattle.terrac_call.specs.Words.{image_rule, run_command, emit_command, exec_command, check_command};
-ghost use Rattle.terrac_call.specs.Words.{terms_command, gen_command};
+ghost use Rattle.terrac_call.specs.Words.{terms_command, rename_command, gen_command};
 ghost use Rattle.terrac_call.specs.Words.{command_line, call_of, limits_of, running_of, number_found, number_or_zero};
 ghost use Rattle.terrac_call.specs.Words.{text_or_none, job_of, job_of_command, AreTaken};
 ghost use Rattle.terrac_call.specs.JobView.{texts_of, shown_call, shown_limits, shown_running, shown_job, shown_asked, HasUsageLine};
@@ -56,6 +56,8 @@ pub(crate) enum Job<'a> {
     Check(Limits),
     /// To write the terms of what a source exports, within these limits.
     Terms(Limits),
+    /// To write a source with its locals renamed.
+    Rename,
     /// To generate a source of so many functions, and to run it.
     Gen(u64, Running),
 }
@@ -120,6 +122,8 @@ fn job_named<'a>(alloc: Global, name: &str, found: &ArgMatches<'a>) -> Result<Jo
         Ok(Job::Check(limits_of(found)))
     } else if name == "terms" {
         Ok(Job::Terms(limits_of(found)))
+    } else if name == "rename" {
+        Ok(Job::Rename)
     } else if name == "gen" {
         Ok(Job::Gen(number_found(found, "N"), running_of(found)))
     } else {
@@ -208,6 +212,7 @@ fn command_line<'a>(alloc: Global) -> Result<Command<'a>, AllocError>
         .subcommand(exec_command(alloc)?)?
         .subcommand(check_command(alloc)?)?
         .subcommand(terms_command(alloc)?)?
+        .subcommand(rename_command(alloc)?)?
         .subcommand(gen_command(alloc)?)?;
     Ok(command)
 }
@@ -291,6 +296,19 @@ fn terms_command<'a>(alloc: Global) -> Result<Command<'a>, AllocError>
         .after_help("Example: terrac terms < dot.t")
         .arg(budget_argument(alloc))?
         .arg(memory_argument(alloc))?;
+    Ok(command)
+}
+
+// rename, without options.
+fn rename_command<'a>(alloc: Global) -> Result<Command<'a>, AllocError>
+    ensures shape { IfOk result (λ command. app_of command ≡ rename_command) }
+    ensures local { IfOk result (λ command. (out-Command command).has_globals ≡ false) }
+{
+    let command = Command::new(alloc, "rename")
+        .about(
+            "Writes a source, read on standard input, with its local variables, parameters and loop variables renamed.",
+        )
+        .after_help("Example: terrac rename < dot.t");
     Ok(command)
 }
 

@@ -3,20 +3,22 @@
 ghost use Rattle.std.specs.Prelude.{◌≡◌, ◌≢◌, ◌⊎◌, ◌<◌, ℕ, List, Option, Some, None, Err, IfOk, OnErr, IsSome, map};
 ghost use Rattle.std.specs.Prelude.{string_bytes};
 ghost use Rattle.tl_base.specs.Outside.{IsRisen};
-ghost use Rattle.terrac_call.specs.Words.{Run, Emit, Exec, Check, Terms, Gen, job_of, AreTaken};
+ghost use Rattle.terrac_call.specs.Words.{Run, Emit, Exec, Check, Terms, Rename, Gen, job_of, AreTaken};
 ghost use Rattle.terrac_call.specs.JobView.{shown_call, shown_limits, shown_running};
 ghost use Rattle.terrac_call.specs.Answer.{Owed, TookAtMost, most_read};
+ghost use Rattle.terrac_call.specs.DueView.{shown_due};
 ghost use Rattle.terrac_call.specs.Ending.{Ends, EndsBoth, IsStatus};
 ghost use Rattle.terrac_call.specs.declared.status.Status.TheVariants as statuses;
 ghost use Rattle.terrac_call.specs.declared.reading.ReadError.TheVariants as errors;
 
 use crate::check::check;
-use crate::due::Ended;
+use crate::due::{Due, Ended};
 use crate::emit::emit;
 use crate::exec::exec;
 use crate::generating::run_generated;
 use crate::lines::{no_memory_due, read_fault_due, usage_due};
 use crate::reading::{ReadError, read_source};
+use crate::rename::rename;
 use crate::run::{Asking, run};
 use crate::terms::terms;
 use crate::words::{Asked, Call, Job, Limits, Running, job_of};
@@ -141,6 +143,20 @@ fn terms_call<S: Source, K: Sink>(
     Ok(ended)
 }
 
+/// What is due for `rename`, with the read and the want of memory that may cut it off. It writes nothing on the way.
+fn rename_call<S: Source>(alloc: Global, source: &mut S) -> Result<Due, ReadError>
+    ensures owed { IfOk result (λ due.
+        Owed (Some Rename) (S.left source.old) (IsRisen (S.faults source.old) (S.faults source.new)) (shown_due due)) }
+    ensures status { IfOk result (λ due. due.status ≢ statuses.WriteFault) }
+    ensures bound { TookAtMost 1048577 (S.left source.old) (S.left source.new) }
+    ensures unread { result ≡ Err errors.Unread → IsRisen (S.faults source.old) (S.faults source.new) }
+    ensures quiet { result ≢ Err errors.Unread → S.faults source.new ≡ S.faults source.old }
+{
+    let bytes = read_source(alloc, source, LONGEST_TEXT + 1)?;
+    let due = rename(alloc, &bytes)?;
+    Ok(due)
+}
+
 /// How `gen` ends, with the want of memory that may cut it off. It reads nothing.
 fn gen_call<K: Sink, N: Sink>(
     alloc: Global,
@@ -190,6 +206,10 @@ fn try_work<S: Source, K: Sink, N: Sink>(
         Asked::Job(Job::Exec(call, steps)) => exec_call(alloc, &call, steps, source, out, notes),
         Asked::Job(Job::Check(limits)) => check_call(alloc, limits, source, out),
         Asked::Job(Job::Terms(limits)) => terms_call(alloc, limits, source, out),
+        Asked::Job(Job::Rename) => {
+            let due = rename_call(alloc, source)?;
+            Ok(Ended::Due(due))
+        }
         Asked::Job(Job::Gen(count, running)) => gen_call(alloc, count, running, out, notes),
     }
 }

@@ -18,5 +18,7 @@ returns c =
     ∙ ap₂ with_subcommand with_exec (ap (λ (a : App). a.top) c.in_ok-check_command.ensures.shape) in
     let with_terms = c.in_ok-subcommand-5.ensures.shape c.in_ok-terms_command.ensures.local
     ∙ ap₂ with_subcommand with_check (ap (λ (a : App). a.top) c.in_ok-terms_command.ensures.shape) in
+    let with_rename = c.in_ok-subcommand-6.ensures.shape c.in_ok-rename_command.ensures.local
+    ∙ ap₂ with_subcommand with_terms (ap (λ (a : App). a.top) c.in_ok-rename_command.ensures.shape) in
     c.in_ok-command.ensures.shape c.in_ok-gen_command.ensures.local
-    ∙ ap₂ with_subcommand with_terms (ap (λ (a : App). a.top) c.in_ok-gen_command.ensures.shape)
+    ∙ ap₂ with_subcommand with_rename (ap (λ (a : App). a.top) c.in_ok-gen_command.ensures.shape)

@@ -1,11 +1,14 @@
-use Rattle.std.proofs.Common.{◌≡◌, Some, None, refl, sym, ap, subst, ◌∙◌}
+use Rattle.std.proofs.Common.{◌≡◌, Option, Some, None, refl, sym, ap, subst, ◌∙◌}
 use Rattle.std.proofs.lemmas.Result.{IfOk-weaker}
 use Rattle.std.specs.Prelude.{map, string_bytes}
 use Rattle.tl_base.specs.Outside.{IsRisen}
 use Rattle.terrac_call.specs.declared.words.Asked.{Asked}
 use Rattle.terrac_call.specs.declared.words.Job.{Job as JobValue}
-use Rattle.terrac_call.specs.Words.{Job, Emit, Check, Terms, job_of}
+use Rattle.terrac_call.specs.Words.{Job, Emit, Check, Terms, Rename, job_of}
 use Rattle.terrac_call.specs.JobView.{shown_asked, shown_job, shown_limits, HasUsageLine, IsUsageText}
+use Rattle.terrac_call.specs.Answer.{Owed}
+use Rattle.terrac_call.specs.DueView.{shown_due}
+use Rattle.terrac_call.proofs.Both.{both_alone}
 use Rattle.terrac_call.proofs.Jobs.{notes_ends_named, out_ends_named, usage_ends}
 use Rattle.terrac_call.proofs.work.try_work.Goals as goal
 
@@ -75,3 +78,16 @@ returns-in-Job-Terms-clause-owed g c =
     IfOk-weaker c.terms_call.result _ _
     (λ ended h. out_ends_named job words left Rose ended oo on nb o0 o1 n0 SameOut (c.args.notes.now ≡ c.args.notes.now) refl named h)
     c.terms_call.ensures.owed
+
+pub returns-in_ok-due-clause-owed : goal.returns-in_ok-due-clause-owed
+returns-in_ok-due-clause-owed g c =
+    let words = job_of (map string_bytes c.args.words.now) in
+    let named : Some Rename ≡ words = sym (ap (λ (j : JobValue). Some (shown_job j)) c.in-Job-Rename.field-0-is)
+    ∙ sym (ap shown_asked c.in-Job-Rename.is) ∙ c.in_ok-text.ensures.job in
+    let left = g.S.Source.left c.args.source.now in
+    let Rose = IsRisen (g.S.Source.faults c.args.source.now) (g.S.Source.faults c.rename_call.new.source) in
+    both_alone (Owed words left Rose) c.in_ok-due.due (shown_due c.in_ok-due.due) (g.K.Sink.taken c.args.out.now)
+    (g.N.Sink.taken c.args.notes.now) (g.K.Sink.faults c.args.out.now) (g.N.Sink.faults c.args.notes.now)
+    (c.args.out.now ≡ c.args.out.now) (c.args.notes.now ≡ c.args.notes.now) refl
+    (subst (λ (j : Option Job). Owed j left Rose (shown_due c.in_ok-due.due)) named c.in_ok-due.ensures.owed)
+    refl refl c.in_ok-due.ensures.status
