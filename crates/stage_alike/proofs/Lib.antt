@@ -1,0 +1,4 @@
+-- What each task and each job means in alike trees.
+pub mod Jobs
+-- What stagings come to.
+pub mod Outcomes
