@@ -21,6 +21,7 @@ pub mod Pieces
 pub mod Placed
 pub mod Refusing
 pub mod Running
+pub mod SameDue
 pub mod Saying
 pub mod Statuses
 pub mod Telling

@@ -33,6 +33,8 @@ pub mod Rename
 pub mod Answer
 -- what is answered where nothing fails
 pub mod Call
+-- two sources that differ in the names of locals alone
+pub mod Alike
 -- Views of the code, which private contracts cite.
 pub mod JobView
 pub mod DueView

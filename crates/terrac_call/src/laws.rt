@@ -1,7 +1,10 @@
 // What follows of the definitions.
 
+ghost use Rattle.terrac_call.specs.Alike.{AlikeSourcesAnswerAlike, AlikeSourcesAreDueAlike};
 ghost use Rattle.terrac_call.specs.Headline.{DueTellsMeaning, RunsTellMeaning};
 ghost use Rattle.terrac_call.specs.Meant.{CallsAreMeant, SourcesAreMeant};
+
+use crate::call::one_due;
 
 /// The run of an export of a compiled image ends, prints and fails only as the function that it is means, and isn't over only where that
 /// isn't over in time.
@@ -27,3 +30,15 @@ pub fn calls_are_meant()
 pub fn sources_are_meant()
     ensures { SourcesAreMeant }
 {}
+
+/// Two sources that differ in the names of locals alone are due the same, for `run`, `emit`, `check` and `terms`.
+pub fn alike_sources_are_due_alike()
+    ensures { AlikeSourcesAreDueAlike }
+{}
+
+/// Of `check` and `terms`, which have one thing due, they are due the very same: what they print, the lines and the status.
+pub fn alike_sources_answer_alike()
+    ensures { AlikeSourcesAnswerAlike }
+{
+    one_due()
+}

@@ -26,5 +26,8 @@ mod work;
 mod writing;
 
 pub use call::{one_due, refuse_unread, terrac};
-pub use laws::{calls_are_meant, runs_tell_meaning, sources_are_meant};
+pub use laws::{
+    alike_sources_answer_alike, alike_sources_are_due_alike, calls_are_meant, runs_tell_meaning,
+    sources_are_meant,
+};
 pub use status::{FaultKind, ImageFault, Status};

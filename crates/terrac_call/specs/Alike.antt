@@ -1,0 +1,39 @@
+-- Two sources that bind alike are due the same: what a source comes to depends on no name of a local.
+use Rattle.std.specs.Prelude.{ℕ, ◌≡◌, ◌≤◌, ◌↔◌, List, length, Option, Some, None}
+use Rattle.std.specs.Str.{IsUtf8}
+use Rattle.tl_tree.specs.Binding.{Alike}
+use Rattle.terrac_call.specs.Words.{Job, Run, Emit, Exec, Check, Terms, Rename, Gen, job_of}
+use Rattle.terrac_call.specs.Due.{Due, longest}
+use Rattle.terrac_call.specs.Answer.{IsDue}
+use Rattle.terrac_call.specs.Call.{CompilesNothing}
+
+-- two sources that may be read, and bind alike
+pub record AreAlikeSources (a b : List ℕ) : Type 0 where
+  pub short : length a ≤ longest
+  pub other_short : length b ≤ longest
+  pub utf8 : IsUtf8 a
+  pub other_utf8 : IsUtf8 b
+  pub alike : Alike a b
+
+-- the jobs that stage the source that they read
+abbrev pub StagesSource : Option Job → Type 0
+StagesSource None = ⊥
+StagesSource (Some (Run call running)) = Unit {0}
+StagesSource (Some (Emit limits)) = Unit {0}
+StagesSource (Some (Exec call steps)) = ⊥
+StagesSource (Some (Check limits)) = Unit {0}
+StagesSource (Some (Terms limits)) = Unit {0}
+StagesSource (Some Rename) = ⊥
+StagesSource (Some (Gen count running)) = ⊥
+
+-- What is due for the one is due for the other, and no more: of `run` and `emit` on either the same images, of the same exports.
+abbrev pub AlikeSourcesAreDueAlike : Type 0
+AlikeSourcesAreDueAlike =
+    (words : List (List ℕ)) (a b : List ℕ) → AreAlikeSources a b → StagesSource (job_of words) → (due : Due)
+    → IsDue (job_of words) a due ↔ IsDue (job_of words) b due
+
+-- So `check` and `terms`, which have one thing due, are due the very same.
+abbrev pub AlikeSourcesAnswerAlike : Type 0
+AlikeSourcesAnswerAlike =
+    (words : List (List ℕ)) (a b : List ℕ) → AreAlikeSources a b → StagesSource (job_of words) → CompilesNothing (job_of words)
+    → (one other : Due) → IsDue (job_of words) a one → IsDue (job_of words) b other → one ≡ other
