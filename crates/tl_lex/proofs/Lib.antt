@@ -19,3 +19,6 @@ pub mod LawLemmas
 pub mod RefusalLemmas
 pub mod CutLemmas
 pub mod CutTexts
+pub mod SwapLemmas
+pub mod NewNameLemmas
+pub mod NewNames

@@ -1,0 +1,2 @@
+//! That a text with its locals renamed binds alike.
+#![tactic(auto)]

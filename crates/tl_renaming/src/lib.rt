@@ -1,0 +1,2 @@
+//! Texts with their locals renamed.
+#![tactic(auto)]
