@@ -2,7 +2,8 @@
 
 use lua_model::LuaJob;
 use lua_table::LibCall;
-use tl_base::{EnvId, NodeId, Place, TypeId};
+use lua_value::Values;
+use tl_base::{EnvId, FnId, NodeId, Place, TypeId};
 
 /// What a layer is asked to do.
 #[derive(Drop)]
@@ -15,4 +16,6 @@ pub enum Task {
     Library(LibCall),
     /// To give the text of a type, at the place of the call of the function that asks.
     TypeText(TypeId, Place),
+    /// To call a Terra function with these arguments, at the place of the call by Lua code.
+    Terra(FnId, Values, Place),
 }

@@ -26,8 +26,9 @@ use Rattle.spec_model.specs.Meaning.{spec}
 use Rattle.spec_machine.specs.Rest.{spec_rest, SpecFits}
 use Rattle.stage_library.specs.Library.{library, library_rest}
 use Rattle.stage_library.specs.Types.{type_asked}
+use Rattle.stage_library.specs.Terra.{terra_called}
 use Rattle.stage_library.specs.declared.tasks.Task.{Task}
-use Rattle.stage_library.specs.declared.tasks.Task.TheVariants.{Evaluate, Specialise, Library, TypeText}
+use Rattle.stage_library.specs.declared.tasks.Task.TheVariants.{Evaluate, Specialise, Library, TypeText, Terra}
 use Rattle.terra_stage.specs.declared.staged.Staged.{Staged}
 use Rattle.terra_stage.specs.declared.staged.Staged.TheVariants as layers
 
@@ -37,6 +38,7 @@ use Rattle.terra_stage.specs.declared.staged.Staged.TheVariants as layers
 abbrev pub lua_asks : LuaQuestion → Task
 lua_asks (questions.Library call) = Library call
 lua_asks (questions.Specialise n env) = Specialise n env
+lua_asks (questions.Terra f vs place) = Terra f vs place
 
 -- Lua code has the heap, and the rest of the world stays while it works
 abbrev pub lua_fitting : Fitting StageState LuaState LuaQuestion Task LuaAnswer LuaAnswer LuaEnd LuaEnd
@@ -80,6 +82,7 @@ task_meaning items (Evaluate job) = within lua_fitting (lua items job)
 task_meaning items (Specialise n env) = within spec_fitting (spec items (record { node = n; env = env }))
 task_meaning items (Library call) = library call
 task_meaning items (TypeText t place) = type_asked t place
+task_meaning items (Terra f vs place) = terra_called place
 
 -- ---- layers that are suspended
 
@@ -89,6 +92,7 @@ staged_rest (layers.Lua lua) = within lua_fitting (lua_rest lua)
 staged_rest (layers.Spec spec) = within spec_fitting (spec_rest spec)
 staged_rest (layers.Library call) = library_rest call
 staged_rest (layers.TypeText t place) = type_asked t place
+staged_rest (layers.Terra place) = terra_called place
 
 abbrev pub StageGiven : Type 0
 StageGiven = Given StageState LuaAnswer
@@ -98,3 +102,4 @@ StagedFits (layers.Lua lua) next = LuaFits lua (given_part lua_fitting next)
 StagedFits (layers.Spec spec) next = SpecFits spec (given_part spec_fitting next)
 StagedFits (layers.Library call) next = Unit {0}
 StagedFits (layers.TypeText t place) next = Unit {0}
+StagedFits (layers.Terra place) next = Unit {0}

@@ -11,6 +11,7 @@ ghost use Rattle.exotype.specs.World.{StageState};
 ghost use Rattle.spec_machine.specs.Rest.{spec_rest, SpecFits};
 ghost use Rattle.stage_library.specs.Keeping.{KeepsStaging};
 ghost use Rattle.stage_library.specs.Types.{type_asked};
+ghost use Rattle.stage_library.specs.Terra.{terra_called};
 ghost use Rattle.terra_stage.specs.Layers.{lua_asks, spec_asks, spec_answer, spec_end, lua_fitting, spec_fitting};
 ghost use Rattle.terra_stage.specs.Layers.{turn_within, task_meaning, staged_rest, StageGiven, StagedFits};
 
@@ -20,7 +21,7 @@ use lua_model::{LuaAnswer, LuaEnd, LuaJob, LuaQuestion};
 use lua_value::Values;
 use spec_machine::Spec;
 use spec_model::{SpecAnswer, SpecEnd, SpecQuestion};
-use stage_library::{Library, Task, give_type_text};
+use stage_library::{Library, Task, give_type_text, refuse_terra_call};
 use std::alloc::Global;
 use tl_base::{Budget, Layer, NoMemory, Place, Turn, TypeId};
 use tl_rename::Slots;
@@ -33,6 +34,7 @@ fn lua_asks(question: LuaQuestion) -> Task
     match question {
         LuaQuestion::Library(call) => Task::Library(call),
         LuaQuestion::Specialise(node, env) => Task::Specialise(node, env),
+        LuaQuestion::Terra(function, args, place) => Task::Terra(function, args, place),
     }
 }
 
@@ -173,6 +175,25 @@ fn resume_type_text(
     Ok(turn)
 }
 
+/// Raises that Lua code can't call Terra code, whatever begins that.
+fn resume_terra(
+    world: &mut World,
+    budget: &mut Budget,
+    place: Place,
+    answer: LuaAnswer,
+) -> Result<Turn<Task, LuaEnd>, NoMemory>
+    ensures turn { IfOk result (λ turn. terra_called place (given answer world.old budget.old) []
+        ≡ seen turn (state world.new budget.new)) }
+    ensures reads_no_more { IfOk result (λ turn. UnlessAsk turn ((later : List StageGiven) →
+        terra_called place (given answer world.old budget.old) later ≡ seen turn (state world.new budget.new))) }
+    ensures ends { IfOk result (λ turn. OnAsk turn (λ _. ⊥)) }
+    ensures kept { OnOk result (KeepsStaging world.old world.new) }
+    ensures paid { OnOk result (budget.new ≤ budget.old) }
+{
+    let turn = refuse_terra_call(world, budget, place)?;
+    Ok(turn)
+}
+
 /// A layer of the stage, which is to begin, or is suspended.
 #[derive(Drop)]
 pub enum Staged<'a> {
@@ -181,6 +202,8 @@ pub enum Staged<'a> {
     Library(Library),
     /// It gives the text of a type.
     TypeText(TypeId, Place),
+    /// It is to call a Terra function, at this place.
+    Terra(Place),
 }
 
 impl Layer for Staged<'_> {
@@ -211,6 +234,7 @@ impl Layer for Staged<'_> {
             Staged::Spec(spec) => resume_spec(spec, world, budget, answer),
             Staged::Library(library) => library.resume(world, budget, answer),
             Staged::TypeText(of, place) => resume_type_text(world, budget, *of, *place, answer),
+            Staged::Terra(place) => resume_terra(world, budget, *place, answer),
         }
     }
 }
@@ -245,6 +269,7 @@ impl<'a> TerraStage<'a> {
             }
             Task::Library(call) => Staged::Library(Library::new(call)),
             Task::TypeText(of, place) => Staged::TypeText(of, place),
+            Task::Terra(_, _, place) => Staged::Terra(place),
         }
     }
 }
