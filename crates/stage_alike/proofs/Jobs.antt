@@ -28,6 +28,7 @@ use Rattle.stage_library.specs.declared.tasks.Task.{Task}
 use Rattle.stage_library.specs.declared.tasks.Task.TheVariants as tasks
 use Rattle.stage_library.specs.Library as of_library
 use Rattle.stage_library.specs.Types.{type_asked, type_turned}
+use Rattle.stage_library.specs.Terra.{refused}
 use Rattle.terra_stage.specs.Layers.{lua_fitting, spec_fitting, lua_asks, spec_asks, task_meaning}
 use Rattle.check_library.specs.declared.ask.AskTurn.{AskTurn}
 use Rattle.check_library.specs.declared.ask.AskTurn.TheVariants as asks
@@ -113,6 +114,7 @@ library-same items other call first later =
 lua-asks : (items other : Items) (q : LuaQuestion) → Any q → IsTask items other (lua_asks q)
 lua-asks items other (lua_questions.Library call) h = tt
 lua-asks items other (lua_questions.Specialise n env) h = tt
+lua-asks items other (lua_questions.Terra f vs place) h = tt
 
 spec-asks : (items other : Items) (q : SpecQuestion) → IsAsked items other q → IsTask items other (spec_asks q)
 spec-asks items other (spec_questions.Eval n env) h = h
@@ -130,6 +132,8 @@ task-same items other alike (tasks.Specialise n env) proper =
 task-same items other alike (tasks.Library call) proper = library-same items other call
 task-same items other alike (tasks.TypeText t place) proper = λ first later.
     (refl, turn-only items other place (type_turned first.state t place).turn (type_turned first.state t place).left)
+task-same items other alike (tasks.Terra f vs place) proper = λ first later.
+    (refl, turn-only items other place (refused first.state place).turn (refused first.state place).left)
 
 -- ---- what asks for checks and layouts
 
@@ -167,6 +171,7 @@ stage-asks items other (tasks.Library call) h = by-function (may_ask call.functi
     by-function true = tt
     by-function false = tt
 stage-asks items other (tasks.TypeText t place) h = tt
+stage-asks items other (tasks.Terra f vs place) h = tt
 
 body-asks : (items other : Items) (q : BodyQuestion) → Any q → IsJob items other (body_asks q)
 body-asks items other (of_bodies.CallLua v vs at) h = tt

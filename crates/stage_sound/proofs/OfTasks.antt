@@ -8,6 +8,8 @@ use Rattle.stage_form.specs.Within.{given_part, within}
 use Rattle.tl_tree.specs.Code.{Items}
 use Rattle.lua_table.specs.LuaState.{LuaState}
 use Rattle.lua_table.specs.declared.call.LibCall.{LibCall}
+use Rattle.lua_table.specs.declared.call.LibTurn.{LibTurn}
+use Rattle.lua_table.specs.declared.call.LibTurn.TheVariants as turns
 use Rattle.lua_model.specs.declared.end.LuaEnd.{LuaEnd}
 use Rattle.lua_model.specs.declared.end.LuaEnd.TheVariants as lua_ends
 use Rattle.lua_model.specs.declared.job.LuaJob.{LuaJob}
@@ -27,8 +29,9 @@ use Rattle.check_sound.specs.Layers as laws
 use Rattle.check_sound.proofs.Leading.{leads-itself, leads-twice}
 use Rattle.stage_library.specs.declared.tasks.Task.{Task}
 use Rattle.stage_library.specs.declared.tasks.Task.TheVariants as tasks
-use Rattle.stage_library.specs.Library.{library}
+use Rattle.stage_library.specs.Library.{library, turn_seen}
 use Rattle.stage_library.specs.Types.{type_asked}
+use Rattle.stage_library.specs.Terra.{refused, terra_called}
 use Rattle.terra_stage.specs.Layers.{lua_fitting, spec_fitting, task_meaning}
 use Rattle.check_stage.specs.declared.jobs.Job.TheVariants as jobs
 use Rattle.check_stage.specs.Layers.{check_stage, with_stage, stage_fitting, job_of, lua_end}
@@ -129,6 +132,24 @@ module _ (items : Items) (k : LayersKeep items) where
       TaskHolds (type_asked t place) first
   type-holds t place first sound = sound-holds (type_asked t place) first (k.texts t place) sound
 
+  -- ---- calls of Terra functions
+
+  -- what ends, or asks, in a sound world
+  turn-shows : (place : Place) (w : StageState) (turn : LibTurn) (s : State StageState) → Led w s.world →
+      Shows TaskAsked (λ end v. Led w v) (turn_seen place turn s)
+  turn-shows place w (turns.Values vs) s h = h
+  turn-shows place w (turns.Raise v at) s h = h
+  turn-shows place w turns.Spent s h = tt
+  turn-shows place w (turns.CallBack f vs next) s h = h.0
+  turn-shows place w (turns.TypeText t next) s h = h.0
+
+  -- the heap alone is another
+  terra-holds : (place : Place) (first : Given StageState LuaAnswer) → IsSound first.state.world →
+      TaskHolds (terra_called place) first
+  terra-holds place first sound later all =
+      let left = refused first.state place in
+      turn-shows place first.state.world left.turn left.left (k.heaps first.state.world sound left.left.world.heap)
+
   -- ---- each task
 
   task-holds : (task : Task) (first : Given StageState LuaAnswer) → IsSound first.state.world →
@@ -137,12 +158,14 @@ module _ (items : Items) (k : LayersKeep items) where
   task-holds (tasks.Specialise n env) first sound meant = spec-holds (record { node = n; env = env }) first sound
   task-holds (tasks.Library call) first sound meant = library-holds call first meant sound
   task-holds (tasks.TypeText t place) first sound meant = type-holds t place first sound
+  task-holds (tasks.Terra f vs place) first sound meant = terra-holds place first sound
 
   -- a task as a job
   task-begins : (w : TypingState) (task : Task) (p : StageState) → IsSound p → Begins (job_of task) (with_stage w p)
   task-begins w (tasks.Evaluate job) p sound = (sound, tt)
   task-begins w (tasks.Specialise n env) p sound = (sound, tt)
   task-begins w (tasks.TypeText t place) p sound = (sound, tt)
+  task-begins w (tasks.Terra f vs place) p sound = (sound, tt)
   task-begins w (tasks.Library call) p sound = by (asks call.function) refl
     where
       by : (c : Bool) → asks call.function ≡ c →
