@@ -4,6 +4,7 @@ use Rattle.std.specs.Prelude.{if◌then◌else◌, nat_eq}
 use Rattle.std.proofs.lemmas.List.{length-append}
 use Rattle.rv_isa.specs.declared.instr.Instr.{Instr}
 use Rattle.rv_isa.specs.declared.operation.RegisterWordOp.{RegisterWordOp}
+use Rattle.rv_isa.specs.declared.operand.Register.{Register}
 use Rattle.terra_words.specs.declared.words.Width.{Width}
 use Rattle.terra_words.specs.declared.words.BinaryOperator.{BinaryOperator}
 use Rattle.terra_words.specs.declared.words.BinaryOperator.TheVariants.{Add, Subtract, Multiply, Divide, Modulo, Xor, And, Or, ShiftLeft}
@@ -30,38 +31,38 @@ both-short n m x y h k = record {
 longer : (n m : ℕ) (x : List Instr) → n ≤ m → Short n x → Short m x
 longer n m x l h = record { short = omega (arith, h.short); straight = h.straight }
 
-counted-short : (bits : ℕ) → Short 1 (counted bits)
-counted-short bits = either-short (nat_eq bits 64) 1 _ _ (record { short = lit≤ tt; straight = refl }) (record { short = lit≤ tt; straight = refl })
+counted-short : (bits : ℕ) (b : Register) → Short 1 (counted bits b)
+counted-short bits b = either-short (nat_eq bits 64) 1 _ _ (record { short = lit≤ tt; straight = refl }) (record { short = lit≤ tt; straight = refl })
 
-pub cut-short : (w : Width) → Short 2 (cut w)
-cut-short w =
+pub cut-short : (d : Register) (w : Width) → Short 2 (cut d w)
+cut-short d w =
     either-short (nat_eq w.bits 64) 2 _ _ (record { short = lit≤ tt; straight = refl })
     (either-short (w.signed && nat_eq w.bits 32) 2 _ _ (record { short = lit≤ tt; straight = refl }) (record { short = lit≤ tt; straight = refl }))
 
-operation-short : (w : Width) (op : BinaryOperator) → Short 2 (operation w op)
-operation-short w ShiftLeft = both-short 1 1 (counted w.bits) _ (counted-short w.bits) (record { short = lit≤ tt; straight = refl })
-operation-short w ShiftRight = both-short 1 1 (counted w.bits) _ (counted-short w.bits) (record { short = lit≤ tt; straight = refl })
-operation-short w Add = record { short = lit≤ tt; straight = refl }
-operation-short w Subtract = record { short = lit≤ tt; straight = refl }
-operation-short w Multiply = record { short = lit≤ tt; straight = refl }
-operation-short w Divide = record { short = lit≤ tt; straight = refl }
-operation-short w Modulo = record { short = lit≤ tt; straight = refl }
-operation-short w Xor = record { short = lit≤ tt; straight = refl }
-operation-short w And = record { short = lit≤ tt; straight = refl }
-operation-short w Or = record { short = lit≤ tt; straight = refl }
-operation-short w Equal = record { short = lit≤ tt; straight = refl }
-operation-short w NotEqual = record { short = lit≤ tt; straight = refl }
-operation-short w Less = record { short = lit≤ tt; straight = refl }
-operation-short w LessEqual = record { short = lit≤ tt; straight = refl }
-operation-short w Greater = record { short = lit≤ tt; straight = refl }
-operation-short w GreaterEqual = record { short = lit≤ tt; straight = refl }
+operation-short : (d a b : Register) (w : Width) (op : BinaryOperator) → Short 2 (operation d a b w op)
+operation-short d a b w ShiftLeft = both-short 1 1 (counted w.bits b) _ (counted-short w.bits b) (record { short = lit≤ tt; straight = refl })
+operation-short d a b w ShiftRight = both-short 1 1 (counted w.bits b) _ (counted-short w.bits b) (record { short = lit≤ tt; straight = refl })
+operation-short d a b w Add = record { short = lit≤ tt; straight = refl }
+operation-short d a b w Subtract = record { short = lit≤ tt; straight = refl }
+operation-short d a b w Multiply = record { short = lit≤ tt; straight = refl }
+operation-short d a b w Divide = record { short = lit≤ tt; straight = refl }
+operation-short d a b w Modulo = record { short = lit≤ tt; straight = refl }
+operation-short d a b w Xor = record { short = lit≤ tt; straight = refl }
+operation-short d a b w And = record { short = lit≤ tt; straight = refl }
+operation-short d a b w Or = record { short = lit≤ tt; straight = refl }
+operation-short d a b w Equal = record { short = lit≤ tt; straight = refl }
+operation-short d a b w NotEqual = record { short = lit≤ tt; straight = refl }
+operation-short d a b w Less = record { short = lit≤ tt; straight = refl }
+operation-short d a b w LessEqual = record { short = lit≤ tt; straight = refl }
+operation-short d a b w Greater = record { short = lit≤ tt; straight = refl }
+operation-short d a b w GreaterEqual = record { short = lit≤ tt; straight = refl }
 
-one-short : (o : Option RegisterWordOp) (other : List Instr) → Short 4 other → Short 4 (in_one o other)
-one-short (Some op) other h = record { short = lit≤ tt; straight = refl }
-one-short None other h = h
+one-short : (d a b : Register) (o : Option RegisterWordOp) (other : List Instr) → Short 4 other → Short 4 (in_one d a b o other)
+one-short d a b (Some op) other h = record { short = lit≤ tt; straight = refl }
+one-short d a b None other h = h
 
-pub code-short : (w : Width) (op : BinaryOperator) → Short 4 (code_of w op)
-code-short w op =
-    let parts : Short 4 (in_parts w op) = both-short 2 2 (operation w op) (cut w) (operation-short w op) (cut-short w) in
-    either-short (is_comparison op) 4 _ _ (longer 2 4 (operation w op) (lit≤ tt) (operation-short w op))
-    (either-short (w.signed && nat_eq w.bits 32) 4 _ _ (one-short (word_operation op) (in_parts w op) parts) parts)
+pub code-short : (d a b : Register) (w : Width) (op : BinaryOperator) → Short 4 (code_of d a b w op)
+code-short d a b w op =
+    let parts : Short 4 (in_parts d a b w op) = both-short 2 2 (operation d a b w op) (cut d w) (operation-short d a b w op) (cut-short d w) in
+    either-short (is_comparison op) 4 _ _ (longer 2 4 (operation d a b w op) (lit≤ tt) (operation-short d a b w op))
+    (either-short (w.signed && nat_eq w.bits 32) 4 _ _ (one-short d a b (word_operation op) (in_parts d a b w op) parts) parts)

@@ -1,6 +1,6 @@
--- Which sequence stands for an operator at a width: of x5 and x6, to x5. An operation of 64 bits leaves a word whose low bits
--- are those of the result, and the word is then cut to the width: its other bits become zeros, or copies of the sign.
-use Rattle.std.specs.Prelude.{ℕ, pos, Bool, true, false, ◌&&◌, ◌||◌, nat_eq, if◌then◌else◌, List, [], ◌∷◌, ◌++◌, Option, Some, None}
+-- Which sequence stands for an operator at a width: of two registers, to a third. An operation of 64 bits leaves a word whose low
+-- bits are those of the result, and the word is then cut to the width: its other bits become zeros, or copies of the sign.
+use Rattle.std.specs.Prelude.{◌≢◌, ℕ, pos, Bool, true, false, ◌&&◌, ◌||◌, nat_eq, if◌then◌else◌, List, [], ◌∷◌, ◌++◌, Option, Some, None}
 use Rattle.std.proofs.Common.{lit≤}
 use Rattle.rv_isa.specs.declared.instr.Instr.{Instr}
 use Rattle.rv_isa.specs.declared.instr.Instr.TheVariants.{Addiw, Shift, RegisterImmediate, RegisterRegister, RegisterRegisterWord}
@@ -23,7 +23,7 @@ pub use Rattle.terra_words.specs.Words.{is_comparison}
 abbrev pub is_width : ℕ → Bool
 is_width bits = nat_eq bits 64 || (nat_eq bits 32 || (nat_eq bits 16 || (nat_eq bits 8 || nat_eq bits 1)))
 
--- the first operand and the result, the second operand, and the register that reads as zero
+-- two scratch registers, and the register that reads as zero
 abbrev pub x5 : Register
 x5 = record { number = 5; in_range = lit≤ tt }
 
@@ -40,16 +40,18 @@ one_immediate = record { value = pos 1; lowest = record { le = tt }; highest = r
 abbrev pub zero_immediate : Immediate
 zero_immediate = record { value = pos 0; lowest = record { le = tt }; highest = record { le = tt } }
 
--- one instruction of x5 and x6
-abbrev pub of_both : RegisterOp → List Instr
-of_both op = RegisterRegister op x5 x5 x6 ∷ []
+-- The registers of a sequence: d gets the result of the words in a and b. No result goes to x0, which drops it, and the first
+-- operand isn't in x6, which takes the masked count of a shift.
+abbrev pub AreApart : (d a : Register) → Type 0
+AreApart d a = (d.number ≢ 0) × (a.number ≢ 6)
 
--- a test of the operands in turn, and one whose result is turned round
-abbrev pub test_turned : RegisterOp → List Instr
-test_turned op = RegisterRegister op x5 x6 x5 ∷ []
+-- one instruction of both operands
+abbrev pub of_both : (d a b : Register) → RegisterOp → List Instr
+of_both d a b op = RegisterRegister op d a b ∷ []
 
-abbrev pub with_other_result : List Instr → List Instr
-with_other_result code = code ++ RegisterImmediate immediates.Xori x5 x5 one_immediate ∷ []
+-- a test whose result is turned round
+abbrev pub with_other_result : Register → List Instr → List Instr
+with_other_result d code = code ++ RegisterImmediate immediates.Xori d d one_immediate ∷ []
 
 -- the test whether one word is below another
 abbrev pub below : Bool → RegisterOp
@@ -85,28 +87,34 @@ mask_of bits =
     else (if nat_eq bits 8 then mask_8
     else zero_immediate))
 
--- A shift goes by its count modulo the bits of the width. One of 64 bits looks at no other bits of its count.
-abbrev pub counted : ℕ → List Instr
-counted bits = if nat_eq bits 64 then [] else RegisterImmediate immediates.Andi x6 x6 (mask_of bits) ∷ []
+-- A shift goes by its count modulo the bits of the width, in x6. One of 64 bits looks at no other bits of its count.
+abbrev pub counted : ℕ → Register → List Instr
+counted bits b = if nat_eq bits 64 then [] else RegisterImmediate immediates.Andi x6 b (mask_of bits) ∷ []
 
--- x5 gets a word whose low bits are those of the result, and a comparison the result
-abbrev pub operation : Width → BinaryOperator → List Instr
-operation w Add = of_both ops.Add
-operation w Subtract = of_both ops.Sub
-operation w Multiply = of_both ops.Mul
-operation w Divide = of_both (divided w.signed)
-operation w Modulo = of_both (left_over w.signed)
-operation w Xor = of_both ops.Xor
-operation w And = of_both ops.And
-operation w Or = of_both ops.Or
-operation w ShiftLeft = counted w.bits ++ of_both ops.Sll
-operation w ShiftRight = counted w.bits ++ of_both (shifted_down w.signed)
-operation w Equal = of_both ops.Sub ++ RegisterImmediate immediates.Sltiu x5 x5 one_immediate ∷ []
-operation w NotEqual = of_both ops.Sub ++ RegisterRegister ops.Sltu x5 x0 x5 ∷ []
-operation w Less = of_both (below w.signed)
-operation w LessEqual = with_other_result (test_turned (below w.signed))
-operation w Greater = test_turned (below w.signed)
-operation w GreaterEqual = with_other_result (of_both (below w.signed))
+abbrev pub count_in : ℕ → Register → Register
+count_in bits b = if nat_eq bits 64 then b else x6
+
+abbrev pub shifted : (d a b : Register) → ℕ → RegisterOp → List Instr
+shifted d a b bits op = counted bits b ++ of_both d a (count_in bits b) op
+
+-- d gets a word whose low bits are those of the result, and by a comparison the result
+abbrev pub operation : (d a b : Register) → Width → BinaryOperator → List Instr
+operation d a b w Add = of_both d a b ops.Add
+operation d a b w Subtract = of_both d a b ops.Sub
+operation d a b w Multiply = of_both d a b ops.Mul
+operation d a b w Divide = of_both d a b (divided w.signed)
+operation d a b w Modulo = of_both d a b (left_over w.signed)
+operation d a b w Xor = of_both d a b ops.Xor
+operation d a b w And = of_both d a b ops.And
+operation d a b w Or = of_both d a b ops.Or
+operation d a b w ShiftLeft = shifted d a b w.bits ops.Sll
+operation d a b w ShiftRight = shifted d a b w.bits (shifted_down w.signed)
+operation d a b w Equal = of_both d a b ops.Sub ++ RegisterImmediate immediates.Sltiu d d one_immediate ∷ []
+operation d a b w NotEqual = of_both d a b ops.Sub ++ RegisterRegister ops.Sltu d x0 d ∷ []
+operation d a b w Less = of_both d a b (below w.signed)
+operation d a b w LessEqual = with_other_result d (of_both d b a (below w.signed))
+operation d a b w Greater = of_both d b a (below w.signed)
+operation d a b w GreaterEqual = with_other_result d (of_both d a b (below w.signed))
 
 -- how far a word of a width is from the upper end
 abbrev pub gap_32 : ShiftCount
@@ -129,15 +137,15 @@ gap_of bits =
     else gap_1))
 
 -- two shifts to and fro leave the low bits, and ADDIW leaves 32 with their sign
-abbrev pub to_and_fro : Bool → ShiftCount → List Instr
-to_and_fro signed gap = Shift Slli x5 x5 gap ∷ Shift (if signed then Srai else Srli) x5 x5 gap ∷ []
+abbrev pub to_and_fro : Register → Bool → ShiftCount → List Instr
+to_and_fro d signed gap = Shift Slli d d gap ∷ Shift (if signed then Srai else Srli) d d gap ∷ []
 
--- x5 gets the word of its low bits
-abbrev pub cut : Width → List Instr
-cut w =
+-- a register gets the word of its low bits
+abbrev pub cut : Register → Width → List Instr
+cut d w =
     if nat_eq w.bits 64 then []
-    else (if w.signed && nat_eq w.bits 32 then Addiw x5 x5 zero_immediate ∷ []
-    else to_and_fro w.signed (gap_of w.bits))
+    else (if w.signed && nat_eq w.bits 32 then Addiw d d zero_immediate ∷ []
+    else to_and_fro d w.signed (gap_of w.bits))
 
 -- the operators of 32 bits with a sign that are an instruction of their own
 abbrev pub word_operation : BinaryOperator → Option RegisterWordOp
@@ -147,18 +155,18 @@ word_operation Multiply = Some word_ops.Mulw
 word_operation ShiftLeft = Some word_ops.Sllw
 word_operation _ = None
 
-abbrev pub in_one : Option RegisterWordOp → List Instr → List Instr
-in_one (Some op) other = RegisterRegisterWord op x5 x5 x6 ∷ []
-in_one None other = other
+abbrev pub in_one : (d a b : Register) → Option RegisterWordOp → List Instr → List Instr
+in_one d a b (Some op) other = RegisterRegisterWord op d a b ∷ []
+in_one d a b None other = other
 
 -- an operator's operation, and the cut to its width
-abbrev pub in_parts : Width → BinaryOperator → List Instr
-in_parts w op = operation w op ++ cut w
+abbrev pub in_parts : (d a b : Register) → Width → BinaryOperator → List Instr
+in_parts d a b w op = operation d a b w op ++ cut d w
 
--- The table. The words of x5 and x6 are any, and the result is a word of the width: 1 and 0, which comparisons give, are words of every
+-- The table. The words of a and b are any, and the result is a word of the width: 1 and 0, which comparisons give, are words of every
 -- width.
-abbrev pub code_of : Width → BinaryOperator → List Instr
-code_of w op =
-    if is_comparison op then operation w op
-    else (if w.signed && nat_eq w.bits 32 then in_one (word_operation op) (in_parts w op)
-    else in_parts w op)
+abbrev pub code_of : (d a b : Register) → Width → BinaryOperator → List Instr
+code_of d a b w op =
+    if is_comparison op then operation d a b w op
+    else (if w.signed && nat_eq w.bits 32 then in_one d a b (word_operation op) (in_parts d a b w op)
+    else in_parts d a b w op)

@@ -2,7 +2,7 @@
 
 ghost use Rattle.std.specs.Prelude.{◌≡◌, ◌+◌, ◌≤◌, ◌<◌, IsTrue, [], ◌∷◌, ◌++◌, map, OnOk, OnErr, vec_len, vec_capacity};
 ghost use Rattle.rv_isa.specs.Table.{word_of};
-ghost use Rattle.rv_operators.specs.Codes.{x5, one_immediate, of_both, test_turned, code_of, counted, cut, operation, word_operation};
+ghost use Rattle.rv_operators.specs.Codes.{one_immediate, of_both, code_of, counted, cut, operation, shifted, word_operation};
 ghost use Rattle.rv_operators.specs.Codes.{is_comparison, mask_of, gap_of, below, divided, left_over, shifted_down};
 
 use rv_isa::{
@@ -13,23 +13,24 @@ use terra_words::{BinaryOperator, Width};
 use tl_base::NoMemory;
 
 const X0: Register = Register { number: 0 };
-/// The first operand and the result.
-const X5: Register = Register { number: 5 };
-/// The second operand.
+/// The masked count of a shift.
 const X6: Register = Register { number: 6 };
 
-/// Emits the sequence for an operator at the width of a type.
+/// Emits the sequence for an operator at the width of a type: of the words in two registers, to a third.
 pub fn push_operator(
     code: &mut Vec<u32>,
+    rd: Register,
+    a: Register,
+    b: Register,
     width: Width,
     operator: BinaryOperator,
 ) -> Result<(), NoMemory>
-    ensures ok { OnOk result (code.new.items ≡ code.old.items ++ map word_of (code_of width operator)) }
+    ensures ok { OnOk result (code.new.items ≡ code.old.items ++ map word_of (code_of rd a b width operator)) }
     ensures err { OnErr result (code.new.items ≡ code.old.items) }
 {
     code.reserve(4)?;
     if is_comparison(operator) {
-        put_operation(code, width, operator);
+        put_operation(code, rd, a, b, width, operator);
         return Ok(());
     }
     if width.signed && width.bits == 32 {
@@ -38,112 +39,135 @@ pub fn push_operator(
                 code,
                 Instr::RegisterRegisterWord {
                     op,
-                    rd: X5,
-                    rs1: X5,
-                    rs2: X6,
+                    rd,
+                    rs1: a,
+                    rs2: b,
                 },
             );
             return Ok(());
         }
     }
-    put_operation(code, width, operator);
-    put_cut(code, width);
+    put_operation(code, rd, a, b, width, operator);
+    put_cut(code, rd, width);
     Ok(())
 }
 
-/// Emits the sequence that cuts the word in x5 to the width of a type.
-pub fn push_cut(code: &mut Vec<u32>, width: Width) -> Result<(), NoMemory>
-    ensures ok { OnOk result (code.new.items ≡ code.old.items ++ map word_of (cut width)) }
+/// Emits the sequence that cuts the word in a register to the width of a type.
+pub fn push_cut(code: &mut Vec<u32>, rd: Register, width: Width) -> Result<(), NoMemory>
+    ensures ok { OnOk result (code.new.items ≡ code.old.items ++ map word_of (cut rd width)) }
     ensures err { OnErr result (code.new.items ≡ code.old.items) }
 {
     code.reserve(2)?;
-    put_cut(code, width);
+    put_cut(code, rd, width);
     Ok(())
 }
 
-fn put_operation(code: &mut Vec<u32>, width: Width, operator: BinaryOperator)
+fn put_operation(
+    code: &mut Vec<u32>,
+    rd: Register,
+    a: Register,
+    b: Register,
+    width: Width,
+    operator: BinaryOperator,
+)
     requires room { vec_len code.old + 2 ≤ vec_capacity code.old }
-    ensures words { code.new.items ≡ code.old.items ++ map word_of (operation width operator) }
+    ensures words { code.new.items ≡ code.old.items ++ map word_of (operation rd a b width operator) }
     ensures len { vec_len code.new ≤ vec_len code.old + 2 }
     ensures capacity { vec_capacity code.old ≤ vec_capacity code.new }
 {
     match operator {
-        BinaryOperator::Add => put_of_both(code, RegisterOp::Add),
-        BinaryOperator::Subtract => put_of_both(code, RegisterOp::Sub),
-        BinaryOperator::Multiply => put_of_both(code, RegisterOp::Mul),
-        BinaryOperator::Divide => put_of_both(code, divided(width.signed)),
-        BinaryOperator::Modulo => put_of_both(code, left_over(width.signed)),
-        BinaryOperator::Xor => put_of_both(code, RegisterOp::Xor),
-        BinaryOperator::And => put_of_both(code, RegisterOp::And),
-        BinaryOperator::Or => put_of_both(code, RegisterOp::Or),
-        BinaryOperator::ShiftLeft => put_shift(code, width.bits, RegisterOp::Sll),
-        BinaryOperator::ShiftRight => put_shift(code, width.bits, shifted_down(width.signed)),
-        _ => put_comparison(code, width, operator),
+        BinaryOperator::Add => put_of_both(code, rd, a, b, RegisterOp::Add),
+        BinaryOperator::Subtract => put_of_both(code, rd, a, b, RegisterOp::Sub),
+        BinaryOperator::Multiply => put_of_both(code, rd, a, b, RegisterOp::Mul),
+        BinaryOperator::Divide => put_of_both(code, rd, a, b, divided(width.signed)),
+        BinaryOperator::Modulo => put_of_both(code, rd, a, b, left_over(width.signed)),
+        BinaryOperator::Xor => put_of_both(code, rd, a, b, RegisterOp::Xor),
+        BinaryOperator::And => put_of_both(code, rd, a, b, RegisterOp::And),
+        BinaryOperator::Or => put_of_both(code, rd, a, b, RegisterOp::Or),
+        BinaryOperator::ShiftLeft => put_shift(code, rd, a, b, width.bits, RegisterOp::Sll),
+        BinaryOperator::ShiftRight => put_shift(
+            code,
+            rd,
+            a,
+            b,
+            width.bits,
+            shifted_down(width.signed),
+        ),
+        _ => put_comparison(code, rd, a, b, width, operator),
     }
 }
 
-fn put_shift(code: &mut Vec<u32>, bits: u64, op: RegisterOp)
+fn put_shift(code: &mut Vec<u32>, rd: Register, a: Register, b: Register, bits: u64, op: RegisterOp)
     requires room { vec_len code.old + 2 ≤ vec_capacity code.old }
-    ensures words { code.new.items ≡ code.old.items ++ map word_of (counted bits ++ of_both op) }
+    ensures words { code.new.items ≡ code.old.items ++ map word_of (shifted rd a b bits op) }
     ensures len { vec_len code.new ≤ vec_len code.old + 2 }
     ensures capacity { vec_capacity code.old ≤ vec_capacity code.new }
 {
-    if bits != 64 {
-        let mask = mask_of(bits);
-        put(
-            code,
-            Instr::RegisterImmediate {
-                op: ImmediateOp::Andi,
-                rd: X6,
-                rs1: X6,
-                imm: mask,
-            },
-        );
+    if bits == 64 {
+        put_of_both(code, rd, a, b, op);
+        return;
     }
-    put_of_both(code, op);
+    let mask = mask_of(bits);
+    put(
+        code,
+        Instr::RegisterImmediate {
+            op: ImmediateOp::Andi,
+            rd: X6,
+            rs1: b,
+            imm: mask,
+        },
+    );
+    put_of_both(code, rd, a, X6, op);
 }
 
-fn put_comparison(code: &mut Vec<u32>, width: Width, operator: BinaryOperator)
+fn put_comparison(
+    code: &mut Vec<u32>,
+    rd: Register,
+    a: Register,
+    b: Register,
+    width: Width,
+    operator: BinaryOperator,
+)
     requires room { vec_len code.old + 2 ≤ vec_capacity code.old }
     requires compares { IsTrue (is_comparison operator) }
-    ensures words { code.new.items ≡ code.old.items ++ map word_of (operation width operator) }
+    ensures words { code.new.items ≡ code.old.items ++ map word_of (operation rd a b width operator) }
     ensures len { vec_len code.new ≤ vec_len code.old + 2 }
     ensures capacity { vec_capacity code.old ≤ vec_capacity code.new }
 {
     let test = below(width.signed);
     match operator {
-        BinaryOperator::Less => put_of_both(code, test),
+        BinaryOperator::Less => put_of_both(code, rd, a, b, test),
         BinaryOperator::LessEqual => {
-            put_turned(code, test);
-            put_immediate(code, ImmediateOp::Xori);
+            put_of_both(code, rd, b, a, test);
+            put_immediate(code, rd, ImmediateOp::Xori);
         }
-        BinaryOperator::Greater => put_turned(code, test),
+        BinaryOperator::Greater => put_of_both(code, rd, b, a, test),
         BinaryOperator::GreaterEqual => {
-            put_of_both(code, test);
-            put_immediate(code, ImmediateOp::Xori);
+            put_of_both(code, rd, a, b, test);
+            put_immediate(code, rd, ImmediateOp::Xori);
         }
         BinaryOperator::Equal => {
-            put_of_both(code, RegisterOp::Sub);
-            put_immediate(code, ImmediateOp::Sltiu);
+            put_of_both(code, rd, a, b, RegisterOp::Sub);
+            put_immediate(code, rd, ImmediateOp::Sltiu);
         }
         _ => {
-            put_of_both(code, RegisterOp::Sub);
+            put_of_both(code, rd, a, b, RegisterOp::Sub);
             put(
                 code,
                 Instr::RegisterRegister {
                     op: RegisterOp::Sltu,
-                    rd: X5,
+                    rd,
                     rs1: X0,
-                    rs2: X5,
+                    rs2: rd,
                 },
             );
         }
     }
 }
 
-fn put_cut(code: &mut Vec<u32>, width: Width)
+fn put_cut(code: &mut Vec<u32>, rd: Register, width: Width)
     requires room { vec_len code.old + 2 ≤ vec_capacity code.old }
-    ensures words { code.new.items ≡ code.old.items ++ map word_of (cut width) }
+    ensures words { code.new.items ≡ code.old.items ++ map word_of (cut rd width) }
 {
     if width.bits == 64 {
         return;
@@ -152,8 +176,8 @@ fn put_cut(code: &mut Vec<u32>, width: Width)
         put(
             code,
             Instr::Addiw {
-                rd: X5,
-                rs1: X5,
+                rd,
+                rs1: rd,
                 imm: Immediate { value: 0 },
             },
         );
@@ -164,8 +188,8 @@ fn put_cut(code: &mut Vec<u32>, width: Width)
         code,
         Instr::Shift {
             op: ShiftOp::Slli,
-            rd: X5,
-            rs1: X5,
+            rd,
+            rs1: rd,
             count,
         },
     );
@@ -178,17 +202,17 @@ fn put_cut(code: &mut Vec<u32>, width: Width)
         code,
         Instr::Shift {
             op: back,
-            rd: X5,
-            rs1: X5,
+            rd,
+            rs1: rd,
             count,
         },
     );
 }
 
-/// One operation of x5 and x6.
-fn put_of_both(code: &mut Vec<u32>, op: RegisterOp)
+/// One operation of two registers.
+fn put_of_both(code: &mut Vec<u32>, rd: Register, a: Register, b: Register, op: RegisterOp)
     requires room { vec_len code.old < vec_capacity code.old }
-    ensures words { code.new.items ≡ code.old.items ++ map word_of (of_both op) }
+    ensures words { code.new.items ≡ code.old.items ++ map word_of (of_both rd a b op) }
     ensures len { vec_len code.new ≡ vec_len code.old + 1 }
     ensures capacity { vec_capacity code.old ≤ vec_capacity code.new }
 {
@@ -196,35 +220,17 @@ fn put_of_both(code: &mut Vec<u32>, op: RegisterOp)
         code,
         Instr::RegisterRegister {
             op,
-            rd: X5,
-            rs1: X5,
-            rs2: X6,
+            rd,
+            rs1: a,
+            rs2: b,
         },
     );
 }
 
-/// One operation of x6 and x5.
-fn put_turned(code: &mut Vec<u32>, op: RegisterOp)
+/// One operation of a register and the number 1.
+fn put_immediate(code: &mut Vec<u32>, rd: Register, op: ImmediateOp)
     requires room { vec_len code.old < vec_capacity code.old }
-    ensures words { code.new.items ≡ code.old.items ++ map word_of (test_turned op) }
-    ensures len { vec_len code.new ≡ vec_len code.old + 1 }
-    ensures capacity { vec_capacity code.old ≤ vec_capacity code.new }
-{
-    put(
-        code,
-        Instr::RegisterRegister {
-            op,
-            rd: X5,
-            rs1: X6,
-            rs2: X5,
-        },
-    );
-}
-
-/// One operation of x5 and the number 1.
-fn put_immediate(code: &mut Vec<u32>, op: ImmediateOp)
-    requires room { vec_len code.old < vec_capacity code.old }
-    ensures words { code.new.items ≡ code.old.items ++ word_of (Instr.RegisterImmediate op x5 x5 one_immediate) ∷ [] }
+    ensures words { code.new.items ≡ code.old.items ++ word_of (Instr.RegisterImmediate op rd rd one_immediate) ∷ [] }
     ensures len { vec_len code.new ≡ vec_len code.old + 1 }
     ensures capacity { vec_capacity code.old ≤ vec_capacity code.new }
 {
@@ -232,8 +238,8 @@ fn put_immediate(code: &mut Vec<u32>, op: ImmediateOp)
         code,
         Instr::RegisterImmediate {
             op,
-            rd: X5,
-            rs1: X5,
+            rd,
+            rs1: rd,
             imm: Immediate { value: 1 },
         },
     );

@@ -1,26 +1,29 @@
 // What the sequences do. Each function does nothing, and its clauses are laws.
 
-ghost use Rattle.std.specs.Prelude.{◌≡◌, ℕ, ◌-◌, ◌^◌, ◌<◌, ◌≤◌, nat_lt, IsTrue, length};
+ghost use Rattle.std.specs.Prelude.{◌≡◌, ◌≢◌, ℕ, ◌-◌, ◌^◌, ◌<◌, ◌≤◌, nat_lt, IsTrue, length};
+ghost use Rattle.rv_isa.specs.declared.operand.Register.{Register};
 ghost use Rattle.terra_words.specs.declared.words.Width.{Width};
 ghost use Rattle.terra_words.specs.declared.words.BinaryOperator.{BinaryOperator};
 ghost use Rattle.terra_words.specs.declared.words.BinaryOperator.TheVariants.{Add, Subtract, Xor, NotEqual};
 ghost use Rattle.terra_words.specs.Words.{wrapped, applied, negated, complemented, flag};
 ghost use Rattle.rv_operators.specs.Claims.{Computes, Cuts};
-ghost use Rattle.rv_operators.specs.Codes.{code_of, cut, is_width};
+ghost use Rattle.rv_operators.specs.Codes.{AreApart, code_of, cut, is_width};
 ghost use Rattle.rv_operators.specs.Runs.{AreStraight, StraightCodeRuns, WordsStand};
 
-/// The sequence for an operator at the width of a type computes it. It has at most four instructions, and none of them jumps.
+/// The sequence for an operator at the width of a type computes it, of any two registers to a third. It has at most four instructions,
+/// and none of them jumps.
 pub fn operators_are_computed()
-    ensures computes { (w : Width) (op : BinaryOperator) → IsTrue (is_width w.bits) → Computes (code_of w op) w op }
-    ensures short { (w : Width) (op : BinaryOperator) → length (code_of w op) ≤ 4 }
-    ensures straight { (w : Width) (op : BinaryOperator) → AreStraight (code_of w op) }
+    ensures computes { (d a b : Register) (w : Width) (op : BinaryOperator) → IsTrue (is_width w.bits) → AreApart d a →
+        Computes (code_of d a b w op) d a b w op }
+    ensures short { (d a b : Register) (w : Width) (op : BinaryOperator) → length (code_of d a b w op) ≤ 4 }
+    ensures straight { (d a b : Register) (w : Width) (op : BinaryOperator) → AreStraight (code_of d a b w op) }
 {}
 
 /// The sequence that cuts a word to the width of a type does so, by at most two instructions.
 pub fn words_are_cut()
-    ensures cuts { (w : Width) → IsTrue (is_width w.bits) → Cuts (cut w) w }
-    ensures short { (w : Width) → length (cut w) ≤ 2 }
-    ensures straight { (w : Width) → AreStraight (cut w) }
+    ensures cuts { (d : Register) (w : Width) → IsTrue (is_width w.bits) → d.number ≢ 0 → Cuts (cut d w) d w }
+    ensures short { (d : Register) (w : Width) → length (cut d w) ≤ 2 }
+    ensures straight { (d : Register) (w : Width) → AreStraight (cut d w) }
 {}
 
 /// The operators of one operand, and the conversions, are operators of two with a constant: the negative of a word is 0 less it,
