@@ -310,7 +310,7 @@ earlier y program Next w base k weight whole target d m n way keeps g some h =
         holds = c.holds;
         keeps = keeps-both y base m n c.after keeps c.keeps;
       };
-      five = g.five;
+      five = λ e. g.five;
     }
 
 pc-all : (p n : ℕ) → low (low (low (low (low (low (low (low (low (low (p + 4) + 4) + 4) + 4) + 4) + 4) + 4) + 4) + 20) + 4 * n) ≡ low (p + 4 * (13 + n))
@@ -373,7 +373,7 @@ alloc-ends y d v Used Next w base A program m l small p h h' u follows stands =
     (cases_lt (limit - start) v)
 
 pub allocs : (y : Layout) (held : Option ℕ) (d : ℕ) (a : Operand) (Used Next : ℕ → Type 0) (w : World) (base : ℕ) (program : List (Option Instr)) (m : State) →
-    Stands program m.pc (allocated y held d a) → IsHeld held w.temps m → Holds y Used w base m → Housed y Used → Housed y Next → IsFirst y held Used a → Next d → Follows Used Next d →
+    Stands program m.pc (allocated y held d a) → IsHeld y held w.temps m → Holds y Used w base m → Housed y Used → Housed y Next → IsFirst y held Used a → Next d → Follows Used Next d →
     Gives y program Next (with_temp (with_region w (alloc_of w.region (signed (value_in w.temps a))).1) d (alloc_of w.region (signed (value_in w.temps a))).0) base
     (length (allocated y held d a))
     (behind m (allocated y held d a)) d m

@@ -18,27 +18,31 @@ use Rattle.tac_form.specs.declared.tac.Operand.{Operand}
 use Rattle.tac_form.specs.declared.tac.Spot.TheVariants as spots
 use Rattle.tac_form.specs.Flow.{bytes_of, put, width_of}
 use Rattle.tac_form.specs.Weights.{most_moved}
+use Rattle.rv_isa.specs.declared.operand.Register.{Register}
 use Rattle.rv_machine.specs.Word.{low}
 use Rattle.rv_machine.specs.Memory.{load_value, load_width, place_of, store_width}
-use Rattle.rv_machine.specs.Machine.{State, GoesOn, act, at_with, loads, loads_from, stores, stores_to}
+use Rattle.rv_machine.specs.Machine.{State, GoesOn, act, at_with, loads, loads_from, stores, stores_to, value_at}
 use Rattle.rv_operators.specs.Claims.{acts, then_on}
-use Rattle.rv_operators.specs.Codes.{x5, x6}
+use Rattle.rv_operators.specs.Codes.{x6}
 use Rattle.rv_operators.specs.Runs.{AreStraight, Stands}
 use Rattle.rv_operators.proofs.Runs.{straight-both}
+use Rattle.rv_operators.proofs.Sequences.{read-elsewhere}
 use Rattle.rv_select.specs.Places.{AreBytes, Layout, World, HasFrame, Holds, Housed, IsHome, IsRead, Keeps, area_offset, frame_bytes}
 use Rattle.rv_select.specs.Places.{home_of, slot_offset, value_in, word_at}
-use Rattle.rv_select.specs.Shapes.{framed, load_of, loaded, put_at, store_of, stored, taken}
+use Rattle.rv_select.specs.Shapes.{framed, load_of, loaded, read_in, result_in, second_read, store_of, stored}
 use Rattle.rv_select.specs.Steps.{AreFewer, Comes, Follows, behind, with_temp}
 use Rattle.rv_select.proofs.Claims.{Gives, with_area}
 use Rattle.rv_select.proofs.Bytes.{other-part, private-part}
 use Rattle.rv_select.proofs.Parts.{part-within, part-written, written-count}
 use Rattle.rv_select.proofs.Words.{drop-bytes, load-bytes, load-is, low-are-bytes, overwritten-bytes, store-bytes, take-bytes}
 use Rattle.rv_select.proofs.Small.{wrapped-small}
-use Rattle.rv_select.proofs.Straight.{Loads, Scratch, behind-both, goes-both, loads-five, loads-six, low-below, low-first}
+use Rattle.rv_select.proofs.Straight.{Loads, Scratch, behind-both, goes-both, low-below, low-first}
 use Rattle.rv_select.proofs.Frames.{Reach, before-scratch, framed-loads, framed-some, reach}
 use Rattle.rv_select.proofs.Ways.{Way, straight-way}
-use Rattle.rv_select.proofs.Homes.{region-small, slot-apart, take-operand}
-use Rattle.rv_select.proofs.Moves.{at-most, lasts-not, scratch-holds, straight-put, wide-size}
+use Rattle.rv_select.proofs.Homes.{region-small, slot-apart}
+use Rattle.rv_select.proofs.Operating.{loads-computed, result-number, result-put}
+use Rattle.rv_select.proofs.Sides.{SecondSide, second-side}
+use Rattle.rv_select.proofs.Moves.{lasts-not, scratch-holds, wide-size}
 
 -- an area lies within the frame, and near enough
 pub area-room : (y : Layout) (base n k : ℕ) (m : State) → HasFrame y base m → n < y.areas → k ≤ most_moved → base + (area_offset y n + k) ≤ length m.private
@@ -51,11 +55,11 @@ frame-sum : (x base offset size : ℕ) → x ≡ 2 ^ 32 + base → base + offset
 unfolding low
 frame-sum x base offset size e h k = omega arith
 
--- A number of an area goes to x5.
-area-load : (y : Layout) (Used : ℕ → Type 0) (w : World) (base n offset : ℕ) (form : Number) (m : State) → Holds y Used w base m → n < y.areas →
+-- A number of an area goes to a register.
+area-load : (y : Layout) (d : Register) (Used : ℕ → Type 0) (w : World) (base n offset : ℕ) (form : Number) (m : State) → d.number ≢ 0 → Holds y Used w base m → n < y.areas →
     offset + bytes_of form.size ≤ length (w.areas n) →
-    Loads 5 (framed (λ r far. Load (load_of form.signed form.size) x5 r far) (area_offset y n + offset)) m (wrapped (width_of form) (number_of (part (w.areas n) offset (bytes_of form.size))))
-area-load y Used w base n offset form m p h l =
+    Loads d.number (framed (λ r far. Load (load_of form.signed form.size) d r far) (area_offset y n + offset)) m (wrapped (width_of form) (number_of (part (w.areas n) offset (bytes_of form.size))))
+area-load y d Used w base n offset form m z p h l =
     let op = load_of form.signed form.size in
     let size : ℕ = bytes_of form.size in
     let at : ℕ = base + (area_offset y n + offset) in
@@ -72,16 +76,16 @@ area-load y Used w base n offset form m p h l =
     ap (λ k. take size (drop k m.private)) (sym sum) ∙ part-within m.private (w.areas n) (base + area_offset y n) (length (w.areas n)) offset size (p.areas n h) l in
     let are : AreBytes bs = take-bytes size (drop offset (w.areas n)) (drop-bytes offset (w.areas n) (p.area_bytes n h)) in
     let count : length bs ≡ size = length-take-le size (drop offset (w.areas n)) (omega (arith, length-drop offset (w.areas n))) in
-    framed-loads (λ r far. Load op x5 r far) 5 (wrapped (width_of form) (number_of bs)) (area_offset y n + offset) m (λ e. omega (arith, e)) p.pc near (λ r far. refl)
+    framed-loads (λ r far. Load op d r far) d.number (wrapped (width_of form) (number_of bs)) (area_offset y n + offset) m z p.pc near (λ r far. refl)
     (λ r far s a e q.
-    ap (λ x. loads s op x5 x) (a ∙ frame-sum (m.registers 2) base (area_offset y n + offset) (length m.private) p.frame.pointer begin p.frame.private)
-    ∙ (ap (λ x. loads_from s op x5 (place_of (length s.region) (length s.private) (2 ^ 32 + at) x)) width
-    ∙ (ap (λ x. loads_from s op x5 (place_of (length x) (length s.private) (2 ^ 32 + at) size)) e
-    ∙ (ap (λ x. loads_from s op x5 (place_of (length m.region) (length x) (2 ^ 32 + at) size)) q
-    ∙ (ap (λ x. loads_from s op x5 x) (private-part (length m.region) (length m.private) at size (region-small y Used w base m p) room)
-    ∙ (ap (λ x. GoesOn (at_with s (low (s.pc + 4)) 5 (load_value op (take x (drop at s.private))))) width
-    ∙ (ap (λ x. GoesOn (at_with s (low (s.pc + 4)) 5 (load_value op (take size (drop at x))))) q
-    ∙ (ap (λ x. GoesOn (at_with s (low (s.pc + 4)) 5 (load_value op x))) same ∙ ap (λ x. GoesOn (at_with s (low (s.pc + 4)) 5 x)) (load-is form bs are count)))))))))
+    ap (λ x. loads s op d x) (a ∙ frame-sum (m.registers 2) base (area_offset y n + offset) (length m.private) p.frame.pointer begin p.frame.private)
+    ∙ (ap (λ x. loads_from s op d (place_of (length s.region) (length s.private) (2 ^ 32 + at) x)) width
+    ∙ (ap (λ x. loads_from s op d (place_of (length x) (length s.private) (2 ^ 32 + at) size)) e
+    ∙ (ap (λ x. loads_from s op d (place_of (length m.region) (length x) (2 ^ 32 + at) size)) q
+    ∙ (ap (λ x. loads_from s op d x) (private-part (length m.region) (length m.private) at size (region-small y Used w base m p) room)
+    ∙ (ap (λ x. GoesOn (at_with s (low (s.pc + 4)) d.number (load_value op (take x (drop at s.private))))) width
+    ∙ (ap (λ x. GoesOn (at_with s (low (s.pc + 4)) d.number (load_value op (take size (drop at x))))) q
+    ∙ (ap (λ x. GoesOn (at_with s (low (s.pc + 4)) d.number (load_value op x))) same ∙ ap (λ x. GoesOn (at_with s (low (s.pc + 4)) d.number x)) (load-is form bs are count)))))))))
 
 pub area-loads : (y : Layout) (held : Option ℕ) (d : ℕ) (form : Number) (n offset : ℕ) (Used Next : ℕ → Type 0) (w : World) (base : ℕ) (program : List (Option Instr)) (m : State) →
     Stands program m.pc (loaded y held d form (spots.Area n offset)) → n < y.areas → offset + bytes_of form.size ≤ length (w.areas n) →
@@ -89,12 +93,13 @@ pub area-loads : (y : Layout) (held : Option ℕ) (d : ℕ) (form : Number) (n o
     Gives y program Next (with_temp w d (wrapped (width_of form) (number_of (part (w.areas n) offset (bytes_of form.size))))) base
     (length (loaded y held d form (spots.Area n offset))) (behind m (loaded y held d form (spots.Area n offset))) d m
 area-loads y held d form n offset Used Next w base program m stands there within p h h' u follows =
-    let code : List Instr = framed (λ r far. Load (load_of form.signed form.size) x5 r far) (area_offset y n + offset) in
+    let dd : Register = result_in y d in
+    let code : List Instr = framed (λ r far. Load (load_of form.signed form.size) dd r far) (area_offset y n + offset) in
     let v : ℕ = wrapped (width_of form) (number_of (part (w.areas n) offset (bytes_of form.size))) in
-    let l : Loads 5 code m v = area-load y Used w base n offset form m p there within in
-    straight-put y Used Next w base d v (length (code ++ put_at y d)) code program m l.after p h h' u follows (loads-five code m v l) l.gives (wrapped-small (width_of form) _ (wide-size form.size))
-    (at-most (length (code ++ put_at y d)))
-    (inl (framed-some (λ r far. Load (load_of form.signed form.size) x5 r far) (area_offset y n + offset))) stands
+    let l : Loads dd.number code m v = area-load y dd Used w base n offset form m (result-number y Next d h' u) p there within in
+    result-put y Used Next w base d v code program m (loads-computed dd.number code m v l) p h h' u follows
+    (wrapped-small (width_of form) _ (wide-size form.size))
+    (framed-some (λ r far. Load (load_of form.signed form.size) dd r far) (area_offset y n + offset)) stands
 
 -- The machine's states before and after bytes were put into an area, which has these bytes then. The bytes of an area behind those that it has may be any.
 pub record AreaSet (y : Layout) (base n : ℕ) (bs : List ℕ) (m after : State) : Type 0 where
@@ -205,10 +210,10 @@ abbrev pub saved : State → List ℕ → State
 saved t bytes = record { pc = low (t.pc + 4); registers = t.registers; region = t.region; private = bytes }
 
 -- The number in x6 is stored at an offset of the frame.
-pub area-save : (y : Layout) (Used : ℕ → Type 0) (w : World) (base n offset v : ℕ) (size : Size) (m : State) → Holds y Used w base m → n < y.areas →
-    offset + bytes_of size ≤ most_moved → m.registers 6 ≡ v →
-    Saves (framed (λ r far. Store (store_of size) r x6 far) (area_offset y n + offset)) m (base + (area_offset y n + offset)) (low_bytes (bytes_of size) v)
-area-save y Used w base n offset v size m p h l six =
+pub area-save : (y : Layout) (b : Register) (Used : ℕ → Type 0) (w : World) (base n offset v : ℕ) (size : Size) (m : State) → Holds y Used w base m → n < y.areas →
+    offset + bytes_of size ≤ most_moved → b.number ≢ 7 → value_at m b ≡ v →
+    Saves (framed (λ r far. Store (store_of size) r b far) (area_offset y n + offset)) m (base + (area_offset y n + offset)) (low_bytes (bytes_of size) v)
+area-save y b Used w base n offset v size m p h l seven here =
     let op = store_of size in
     let at : ℕ = base + (area_offset y n + offset) in
     let bs : List ℕ = low_bytes (bytes_of size) v in
@@ -217,18 +222,18 @@ area-save y Used w base n offset v size m p h l six =
     let begin : at ≤ length m.private = omega arith in
     let near : area_offset y n + offset < 2 ^ 30 = area-near y base n offset m p.frame h (omega arith) in
     let width : store_width op ≡ bytes_of size = store-bytes size in
-    let x : Reach (λ r far. Store op r x6 far) (area_offset y n + offset) m = reach (λ r far. Store op r x6 far) (area_offset y n + offset) m p.pc near in
-    let v-there : x.at.registers 6 ≡ v = x.before.keeps 6 (λ e. omega (arith, e)) ∙ six in
+    let x : Reach (λ r far. Store op r b far) (area_offset y n + offset) m = reach (λ r far. Store op r b far) (area_offset y n + offset) m p.pc near in
+    let v-there : value_at x.at b ≡ v = read-elsewhere m x.at b (x.before.keeps b.number seven) ∙ here in
     let z : State = saved x.at (overwritten x.at.private at bs) in
-    let e : act (Store op x.register x6 x.far) x.at ≡ GoesOn z =
-    ap (λ a. stores x.at op a (x.at.registers 6)) (x.address ∙ frame-sum (m.registers 2) base (area_offset y n + offset) (length m.private) p.frame.pointer begin p.frame.private)
-    ∙ (ap (λ k. stores_to x.at (low_bytes k (x.at.registers 6)) (place_of (length x.at.region) (length x.at.private) (2 ^ 32 + at) k)) width
+    let e : act (Store op x.register b x.far) x.at ≡ GoesOn z =
+    ap (λ a. stores x.at op a (value_at x.at b)) (x.address ∙ frame-sum (m.registers 2) base (area_offset y n + offset) (length m.private) p.frame.pointer begin p.frame.private)
+    ∙ (ap (λ k. stores_to x.at (low_bytes k (value_at x.at b)) (place_of (length x.at.region) (length x.at.private) (2 ^ 32 + at) k)) width
     ∙ (ap (λ k. stores_to x.at (low_bytes (bytes_of size) k) (place_of (length x.at.region) (length x.at.private) (2 ^ 32 + at) (bytes_of size))) v-there
     ∙ (ap (λ k. stores_to x.at bs (place_of (length k) (length x.at.private) (2 ^ 32 + at) (bytes_of size))) x.before.region
     ∙ (ap (λ k. stores_to x.at bs (place_of (length m.region) (length k) (2 ^ 32 + at) (bytes_of size))) x.before.private
     ∙ ap (λ k. stores_to x.at bs k) (private-part (length m.region) (length m.private) at (bytes_of size) (region-small y Used w base m p) room))))) in
     subst (λ code. Saves code m at bs) (sym x.code)
-    (then-saves x.first (Store op x.register x6 x.far ∷ []) m x.at at bs (before-scratch x.first m x.at x.before)
+    (then-saves x.first (Store op x.register b x.far ∷ []) m x.at at bs (before-scratch x.first m x.at x.before)
     (record {
       after = z;
       goes = ap (λ k. then_on k (λ t. GoesOn t)) e;
@@ -269,16 +274,17 @@ pub area-stores : (y : Layout) (held : Option ℕ) (size : Size) (n offset : ℕ
     (length (stored y held (spots.Area n offset) size b))
     (behind m (stored y held (spots.Area n offset) size b)) [] m
 area-stores y held size n offset b Used Next w base program m stands there within most r p h f =
-    let A : List Instr = taken y x6 b in
-    let B : List Instr = framed (λ r far. Store (store_of size) r x6 far) (area_offset y n + offset) in
+    let A : List Instr = second_read y b in
+    let bb : Register = read_in y x6 b in
+    let B : List Instr = framed (λ r far. Store (store_of size) r bb far) (area_offset y n + offset) in
     let v : ℕ = value_in w.temps b in
     let bs : List ℕ = low_bytes (bytes_of size) v in
-    let l : Loads 6 A m v = take-operand y x6 Used w base m b (λ e. omega (arith, e)) (λ e. omega (arith, e)) p h r in
-    let q : Holds y Used w base l.after = scratch-holds y Used w base A m l.after p h (loads-six A m v l) in
+    let l : SecondSide A m bb v = second-side y Used w base m b p h r in
+    let q : Holds y Used w base l.after = scratch-holds y Used w base A m l.after p h l.scratch in
     let s : Saves (A ++ B) m (base + (area_offset y n + offset)) bs =
-    then-saves A B m l.after (base + (area_offset y n + offset)) bs (loads-six A m v l) (area-save y Used w base n offset v size l.after q there most l.gives) in
+    then-saves A B m l.after (base + (area_offset y n + offset)) bs l.scratch (area-save y bb Used w base n offset v size l.after q there most l.apart l.gives) in
     let count : length bs ≡ bytes_of size = length-low_bytes (bytes_of size) v in
-    let some-b : 1 ≤ length B = framed-some (λ r far. Store (store_of size) r x6 far) (area_offset y n + offset) in
+    let some-b : 1 ≤ length B = framed-some (λ r far. Store (store_of size) r bb far) (area_offset y n + offset) in
     let all : length (A ++ B) ≡ length A + length B = length-append A B in
     area-comes y Used Next w base n (length (A ++ B)) (length (A ++ B)) (behind m (A ++ B)) (overwritten (w.areas n) offset bs) program m s.after
     (straight-way program (A ++ B) m s.after stands s.straight s.goes) s.behind (subst (λ z. z < 2 ^ 64) (sym s.behind) (low-below (m.pc + 4 * length (A ++ B))))

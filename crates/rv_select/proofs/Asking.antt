@@ -1,17 +1,13 @@
 -- What the code of a function asks for has a home.
-use Rattle.std.proofs.Common.{◌≡◌, ◌≢◌, ℕ, zero, suc, ◌+◌, ◌-◌, ◌<◌, ◌≤◌, Bool, true, false, ◌||◌, List, [], ◌∷◌, ◌++◌, length, set}
-use Rattle.std.proofs.Common.{replicate, Option, Some, None, refl, sym, ap, ◌∙◌, subst, ⊎_elim, inl, inr, arith}
+use Rattle.std.proofs.Common.{◌≡◌, ℕ, zero, suc, Bool, true, false, ◌||◌, List, [], ◌∷◌, ◌++◌}
+use Rattle.std.proofs.Common.{Option, Some, None, sym, ap, ◌∙◌, ⊎_elim, inl, inr}
 use Rattle.std.specs.Prelude.{if◌then◌else◌, nat_eq, slice_get, ◌⊎◌}
-use Rattle.std.specs.List.{flat_map, list_any}
-use Rattle.std.proofs.lemmas.Bool.{cases_Bool, cases_eq, cases_lt, eq-eqb, eqb-true}
-use Rattle.std.proofs.lemmas.List.{length-set, length-replicate}
-use Rattle.std.proofs.lemmas.Option.{slice_get_within}
+use Rattle.std.proofs.lemmas.Bool.{cases_Bool}
 use Rattle.reg_alloc.specs.declared.assignment.Home.{Home}
-use Rattle.reg_alloc.specs.Right.{IsRight, is_some_home}
+use Rattle.reg_alloc.specs.Right.{IsRight}
 use Rattle.tac_form.specs.declared.tac.Operand.{Operand}
 use Rattle.tac_form.specs.declared.tac.Operand.TheVariants.{Temp, Constant}
 use Rattle.tac_form.specs.declared.tac.Part.TheVariants as parts
-use Rattle.tac_form.specs.declared.tac.Address.{Address}
 use Rattle.tac_form.specs.declared.tac.Address.TheVariants.{Word, Frame}
 use Rattle.tac_form.specs.declared.tac.Part.{Part}
 use Rattle.tac_form.specs.declared.tac.Part.TheVariants as parts
@@ -24,15 +20,15 @@ use Rattle.tac_form.specs.declared.tac.Exit.{Exit}
 use Rattle.tac_form.specs.declared.tac.Exit.TheVariants.{Branch, Fail, Jump, Return}
 use Rattle.tac_form.specs.declared.tac.Block.{Block}
 use Rattle.tac_form.specs.declared.tac.Tac.{Tac}
-use Rattle.tac_form.specs.Graph.{address_reads, block_of, exit_reads, graph_of, instruction_reads, instruction_write, operand_reads}
+use Rattle.tac_form.specs.Graph.{block_of, exit_reads, graph_of, instruction_reads, instruction_write, operand_reads}
 use Rattle.tac_form.specs.Graph.{part_reads, parts_reads, spot_reads, step_of}
 use Rattle.tac_form.specs.Live.{InUse, has, is_written}
 use Rattle.rv_select.specs.declared.pairs.Pair.{Pair}
-use Rattle.rv_select.specs.Asked.{address_asks, all_ask, asked_homes, asked_of, asks, block_asks, both_ask, compared_asks, computed_asks}
-use Rattle.rv_select.specs.Asked.{end_asks, exit_asks, first_asks, held_after, held_behind, home_in, is_held, is_second, is_turned}
-use Rattle.rv_select.specs.Asked.{part_asks, passed_asks, spot_asks, with_given}
+use Rattle.rv_select.specs.Asked.{all_ask, asks, both_ask, compared_asks}
+use Rattle.rv_select.specs.Asked.{end_asks, exit_asks, first_asks, held_after, held_behind, is_held, is_second, is_turned}
+use Rattle.rv_select.specs.Asked.{part_asks, passed_asks, spot_asks}
 use Rattle.rv_select.specs.Pairs.{but_pair, pair_of, plain_of, reads_of}
-use Rattle.rv_select.specs.Places.{HasHome, HaveHomes, is_given, layout_of}
+use Rattle.rv_select.specs.Places.{HasHome, HaveHomes, layout_of}
 use Rattle.rv_select.specs.Waiting.{held_at, held_in, plain_in}
 use Rattle.rv_select.proofs.Carries.{has-left, has-right}
 use Rattle.rv_select.proofs.Finds.{held-last}

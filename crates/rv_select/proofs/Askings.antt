@@ -1,16 +1,15 @@
 -- What code asks for, as a loop collects it.
-use Rattle.std.proofs.Common.{◌≡◌, ℕ, ◌+◌, ◌<◌, ◌≤◌, List, [], ◌∷◌, ◌++◌, length, get_or, drop, replicate, set, take, append_assoc, Option}
-use Rattle.std.proofs.Common.{None, refl, sym, ap, ◌∙◌}
-use Rattle.std.specs.Prelude.{slice_get}
+use Rattle.std.proofs.Common.{◌≡◌, ℕ, ◌+◌, ◌<◌, ◌≤◌, List, [], ◌++◌, length, get_or, drop, replicate, take, append_assoc, Option}
+use Rattle.std.proofs.Common.{None, sym, ap, ◌∙◌}
 use Rattle.std.specs.List.{flat_map}
-use Rattle.std.proofs.lemmas.List.{append-nil, length-set, take_at}
+use Rattle.std.proofs.lemmas.List.{take_at}
 use Rattle.reg_alloc.specs.declared.assignment.Home.{Home}
 use Rattle.tac_form.specs.declared.tac.Instruction.{Instruction}
 use Rattle.tac_form.specs.declared.tac.Block.{Block}
 use Rattle.tac_form.specs.declared.tac.Destination.{Destination}
 use Rattle.tac_form.specs.declared.tac.Tac.{Tac}
 use Rattle.rv_select.specs.declared.pairs.Reads.{Reads}
-use Rattle.rv_select.specs.Asked.{all_ask, asked_homes, asked_of, asks, block_asks, end_asks, first_word, held_after, held_behind, home_in}
+use Rattle.rv_select.specs.Asked.{all_ask, asked_homes, asked_of, asks, block_asks, end_asks, first_word, held_after, held_behind}
 use Rattle.rv_select.specs.Asked.{if_small, is_small, with_given}
 use Rattle.rv_select.specs.Pairs.{but_pair, pair_of, plain_of, reads_of}
 use Rattle.rv_select.specs.declared.pairs.Pair.{Pair}

@@ -150,7 +150,7 @@ put-result : (p : Program) (image : Image) (program : List (Option Instr)) (most
     (held : Option ℕ) (m n : State) → p.code a.function ≡ Some code → Way program k m n → 1 ≤ k → k + more ≤ bound →
     (c : Settles (layout_of code (image a.function).homes) program (InUse (graph_of code) a.block a.at)
     (record { temps = temps; areas = areas; region = s.region; placed = a.base; depth = length cs }) up more target n) →
-    IsHeld held temps c.after →
+    IsHeld (layout_of code (image a.function).homes) held temps c.after →
     target ≡ place_in p image code (image a.function) a.block a.at → held_in code a.block a.at ≡ held →
     a.at ≤ length (plain_in (reads_of code) (slice_get code.blocks a.block)) →
     a.base + code.frame ≤ end_address s.region → length s.region.bytes ≡ size → HasRoom most (length cs) up →
@@ -176,7 +176,7 @@ put-result p image program most size linked s a temps areas cs code up k more bo
         before_end = inside;
         pc = c.at ∙ to-is;
         holds = c.holds;
-        five = subst (λ o. IsHeld o temps c.after) (sym held-is) five;
+        five = subst (λ o. IsHeld (layout_of code (image a.function).homes) o temps c.after) (sym held-is) five;
         frame = frame;
         region = region;
         room = room;
@@ -252,7 +252,7 @@ Puts program y sizes U to s a over depth up v temps areas n =
     (t : State) → t.private ≡ n.private → t.registers 5 ≡ v → Stands program t.pc (result_put y sizes to) →
     Holds y (UsedBut U to) (outer s a over depth) up t →
     (c : Settles y program U (record { temps = temps; areas = areas; region = s.region; placed = over; depth = depth }) up
-    (length (result_put y sizes to)) (low (t.pc + 4 * length (result_put y sizes to))) t) × IsHeld (destination_write to) temps c.after
+    (length (result_put y sizes to)) (low (t.pc + 4 * length (result_put y sizes to))) t) × IsHeld y (destination_write to) temps c.after
 
 -- the result of a call that was made from a caller that waits
 pub to-caller : (p : Program) (image : Image) (program : List (Option Instr)) (most size : ℕ) → IsLinked p image program most →
@@ -323,9 +323,9 @@ to-caller p image program most size linked s a to v temps areas cs up over link 
         (r.pc ∙ ap (λ z. low (z + 4 * 2)) here) refl bc.near
         ∙ (sym bc.next ∙ ap (λ z. place_in p image W.code (image a.function) a.block z) (sym W.at)) in
         let both : (c : Settles yc program U (record { temps = temps; areas = areas; region = s.region; placed = a.base; depth = length cs }) up
-        (length R) (low (r.after.pc + 4 * length R)) r.after) × IsHeld (destination_write to) temps c.after =
+        (length R) (low (r.after.pc + 4 * length R)) r.after) × IsHeld yc (destination_write to) temps c.after =
         subst (λ z. (c : Settles yc program U (record { temps = temps; areas = areas; region = s.region; placed = z; depth = length cs }) up
-        (length R) (low (r.after.pc + 4 * length R)) r.after) × IsHeld (destination_write to) temps c.after) (sym W.placed_is)
+        (length R) (low (r.after.pc + 4 * length R)) r.after) × IsHeld yc (destination_write to) temps c.after) (sym W.placed_is)
         (puts r.after r.private r.five r.there held) in
         put-result p image program most size linked s a temps areas cs W.code up (k + 2) (length R) bound (low (r.after.pc + 4 * length R))
         (destination_write to) m r.after W.function
@@ -351,7 +351,7 @@ puts-word p image program most linked s a d v depth up over link M n W small t s
     (housed-fewer yc U (UsedBut U (Temp d)) (λ x u. u.0) h) h next-used
     (λ x u. ⊎_elim (λ e. inl e) (λ o. inr (u, λ e. o (sym (some-same d x e)))) (cases_eq x d)) (way-none program t) (near-same t) hold.pc
     five small (omega arith) there refl in
-    (g.settles, g.five)
+    (g.settles, λ e. g.five)
   where
     next-used : InUse (graph_of W.code) a.block a.at d
     next-used =

@@ -94,7 +94,7 @@ unfolding low
 pc-sixteen q = omega arith
 
 module _ (program : List (Option Instr)) (y : Layout) (held : Option ℕ) (Used : ℕ → Type 0) (w : World) (base : ℕ) (at : Place)
-    (ps : List Part) (rest : List Instr) (m : State) (p : Holds y Used w base m) (f : IsHeld held w.temps m) (h : Housed y Used) (fits : place_number at < 2 ^ 64)
+    (ps : List Part) (rest : List Instr) (m : State) (p : Holds y Used w base m) (f : IsHeld y held w.temps m) (h : Housed y Used) (fits : place_number at < 2 ^ 64)
     (there : Stands program m.pc (call_begun y held at ps ++ rest)) where
   abbrev A : List Instr
   A = constant x11 (place_number at)
@@ -160,8 +160,8 @@ module _ (program : List (Option Instr)) (y : Layout) (held : Option ℕ) (Used 
       let calm-3 : Calm m t3 = calm-both m t2 t3 calm-2 (near-calm t2 t3 (near-pc t2 (low (t2.pc + 16)))) in
       let q : Holds y Used w base t3 = calm-holds y Used w base m t3 p h calm-3 (low-below (t2.pc + 16)) in
       let after-3 : Stands program t3.pc (P ++ (one_more ++ rest)) = subst (λ z. Stands program z (P ++ (one_more ++ rest))) (sym (pc-sixteen t2.pc)) after-1.1.1.1.1.1 in
-      let five : IsHeld held w.temps t3 =
-      held-kept held w.temps m t3 (same-2 5 (λ z. omega (arith, z)) (λ z. omega (arith, z)) (λ z. omega (arith, z))) f in
+      let five : IsHeld y held w.temps t3 =
+      held-kept y held w.temps m t3 (same-2 5 (λ z. omega (arith, z)) (λ z. omega (arith, z)) (λ z. omega (arith, z))) f in
       let pp : PassedParts y held base 0 ps w program (one_more ++ rest) t3 =
       passes y held Used w base program 0 ps (one_more ++ rest) t3 after-3 five q h reads (omega (arith, room)) in
       let t4 : State = pp.after in

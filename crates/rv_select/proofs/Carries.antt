@@ -36,13 +36,14 @@ use Rattle.tac_form.specs.Weights.{most_moved}
 use Rattle.rv_select.specs.Asked.{address_asks, both_ask, first_asks, is_held, is_second, is_turned}
 use Rattle.rv_select.specs.Places.{HasHome, Holds, IsFirst, IsHeld, IsRead, Layout, World, layout_of, value_in}
 use Rattle.rv_operators.specs.Runs.{Stands}
-use Rattle.rv_select.specs.Shapes.{bytes_moved, held_after, loaded, range_written, shape_of, some_moved, stored}
+use Rattle.rv_select.specs.Shapes.{bytes_moved, held_after, is_five, loaded, range_written, shape_of, some_moved, stored}
 use Rattle.rv_select.specs.Steps.{AreFewer, Carried, Comes, Ends, Follows, IsPlace, InstructionsAreCarried, StandsBefore, behind, with_temp}
 use Rattle.rv_select.specs.Steps.{world_of}
 use Rattle.rv_select.proofs.Claims.{Gives, IsReached, address_in, with_region}
 pub use Rattle.rv_select.proofs.Granted.{has-left, has-right}
 use Rattle.rv_select.proofs.Lives.{housed, read-live, step-in-graph, use-follows, write-used}
-use Rattle.rv_select.proofs.Moves.{copies, operators}
+use Rattle.rv_select.proofs.Operating.{copies, operators}
+use Rattle.rv_select.proofs.Homes.{five-held, home-unless}
 use Rattle.rv_select.proofs.Divisors.{addresses, divisors}
 use Rattle.rv_select.proofs.Regions.{insides, region-loads}
 use Rattle.rv_select.proofs.Stores.{region-stores}
@@ -146,13 +147,13 @@ nothing-written out = sym (append-nil out)
 -- an instruction that leaves a temporary's word in x5
 given : (written : List ℕ) {y : Layout} {program : List (Option Instr)} {Next : ℕ → Type 0} {w : World} {base most target d : ℕ} {m : State} →
     Gives y program Next w base most target d m →
-    (out : List ℕ) × (written ≡ written ++ out) × (c : Comes y program Next w base most target out m) × IsHeld (Some d) w.temps c.after
+    (out : List ℕ) × (written ≡ written ++ out) × (c : Comes y program Next w base most target out m) × IsHeld y (Some d) w.temps c.after
 given written g = ([], nothing-written written, g.comes, g.five)
 
 -- one that may leave it there
 told : (written : List ℕ) (held : Option ℕ) {y : Layout} {program : List (Option Instr)} {Next : ℕ → Type 0} {w : World}
-    {base most target : ℕ} {m : State} → (c : Comes y program Next w base most target [] m) × IsHeld held w.temps c.after →
-    (out : List ℕ) × (written ≡ written ++ out) × (c : Comes y program Next w base most target out m) × IsHeld held w.temps c.after
+    {base most target : ℕ} {m : State} → (c : Comes y program Next w base most target [] m) × IsHeld y held w.temps c.after →
+    (out : List ℕ) × (written ≡ written ++ out) × (c : Comes y program Next w base most target out m) × IsHeld y held w.temps c.after
 told written held g = ([], nothing-written written, g.0, g.1)
 
 carry-copy : (p : Program) (code : Tac) (homes : List (Option Home)) (held : Option ℕ) (d : ℕ) (a : Operand) (s : tac.State) (program : List (Option Instr)) (base : ℕ) (m : State) →
@@ -190,6 +191,28 @@ unturned : (held : Option ℕ) (a b : Operand) (t : ℕ) (turned second : Bool) 
     has (if turned then both_ask held b a else unturned-asks held a b second) t ≡ has (unturned-asks held a b second) t
 unturned held a b t turned second e = ap (λ c. has (if c then both_ask held b a else unturned-asks held a b second) t) e
 
+-- an operand in x5 is held, and one that is held and not in x5 has a register as its home
+five-second : (y : Layout) (held : Option ℕ) (b : Operand) → is_five y held b ≡ true → is_second held b ≡ true
+five-second y held (Temp t) e = five-held y held t e
+five-second y held (Constant c) e = cc
+
+held-read : (y : Layout) (held : Option ℕ) (Used : ℕ → Type 0) (b : Operand) → is_five y held b ≡ false → is_second held b ≡ true →
+    ((t : ℕ) → has (operand_reads b) t ≡ true → Used t) → IsRead y Used b
+held-read y held Used (Temp t) e g f =
+    let here : has (t ∷ []) t ≡ true = ap (λ b. b || false) (eq-eqb t t refl) in (f t here, home-unless y held t e (inl g))
+held-read y held Used (Constant c) e g f = cc
+
+in-turn-read : (code : Tac) (y : Layout) (held : Option ℕ) (Used : ℕ → Type 0) (a b : Operand) → operand_fits code a ≡ true →
+    operand_fits code b ≡ true → ((t : ℕ) → has (operand_reads a) t ≡ true → Used t) → ((t : ℕ) → has (operand_reads b) t ≡ true → Used t) →
+    is_five y held b ≡ false → ((t : ℕ) → has (unturned-asks held a b (is_second held b)) t ≡ true → HasHome y t) →
+    IsFirst y held Used a × IsRead y Used b
+in-turn-read code y held Used a b fit-a fit-b read-a read-b five asked = either (is_second held b) refl asked
+  where
+    either : (c : Bool) → is_second held b ≡ c → ((t : ℕ) → has (unturned-asks held a b c) t ≡ true → HasHome y t) →
+        IsFirst y held Used a × IsRead y Used b
+    either false e g = both-read code y held Used a b fit-a fit-b read-a read-b g
+    either true e g = (first-read code y held Used a fit-a read-a g, held-read y held Used b five e read-b)
+
 carry-compute : (p : Program) (code : Tac) (homes : List (Option Home)) (held : Option ℕ) (d : ℕ) (op : BinaryOperator) (form : Number) (a b : Operand) (s : tac.State)
     (program : List (Option Instr)) (base : ℕ) (m : State) → StandsBefore p code homes held (Compute d op form a b) s program base m →
     Carried (layout_of code homes) (graph_of code) program base (held_after (Compute d op form a b)) (shape_of (layout_of code homes) held (Compute d op form a b)) s m (step p s)
@@ -211,11 +234,12 @@ carry-compute p code homes held d op form a b s program base m x =
     (λ h. (given s.out (operators (layout_of code homes) held d op form a b (used code s) (next code s) (world_of s) base program m x.stands x.five
     (no-zero (divides op) (nat_eq (value_in s.here.temps b) 0) (value_in s.here.temps b) h refl) x.holds
     (housed code homes s.here.block s.here.at x.right) (housed code homes s.here.block (suc s.here.at) x.right)
-    (λ plain first. both-read code (layout_of code homes) held (used code s) a b fit-a.1 fit.1 read-a read-b
-    (λ t u. x.asked t (unturned held a b t (is_turned held op b) (is_second held b) plain ∙ (ap (λ c. has (unturned-asks held a b c) t) first ∙ u))))
-    (λ second. second-read (layout_of code homes) held (used code s) b second read-b)
+    (λ plain first. in-turn-read code (layout_of code homes) held (used code s) a b fit-a.1 fit.1 read-a read-b first
+    (λ t u. x.asked t (unturned held a b t (is_turned held op b) (is_second held b) plain ∙ u)))
+    (λ second. second-read (layout_of code homes) held (used code s) b (five-second (layout_of code homes) held b second) read-b)
     (λ plain second. first-read code (layout_of code homes) held (used code s) a fit-a.1 read-a
-    (λ t u. x.asked t (unturned held a b t (is_turned held op b) (is_second held b) plain ∙ (ap (λ c. has (unturned-asks held a b c) t) second ∙ u))))
+    (λ t u. x.asked t (unturned held a b t (is_turned held op b) (is_second held b) plain
+    ∙ (ap (λ c. has (unturned-asks held a b c) t) (five-second (layout_of code homes) held b second) ∙ u))))
     (λ turn. both-read code (layout_of code homes) held (used code s) b a fit.1 fit-a.1 read-b read-a
     (λ t u. x.asked t (ap (λ c. has (if c then both_ask held b a else unturned-asks held a b (is_second held b)) t) turn ∙ u)))
     (written-next p code homes held i s program base m d x refl) (follows p code homes held i s program base m d x refl)))))

@@ -19,32 +19,32 @@ use Rattle.tac_form.specs.declared.tac.Instruction.TheVariants.{Copy}
 use Rattle.tac_form.specs.Flow.{bytes_of, put, width_of}
 use Rattle.rv_operators.specs.Runs.{Stands}
 use Rattle.rv_select.specs.Places.{HasHome, IsFirst, IsHeld, Layout, World, Holds, Housed, IsRead, value_in}
-use Rattle.rv_select.specs.Shapes.{copied, computed, divisor_tested, held_after, is_second, is_turned, loaded, located, put_at, stored}
+use Rattle.rv_select.specs.Shapes.{copied, computed, divisor_tested, held_after, is_five, is_turned, loaded, located, put_at, stored}
 use Rattle.rv_select.specs.Steps.{AreFewer, Comes, Ends, Follows, IsPlace, behind, with_temp}
 
--- The machine comes somewhere with the word of a temporary in x5.
+-- The machine comes somewhere with the word of a temporary in x5, or in the register that is its home.
 pub record Gives (y : Layout) (program : List (Option Instr)) (Next : ℕ → Type 0) (w : World) (base most target d : ℕ) (m : State) : Type 0 where
   pub comes : Comes y program Next w base most target [] m
-  pub five : comes.after.registers 5 ≡ w.temps d
+  pub five : IsHeld y (Some d) w.temps comes.after
 
 -- a copy
 abbrev pub CopiesAreCarried : Type 1
 CopiesAreCarried =
     (y : Layout) (held : Option ℕ) (d : ℕ) (a : Operand) (Used Next : ℕ → Type 0) (w : World) (base : ℕ) (program : List (Option Instr)) (m : State) →
-    Stands program m.pc (copied y held d a) → IsHeld held w.temps m → Holds y Used w base m → Housed y Used → Housed y Next →
+    Stands program m.pc (copied y held d a) → IsHeld y held w.temps m → Holds y Used w base m → Housed y Used → Housed y Next →
     IsFirst y held Used a → Next d → HasHome y d → Follows Used Next d →
     (c : Comes y program Next (with_temp w d (value_in w.temps a)) base (length (copied y held d a)) (behind m (copied y held d a)) [] m) ×
-    IsHeld (held_after (Copy d a)) (with_temp w d (value_in w.temps a)).temps c.after
+    IsHeld y (held_after (Copy d a)) (with_temp w d (value_in w.temps a)).temps c.after
 
 -- an operator on numbers, whose divisor isn't zero
 abbrev pub OperatorsAreCarried : Type 1
 OperatorsAreCarried =
     (y : Layout) (held : Option ℕ) (d : ℕ) (op : BinaryOperator) (form : Number) (a b : Operand) (Used Next : ℕ → Type 0) (w : World) (base : ℕ)
     (program : List (Option Instr)) (m : State) →
-    Stands program m.pc (computed y held d op (width_of form) a b) → IsHeld held w.temps m → (divides op ≡ true → value_in w.temps b ≢ 0) →
+    Stands program m.pc (computed y held d op (width_of form) a b) → IsHeld y held w.temps m → (divides op ≡ true → value_in w.temps b ≢ 0) →
     Holds y Used w base m → Housed y Used → Housed y Next →
-    (is_turned held op b ≡ false → is_second held b ≡ false → IsFirst y held Used a × IsRead y Used b) →
-    (is_second held b ≡ true → IsFirst y held Used b) → (is_turned held op b ≡ false → is_second held b ≡ true → IsFirst y held Used a) →
+    (is_turned held op b ≡ false → is_five y held b ≡ false → IsFirst y held Used a × IsRead y Used b) →
+    (is_five y held b ≡ true → IsFirst y held Used b) → (is_turned held op b ≡ false → is_five y held b ≡ true → IsFirst y held Used a) →
     (is_turned held op b ≡ true → IsFirst y held Used b × IsRead y Used a) → Next d → Follows Used Next d →
     Gives y program Next (with_temp w d (applied (width_of form) op (value_in w.temps a) (value_in w.temps b))) base
     (length (computed y held d op (width_of form) a b)) (behind m (computed y held d op (width_of form) a b)) d m
@@ -53,7 +53,7 @@ OperatorsAreCarried =
 abbrev pub DivisorsAreTested : Type 1
 DivisorsAreTested =
     (y : Layout) (held : Option ℕ) (at : Place) (a : Operand) (Used Next : ℕ → Type 0) (w : World) (base : ℕ) (program : List (Option Instr)) (m : State) →
-    Stands program m.pc (divisor_tested y held at a) → IsHeld held w.temps m → IsPlace at → Holds y Used w base m → Housed y Used → IsFirst y held Used a → AreFewer Used Next →
+    Stands program m.pc (divisor_tested y held at a) → IsHeld y held w.temps m → IsPlace at → Holds y Used w base m → Housed y Used → IsFirst y held Used a → AreFewer Used Next →
     (value_in w.temps a ≢ 0 → Comes y program Next w base (length (divisor_tested y held at a)) (behind m (divisor_tested y held at a)) [] m)
     × (value_in w.temps a ≡ 0 → Ends program DivZero at (length (divisor_tested y held at a)) m)
 
@@ -82,7 +82,7 @@ with_region w r = record w { region = r }
 abbrev pub RegionLoadsAreCarried : Type 1
 RegionLoadsAreCarried =
     (y : Layout) (held : Option ℕ) (d : ℕ) (form : Number) (at : Place) (a : Address) (Used Next : ℕ → Type 0) (w : World) (base : ℕ) (program : List (Option Instr)) (m : State) →
-    Stands program m.pc (loaded y held d form (spots.Region at a)) → IsHeld held w.temps m → IsPlace at → IsReached y held Used w (bytes_of form.size) a →
+    Stands program m.pc (loaded y held d form (spots.Region at a)) → IsHeld y held w.temps m → IsPlace at → IsReached y held Used w (bytes_of form.size) a →
     Holds y Used w base m → Housed y Used → Housed y Next → Next d → Follows Used Next d →
     ((bs : List ℕ) → range_of w.region (address_in w a) (bytes_of form.size) ≡ Some bs →
     Gives y program Next (with_temp w d (wrapped (width_of form) (number_of bs))) base (length (loaded y held d form (spots.Region at a)))
@@ -93,7 +93,7 @@ RegionLoadsAreCarried =
 abbrev pub RegionStoresAreCarried : Type 1
 RegionStoresAreCarried =
     (y : Layout) (held : Option ℕ) (size : Size) (at : Place) (a : Address) (b : Operand) (Used Next : ℕ → Type 0) (w : World) (base : ℕ) (program : List (Option Instr)) (m : State) →
-    Stands program m.pc (stored y held (spots.Region at a) size b) → IsHeld held w.temps m → IsPlace at → IsReached y held Used w (bytes_of size) a → IsRead y Used b →
+    Stands program m.pc (stored y held (spots.Region at a) size b) → IsHeld y held w.temps m → IsPlace at → IsReached y held Used w (bytes_of size) a → IsRead y Used b →
     Holds y Used w base m → Housed y Used → AreFewer Used Next →
     ((r : Contents) → put_bytes w.region (address_in w a) (low_bytes (bytes_of size) (value_in w.temps b)) ≡ Some r →
     Comes y program Next (with_region w r) base (length (stored y held (spots.Region at a) size b)) (behind m (stored y held (spots.Region at a) size b)) [] m)

@@ -181,8 +181,8 @@ module _ (p : Program) (code : Tac) (homes : List (Option Home)) (held : Option 
   compare-comes : (taken_it : Bool) (c : ℕ) → not (nat_eq result 0) ≡ taken_it → (if taken_it then e.block else f.block) ≡ c → (IsLive (graph_of code) c 0 d → ⊥) →
       ((q : ℕ → Bool) → q c ≡ true → list_any q (exit_next (Branch (Temp d) e f)) ≡ true) → Comes y program (InUse (graph_of code) c 0) (world_of after_it) base weight (starts c) [] m
   compare-comes taken_it c is block unread h =
-      let l : Register = first_register held a b in
-      let r : Register = second_register held a b in
+      let l : Register = first_register y held a b in
+      let r : Register = second_register y held a b in
       let k : Sides A m l r va vb = sides-taken y held used (world_of s) base m a b x.five x.holds all-housed in-order turned-round in
       let few : length A ≤ 16 = sides-few y held a b in
       let o : Follows = follower x.setting.next e.block f.block in
@@ -241,12 +241,12 @@ compares p code homes held d op form a b e f starts s program base m x =
 
 -- how many words there are
 compared-count : (y : Layout) (near short : Bool) (o : Follows) (held : Option ℕ) (signed : Bool) (op : BinaryOperator) (a b : Operand) (at first second : ℕ) →
-    length (operands_taken y held a b ++ compared near short o signed op (first_register held a b) (second_register held a b) at first second) ≡
+    length (operands_taken y held a b ++ compared near short o signed op (first_register y held a b) (second_register y held a b) at first second) ≡
     length (operands_taken y held a b) + chosen_words near short o
 compared-count y near short o held signed op a b at first second =
-    let l : Register = left_of op (first_register held a b) (second_register held a b) in
-    let r : Register = right_of op (first_register held a b) (second_register held a b) in
-    length-append (operands_taken y held a b) (compared near short o signed op (first_register held a b) (second_register held a b) at first second)
+    let l : Register = left_of op (first_register y held a b) (second_register y held a b) in
+    let r : Register = right_of op (first_register y held a b) (second_register y held a b) in
+    length-append (operands_taken y held a b) (compared near short o signed op (first_register y held a b) (second_register y held a b) at first second)
     ∙ ap (λ n. length (operands_taken y held a b) + n) (chosen-count near short o (condition_of signed op) l r at first second)
 
 pub compares-within : ComparesKeepWithin

@@ -10,8 +10,9 @@ use Rattle.rv_isa.specs.declared.instr.Instr.TheVariants.{Branch, RegisterImmedi
 use Rattle.rv_isa.specs.declared.operation.ImmediateOp.TheVariants.{Addi}
 use Rattle.rv_isa.specs.declared.operation.RegisterOp.TheVariants.{Add}
 use Rattle.rv_isa.specs.declared.operation.BranchCondition.TheVariants.{Ne}
+use Rattle.rv_isa.specs.declared.operand.Register.{Register}
 use Rattle.rv_machine.specs.Word.{low}
-use Rattle.rv_machine.specs.Machine.{State, GoesOn, at_with}
+use Rattle.rv_machine.specs.Machine.{State, GoesOn, at_with, value_at}
 use Rattle.terra_words.specs.declared.words.FaultKind.TheVariants.{DivZero}
 use Rattle.tac_form.specs.declared.tac.Operand.{Operand}
 use Rattle.tac_form.specs.declared.tac.Operand.TheVariants.{Temp, Constant}
@@ -19,13 +20,13 @@ use Rattle.rv_operators.specs.Codes.{x0, x5}
 use Rattle.rv_operators.specs.Runs.{Stands}
 use Rattle.rv_select.specs.Places.{World, Holds, Housed, Layout, value_in}
 use Rattle.rv_select.specs.Numbers.{constant, immediate_of}
-use Rattle.rv_select.specs.Shapes.{branched_over, failed, first_taken, is_never_zero, located, moved, over, put_at, x8}
+use Rattle.rv_select.specs.Shapes.{branched_over, failed, first_read, is_never_zero, located, moved, over, put_at, read_in, x8}
 use Rattle.rv_select.specs.Steps.{Comes, Ends, AreFewer, IsPlace, behind}
 use Rattle.rv_select.proofs.Claims.{AddressesAreCarried, DivisorsAreTested}
 use Rattle.rv_select.proofs.Straight.{Loads, behind-both, loads-both, loads-five, loads-one, low-below, low-small}
 use Rattle.rv_select.proofs.Numbers.{constant-count, constant-loads, immediate-is}
 use Rattle.rv_select.proofs.Ways.{Near, Way, at_pc, near-both, near-pc, scratch-near, stands-back, stands-front, straight-way, way-both}
-use Rattle.rv_select.proofs.Homes.{take-first}
+use Rattle.rv_select.proofs.Sides.{FirstSide, first-side}
 use Rattle.rv_select.proofs.Faults.{branch-way, failed-count, fails, later-ends}
 use Rattle.rv_select.proofs.Moves.{at-most, fewer-holds, near-holds, near-keeps, straight-put}
 use Rattle.rv_select.proofs.Nothing.{nothing-happens}
@@ -49,33 +50,33 @@ over-low : (p n : ℕ) → low (p + 4 * (n + 1)) ≡ low (p + 4 * suc n)
 unfolding low
 over-low p n = omega arith
 
--- the test, over an operand that stands in x5
-tests : (y : Layout) (Used Next : ℕ → Type 0) (w : World) (base v weight : ℕ) (at : Place) (A F : List Instr) (program : List (Option Instr)) (m : State) (l : Loads 5 A m v) →
-    F ≡ failed DivZero at → length (A ++ (Branch Ne x5 x0 (over F) ∷ F)) ≤ weight → length F ≤ 11 → Stands program m.pc (A ++ (Branch Ne x5 x0 (over F) ∷ F)) → IsPlace at → Holds y Used w base m → Housed y Used →
+-- the test of an operand, where it is read
+tests : (y : Layout) (Used Next : ℕ → Type 0) (w : World) (base v weight : ℕ) (at : Place) (A F : List Instr) (r : Register) (program : List (Option Instr)) (m : State) (l : FirstSide A m r v) →
+    F ≡ failed DivZero at → length (A ++ (Branch Ne r x0 (over F) ∷ F)) ≤ weight → length F ≤ 11 → Stands program m.pc (A ++ (Branch Ne r x0 (over F) ∷ F)) → IsPlace at → Holds y Used w base m → Housed y Used →
     AreFewer Used Next →
-    (v ≢ 0 → Comes y program Next w base weight (behind m (A ++ (Branch Ne x5 x0 (over F) ∷ F))) [] m) × (v ≡ 0 → Ends program DivZero at weight m)
-tests y Used Next w base v weight at A F program m l is enough ff stands place p h f =
-    let whole : length A + suc (length F) ≤ weight = subst (λ n. n ≤ weight) (length-append A (Branch Ne x5 x0 (over F) ∷ F)) enough in
+    (v ≢ 0 → Comes y program Next w base weight (behind m (A ++ (Branch Ne r x0 (over F) ∷ F))) [] m) × (v ≡ 0 → Ends program DivZero at weight m)
+tests y Used Next w base v weight at A F r program m l is enough ff stands place p h f =
+    let whole : length A + suc (length F) ≤ weight = subst (λ n. n ≤ weight) (length-append A (Branch Ne r x0 (over F) ∷ F)) enough in
     let last : length (failed DivZero at) ≡ length F = ap length (sym is) in
-    let first : Way program (length A) m l.after = straight-way program A m l.after (stands-front program m.pc A (Branch Ne x5 x0 (over F) ∷ F) stands) l.straight l.goes in
-    let rest : Stands program l.after.pc (Branch Ne x5 x0 (over F) ∷ F) =
-    subst (λ z. Stands program z (Branch Ne x5 x0 (over F) ∷ F)) (sym l.behind) (stands-back program m.pc A (Branch Ne x5 x0 (over F) ∷ F) p.pc stands) in
-    let near : Near m l.after = scratch-near A m l.after (loads-five A m v l) in (
+    let first : Way program (length A) m l.after = straight-way program A m l.after (stands-front program m.pc A (Branch Ne r x0 (over F) ∷ F) stands) l.scratch.straight l.scratch.goes in
+    let rest : Stands program l.after.pc (Branch Ne r x0 (over F) ∷ F) =
+    subst (λ z. Stands program z (Branch Ne r x0 (over F) ∷ F)) (sym l.scratch.behind) (stands-back program m.pc A (Branch Ne r x0 (over F) ∷ F) p.pc stands) in
+    let near : Near m l.after = scratch-near A m l.after l.scratch in (
       λ n.
           let t : ℕ = low (l.after.pc + 4 * (length F + 1)) in
-          let e : nat_eq (l.after.registers 5) 0 ≡ false = ap (λ x. nat_eq x 0) l.gives ∙ ne_eqb v 0 n in
+          let e : nat_eq (value_at l.after r) 0 ≡ false = ap (λ x. nat_eq x 0) l.gives ∙ ne_eqb v 0 n in
           let way : Way program (length A + 1) m (at_pc l.after t) =
           way-both program (length A) 1 m l.after (at_pc l.after t) first
-          (branch-way program Ne x5 x0 (4 * (length F + 1)) l.after true (omega arith) (omega arith) rest.0 (ap not e)) in
-          stays y Used Next w base (length A + 1) weight (behind m (A ++ (Branch Ne x5 x0 (over F) ∷ F))) program m (at_pc l.after t) p h f way
+          (branch-way program Ne r x0 (4 * (length F + 1)) l.after true (omega arith) (omega arith) rest.0 (ap not e)) in
+          stays y Used Next w base (length A + 1) weight (behind m (A ++ (Branch Ne r x0 (over F) ∷ F))) program m (at_pc l.after t) p h f way
           (near-both m l.after (at_pc l.after t) near (near-pc l.after t)) (low-below (l.after.pc + 4 * (length F + 1))) (omega arith) (omega (arith, whole))
-          (over-low l.after.pc (length F) ∙ behind-both A (Branch Ne x5 x0 (over F) ∷ F) m.pc l.after.pc (low (l.after.pc + 4 * suc (length F))) l.behind refl),
+          (over-low l.after.pc (length F) ∙ behind-both A (Branch Ne r x0 (over F) ∷ F) m.pc l.after.pc (low (l.after.pc + 4 * suc (length F))) l.scratch.behind refl),
       λ z.
           let t : ℕ = low (l.after.pc + 4) in
-          let e : nat_eq (l.after.registers 5) 0 ≡ true = ap (λ x. nat_eq x 0) l.gives ∙ eq-eqb v 0 z in
+          let e : nat_eq (value_at l.after r) 0 ≡ true = ap (λ x. nat_eq x 0) l.gives ∙ eq-eqb v 0 z in
           later-ends program DivZero at (length A + 1) (length (failed DivZero at)) weight m (at_pc l.after t)
           (way-both program (length A) 1 m l.after (at_pc l.after t) first
-          (branch-way program Ne x5 x0 (4 * (length F + 1)) l.after false (omega arith) (omega arith) rest.0 (ap not e)))
+          (branch-way program Ne r x0 (4 * (length F + 1)) l.after false (omega arith) (omega arith) rest.0 (ap not e)))
           (fails program (at_pc l.after t) DivZero at (low-below (l.after.pc + 4)) place (omega arith) (omega arith) (subst (λ c. Stands program t c) is rest.1)) (omega (arith, whole, last)),
     )
 
@@ -87,7 +88,7 @@ pub divisors : DivisorsAreTested
 divisors y held at a Used Next w base program m stands five place p h r f = either (is_never_zero a) refl stands
   where
     code : Bool → List Instr
-    code never = if never then moved x0 x0 ∷ [] else first_taken y held a ++ branched_over Ne x5 x0 DivZero at
+    code never = if never then moved x0 x0 ∷ [] else first_read y held a ++ branched_over Ne (read_in y x5 a) x0 DivZero at
 
     either : (never : Bool) → is_never_zero a ≡ never → Stands program m.pc (code never) →
         (value_in w.temps a ≢ 0 → Comes y program Next w base (length (code never)) (behind m (code never)) [] m)
@@ -95,8 +96,8 @@ divisors y held at a Used Next w base program m stands five place p h r f = eith
     either true e there =
         (λ n. nothing-happens y Used Next w base 1 program m there (omega arith) p h f, λ z. absurd (never-zero w a e z))
     either false e there =
-        tests y Used Next w base (value_in w.temps a) (length (code false)) at (first_taken y held a) (failed DivZero at) program m
-        (take-first y held Used w base m a five p h r)
+        tests y Used Next w base (value_in w.temps a) (length (code false)) at (first_read y held a) (failed DivZero at) (read_in y x5 a) program m
+        (first-side y held Used w base m a five p h r)
         refl (at-most (length (code false))) (failed-count DivZero at) there place p h f
 
 -- x5 gets the address of an offset of the frame in the region

@@ -1,17 +1,20 @@
 -- Words at homes.
 use Rattle.std.proofs.Common.{◌≡◌, ◌≢◌, ℕ, ◌+◌, ◌*◌, ◌^◌, ◌<◌, ◌≤◌, List, [], ◌∷◌, Bool, true, false, length, take, drop, refl, sym, ap}
 use Rattle.std.proofs.Common.{◌∙◌, subst, ⊎_elim, inl, inr, arith}
-use Rattle.std.specs.Prelude.{◌⊎◌, nat_lt, if◌then◌else◌, Option, Some, None, slice_get}
+use Rattle.std.specs.Prelude.{◌⊎◌, not, ◌&&◌, nat_eq, nat_lt, if◌then◌else◌, Option, Some, None, slice_get}
 use Rattle.std.proofs.lemmas.Bool.{cases_lt, eqb-true, ltb-true}
+use Rattle.std.proofs.lemmas.List.{length-append}
 use Rattle.rv_isa.specs.declared.instr.Instr.{Instr}
-use Rattle.rv_isa.specs.declared.instr.Instr.TheVariants.{Load, Store}
+use Rattle.rv_isa.specs.declared.instr.Instr.TheVariants.{Addiw, Load, Lui, RegisterRegister, Shift, Store}
+use Rattle.rv_isa.specs.declared.operation.RegisterOp.TheVariants.{Add}
+use Rattle.rv_isa.specs.declared.operation.ShiftOp.TheVariants.{Slli}
 use Rattle.rv_isa.specs.declared.operation.LoadOp.TheVariants.{Ld}
 use Rattle.rv_isa.specs.declared.operation.StoreOp.TheVariants.{Sd}
 use Rattle.rv_isa.specs.declared.operand.Register.{Register}
 use Rattle.reg_alloc.specs.declared.assignment.Home.{Home}
 use Rattle.reg_alloc.specs.declared.assignment.Home.TheVariants as homes
 use Rattle.terra_memory.specs.Numbers.{low_bytes, number_of, overwritten}
-use Rattle.rv_machine.specs.Word.{low}
+use Rattle.rv_machine.specs.Word.{extended_word, low}
 use Rattle.rv_machine.specs.Memory.{place_of}
 use Rattle.rv_machine.specs.Machine.{State, GoesOn, act, at_with, value_at, loads, loads_from, stores, stores_to}
 use Rattle.tac_form.specs.declared.tac.Operand.{Operand}
@@ -19,19 +22,20 @@ use Rattle.tac_form.specs.declared.tac.Operand.TheVariants.{Temp, Constant}
 use Rattle.tac_form.specs.Flow.{Temps}
 use Rattle.tac_form.specs.Weights.{constant_words, kept_bytes, most_moved, operand_words}
 use Rattle.rv_operators.specs.Claims.{acts, then_on}
-use Rattle.rv_operators.specs.Codes.{x5}
+use Rattle.rv_operators.specs.Codes.{x0, x5}
 use Rattle.rv_operators.specs.Runs.{AreStraight}
 use Rattle.rv_operators.proofs.Runs.{straight-both}
 use Rattle.rv_select.specs.Places.{AreBytes, Layout, World, HasFrame, Holds, Housed, IsFirst, IsHeld, IsHome, IsRead, IsSlot, area_offset}
-use Rattle.rv_select.specs.Places.{frame_bytes, home_of, is_given, or_first, private_word, slot_offset, value_in, word_at}
-use Rattle.rv_select.specs.Numbers.{constant, register_of}
-use Rattle.rv_select.specs.Shapes.{first_taken, is_held, moved, put_at, put_from, put_in, put_to, taken, taken_from}
+use Rattle.rv_select.specs.Places.{HasHome, frame_bytes, home_of, in_five, in_register, is_given, is_in_register, or_first, private_word, slot_offset, value_in, word_at}
+use Rattle.rv_select.specs.Numbers.{constant, half, half_added, in_both, in_halves, is_twice, long_constant, lower_of, register_of}
+use Rattle.rv_select.specs.Numbers.{short_constant, upper_half, upper_number, upper_of, x7}
+use Rattle.rv_select.specs.Shapes.{brought, first_taken, is_held, moved, put_at, put_from, put_in, put_to, taken, taken_from}
 use Rattle.rv_select.proofs.Bytes.{other-than-word, private-place, stored-length, stored-word}
 use Rattle.rv_select.proofs.Numbers.{constant-count, constant-loads, one-count, register-is, small-count}
 use Rattle.rv_select.proofs.Straight.{Loads, behind-both, goes-both, loads-one, low-first, low-here, low-small, register-value}
 use Rattle.rv_select.proofs.Straight.{written-elsewhere, written-there}
 use Rattle.rv_select.proofs.Words.{low-are-bytes, overwritten-bytes}
-use Rattle.rv_select.proofs.Frames.{Reach, framed-count, framed-loads, reach}
+use Rattle.rv_select.proofs.Frames.{Reach, framed-count, framed-loads, framed-some, reach}
 
 -- a slot is within the frame, and so within private memory, and near enough
 pub slot-within : (y : Layout) (k : ℕ) → IsSlot y k → slot_offset k + 8 ≤ frame_bytes y
@@ -129,10 +133,49 @@ pub operand-count : (y : Layout) (d : Register) (a : Operand) → length (taken 
 operand-count y d (Temp t) = home-count d (home_of y t)
 operand-count y d (Constant c) = constant-weight d c
 
+-- both parts of a test
+and-first : (a b : Bool) → (a && b) ≡ true → a ≡ true
+and-first true b e = refl
+and-first false b e = cc
+
+and-second : (a b : Bool) → (a && b) ≡ true → b ≡ true
+and-second true b e = e
+and-second false b e = cc
+
+not-true : (b : Bool) → not b ≡ true → b ≡ false
+not-true false e = refl
+not-true true e = cc
+
+not-both : (a b : Bool) → (a && not b) ≡ false → a ≡ true → b ≡ true
+not-both true true e g = refl
+not-both true false e g = cc
+not-both false b e g = cc
+
+pub five-held : (y : Layout) (held : Option ℕ) (t : ℕ) → in_five y held t ≡ true → is_held held t ≡ true
+five-held y held t e = and-first (is_held held t) (not (in_register y t)) e
+
 -- where x5 holds the operand, no code takes it
-pub held-is : (held : Option ℕ) (t : ℕ) (temps : Temps) (m : State) → IsHeld held temps m → is_held held t ≡ true → m.registers 5 ≡ temps t
-held-is None t temps m f e = cc
-held-is (Some u) t temps m f e = f ∙ ap temps (eqb-true u t e)
+pub held-is : (y : Layout) (held : Option ℕ) (t : ℕ) (temps : Temps) (m : State) → IsHeld y held temps m → in_five y held t ≡ true →
+    m.registers 5 ≡ temps t
+held-is y None t temps m f e = cc
+held-is y (Some u) t temps m f e =
+    let same : u ≡ t = eqb-true u t (and-first (nat_eq u t) (not (in_register y t)) e) in
+    let none : in_register y t ≡ false = not-true (in_register y t) (and-second (nat_eq u t) (not (in_register y t)) e) in
+    f (ap (in_register y) same ∙ none) ∙ ap temps same
+
+-- a register is a home
+register-given : (o : Option (Option Home)) → is_in_register o ≡ true → is_given o ≡ true
+register-given (Some (Some h)) e = refl
+register-given (Some None) e = cc
+register-given None e = cc
+
+pub in-register-home : (y : Layout) (t : ℕ) → in_register y t ≡ true → HasHome y t
+in-register-home y t e = register-given (slice_get y.homes t) e
+
+-- what isn't in x5 has a home
+pub home-unless : (y : Layout) (held : Option ℕ) (t : ℕ) → in_five y held t ≡ false → (is_held held t ≡ true) ⊎ HasHome y t → HasHome y t
+home-unless y held t e o =
+    ⊎_elim (λ g. in-register-home y t (not-both (is_held held t) (in_register y t) e g)) (λ h. h) o
 
 held-loads : (m : State) (v : ℕ) → m.pc < 2 ^ 64 → m.registers 5 ≡ v → Loads 5 [] m v
 held-loads m v small e = record {
@@ -146,16 +189,15 @@ held-loads m v small e = record {
   straight = refl;
 }
 
-pub take-first : (y : Layout) (held : Option ℕ) (Used : ℕ → Type 0) (w : World) (base : ℕ) (m : State) (a : Operand) → IsHeld held w.temps m →
+pub take-first : (y : Layout) (held : Option ℕ) (Used : ℕ → Type 0) (w : World) (base : ℕ) (m : State) (a : Operand) → IsHeld y held w.temps m →
     Holds y Used w base m → Housed y Used → IsFirst y held Used a → Loads 5 (first_taken y held a) m (value_in w.temps a)
 take-first y held Used w base m (Constant k) f p h r = constant-loads x5 m k (λ e. omega (arith, e)) (λ e. omega (arith, e)) r
-take-first y held Used w base m (Temp t) f p h r = either (is_held held t) refl
+take-first y held Used w base m (Temp t) f p h r = either (in_five y held t) refl
   where
-    either : (b : Bool) → is_held held t ≡ b → Loads 5 (if b then [] else taken y x5 (Temp t)) m (w.temps t)
-    either true e = held-loads m (w.temps t) p.pc (held-is held t w.temps m f e)
+    either : (b : Bool) → in_five y held t ≡ b → Loads 5 (if b then [] else taken y x5 (Temp t)) m (w.temps t)
+    either true e = held-loads m (w.temps t) p.pc (held-is y held t w.temps m f e)
     either false e =
-        take-operand y x5 Used w base m (Temp t) (λ z. omega (arith, z)) (λ z. omega (arith, z)) p h
-        (r.0, ⊎_elim (λ g. let no : true ≡ false = sym g ∙ e in cc) (λ o. o) r.1)
+        take-operand y x5 Used w base m (Temp t) (λ z. omega (arith, z)) (λ z. omega (arith, z)) p h (r.0, home-unless y held t e r.1)
 
 -- a word that x5 holds goes to another register
 pub from-five : (d : Register) (m : State) (v : ℕ) → d.number ≢ 0 → m.registers 5 ≡ v → v < 2 ^ 64 → Loads d.number (moved d x5 ∷ []) m v
@@ -164,10 +206,64 @@ from-five d m v n e s =
     loads-one (moved d x5) m d.number v n refl
     (ap (λ w. GoesOn (at_with m (low (m.pc + 4)) d.number w)) (ap (λ w. low (w + 0)) e ∙ (ap low z ∙ low-small v s)))
 
+-- an operand that another register gets
+pub brings : (y : Layout) (held : Option ℕ) (d : Register) (Used : ℕ → Type 0) (w : World) (base : ℕ) (m : State) (a : Operand) → d.number ≢ 0 →
+    d.number ≢ 7 → IsHeld y held w.temps m → Holds y Used w base m → Housed y Used → IsFirst y held Used a →
+    Loads d.number (brought y held d a) m (value_in w.temps a)
+brings y held d Used w base m (Constant k) n seven f p h r = constant-loads d m k n seven r
+brings y held d Used w base m (Temp t) n seven f p h r = either (in_five y held t) refl
+  where
+    either : (b : Bool) → in_five y held t ≡ b → Loads d.number (if b then moved d x5 ∷ [] else taken y d (Temp t)) m (w.temps t)
+    either true e = from-five d m (w.temps t) n (held-is y held t w.temps m f e) (p.words t r.0)
+    either false e = take-operand y d Used w base m (Temp t) n seven p h (r.0, home-unless y held t e r.1)
+
+home-some : (d : Register) (h : Home) → 1 ≤ length (taken_from d h)
+home-some d (homes.Register x) = omega arith
+home-some d (homes.Slot k) = framed-some (λ r offset. Load Ld d r offset) (slot_offset k)
+
+constant-some : (d : Register) (c : ℕ) → 1 ≤ length (constant d c)
+constant-some d c = either (nat_eq (extended_word c) c)
+  where
+    short : (b : Bool) → 1 ≤ length (if b then Addiw d x0 (lower_of c) ∷ [] else Lui d (upper_of c) ∷ Addiw d d (lower_of c) ∷ [])
+    short true = omega arith
+    short false = omega arith
+
+    long : (b : Bool) → 1 ≤ length (if b then in_both d c else in_halves d c)
+    long true = omega (arith, length-append (short_constant d c) (Shift Slli x7 d half ∷ RegisterRegister Add d d x7 ∷ []))
+    long false = omega (arith, length-append (short_constant d (upper_half c)) (Shift Slli d d half ∷ half_added d c))
+
+    either : (b : Bool) → 1 ≤ length (if b then short_constant d c else long_constant d c)
+    either true = short (nat_eq (upper_number c) 0)
+    either false = long (is_twice c)
+
+pub brought-some : (y : Layout) (held : Option ℕ) (d : Register) (a : Operand) → 1 ≤ length (brought y held d a)
+brought-some y held d (Constant c) = constant-some d c
+brought-some y held d (Temp t) = either (in_five y held t)
+  where
+    either : (b : Bool) → 1 ≤ length (if b then moved d x5 ∷ [] else taken y d (Temp t))
+    either true = omega arith
+    either false = home-some d (home_of y t)
+
+pub brought-few : (y : Layout) (held : Option ℕ) (d : Register) (a : Operand) → length (brought y held d a) ≤ 8
+brought-few y held d (Constant k) = constant-count d k
+brought-few y held d (Temp t) = either (in_five y held t)
+  where
+    either : (b : Bool) → length (if b then moved d x5 ∷ [] else taken y d (Temp t)) ≤ 8
+    either true = omega arith
+    either false = taken-count y d (Temp t)
+
+pub brought-count : (y : Layout) (held : Option ℕ) (d : Register) (a : Operand) → length (brought y held d a) ≤ operand_words a
+brought-count y held d (Constant k) = constant-weight d k
+brought-count y held d (Temp t) = either (in_five y held t)
+  where
+    either : (b : Bool) → length (if b then moved d x5 ∷ [] else taken y d (Temp t)) ≤ operand_words (Temp t)
+    either true = omega arith
+    either false = operand-count y d (Temp t)
+
 -- and else as much as for any operand
 first-least : (y : Layout) (held : Option ℕ) (a : Operand) → length (first_taken y held a) ≤ length (taken y x5 a)
 first-least y held (Constant k) = omega arith
-first-least y held (Temp t) = either (is_held held t)
+first-least y held (Temp t) = either (in_five y held t)
   where
     either : (b : Bool) → length (if b then [] else taken y x5 (Temp t)) ≤ length (taken y x5 (Temp t))
     either true = omega arith
@@ -225,6 +321,31 @@ pub record Puts (y : Layout) (base : ℕ) (code : List Instr) (m : State) (h : H
   pub region : after.region ≡ m.region
   pub memory : SameOutside (base + home_first h) (base + home_behind h) m after
   pub straight : AreStraight code
+
+-- The same, of code that may change scratch registers.
+pub record Sets (y : Layout) (base : ℕ) (code : List Instr) (m : State) (h : Home) (v : ℕ) : Type 0 where
+  pub after : State
+  pub goes : acts code m ≡ GoesOn after
+  pub holds : word_at base after h ≡ v
+  pub behind : after.pc ≡ low (m.pc + 4 * length code)
+  pub others : (g : Home) → IsHome y g → (g ≡ h → ⊥) → word_at base after g ≡ word_at base m g
+  pub keeps : (r : ℕ) → r ≢ 5 → r ≢ 6 → r ≢ 7 → (h ≡ homes.Register r → ⊥) → after.registers r ≡ m.registers r
+  pub region : after.region ≡ m.region
+  pub memory : SameOutside (base + home_first h) (base + home_behind h) m after
+  pub straight : AreStraight code
+
+abbrev pub puts-sets : (y : Layout) (base : ℕ) (code : List Instr) (m : State) (h : Home) (v : ℕ) → Puts y base code m h v → Sets y base code m h v
+puts-sets y base code m h v p = record {
+  after = p.after;
+  goes = p.goes;
+  holds = p.holds;
+  behind = p.behind;
+  others = p.others;
+  keeps = λ r five six seven n. p.keeps r seven n;
+  region = p.region;
+  memory = p.memory;
+  straight = p.straight;
+}
 
 to-register : (y : Layout) (base x v : ℕ) (a : Register) (m : State) → 18 ≤ x → x ≤ 27 → value_at m a ≡ v → v < 2 ^ 64 →
     Puts y base (put_from a (homes.Register x)) m (homes.Register x) v

@@ -36,12 +36,12 @@ use Rattle.rv_select.specs.Places.{Holds, Housed, Layout, World, is_near, is_sho
 use Rattle.rv_select.specs.declared.settings.Follows.{Follows}
 use Rattle.rv_select.specs.declared.settings.Follows.TheVariants.{First, Second}
 use Rattle.rv_select.specs.Settings.{falls, follower, is_next}
-use Rattle.rv_select.specs.Shapes.{branched_bytes, chosen, exit_shape, failed, first_taken, jump}
+use Rattle.rv_select.specs.Shapes.{branched_bytes, chosen, exit_shape, failed, first_read, jump, read_in}
 use Rattle.rv_select.specs.Steps.{AreFewer, Comes, ExitsAreCarried, IsReached, Left, Remains, StandsAtExit, world_of}
-use Rattle.rv_select.proofs.Straight.{Loads, Scratch, loads-five}
+use Rattle.rv_select.proofs.Straight.{Scratch}
 use Rattle.rv_select.proofs.Ways.{Near, Way, near-both, near-same, scratch-near, stands-back, stands-front, straight-way}
 use Rattle.rv_select.proofs.Ways.{way-both, way-none}
-use Rattle.rv_select.proofs.Homes.{first-few, take-first}
+use Rattle.rv_select.proofs.Sides.{FirstSide, first-side, read-few}
 use Rattle.rv_select.proofs.Faults.{fails}
 use Rattle.rv_select.proofs.Divisors.{stays}
 use Rattle.rv_select.proofs.Moves.{at-most, fewer-holds}
@@ -289,15 +289,16 @@ carry-branch p code homes held a e f starts s program base m x =
     let fit = both-true (operand_fits code a && edge_fits code e) (edge_fits code f) x.fits in
     let fit-a = both-true (operand_fits code a) (edge_fits code e) fit.0 in
     let h : Housed y used = where-housed p code homes held (Branch a e f) starts s program base m x in
-    let short : length (first_taken y held a) ≤ 16 = omega (arith, first-few y held a) in
+    let short : length (first_read y held a) ≤ 16 = omega (arith, read-few y held a) in
     let reach-e : InReach x.setting.short m.pc (starts e.block) =
     edge-reach code starts m.pc x.setting.short e x.short_is x.reach fit-a.1 in
     let reach-f : InReach x.setting.short m.pc (starts f.block) =
     edge-reach code starts m.pc x.setting.short f x.short_is x.reach fit.1 in
     let near-e = edge-near code starts m.pc x.setting.near e x.near_is x.reach fit-a.1 in
     let near-f = edge-near code starts m.pc x.setting.near f x.near_is x.reach fit.1 in
-    let l : Loads 5 (first_taken y held a) m v =
-    take-first y held used (world_of s) base m a x.five x.holds h
+    let r : Register = read_in y x5 a in
+    let l : FirstSide (first_read y held a) m r v =
+    first-side y held used (world_of s) base m a x.five x.holds h
     (first-read code y held used a fit-a.0 (reads-here p code homes held (Branch a e f) starts s program base m x) x.asked) in
     let o : Follows = follower x.setting.next e.block f.block in
     let C : List Instr = exit_shape y x.setting held m.pc starts (Branch a e f) in
@@ -308,13 +309,13 @@ carry-branch p code homes held a e f starts s program base m x =
     λ q. x.next_there f.block (follower-second x.setting.next e.block f.block q) in
     let first : v ≢ 0 → Comes y program (InUse (graph_of code) e.block 0) (world_of s) base (length C) (starts e.block) [] m =
     λ n. chosen-comes y used (InUse (graph_of code) e.block 0) (world_of s) base (starts e.block) (starts f.block) (starts e.block) (length C)
-    x.setting.near x.setting.short o Ne x5 x0 true (first_taken y held a) program m l.after (loads-five (first_taken y held a) m v l) x.holds h
+    x.setting.near x.setting.short o Ne r x0 true (first_read y held a) program m l.after l.scratch x.holds h
     (next-here p code homes held (Branch a e f) starts s program base m x e.block (λ q g. or-left (q e.block) (q f.block || false) g)) few short
     x.near (x.blocks e.block) (x.blocks f.block) reach-e reach-f near-e near-f first-next second-next x.stands
     (ap (λ q. not (nat_eq q 0)) l.gives ∙ ap not (ne_eqb v 0 n)) refl in
     let second : v ≡ 0 → Comes y program (InUse (graph_of code) f.block 0) (world_of s) base (length C) (starts f.block) [] m =
     λ z. chosen-comes y used (InUse (graph_of code) f.block 0) (world_of s) base (starts e.block) (starts f.block) (starts f.block) (length C)
-    x.setting.near x.setting.short o Ne x5 x0 false (first_taken y held a) program m l.after (loads-five (first_taken y held a) m v l) x.holds h
+    x.setting.near x.setting.short o Ne r x0 false (first_read y held a) program m l.after l.scratch x.holds h
     (next-here p code homes held (Branch a e f) starts s program base m x f.block (λ q g. or-second (q e.block) (q f.block || false) (or-left (q f.block) false g))) few short
     x.near (x.blocks e.block) (x.blocks f.block) reach-e reach-f near-e near-f first-next second-next x.stands
     (ap (λ q. not (nat_eq q 0)) l.gives ∙ ap not (eq-eqb v 0 z)) refl in

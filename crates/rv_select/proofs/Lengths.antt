@@ -1,5 +1,5 @@
 -- Code is as long wherever it, functions and blocks stand.
-use Rattle.std.proofs.Common.{◌≡◌, ℕ, ◌+◌, ◌*◌, Bool, List, [], ◌∷◌, ◌++◌, length, Option, Some, None, refl, sym, ap, ◌∙◌, arith}
+use Rattle.std.proofs.Common.{◌≡◌, ℕ, ◌+◌, ◌*◌, List, [], ◌∷◌, ◌++◌, length, Option, Some, None, refl, sym, ap, ◌∙◌, arith}
 use Rattle.std.proofs.lemmas.List.{length-append}
 use Rattle.tl_base.specs.declared.ids.FnId.{FnId}
 use Rattle.rv_isa.specs.declared.instr.Instr.{Instr}
@@ -17,7 +17,7 @@ use Rattle.rv_operators.specs.Codes.{x0, x5}
 use Rattle.rv_select.specs.Compared.{condition_of, first_register, left_of, operands_taken, right_of, second_register}
 use Rattle.rv_select.specs.Pairs.{pair_of, plain_of}
 use Rattle.rv_select.specs.Places.{Layout}
-use Rattle.rv_select.specs.Shapes.{first_taken, held_after}
+use Rattle.rv_select.specs.Shapes.{first_read, held_after, read_in}
 use Rattle.rv_select.specs.Calls.{block_code, blocks_code, call_begun, call_ended, call_jump, end_code, exit_code, held_behind}
 use Rattle.rv_select.specs.Calls.{instruction_code, instructions_code, pair_code, part_given}
 use Rattle.rv_select.proofs.Jumps.{chosen-count, edge-count, last-count}
@@ -57,9 +57,9 @@ exit-length y setting held at other last final starts others (Jump e) =
     edge-count b setting.short at (starts e.block) ∙ sym (edge-count b setting.short other (others e.block))
 exit-length y setting held at other last final starts others (Branch a e f) =
     let o = follower setting.next e.block f.block in
-    same-behind (first_taken y held a) _ _
-    (chosen-count setting.near setting.short o Ne x5 x0 (at + 4 * length (first_taken y held a)) (starts e.block) (starts f.block)
-    ∙ sym (chosen-count setting.near setting.short o Ne x5 x0 (other + 4 * length (first_taken y held a)) (others e.block) (others f.block)))
+    same-behind (first_read y held a) _ _
+    (chosen-count setting.near setting.short o Ne (read_in y x5 a) x0 (at + 4 * length (first_read y held a)) (starts e.block) (starts f.block)
+    ∙ sym (chosen-count setting.near setting.short o Ne (read_in y x5 a) x0 (other + 4 * length (first_read y held a)) (others e.block) (others f.block)))
 exit-length y setting held at other last final starts others (Fail kind place) = refl
 
 pub end-length : (y : Layout) (setting : Setting) (held : Option ℕ) (at other last final : ℕ) (starts others : ℕ → ℕ) (o : Option Pair) (e : Exit) →
@@ -68,8 +68,8 @@ unfolding pair_code
 end-length y setting held at other last final starts others None e = exit-length y setting held at other last final starts others e
 end-length y setting held at other last final starts others (Some pair) e =
     let T = operands_taken y held pair.a pair.b in
-    let l = left_of pair.operator (first_register held pair.a pair.b) (second_register held pair.a pair.b) in
-    let r = right_of pair.operator (first_register held pair.a pair.b) (second_register held pair.a pair.b) in
+    let l = left_of pair.operator (first_register y held pair.a pair.b) (second_register y held pair.a pair.b) in
+    let r = right_of pair.operator (first_register y held pair.a pair.b) (second_register y held pair.a pair.b) in
     let c = condition_of pair.form.signed pair.operator in
     let o = follower setting.next pair.first.block pair.second.block in
     same-behind T _ _

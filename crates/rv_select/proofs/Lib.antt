@@ -12,6 +12,8 @@ pub mod Claims
 pub mod Sequences
 pub mod Holding
 pub mod Moves
+pub mod Sides
+pub mod Operating
 pub mod Faults
 pub mod Divisors
 pub mod Regions
@@ -56,7 +58,6 @@ pub mod Copies
 pub mod Returns
 pub mod Entrances
 pub mod Within
-pub mod Sides
 pub mod Compares
 pub mod Weighed
 pub mod Reached

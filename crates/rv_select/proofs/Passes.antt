@@ -14,7 +14,6 @@ use Rattle.reg_alloc.specs.declared.assignment.Home.{Home}
 use Rattle.reg_alloc.specs.declared.assignment.Home.TheVariants as homes
 use Rattle.terra_memory.specs.Numbers.{low_bytes, number_of, overwritten}
 use Rattle.tac_form.specs.declared.tac.Operand.{Operand}
-use Rattle.tac_form.specs.declared.tac.Operand.TheVariants as operands
 use Rattle.tac_form.specs.declared.tac.Part.{Part}
 use Rattle.tac_form.specs.declared.tac.Part.TheVariants as parts
 use Rattle.rv_machine.specs.Word.{low, word, extended_word}
@@ -26,18 +25,18 @@ use Rattle.rv_operators.proofs.Runs.{straight-both}
 use Rattle.rv_select.specs.Numbers.{below_zero, lower_of, upper_of}
 use Rattle.rv_select.specs.Places.{AreBytes, Holds, Housed, IsFirst, IsHeld, IsHome, Layout, World, area_offset, frame_bytes, home_of}
 use Rattle.rv_select.specs.Places.{private_word, slot_offset, value_in, word_at}
-use Rattle.rv_select.specs.Shapes.{far_part, is_held, moved, taken, x2, x7, x10}
+use Rattle.rv_select.specs.Shapes.{far_part, x2, x7, x10}
 use Rattle.rv_select.specs.Entering.{stored_below}
 use Rattle.rv_select.specs.Calls.{part_given, part_taken, passed, word_given, part_passed}
 pub use Rattle.rv_select.specs.Frames.{ArePassed, IsPartFirst, IsPartRead, part_value}
 use Rattle.rv_select.proofs.Areas.{Saves, area-near}
 use Rattle.rv_select.proofs.Bytes.{other-than-word, stored-length, stored-word}
 use Rattle.rv_select.proofs.Frames.{framed-address, framed-count}
-use Rattle.rv_select.proofs.Homes.{from-five, held-is, region-small, take-operand, taken-count, word_stored, first-few, take-first}
+use Rattle.rv_select.proofs.Homes.{brings, brought-few, region-small, take-operand, taken-count, word_stored, first-few, take-first}
 use Rattle.rv_select.proofs.Moves.{near-holds, first-small}
 use Rattle.rv_select.proofs.Jumps.{sum-of}
 use Rattle.rv_select.proofs.Kept.{store-word}
-use Rattle.rv_select.proofs.Numbers.{below-is, constant-count, constant-loads}
+use Rattle.rv_select.proofs.Numbers.{below-is}
 use Rattle.rv_select.proofs.Straight.{Loads, behind-both, goes-both, loads-both, loads-five, loads-one, low-below, low-first}
 use Rattle.rv_select.proofs.Straight.{register-value}
 use Rattle.rv_select.proofs.Ways.{Near, Way, near-same, scratch-near, stands-back, stands-front, straight-way, way-both, way-none}
@@ -188,32 +187,18 @@ part-count y d (parts.Word a) = taken-count y d a
 part-count y d (parts.Area n) = omega (arith, framed-count (λ r far. RegisterImmediate Addi d r far) (area_offset y n + 0))
 
 -- What is given back goes to x10, and x5 may hold its word.
-word-goes : (y : Layout) (held : Option ℕ) (Used : ℕ → Type 0) (w : World) (base : ℕ) (m : State) (a : Operand) → IsHeld held w.temps m →
+word-goes : (y : Layout) (held : Option ℕ) (Used : ℕ → Type 0) (w : World) (base : ℕ) (m : State) (a : Operand) → IsHeld y held w.temps m →
     Holds y Used w base m → Housed y Used → IsFirst y held Used a → Loads 10 (word_given y held a) m (value_in w.temps a)
-word-goes y held Used w base m (operands.Constant k) f p h r =
-    constant-loads x10 m k (λ z. omega (arith, z)) (λ z. omega (arith, z)) r
-word-goes y held Used w base m (operands.Temp t) f p h r = either (is_held held t) refl
-  where
-    either : (b : Bool) → is_held held t ≡ b →
-        Loads 10 (if b then moved x10 x5 ∷ [] else taken y x10 (operands.Temp t)) m (w.temps t)
-    either true e = from-five x10 m (w.temps t) (λ z. omega (arith, z)) (held-is held t w.temps m f e) (p.words t r.0)
-    either false e =
-        take-operand y x10 Used w base m (operands.Temp t) (λ z. omega (arith, z)) (λ z. omega (arith, z)) p h
-        (r.0, ⊎_elim (λ g. let no : true ≡ false = sym g ∙ e in cc) (λ o. o) r.1)
+word-goes y held Used w base m a f p h r = brings y held x10 Used w base m a (λ z. omega (arith, z)) (λ z. omega (arith, z)) f p h r
 
-pub give-part : (y : Layout) (held : Option ℕ) (Used : ℕ → Type 0) (w : World) (base : ℕ) (m : State) (p : Part) → IsHeld held w.temps m →
+pub give-part : (y : Layout) (held : Option ℕ) (Used : ℕ → Type 0) (w : World) (base : ℕ) (m : State) (p : Part) → IsHeld y held w.temps m →
     Holds y Used w base m → Housed y Used → IsPartFirst y held Used p → Loads 10 (part_given y held p) m (part_value y base w p)
 give-part y held Used w base m (parts.Word a) f p h r = word-goes y held Used w base m a f p h r
 give-part y held Used w base m (parts.Area k) f p h r =
     take-part y x10 Used w base m (parts.Area k) (λ z. omega (arith, z)) (λ z. omega (arith, z)) p h r
 
 word-count : (y : Layout) (held : Option ℕ) (a : Operand) → length (word_given y held a) ≤ 8
-word-count y held (operands.Constant k) = constant-count x10 k
-word-count y held (operands.Temp t) = either (is_held held t)
-  where
-    either : (b : Bool) → length (if b then moved x10 x5 ∷ [] else taken y x10 (operands.Temp t)) ≤ 8
-    either true = omega arith
-    either false = taken-count y x10 (operands.Temp t)
+word-count y held a = brought-few y held x10 a
 
 pub given-count : (y : Layout) (held : Option ℕ) (p : Part) → length (part_given y held p) ≤ 8
 given-count y held (parts.Word a) = word-count y held a
@@ -221,7 +206,7 @@ given-count y held (parts.Area n) = part-count y x10 (parts.Area n)
 
 -- what is passed, where x5 may hold it
 pub take-first-part : (y : Layout) (held : Option ℕ) (Used : ℕ → Type 0) (w : World) (base : ℕ) (m : State) (p : Part) →
-    IsHeld held w.temps m → Holds y Used w base m → Housed y Used → IsPartFirst y held Used p →
+    IsHeld y held w.temps m → Holds y Used w base m → Housed y Used → IsPartFirst y held Used p →
     Loads 5 (part_passed y held p) m (part_value y base w p)
 take-first-part y held Used w base m (parts.Word a) f p h r = take-first y held Used w base m a f p h r
 take-first-part y held Used w base m (parts.Area k) f p h r =
@@ -282,7 +267,7 @@ parts-small y held Used w base m (q ∷ ps) h r zero p e =
 parts-small y held Used w base m (q ∷ ps) h r (suc k) p e = parts-small y None Used w base m ps h r.1 k p e
 
 pub passes : (y : Layout) (held : Option ℕ) (Used : ℕ → Type 0) (w : World) (base : ℕ) (program : List (Option Instr)) (i : ℕ) (ps : List Part)
-    (rest : List Instr) (m : State) → Stands program m.pc (passed y held i ps ++ rest) → IsHeld held w.temps m → Holds y Used w base m →
+    (rest : List Instr) (m : State) → Stands program m.pc (passed y held i ps ++ rest) → IsHeld y held w.temps m → Holds y Used w base m →
     Housed y Used → ArePassed y held Used ps → 8 * (i + length ps) ≤ base → PassedParts y held base i ps w program rest m
 passes y held Used w base program i [] rest m there f p h reads room = record {
   after = m;

@@ -1,5 +1,5 @@
 -- How the pointer of the frame goes down and up.
-use Rattle.std.proofs.Common.{◌≡◌, ◌≢◌, ℕ, suc, ◌+◌, ◌-◌, ◌^◌, ◌<◌, ◌≤◌, Bool, true, false, List, [], ◌∷◌, ◌++◌, length, sym, ap, ◌∙◌}
+use Rattle.std.proofs.Common.{◌≡◌, ℕ, suc, ◌+◌, ◌-◌, ◌^◌, ◌<◌, ◌≤◌, Bool, true, false, List, [], ◌∷◌, ◌++◌, length, sym, ap, ◌∙◌}
 use Rattle.std.proofs.Common.{subst, ⊎_elim, refl, arith}
 use Rattle.std.specs.Prelude.{if◌then◌else◌, nat_le}
 use Rattle.std.proofs.lemmas.Bool.{cases_lt, le-leb, lt-leb}
@@ -8,14 +8,14 @@ use Rattle.rv_isa.specs.declared.instr.Instr.{Instr}
 use Rattle.rv_isa.specs.declared.instr.Instr.TheVariants.{RegisterImmediate, RegisterRegister}
 use Rattle.rv_isa.specs.declared.operation.ImmediateOp.TheVariants.{Addi}
 use Rattle.rv_isa.specs.declared.operation.RegisterOp.TheVariants.{Add, Sub}
-use Rattle.rv_machine.specs.Word.{low, difference, word}
+use Rattle.rv_machine.specs.Word.{low, difference}
 use Rattle.rv_machine.specs.Machine.{State, GoesOn, at_with}
 use Rattle.rv_select.specs.Numbers.{below_zero, immediate_of, short_constant}
 use Rattle.rv_select.specs.Shapes.{x2, x7}
 use Rattle.rv_select.specs.Entering.{pointer_down, pointer_up}
 use Rattle.rv_select.proofs.Allocs.{less}
 use Rattle.rv_select.proofs.Numbers.{below-is, extended-small, immediate-is, short-count, short-loads}
-use Rattle.rv_select.proofs.Straight.{Loads, Scratch, loads-one, then-loads}
+use Rattle.rv_select.proofs.Straight.{Loads, loads-one, then-loads}
 
 down-near : (x top bytes : ℕ) → x ≡ 2 ^ 32 + top → 1 ≤ bytes → bytes ≤ 2048 → bytes ≤ top → top < 2 ^ 30 →
     low (x + (2 ^ 64 - suc (bytes - 1))) ≡ 2 ^ 32 + (top - bytes)

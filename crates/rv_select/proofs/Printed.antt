@@ -150,7 +150,7 @@ module _ (program : List (Option Instr)) (t : State) (base v : ℕ) (five : t.re
   byte-goes = (s8, byte-out, byte-calm, pc-eight t.pc)
 
 -- an operand's byte goes to x5
-byte-loads : (y : Layout) (held : Option ℕ) (Used : ℕ → Type 0) (w : World) (base : ℕ) (m : State) (a : Operand) → IsHeld held w.temps m →
+byte-loads : (y : Layout) (held : Option ℕ) (Used : ℕ → Type 0) (w : World) (base : ℕ) (m : State) (a : Operand) → IsHeld y held w.temps m →
     Holds y Used w base m → Housed y Used → IsFirst y held Used a → (v : ℕ) × Loads 5 (byte_taken y held a) m v × (v % 256 ≡ value_in w.temps a % 256)
 byte-loads y held Used w base m (Temp t) f p h r = (w.temps t, take-first y held Used w base m (Temp t) f p h r, refl)
 byte-loads y held Used w base m (Constant c) f p h r =
@@ -184,7 +184,7 @@ byte-comes y Used Next w base v x A program m l p h f same stands =
     (near-calm m t (scratch-near A m t (loads-five A m v l))) l.behind same g.1 g.2 g.3
 
 pub byte-puts : (y : Layout) (held : Option ℕ) (a : Operand) (Used Next : ℕ → Type 0) (w : World) (base : ℕ) (program : List (Option Instr)) (m : State) →
-    Stands program m.pc (byte_put y held a) → IsHeld held w.temps m → Holds y Used w base m → Housed y Used → IsFirst y held Used a → AreFewer Used Next →
+    Stands program m.pc (byte_put y held a) → IsHeld y held w.temps m → Holds y Used w base m → Housed y Used → IsFirst y held Used a → AreFewer Used Next →
     Comes y program Next w base (length (byte_put y held a)) (behind m (byte_put y held a)) (value_in w.temps a % 256 ∷ []) m
 byte-puts y held a Used Next w base program m stands five p h r f =
     let g = byte-loads y held Used w base m a five p h r in

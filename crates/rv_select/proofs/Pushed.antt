@@ -42,6 +42,15 @@ pub turn : {A E : Type 0} (r : Result A E) (old mid new : List ℕ) (a b whole :
 turn (Ok x) old mid new a b whole w e g = behind old mid new a b e g ∙ ap (λ z. old ++ map word_of z) (sym w)
 turn (Err x) old mid new a b whole w e g = g
 
+-- code of a register that is known by another name
+pub read-at : {A E : Type 0} (r : Result A E) (old new : List ℕ) (f : Register → List Instr) (x y : Register) → x ≡ y →
+    OnOk r (new ≡ old ++ map word_of (f x)) → OnOk r (new ≡ old ++ map word_of (f y))
+read-at r old new f x y e h = subst (λ z. OnOk r (new ≡ old ++ map word_of (f z))) e h
+
+-- what is said of a register, of one with the same number
+pub register-as : {A : Type 0} (f : Register → A) (x : A) (r s : Register) → x ≡ f r → r.number ≡ s.number → x ≡ f s
+register-as f x r s e n = e ∙ ap f (register_same r s n)
+
 pub saved-more : (y : Layout) (n x : ℕ) → n ≢ 0 → saved y n x ≡ saved_one y x ++ saved y (n - 1) (x + 1)
 saved-more y zero x h = absurd (h refl)
 saved-more y (suc n) x h = let e : n ≡ suc n - 1 = omega arith in ap (λ k. saved_one y x ++ saved y k (x + 1)) e

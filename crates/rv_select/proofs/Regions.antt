@@ -1,5 +1,5 @@
 -- Loads from the region and stores to it.
-use Rattle.std.proofs.Common.{◌≡◌, ℕ, zero, suc, ◌+◌, ◌-◌, ◌*◌, ◌^◌, ◌<◌, ◌≤◌, true, false, not, List, ◌∷◌, ◌++◌, length, take, drop}
+use Rattle.std.proofs.Common.{◌≡◌, ◌≢◌, ℕ, zero, suc, ◌+◌, ◌-◌, ◌*◌, ◌^◌, ◌<◌, ◌≤◌, true, false, not, List, [], ◌∷◌, ◌++◌, length, take, drop}
 use Rattle.std.proofs.Common.{Option, Some, None, refl, sym, ap, ◌∙◌, subst, ⊎_elim, inl, inr, arith}
 use Rattle.std.specs.Prelude.{if◌then◌else◌, nat_le, nat_lt, ◌⊎◌, ◌&&◌}
 use Rattle.std.proofs.lemmas.Bool.{cases_lt, le-leb, lt-leb, le-ltb, lt-ltb}
@@ -10,44 +10,46 @@ use Rattle.rv_isa.specs.declared.instr.Instr.TheVariants.{Branch, Load, Register
 use Rattle.rv_isa.specs.declared.operation.ImmediateOp.TheVariants.{Addi}
 use Rattle.rv_isa.specs.declared.operation.BranchCondition.TheVariants.{Geu, Ltu}
 use Rattle.rv_machine.specs.declared.memory.Place.TheVariants.{Region}
+use Rattle.rv_isa.specs.declared.operand.Register.{Register}
 use Rattle.rv_machine.specs.Word.{low}
 use Rattle.rv_machine.specs.Memory.{load_value, load_width, offset_in, place_in, place_of}
-use Rattle.rv_machine.specs.Machine.{State, GoesOn, act, at_with, loads, loads_from}
+use Rattle.rv_machine.specs.Machine.{State, GoesOn, act, at_with, loads, loads_from, value_at}
 use Rattle.terra_memory.specs.Numbers.{number_of, part}
 use Rattle.terra_memory.specs.Region.{Contents, end_address, first_address, is_inside, range_of}
 use Rattle.terra_words.specs.declared.words.FaultKind.TheVariants.{BadAddress}
 use Rattle.terra_words.specs.Words.{wrapped}
 use Rattle.tac_form.specs.declared.tac.Number.{Number}
-use Rattle.tac_form.specs.declared.tac.Operand.{Operand}
 use Rattle.tac_form.specs.declared.tac.Address.TheVariants.{Word, Frame}
 use Rattle.tac_form.specs.Flow.{bytes_of, width_of}
 use Rattle.rv_operators.specs.Codes.{x5, x6, zero_immediate}
 use Rattle.rv_operators.specs.Runs.{Stands}
-use Rattle.rv_select.specs.Places.{AreBytes, World, Holds, Housed, IsFirst, IsHeld, Layout, value_in}
+use Rattle.rv_operators.proofs.Sequences.{read-elsewhere}
+use Rattle.rv_select.specs.Places.{AreBytes, World, Holds, Housed, Layout, value_in}
 use Rattle.rv_select.specs.Numbers.{below_zero}
 use Rattle.rv_select.specs.Shapes as shapes
-use Rattle.rv_select.specs.Shapes.{bounds_tested, failed, first_taken, load_of, loaded, located, offset_of, over, put_at, reached, store_of}
-use Rattle.rv_select.specs.Shapes.{stored, x4}
+use Rattle.rv_select.specs.Shapes.{bounds_tested, failed, first_read, load_of, located, offset_of, over, put_behind, read_in, result_in, x4}
 use Rattle.rv_select.specs.Steps.{Ends, Follows, IsPlace, behind, with_temp}
-use Rattle.rv_select.proofs.Straight.{Loads, behind-both, loads-five, low-below, low-small, written-elsewhere, written-there}
+use Rattle.rv_select.proofs.Straight.{Loads, behind-both, loads-five, loads-one, low-below, low-small, written-elsewhere}
 use Rattle.rv_select.proofs.Numbers.{below-is}
 use Rattle.rv_select.proofs.Ways.{Near, Way, at_pc, near-both, near-pc, scratch-near, stands-back, stands-front, step-way, straight-way}
 use Rattle.rv_select.proofs.Ways.{way-both}
-use Rattle.rv_select.proofs.Homes.{take-first}
+use Rattle.rv_select.proofs.Operating.{gives-later, loads-computed, result-number, result-put}
+use Rattle.rv_select.proofs.Sides.{FirstSide, first-side}
 use Rattle.rv_select.proofs.Words.{load-bytes, load-is, size-range, take-bytes, drop-bytes}
 use Rattle.rv_select.proofs.Claims.{Gives, RegionLoadsAreCarried}
 use Rattle.rv_select.proofs.Small.{wrapped-small}
-use Rattle.rv_select.proofs.Moves.{first-small, then-put, wide-size}
+use Rattle.rv_select.proofs.Moves.{first-small, near-holds, wide-size}
 use Rattle.rv_select.proofs.Faults.{branch-way, failed-count, fails, later-ends}
 use Rattle.rv_select.proofs.Divisors.{located-loads}
 
--- Code after which an address stands in x5.
-pub record Reached (program : List (Option Instr)) (code : List Instr) (m : State) (address : ℕ) : Type 0 where
+-- Code after which an address stands in a register.
+pub record Reached (program : List (Option Instr)) (r : Register) (code : List Instr) (m : State) (address : ℕ) : Type 0 where
   pub steps : ℕ
   pub after : State
   pub way : Way program steps m after
   pub near : Near m after
-  pub five : after.registers 5 ≡ address
+  pub gives : value_at after r ≡ address
+  pub apart : (r.number ≢ 6) × (r.number ≢ 7)
   pub pc : after.pc ≡ low (m.pc + 4 * length code)
   pub few : steps ≤ length code
 
@@ -67,9 +69,9 @@ unfolding low
 pc-all p n = omega arith
 
 -- The states of the test, with the code behind it.
-module _ (program : List (Option Instr)) (m : State) (at : Place) (F : List Instr) (v end size : ℕ) (five : m.registers 5 ≡ v) (four : m.registers 4 ≡ end)
+module _ (program : List (Option Instr)) (m : State) (at : Place) (F : List Instr) (a : Register) (apart : (a.number ≢ 6) × (a.number ≢ 7)) (v end size : ℕ) (here : value_at m a ≡ v) (four : m.registers 4 ≡ end)
     (small : end < 2 ^ 64) (some : 1 ≤ size) (few : size ≤ 128) (room : size ≤ end) (short : length F ≤ 11)
-    (there : Stands program m.pc (shapes.first_address ∷ Branch Ltu x5 x6 (offset_of 12) ∷ RegisterImmediate Addi x6 x4 (below_zero (size - 1)) ∷ Branch Geu x6 x5 (over F) ∷ F)) where
+    (there : Stands program m.pc (shapes.first_address ∷ Branch Ltu a x6 (offset_of 12) ∷ RegisterImmediate Addi x6 x4 (below_zero (size - 1)) ∷ Branch Geu x6 a (over F) ∷ F)) where
   abbrev one : State
   one = at_with m (low (m.pc + 4)) 6 (2 ^ 30)
 
@@ -88,18 +90,24 @@ module _ (program : List (Option Instr)) (m : State) (at : Place) (F : List Inst
   abbrev high_fails : State
   high_fails = at_pc three (low (three.pc + 4))
 
+  here-one : value_at one a ≡ v
+  here-one = read-elsewhere m one a (written-elsewhere m.registers 6 (2 ^ 30) a.number apart.0) ∙ here
+
+  here-three : value_at three a ≡ v
+  here-three = read-elsewhere two three a (written-elsewhere two.registers 6 (end - size) a.number apart.0) ∙ here-one
+
   to-one : Way program 1 m one
   to-one = step-way program shapes.first_address m one there.0 refl
 
   to-low : v < 2 ^ 30 → Way program 2 m low_fails
   to-low h =
       way-both program 1 1 m one low_fails to-one
-      (branch-way program Ltu x5 x6 12 one true (omega arith) (omega arith) there.1.0 (ap (λ x. nat_lt x (2 ^ 30)) five ∙ lt-ltb v (2 ^ 30) h))
+      (branch-way program Ltu a x6 12 one true (omega arith) (omega arith) there.1.0 (ap (λ x. nat_lt x (2 ^ 30)) here-one ∙ lt-ltb v (2 ^ 30) h))
 
   to-two : 2 ^ 30 ≤ v → Way program 2 m two
   to-two h =
       way-both program 1 1 m one two to-one
-      (branch-way program Ltu x5 x6 12 one false (omega arith) (omega arith) there.1.0 (ap (λ x. nat_lt x (2 ^ 30)) five ∙ le-ltb v (2 ^ 30) h))
+      (branch-way program Ltu a x6 12 one false (omega arith) (omega arith) there.1.0 (ap (λ x. nat_lt x (2 ^ 30)) here-one ∙ le-ltb v (2 ^ 30) h))
 
   to-three : 2 ^ 30 ≤ v → Way program 3 m three
   to-three h =
@@ -112,14 +120,14 @@ module _ (program : List (Option Instr)) (m : State) (at : Place) (F : List Inst
   to-past : 2 ^ 30 ≤ v → v + size ≤ end → Way program 4 m past
   to-past h k =
       way-both program 3 1 m three past (to-three h)
-      (branch-way program Geu x6 x5 (4 * (length F + 1)) three true (omega arith) (omega arith) there.1.1.1.0
-      (ap (λ x. not (nat_lt (end - size) x)) five ∙ ap not (le-ltb (end - size) v (omega arith))))
+      (branch-way program Geu x6 a (4 * (length F + 1)) three true (omega arith) (omega arith) there.1.1.1.0
+      (ap (λ x. not (nat_lt (end - size) x)) here-three ∙ ap not (le-ltb (end - size) v (omega arith))))
 
   to-high : 2 ^ 30 ≤ v → end < v + size → Way program 4 m high_fails
   to-high h k =
       way-both program 3 1 m three high_fails (to-three h)
-      (branch-way program Geu x6 x5 (4 * (length F + 1)) three false (omega arith) (omega arith) there.1.1.1.0
-      (ap (λ x. not (nat_lt (end - size) x)) five ∙ ap not (lt-ltb (end - size) v (omega arith))))
+      (branch-way program Geu x6 a (4 * (length F + 1)) three false (omega arith) (omega arith) there.1.1.1.0
+      (ap (λ x. not (nat_lt (end - size) x)) here-three ∙ ap not (lt-ltb (end - size) v (omega arith))))
 
   past-near : Near m past
   past-near =
@@ -128,13 +136,14 @@ module _ (program : List (Option Instr)) (m : State) (at : Place) (F : List Inst
       (near-pc three (low (three.pc + 4 * (length F + 1))))
 
   passes : 2 ^ 30 ≤ v → v + size ≤ end →
-      Reached program (shapes.first_address ∷ Branch Ltu x5 x6 (offset_of 12) ∷ RegisterImmediate Addi x6 x4 (below_zero (size - 1)) ∷ Branch Geu x6 x5 (over F) ∷ F) m v
+      Reached program a (shapes.first_address ∷ Branch Ltu a x6 (offset_of 12) ∷ RegisterImmediate Addi x6 x4 (below_zero (size - 1)) ∷ Branch Geu x6 a (over F) ∷ F) m v
   passes h k = record {
     steps = 4;
     after = past;
     way = to-past h k;
     near = past-near;
-    five = five;
+    gives = here-three;
+    apart = apart;
     pc = pc-all m.pc (length F);
     few = omega arith;
   }
@@ -161,56 +170,49 @@ end-small y Used w base m h =
     (omega arith, omega arith)
 
 -- first one piece of code, and then another
-pub reached-both : (program : List (Option Instr)) (a b : List Instr) (m n : State) (v : ℕ) → Way program (length a) m n → Near m n → n.pc ≡ low (m.pc + 4 * length a) →
-    Reached program b n v → Reached program (a ++ b) m v
-reached-both program a b m n v way near pc r = record {
-  steps = length a + r.steps;
-  after = r.after;
-  way = way-both program (length a) r.steps m n r.after way r.way;
-  near = near-both m n r.after near r.near;
-  five = r.five;
-  pc = behind-both a b m.pc n.pc r.after.pc pc r.pc;
-  few = omega (arith, r.few, length-append a b);
+pub reached-both : (program : List (Option Instr)) (r : Register) (a b : List Instr) (m n : State) (v : ℕ) → Way program (length a) m n → Near m n → n.pc ≡ low (m.pc + 4 * length a) →
+    Reached program r b n v → Reached program r (a ++ b) m v
+reached-both program r a b m n v way near pc k = record {
+  steps = length a + k.steps;
+  after = k.after;
+  way = way-both program (length a) k.steps m n k.after way k.way;
+  near = near-both m n k.after near k.near;
+  gives = k.gives;
+  apart = k.apart;
+  pc = behind-both a b m.pc n.pc k.after.pc pc k.pc;
+  few = omega (arith, k.few, length-append a b);
 }
 
 -- an address in a word, with its test
-module _ (y : Layout) (held : Option ℕ) (Used : ℕ → Type 0) (w : World) (base : ℕ) (program : List (Option Instr)) (m : State) (at : Place) (a : Operand) (size : ℕ)
-    (f : IsHeld held w.temps m) (p : Holds y Used w base m) (h : Housed y Used) (r : IsFirst y held Used a) (some : 1 ≤ size) (few : size ≤ 128)
-    (there : Stands program m.pc (first_taken y held a ++ bounds_tested at size)) where
-  taken-load : Loads 5 (first_taken y held a) m (value_in w.temps a)
-  taken-load = take-first y held Used w base m a f p h r
+module _ (y : Layout) (Used : ℕ → Type 0) (w : World) (base : ℕ) (program : List (Option Instr)) (m : State) (at : Place) (A : List Instr) (r : Register) (v size : ℕ)
+    (l : FirstSide A m r v) (p : Holds y Used w base m) (some : 1 ≤ size) (few : size ≤ 128) (there : Stands program m.pc (A ++ bounds_tested r at size)) where
+  taken-way : Way program (length A) m l.after
+  taken-way = straight-way program A m l.after (stands-front program m.pc A (bounds_tested r at size) there) l.scratch.straight l.scratch.goes
 
-  taken-way : (l : Loads 5 (first_taken y held a) m (value_in w.temps a)) → Way program (length (first_taken y held a)) m l.after
-  taken-way l = straight-way program (first_taken y held a) m l.after (stands-front program m.pc (first_taken y held a) (bounds_tested at size) there) l.straight l.goes
+  taken-rest : Stands program l.after.pc (bounds_tested r at size)
+  taken-rest = subst (λ q. Stands program q (bounds_tested r at size)) (sym l.scratch.behind) (stands-back program m.pc A (bounds_tested r at size) p.pc there)
 
-  taken-rest : (l : Loads 5 (first_taken y held a) m (value_in w.temps a)) → Stands program l.after.pc (bounds_tested at size)
-  taken-rest l = subst (λ q. Stands program q (bounds_tested at size)) (sym l.behind) (stands-back program m.pc (first_taken y held a) (bounds_tested at size) p.pc there)
+  taken-four : l.after.registers 4 ≡ end_address w.region
+  taken-four = l.scratch.keeps 4 (λ e. omega (arith, e)) (λ e. omega (arith, e)) (λ e. omega (arith, e)) ∙ p.limit
 
-  taken-four : (l : Loads 5 (first_taken y held a) m (value_in w.temps a)) → l.after.registers 4 ≡ end_address w.region
-  taken-four l = l.keeps 4 (λ e. omega (arith, e)) (λ e. omega (arith, e)) ∙ p.limit
-
-  pub word-inside : first_address ≤ value_in w.temps a → value_in w.temps a + size ≤ end_address w.region → Reached program (first_taken y held a ++ bounds_tested at size) m (value_in w.temps a)
+  pub word-inside : first_address ≤ v → v + size ≤ end_address w.region → Reached program r (A ++ bounds_tested r at size) m v
   word-inside i j =
-      let l : Loads 5 (first_taken y held a) m (value_in w.temps a) = taken-load in
       let e = end-small y Used w base m p in
-      reached-both program (first_taken y held a) (bounds_tested at size) m l.after (value_in w.temps a) (taken-way l)
-      (scratch-near (first_taken y held a) m l.after (loads-five (first_taken y held a) m (value_in w.temps a) l)) l.behind
-      (passes program l.after at (failed BadAddress at) (value_in w.temps a) (end_address w.region) size l.gives (taken-four l) e.0 some few (omega (arith, e.1))
-      (failed-count BadAddress at) (taken-rest l) i j)
+      reached-both program r A (bounds_tested r at size) m l.after v taken-way (scratch-near A m l.after l.scratch) l.scratch.behind
+      (passes program l.after at (failed BadAddress at) r l.apart v (end_address w.region) size l.gives taken-four e.0 some few (omega (arith, e.1))
+      (failed-count BadAddress at) taken-rest i j)
 
-  pub word-outside : IsPlace at → (value_in w.temps a < first_address) ⊎ ((first_address ≤ value_in w.temps a) × (end_address w.region < value_in w.temps a + size)) →
-      Ends program BadAddress at (length (first_taken y held a ++ bounds_tested at size)) m
+  pub word-outside : IsPlace at → (v < first_address) ⊎ ((first_address ≤ v) × (end_address w.region < v + size)) →
+      Ends program BadAddress at (length (A ++ bounds_tested r at size)) m
   word-outside place o =
-      let l : Loads 5 (first_taken y held a) m (value_in w.temps a) = taken-load in
       let e = end-small y Used w base m p in
-      later-ends program BadAddress at (length (first_taken y held a)) (length (bounds_tested at size))
-      (length (first_taken y held a ++ bounds_tested at size)) m l.after (taken-way l)
-      (outside program l.after at (failed BadAddress at) (value_in w.temps a) (end_address w.region) size l.gives (taken-four l) e.0 some few (omega (arith, e.1))
-      (failed-count BadAddress at) (taken-rest l) refl place o) (omega (arith, length-append (first_taken y held a) (bounds_tested at size)))
+      later-ends program BadAddress at (length A) (length (bounds_tested r at size)) (length (A ++ bounds_tested r at size)) m l.after taken-way
+      (outside program l.after at (failed BadAddress at) r l.apart v (end_address w.region) size l.gives taken-four e.0 some few (omega (arith, e.1))
+      (failed-count BadAddress at) taken-rest refl place o) (omega (arith, length-append A (bounds_tested r at size)))
 
 -- an address of the frame
 pub frame-reached : (y : Layout) (Used : ℕ → Type 0) (w : World) (base : ℕ) (program : List (Option Instr)) (m : State) (offset : ℕ) → Holds y Used w base m → w.placed + offset < 2 ^ 64 →
-    Stands program m.pc (located offset) → Reached program (located offset) m (w.placed + offset)
+    Stands program m.pc (located offset) → Reached program x5 (located offset) m (w.placed + offset)
 frame-reached y Used w base program m offset p small there =
     let l : Loads 5 (located offset) m (w.placed + offset) = located-loads m w.placed offset p.placed small in
     record {
@@ -218,7 +220,8 @@ frame-reached y Used w base program m offset p small there =
       after = l.after;
       way = straight-way program (located offset) m l.after there l.straight l.goes;
       near = scratch-near (located offset) m l.after (loads-five (located offset) m (w.placed + offset) l);
-      five = l.gives;
+      gives = l.gives;
+      apart = (λ e. omega (arith, e), λ e. omega (arith, e));
       pc = l.behind;
       few = omega arith;
     }
@@ -241,55 +244,51 @@ accessed r a size = part r.bytes (a - first_address) size
 accessed-count : (r : Contents) (a size : ℕ) → first_address ≤ a → a + size ≤ end_address r → length (accessed r a size) ≡ size
 accessed-count r a size h k = length-take-le size (drop (a - first_address) r.bytes) (omega (arith, length-drop (a - first_address) r.bytes))
 
--- a load from the address in x5
-load-act : (m n : State) (r : Contents) (form : Number) (a : ℕ) → n.region ≡ r.bytes → n.registers 5 ≡ a → a < 2 ^ 64 → AreBytes r.bytes → first_address ≤ a →
+-- a load from the address in a register
+load-act : (n : State) (rd q : Register) (r : Contents) (form : Number) (a : ℕ) → n.region ≡ r.bytes → value_at n q ≡ a → a < 2 ^ 64 → AreBytes r.bytes → first_address ≤ a →
     a + bytes_of form.size ≤ end_address r →
-    act (Load (load_of form.signed form.size) x5 x5 zero_immediate) n ≡
-    GoesOn (at_with n (low (n.pc + 4)) 5 (wrapped (width_of form) (number_of (accessed r a (bytes_of form.size)))))
-load-act m n r form a e f small bytes h k =
+    act (Load (load_of form.signed form.size) rd q zero_immediate) n ≡
+    GoesOn (at_with n (low (n.pc + 4)) rd.number (wrapped (width_of form) (number_of (accessed r a (bytes_of form.size)))))
+load-act n rd q r form a e f small bytes h k =
     let op = load_of form.signed form.size in
     let zero-sum : a + 0 ≡ a = omega arith in
-    let address : low (n.registers 5 + 0) ≡ a = ap (λ x. low (x + 0)) f ∙ (ap low zero-sum ∙ low-small a small) in
+    let address : low (value_at n q + 0) ≡ a = ap (λ x. low (x + 0)) f ∙ (ap low zero-sum ∙ low-small a small) in
     let width : load_width op ≡ bytes_of form.size = load-bytes form.signed form.size in
-    ap (λ x. loads n op x5 x) address
-    ∙ (ap (λ x. loads_from n op x5 (place_of (length n.region) (length n.private) a x)) width
-    ∙ (ap (λ x. loads_from n op x5 (place_of (length x) (length n.private) a (bytes_of form.size))) e
-    ∙ (ap (λ x. loads_from n op x5 x) (region-place (length r.bytes) (length n.private) a (bytes_of form.size) h k)
-    ∙ (ap (λ x. GoesOn (at_with n (low (n.pc + 4)) 5 (load_value op (take x (drop (a - 2 ^ 30) n.region))))) width
-    ∙ (ap (λ x. GoesOn (at_with n (low (n.pc + 4)) 5 (load_value op (take (bytes_of form.size) (drop (a - 2 ^ 30) x))))) e
-    ∙ ap (λ x. GoesOn (at_with n (low (n.pc + 4)) 5 x))
+    ap (λ x. loads n op rd x) address
+    ∙ (ap (λ x. loads_from n op rd (place_of (length n.region) (length n.private) a x)) width
+    ∙ (ap (λ x. loads_from n op rd (place_of (length x) (length n.private) a (bytes_of form.size))) e
+    ∙ (ap (λ x. loads_from n op rd x) (region-place (length r.bytes) (length n.private) a (bytes_of form.size) h k)
+    ∙ (ap (λ x. GoesOn (at_with n (low (n.pc + 4)) rd.number (load_value op (take x (drop (a - 2 ^ 30) n.region))))) width
+    ∙ (ap (λ x. GoesOn (at_with n (low (n.pc + 4)) rd.number (load_value op (take (bytes_of form.size) (drop (a - 2 ^ 30) x))))) e
+    ∙ ap (λ x. GoesOn (at_with n (low (n.pc + 4)) rd.number x))
     (load-is form (accessed r a (bytes_of form.size)) (take-bytes (bytes_of form.size) (drop (a - first_address) r.bytes) (drop-bytes (a - first_address) r.bytes bytes))
     (accessed-count r a (bytes_of form.size) h k)))))))
 
-near-five : (m : State) (pc v : ℕ) → Near m (at_with m pc 5 v)
-near-five m pc v = record { keeps = λ r five six seven. written-elsewhere m.registers 5 v r five; region = refl; private = refl }
-
-pc-more : (p n : ℕ) → low (low (p + 4) + 4 * n) ≡ low (p + 4 * suc n)
-unfolding low
-pc-more p n = omega arith
-
--- the load and the put, once the address stands in x5
-load-ends : (y : Layout) (d : ℕ) (form : Number) (Used Next : ℕ → Type 0) (w : World) (base a : ℕ) (code : List Instr) (program : List (Option Instr)) (m : State) →
-    Reached program code m a → Holds y Used w base m → Housed y Used → Housed y Next → Next d → Follows Used Next d →
+-- the load and the put, once the address stands in its register
+load-ends : (y : Layout) (d : ℕ) (form : Number) (Used Next : ℕ → Type 0) (w : World) (base a : ℕ) (q : Register) (code : List Instr) (program : List (Option Instr)) (m : State) →
+    Reached program q code m a → Holds y Used w base m → Housed y Used → Housed y Next → Next d → Follows Used Next d →
     a < 2 ^ 64 → first_address ≤ a → a + bytes_of form.size ≤ end_address w.region → wrapped (width_of form) (number_of (accessed w.region a (bytes_of form.size))) < 2 ^ 64 →
-    Stands program m.pc (code ++ (Load (load_of form.signed form.size) x5 x5 zero_immediate ∷ put_at y d)) →
+    Stands program m.pc (code ++ (Load (load_of form.signed form.size) (result_in y d) q zero_immediate ∷ put_behind y d)) →
     Gives y program Next (with_temp w d (wrapped (width_of form) (number_of (accessed w.region a (bytes_of form.size))))) base
-    (length (code ++ (Load (load_of form.signed form.size) x5 x5 zero_immediate ∷ put_at y d)))
-    (behind m (code ++ (Load (load_of form.signed form.size) x5 x5 zero_immediate ∷ put_at y d))) d m
-load-ends y d form Used Next w base a code program m r p h h' u follows small low-end high-end value there =
-    let i : Instr = Load (load_of form.signed form.size) x5 x5 zero_immediate in
-    let b : List Instr = put_at y d in
+    (length (code ++ (Load (load_of form.signed form.size) (result_in y d) q zero_immediate ∷ put_behind y d)))
+    (behind m (code ++ (Load (load_of form.signed form.size) (result_in y d) q zero_immediate ∷ put_behind y d))) d m
+load-ends y d form Used Next w base a q code program m r p h h' u follows small low-end high-end value there =
+    let dd : Register = result_in y d in
+    let i : Instr = Load (load_of form.signed form.size) dd q zero_immediate in
+    let b : List Instr = put_behind y d in
     let v : ℕ = wrapped (width_of form) (number_of (accessed w.region a (bytes_of form.size))) in
     let n : State = r.after in
-    let rest : Stands program n.pc (i ∷ b) = subst (λ q. Stands program q (i ∷ b)) (sym r.pc) (stands-back program m.pc code (i ∷ b) p.pc there) in
-    let t : State = at_with n (low (n.pc + 4)) 5 v in
-    let way : Way program (r.steps + 1) m t =
-    way-both program r.steps 1 m n t r.way
-    (step-way program i n t rest.0 (load-act m n w.region form a (r.near.region ∙ p.region) r.five small p.bytes low-end high-end)) in
-    then-put y Used Next w base d v (r.steps + 1) (length (code ++ (i ∷ b))) (behind m (code ++ (i ∷ b))) program m t p h h' u follows way
-    (near-both m n t r.near (near-five n (low (n.pc + 4)) v)) (low-below (n.pc + 4)) (written-there n.registers 5 v (λ e. omega (arith, e))) value
-    (omega (arith, r.few, length-append code (i ∷ b))) (inl (omega arith)) rest.1
-    (pc-more n.pc (length b) ∙ behind-both code (i ∷ b) m.pc n.pc (low (n.pc + 4 * suc (length b))) r.pc refl)
+    let pc-small : n.pc < 2 ^ 64 = subst (λ z. z < 2 ^ 64) (sym r.pc) (low-below (m.pc + 4 * length code)) in
+    let rest : Stands program n.pc ((i ∷ []) ++ b) = subst (λ z. Stands program z (i ∷ b)) (sym r.pc) (stands-back program m.pc code (i ∷ b) p.pc there) in
+    let l : Loads dd.number (i ∷ []) n v =
+    loads-one i n dd.number v (result-number y Next d h' u) refl
+    (load-act n dd q w.region form a (r.near.region ∙ p.region) r.gives small p.bytes low-end high-end) in
+    gives-later y program Next (with_temp w d v) base r.steps (length (i ∷ b)) (length (code ++ (i ∷ b))) (behind n (i ∷ b)) (behind m (code ++ (i ∷ b))) d m n
+    r.way r.near
+    (result-put y Used Next w base d v (i ∷ []) program n (loads-computed dd.number (i ∷ []) n v l)
+    (near-holds y Used w base m n p h r.near pc-small) h h' u follows value (omega arith) rest)
+    (omega (arith, r.few, length-append code (i ∷ b)))
+    (behind-both code (i ∷ b) m.pc n.pc (behind n (i ∷ b)) r.pc refl)
 
 -- what a range is
 pub range-is : (r : Contents) (a size : ℕ) → 1 ≤ size → range_of r a size ≡ (if is_inside r a size then Some (accessed r a size) else None)
@@ -348,28 +347,32 @@ low-enough y Used w base offset m p = let h : first_address ≤ w.placed = omega
 
 pub region-loads : RegionLoadsAreCarried
 region-loads y held d form at (Word a) Used Next w base program m there five place r p h h' u follows =
-    let code : List Instr = first_taken y held a ++ bounds_tested at (bytes_of form.size) in
-    let rest : List Instr = Load (load_of form.signed form.size) x5 x5 zero_immediate ∷ put_at y d in
+    let A : List Instr = first_read y held a in
+    let q : Register = read_in y x5 a in
+    let code : List Instr = A ++ bounds_tested q at (bytes_of form.size) in
+    let rest : List Instr = Load (load_of form.signed form.size) (result_in y d) q zero_immediate ∷ put_behind y d in
     let v : ℕ = value_in w.temps a in
     let some : 1 ≤ bytes_of form.size = (size-range form.size).0 in
     let few : bytes_of form.size ≤ 8 = (size-range form.size).1 in
     let front : Stands program m.pc code = stands-front program m.pc code rest there in
+    let l : FirstSide A m q v = first-side y held Used w base m a five p h r in
     load-cases y d form at Next w base (length (code ++ rest)) (behind m (code ++ rest)) v program m
     (λ i.
-    load-ends y d form Used Next w base v code program m
-    (word-inside y held Used w base program m at a (bytes_of form.size) five p h r some (omega arith) front i.0 i.1)
+    load-ends y d form Used Next w base v q code program m
+    (word-inside y Used w base program m at A q v (bytes_of form.size) l p some (omega arith) front i.0 i.1)
     p h h' u follows (first-small held Used y w base m a p r) i.0 i.1 (wrapped-small (width_of form) _ (wide-size form.size)) there)
     (λ o.
-    weaker-ends program at (length code) (length (code ++ rest)) m (omega (arith, length-append code rest)) (word-outside y held Used w base program m at a (bytes_of form.size) five p h r some (omega arith) front place o))
+    weaker-ends program at (length code) (length (code ++ rest)) m (omega (arith, length-append code rest))
+    (word-outside y Used w base program m at A q v (bytes_of form.size) l p some (omega arith) front place o))
 region-loads y held d form at (Frame offset) Used Next w base program m there five place r p h h' u follows =
     let code : List Instr = located offset in
-    let rest : List Instr = Load (load_of form.signed form.size) x5 x5 zero_immediate ∷ put_at y d in
+    let rest : List Instr = Load (load_of form.signed form.size) (result_in y d) x5 zero_immediate ∷ put_behind y d in
     let a : ℕ = w.placed + offset in
     let e = end-small y Used w base m p in
     let small : a < 2 ^ 64 = omega (arith, r, e.0) in
     load-cases y d form at Next w base (length (code ++ rest)) (behind m (code ++ rest)) a program m
     (λ i.
-    load-ends y d form Used Next w base a code program m
+    load-ends y d form Used Next w base a x5 code program m
     (frame-reached y Used w base program m offset p small (stands-front program m.pc code rest there))
     p h h' u follows small i.0 i.1 (wrapped-small (width_of form) _ (wide-size form.size)) there)
     (λ o.

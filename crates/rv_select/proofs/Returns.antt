@@ -87,7 +87,7 @@ last-none short (Some n) at last e = cc
 
 -- the code of a return, from where its part is to be taken
 pub goes-back : (program : List (Option Instr)) (y : Layout) (held : Option ℕ) (Used : ℕ → Type 0) (w : World) (base frame last link from : ℕ)
-    (v : Part) (m : State) (setting : Setting) → Holds y Used w base m → Housed y Used → IsHeld held w.temps m → IsPartFirst y held Used v →
+    (v : Part) (m : State) (setting : Setting) → Holds y Used w base m → Housed y Used → IsHeld y held w.temps m → IsPartFirst y held Used v →
     m.pc + 256 ≤ 2 ^ 30 → last < 2 ^ 30 → last % 2 ≡ 0 → (setting.short ≡ true → (m.pc ≤ last) × (last ≤ m.pc + 2 ^ 19)) →
     (setting.next ≡ None → last ≡ m.pc + 4 * length (returned y setting held m.pc last v)) → w.placed + frame < 2 ^ 63 → link_in y base m ≡ link → link % 2 ≡ 0 →
     link < 2 ^ 64 →

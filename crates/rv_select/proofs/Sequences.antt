@@ -4,6 +4,7 @@ use Rattle.std.specs.Prelude.{if◌then◌else◌, ◌&&◌, nat_eq}
 use Rattle.std.proofs.lemmas.List.{length-append}
 use Rattle.rv_isa.specs.declared.instr.Instr.{Instr}
 use Rattle.rv_isa.specs.declared.operation.RegisterWordOp.{RegisterWordOp}
+use Rattle.rv_isa.specs.declared.operand.Register.{Register}
 use Rattle.terra_words.specs.declared.words.Width.{Width}
 use Rattle.terra_words.specs.declared.words.BinaryOperator.{BinaryOperator}
 use Rattle.terra_words.specs.declared.words.BinaryOperator.TheVariants.{Add, Subtract, Multiply, Divide, Modulo, Xor, And, Or, ShiftLeft}
@@ -16,32 +17,32 @@ either-count : (b : Bool) (x y : List Instr) (n : ℕ) → length x ≤ n → le
 either-count true x y n h k = h
 either-count false x y n h k = k
 
-one-count : (o : Option RegisterWordOp) (other : List Instr) → length other ≤ 3 → length (in_one o other) ≤ 3
-one-count (Some op) other h = omega arith
-one-count None other h = h
+one-count : (d a b : Register) (o : Option RegisterWordOp) (other : List Instr) → length other ≤ 3 → length (in_one d a b o other) ≤ 3
+one-count d a b (Some op) other h = omega arith
+one-count d a b None other h = h
 
 -- an operation of one instruction, and the cut of its result
-cut-count : (w : Width) (op : BinaryOperator) → length (operation w op) ≤ 1 →
-    length (if w.signed && nat_eq w.bits 32 then in_one (word_operation op) (in_parts w op) else in_parts w op) ≤ 3
-cut-count w op h =
-    let parts : length (in_parts w op) ≤ 3 = omega (arith, h, length-append (operation w op) (cut w), (cut-short w).short) in
-    either-count (w.signed && nat_eq w.bits 32) (in_one (word_operation op) (in_parts w op)) (in_parts w op) 3
-    (one-count (word_operation op) (in_parts w op) parts) parts
+cut-count : (d a b : Register) (w : Width) (op : BinaryOperator) → length (operation d a b w op) ≤ 1 →
+    length (if w.signed && nat_eq w.bits 32 then in_one d a b (word_operation op) (in_parts d a b w op) else in_parts d a b w op) ≤ 3
+cut-count d a b w op h =
+    let parts : length (in_parts d a b w op) ≤ 3 = omega (arith, h, length-append (operation d a b w op) (cut d w), (cut-short d w).short) in
+    either-count (w.signed && nat_eq w.bits 32) (in_one d a b (word_operation op) (in_parts d a b w op)) (in_parts d a b w op) 3
+    (one-count d a b (word_operation op) (in_parts d a b w op) parts) parts
 
-pub operator-count : (w : Width) (op : BinaryOperator) → length (code_of w op) ≤ operator_words op
-operator-count w Add = cut-count w Add (omega arith)
-operator-count w Subtract = cut-count w Subtract (omega arith)
-operator-count w Multiply = cut-count w Multiply (omega arith)
-operator-count w Divide = cut-count w Divide (omega arith)
-operator-count w Modulo = cut-count w Modulo (omega arith)
-operator-count w Xor = cut-count w Xor (omega arith)
-operator-count w And = cut-count w And (omega arith)
-operator-count w Or = cut-count w Or (omega arith)
-operator-count w ShiftLeft = (code-short w ShiftLeft).short
-operator-count w ShiftRight = (code-short w ShiftRight).short
-operator-count w Equal = omega arith
-operator-count w NotEqual = omega arith
-operator-count w Less = omega arith
-operator-count w LessEqual = omega arith
-operator-count w Greater = omega arith
-operator-count w GreaterEqual = omega arith
+pub operator-count : (d a b : Register) (w : Width) (op : BinaryOperator) → length (code_of d a b w op) ≤ operator_words op
+operator-count d a b w Add = cut-count d a b w Add (omega arith)
+operator-count d a b w Subtract = cut-count d a b w Subtract (omega arith)
+operator-count d a b w Multiply = cut-count d a b w Multiply (omega arith)
+operator-count d a b w Divide = cut-count d a b w Divide (omega arith)
+operator-count d a b w Modulo = cut-count d a b w Modulo (omega arith)
+operator-count d a b w Xor = cut-count d a b w Xor (omega arith)
+operator-count d a b w And = cut-count d a b w And (omega arith)
+operator-count d a b w Or = cut-count d a b w Or (omega arith)
+operator-count d a b w ShiftLeft = (code-short d a b w ShiftLeft).short
+operator-count d a b w ShiftRight = (code-short d a b w ShiftRight).short
+operator-count d a b w Equal = omega arith
+operator-count d a b w NotEqual = omega arith
+operator-count d a b w Less = omega arith
+operator-count d a b w LessEqual = omega arith
+operator-count d a b w Greater = omega arith
+operator-count d a b w GreaterEqual = omega arith

@@ -1,20 +1,26 @@
--- The operands of a comparison in the registers of its branch.
-use Rattle.std.proofs.Common.{◌≡◌, ℕ, ◌+◌, ◌^◌, ◌<◌, ◌≤◌, Bool, true, false, List, [], ◌++◌, length, Option, refl, sym, ap, ◌∙◌, arith}
-use Rattle.std.specs.Prelude.{if◌then◌else◌, nat_eq}
+-- The operands of an operator or a comparison, where they are read.
+use Rattle.std.proofs.Common.{◌≡◌, ◌≢◌, ℕ, ◌+◌, ◌≤◌, Bool, true, false, List, [], length, Option, Some, None, refl, sym, ap}
+use Rattle.std.proofs.Common.{◌∙◌, subst, inr, arith}
+use Rattle.std.specs.Prelude.{if◌then◌else◌, nat_eq, slice_get}
 use Rattle.std.proofs.lemmas.Bool.{eqb-true}
 use Rattle.std.proofs.lemmas.List.{length-append}
 use Rattle.rv_isa.specs.declared.instr.Instr.{Instr}
 use Rattle.rv_isa.specs.declared.operand.Register.{Register}
+use Rattle.reg_alloc.specs.declared.assignment.Home.{Home}
+use Rattle.reg_alloc.specs.declared.assignment.Home.TheVariants as homes
 use Rattle.rv_machine.specs.Machine.{State, value_at}
 use Rattle.tac_form.specs.declared.tac.Operand.{Operand}
 use Rattle.tac_form.specs.declared.tac.Operand.TheVariants.{Temp, Constant}
 use Rattle.tac_form.specs.Weights as weights
 use Rattle.rv_operators.specs.Codes.{x0, x5, x6}
-use Rattle.rv_select.specs.Numbers.{constant}
-use Rattle.rv_select.specs.Places.{Holds, Housed, IsFirst, IsHeld, IsRead, Layout, World, value_in}
-use Rattle.rv_select.specs.Shapes.{first_taken, is_second, is_zero, taken}
-use Rattle.rv_select.specs.Compared.{both_taken, first_of, first_register, operands_taken, second_of, second_register, unless_zero}
-use Rattle.rv_select.proofs.Straight.{Loads, Scratch, loads-five, loads-six, scratch-both, scratch-none}
+use Rattle.rv_operators.proofs.Sequences.{read-elsewhere}
+use Rattle.rv_select.specs.Numbers.{register_of}
+use Rattle.rv_select.specs.Places.{HasHome, Holds, Housed, IsFirst, IsHeld, IsHome, IsRead, Layout, World, home_of, in_register, is_given}
+use Rattle.rv_select.specs.Places.{is_in_register, or_first, value_in, word_at}
+use Rattle.rv_select.specs.Shapes.{first_read, first_taken, is_second, is_there, read_in, register_or, second_read, taken, unless_there}
+use Rattle.rv_select.specs.Compared.{both_taken, first_register, operands_taken, second_register}
+use Rattle.rv_select.proofs.Straight.{Loads, Scratch, loads-five, loads-six, register-value, scratch-both, scratch-none}
+use Rattle.rv_select.proofs.Numbers.{register-is}
 use Rattle.rv_select.proofs.Homes.{first-count, first-few, operand-count, take-first, take-operand, taken-count}
 use Rattle.rv_select.proofs.Moves.{scratch-holds}
 
@@ -25,86 +31,174 @@ pub record Sides (code : List Instr) (m : State) (a b : Register) (x y : ℕ) : 
   pub first : value_at after a ≡ x
   pub second : value_at after b ≡ y
 
--- one of them, where x5 may get it, and one where x5 stays
-record FirstSide (code : List Instr) (m : State) (a : Register) (x : ℕ) : Type 0 where
+-- one of them, where x5 may get it, and one where only x6 and x7 change
+pub record FirstSide (code : List Instr) (m : State) (a : Register) (x : ℕ) : Type 0 where
   pub after : State
   pub scratch : Scratch code m after
   pub gives : value_at after a ≡ x
+  pub apart : (a.number ≢ 6) × (a.number ≢ 7)
 
-record SecondSide (code : List Instr) (m : State) (b : Register) (x : ℕ) : Type 0 where
+pub record SecondSide (code : List Instr) (m : State) (b : Register) (x : ℕ) : Type 0 where
   pub after : State
   pub scratch : Scratch code m after
   pub gives : value_at after b ≡ x
-  pub five : after.registers 5 ≡ m.registers 5
+  pub keeps : (r : ℕ) → r ≢ 6 → r ≢ 7 → after.registers r ≡ m.registers r
+  pub apart : b.number ≢ 7
 
-first-loaded : (code : List Instr) (m : State) (v : ℕ) → Loads 5 code m v → FirstSide code m x5 v
-first-loaded code m v l = record { after = l.after; scratch = loads-five code m v l; gives = l.gives }
+-- a home that is a register
+home-read : (y : Layout) (Used : ℕ → Type 0) (w : World) (base : ℕ) (m : State) (t : ℕ) (d : Register) → Holds y Used w base m → Housed y Used →
+    Used t → in_register y t ≡ true → value_at m (register_or d (slice_get y.homes t)) ≡ w.temps t
+home-read y Used w base m t d p h u e = either (slice_get y.homes t) refl e
+  where
+    either : (o : Option (Option Home)) → slice_get y.homes t ≡ o → is_in_register o ≡ true → value_at m (register_or d o) ≡ w.temps t
+    either (Some (Some (homes.Register x))) s e =
+        let has : HasHome y t = ap is_given s in
+        let at : home_of y t ≡ homes.Register x = ap or_first s in
+        let i : IsHome y (homes.Register x) = subst (IsHome y) at (h.homes t u has) in
+        register-value m (register_of x) x (register-is x (omega (arith, i.1))) (λ z. omega (arith, z, i.0))
+        ∙ (ap (word_at base m) (sym at) ∙ p.values t u has)
+    either (Some (Some (homes.Slot k))) s e = cc
+    either (Some None) s e = cc
+    either None s e = cc
 
-second-loaded : (code : List Instr) (m : State) (v : ℕ) → Loads 6 code m v → SecondSide code m x6 v
-second-loaded code m v l = record {
+-- an operand that needs no code, and the register of any other
+pub there-value : (y : Layout) (held : Option ℕ) (Used : ℕ → Type 0) (w : World) (base : ℕ) (m : State) (d : Register) (a : Operand) →
+    Holds y Used w base m → Housed y Used → IsFirst y held Used a → is_there y a ≡ true → value_at m (read_in y d a) ≡ value_in w.temps a
+there-value y held Used w base m d (Temp t) p h r e = home-read y Used w base m t d p h r.0 e
+there-value y held Used w base m d (Constant c) p h r e = ap (λ b. value_at m (if b then x0 else d)) e ∙ sym (eqb-true c 0 e)
+
+register-other : (d : Register) (o : Option (Option Home)) → is_in_register o ≡ false → register_or d o ≡ d
+register-other d (Some (Some (homes.Register x))) e = cc
+register-other d (Some (Some (homes.Slot k))) e = refl
+register-other d (Some None) e = refl
+register-other d None e = refl
+
+pub read-other : (y : Layout) (d : Register) (a : Operand) → is_there y a ≡ false → read_in y d a ≡ d
+read-other y d (Temp t) e = register-other d (slice_get y.homes t) e
+read-other y d (Constant c) e = ap (λ b. if b then x0 else d) e
+
+-- where the first operand is read, neither x6 nor x7 is
+register-apart : (y : Layout) (Used : ℕ → Type 0) (t : ℕ) → Housed y Used → Used t → (o : Option (Option Home)) → slice_get y.homes t ≡ o →
+    ((register_or x5 o).number ≢ 6) × ((register_or x5 o).number ≢ 7)
+register-apart y Used t h u (Some (Some (homes.Register x))) s =
+    let i : IsHome y (homes.Register x) = subst (IsHome y) (ap or_first s) (h.homes t u (ap is_given s)) in
+    let n : (register_of x).number ≡ x = register-is x (omega (arith, i.1)) in
+    (λ z. omega (arith, z, n, i.0), λ z. omega (arith, z, n, i.0))
+register-apart y Used t h u (Some (Some (homes.Slot k))) s = (λ z. omega (arith, z), λ z. omega (arith, z))
+register-apart y Used t h u (Some None) s = (λ z. omega (arith, z), λ z. omega (arith, z))
+register-apart y Used t h u None s = (λ z. omega (arith, z), λ z. omega (arith, z))
+
+pub first-apart : (y : Layout) (held : Option ℕ) (Used : ℕ → Type 0) (a : Operand) → Housed y Used → IsFirst y held Used a →
+    ((read_in y x5 a).number ≢ 6) × ((read_in y x5 a).number ≢ 7)
+first-apart y held Used (Temp t) h r = register-apart y Used t h r.0 (slice_get y.homes t) refl
+first-apart y held Used (Constant c) h r = either (nat_eq c 0)
+  where
+    either : (b : Bool) → ((if b then x0 else x5).number ≢ 6) × ((if b then x0 else x5).number ≢ 7)
+    either true = (λ z. omega (arith, z), λ z. omega (arith, z))
+    either false = (λ z. omega (arith, z), λ z. omega (arith, z))
+
+pub first-loaded : (code : List Instr) (m : State) (v : ℕ) → Loads 5 code m v → FirstSide code m x5 v
+first-loaded code m v l = record {
   after = l.after;
-  scratch = loads-six code m v l;
+  scratch = loads-five code m v l;
   gives = l.gives;
-  five = l.keeps 5 (λ e. omega (arith, e)) (λ e. omega (arith, e));
+  apart = (λ z. omega (arith, z), λ z. omega (arith, z));
 }
 
-first-side : (y : Layout) (held : Option ℕ) (Used : ℕ → Type 0) (w : World) (base : ℕ) (m : State) (a : Operand) → IsHeld held w.temps m →
-    Holds y Used w base m → Housed y Used → IsFirst y held Used a →
-    FirstSide (unless_zero a (first_taken y held a)) m (first_of a) (value_in w.temps a)
-first-side y held Used w base m (Temp t) f p h r =
-    first-loaded (first_taken y held (Temp t)) m (w.temps t) (take-first y held Used w base m (Temp t) f p h r)
-first-side y held Used w base m (Constant c) f p h r = either (nat_eq c 0) refl
+pub first-side : (y : Layout) (held : Option ℕ) (Used : ℕ → Type 0) (w : World) (base : ℕ) (m : State) (a : Operand) → IsHeld y held w.temps m →
+    Holds y Used w base m → Housed y Used → IsFirst y held Used a → FirstSide (first_read y held a) m (read_in y x5 a) (value_in w.temps a)
+first-side y held Used w base m a f p h r = either (is_there y a) refl
   where
-    either : (b : Bool) → nat_eq c 0 ≡ b → FirstSide (if b then [] else constant x5 c) m (if b then x0 else x5) c
-    either true e = record { after = m; scratch = scratch-none m p.pc; gives = sym (eqb-true c 0 e) }
-    either false e = first-loaded (constant x5 c) m c (take-first y held Used w base m (Constant c) f p h r)
-
-second-side : (y : Layout) (Used : ℕ → Type 0) (w : World) (base : ℕ) (m : State) (b : Operand) → Holds y Used w base m → Housed y Used →
-    IsRead y Used b → SecondSide (unless_zero b (taken y x6 b)) m (second_of b) (value_in w.temps b)
-second-side y Used w base m (Temp t) p h r =
-    second-loaded (taken y x6 (Temp t)) m (w.temps t)
-    (take-operand y x6 Used w base m (Temp t) (λ e. omega (arith, e)) (λ e. omega (arith, e)) p h r)
-second-side y Used w base m (Constant c) p h r = either (nat_eq c 0) refl
-  where
-    either : (b : Bool) → nat_eq c 0 ≡ b → SecondSide (if b then [] else constant x6 c) m (if b then x0 else x6) c
-    either true e = record { after = m; scratch = scratch-none m p.pc; gives = sym (eqb-true c 0 e); five = refl }
+    either : (b : Bool) → is_there y a ≡ b → FirstSide (if b then [] else first_taken y held a) m (read_in y x5 a) (value_in w.temps a)
+    either true e = record {
+      after = m;
+      scratch = scratch-none m p.pc;
+      gives = there-value y held Used w base m x5 a p h r e;
+      apart = first-apart y held Used a h r;
+    }
     either false e =
-        second-loaded (constant x6 c) m c
-        (take-operand y x6 Used w base m (Constant c) (λ e. omega (arith, e)) (λ e. omega (arith, e)) p h r)
+        let l : Loads 5 (first_taken y held a) m (value_in w.temps a) = take-first y held Used w base m a f p h r in
+        record {
+          after = l.after;
+          scratch = loads-five (first_taken y held a) m (value_in w.temps a) l;
+          gives = ap (value_at l.after) (read-other y x5 a e) ∙ l.gives;
+          apart = first-apart y held Used a h r;
+        }
 
-first-kept : (a : Operand) (m n : State) → n.registers 5 ≡ m.registers 5 → value_at n (first_of a) ≡ value_at m (first_of a)
-first-kept a m n e = either (is_zero a)
+-- what is read has a home
+pub read-first : (y : Layout) (Used : ℕ → Type 0) (b : Operand) → IsRead y Used b → IsFirst y None Used b
+read-first y Used (Temp t) r = (r.0, inr r.1)
+read-first y Used (Constant c) r = r
+
+-- where the second operand is read, x7 is not
+register-other-than : (y : Layout) (Used : ℕ → Type 0) (t : ℕ) → Housed y Used → Used t → (o : Option (Option Home)) → slice_get y.homes t ≡ o →
+    (register_or x6 o).number ≢ 7
+register-other-than y Used t h u (Some (Some (homes.Register x))) s =
+    let i : IsHome y (homes.Register x) = subst (IsHome y) (ap or_first s) (h.homes t u (ap is_given s)) in
+    let n : (register_of x).number ≡ x = register-is x (omega (arith, i.1)) in
+    λ z. omega (arith, z, n, i.0)
+register-other-than y Used t h u (Some (Some (homes.Slot k))) s = λ z. omega (arith, z)
+register-other-than y Used t h u (Some None) s = λ z. omega (arith, z)
+register-other-than y Used t h u None s = λ z. omega (arith, z)
+
+second-apart : (y : Layout) (Used : ℕ → Type 0) (b : Operand) → Housed y Used → IsRead y Used b → (read_in y x6 b).number ≢ 7
+second-apart y Used (Temp t) h r = register-other-than y Used t h r.0 (slice_get y.homes t) refl
+second-apart y Used (Constant c) h r = either (nat_eq c 0)
   where
-    either : (b : Bool) → value_at n (if b then x0 else x5) ≡ value_at m (if b then x0 else x5)
-    either true = refl
-    either false = e
+    either : (k : Bool) → (if k then x0 else x6).number ≢ 7
+    either true = λ z. omega (arith, z)
+    either false = λ z. omega (arith, z)
 
-both-sides : (y : Layout) (held : Option ℕ) (Used : ℕ → Type 0) (w : World) (base : ℕ) (m : State) (a b : Operand) → IsHeld held w.temps m →
+pub second-side : (y : Layout) (Used : ℕ → Type 0) (w : World) (base : ℕ) (m : State) (b : Operand) → Holds y Used w base m → Housed y Used →
+    IsRead y Used b → SecondSide (second_read y b) m (read_in y x6 b) (value_in w.temps b)
+second-side y Used w base m b p h r = either (is_there y b) refl
+  where
+    either : (c : Bool) → is_there y b ≡ c → SecondSide (if c then [] else taken y x6 b) m (read_in y x6 b) (value_in w.temps b)
+    either true e = record {
+      after = m;
+      scratch = scratch-none m p.pc;
+      gives = there-value y None Used w base m x6 b p h (read-first y Used b r) e;
+      keeps = λ x six seven. refl;
+      apart = second-apart y Used b h r;
+    }
+    either false e =
+        let l : Loads 6 (taken y x6 b) m (value_in w.temps b) =
+        take-operand y x6 Used w base m b (λ z. omega (arith, z)) (λ z. omega (arith, z)) p h r in
+        record {
+          after = l.after;
+          scratch = loads-six (taken y x6 b) m (value_in w.temps b) l;
+          gives = ap (value_at l.after) (read-other y x6 b e) ∙ l.gives;
+          keeps = l.keeps;
+          apart = second-apart y Used b h r;
+        }
+
+both-sides : (y : Layout) (held : Option ℕ) (Used : ℕ → Type 0) (w : World) (base : ℕ) (m : State) (a b : Operand) → IsHeld y held w.temps m →
     Holds y Used w base m → Housed y Used → IsFirst y held Used a → IsRead y Used b →
-    Sides (both_taken y held a b) m (first_of a) (second_of b) (value_in w.temps a) (value_in w.temps b)
+    Sides (both_taken y held a b) m (read_in y x5 a) (read_in y x6 b) (value_in w.temps a) (value_in w.temps b)
 both-sides y held Used w base m a b f p h ra rb =
-    let A : List Instr = unless_zero a (first_taken y held a) in
-    let B : List Instr = unless_zero b (taken y x6 b) in
-    let l : FirstSide A m (first_of a) (value_in w.temps a) = first-side y held Used w base m a f p h ra in
+    let A : List Instr = first_read y held a in
+    let B : List Instr = second_read y b in
+    let l : FirstSide A m (read_in y x5 a) (value_in w.temps a) = first-side y held Used w base m a f p h ra in
     let q : Holds y Used w base l.after = scratch-holds y Used w base A m l.after p h l.scratch in
-    let k : SecondSide B l.after (second_of b) (value_in w.temps b) = second-side y Used w base l.after b q h rb in
+    let k : SecondSide B l.after (read_in y x6 b) (value_in w.temps b) = second-side y Used w base l.after b q h rb in
     record {
       after = k.after;
       scratch = scratch-both A B m l.after k.after l.scratch k.scratch;
-      first = first-kept a l.after k.after k.five ∙ l.gives;
+      first =
+          read-elsewhere l.after k.after (read_in y x5 a) (k.keeps (read_in y x5 a).number l.apart.0 l.apart.1) ∙ l.gives;
       second = k.gives;
     }
 
 -- where x5 may hold the second
-pub sides-taken : (y : Layout) (held : Option ℕ) (Used : ℕ → Type 0) (w : World) (base : ℕ) (m : State) (a b : Operand) → IsHeld held w.temps m →
+pub sides-taken : (y : Layout) (held : Option ℕ) (Used : ℕ → Type 0) (w : World) (base : ℕ) (m : State) (a b : Operand) → IsHeld y held w.temps m →
     Holds y Used w base m → Housed y Used → (is_second held b ≡ false → IsFirst y held Used a × IsRead y Used b) →
     (is_second held b ≡ true → IsFirst y held Used b × IsRead y Used a) →
-    Sides (operands_taken y held a b) m (first_register held a b) (second_register held a b) (value_in w.temps a) (value_in w.temps b)
+    Sides (operands_taken y held a b) m (first_register y held a b) (second_register y held a b) (value_in w.temps a) (value_in w.temps b)
 sides-taken y held Used w base m a b f p h plain turn = either (is_second held b) refl
   where
     either : (c : Bool) → is_second held b ≡ c →
-        Sides (if c then both_taken y held b a else both_taken y held a b) m (if c then second_of a else first_of a)
-        (if c then first_of b else second_of b) (value_in w.temps a) (value_in w.temps b)
+        Sides (if c then both_taken y held b a else both_taken y held a b) m (if c then read_in y x6 a else read_in y x5 a)
+        (if c then read_in y x5 b else read_in y x6 b) (value_in w.temps a) (value_in w.temps b)
     either false e = let r = plain e in both-sides y held Used w base m a b f p h r.0 r.1
     either true e =
         let r = turn e in
@@ -112,21 +206,27 @@ sides-taken y held Used w base m a b f p h plain turn = either (is_second held b
         record { after = s.after; scratch = s.scratch; first = s.second; second = s.first }
 
 -- how many words there are
-side-least : (a : Operand) (code : List Instr) → length (unless_zero a code) ≤ length code
-side-least a code = either (is_zero a)
+side-least : (y : Layout) (a : Operand) (code : List Instr) → length (unless_there y a code) ≤ length code
+side-least y a code = either (is_there y a)
   where
     either : (b : Bool) → length (if b then [] else code) ≤ length code
     either true = omega arith
     either false = omega arith
+
+pub read-count : (y : Layout) (held : Option ℕ) (a : Operand) → length (first_read y held a) ≤ weights.operand_words a
+read-count y held a = omega (arith, side-least y a (first_taken y held a), first-count y held a)
+
+pub read-few : (y : Layout) (held : Option ℕ) (a : Operand) → length (first_read y held a) ≤ 8
+read-few y held a = omega (arith, side-least y a (first_taken y held a), first-few y held a)
 
 sides-least : (y : Layout) (held : Option ℕ) (a b : Operand) →
     length (both_taken y held a b) ≤ length (first_taken y held a) + length (taken y x6 b)
 sides-least y held a b =
     omega (
       arith,
-      length-append (unless_zero a (first_taken y held a)) (unless_zero b (taken y x6 b)),
-      side-least a (first_taken y held a),
-      side-least b (taken y x6 b),
+      length-append (first_read y held a) (second_read y b),
+      side-least y a (first_taken y held a),
+      side-least y b (taken y x6 b),
     )
 
 both-count : (y : Layout) (held : Option ℕ) (a b : Operand) →

@@ -8,7 +8,7 @@ use Rattle.rv_isa.specs.declared.instr.Instr.{Instr}
 use Rattle.rv_isa.specs.declared.instr.Instr.TheVariants.{Store}
 use Rattle.rv_machine.specs.Word.{low}
 use Rattle.rv_machine.specs.Memory.{place_of, store_width}
-use Rattle.rv_machine.specs.Machine.{State, GoesOn, act, stores, stores_to}
+use Rattle.rv_machine.specs.Machine.{State, GoesOn, act, stores, stores_to, value_at}
 use Rattle.terra_memory.specs.Numbers.{low_bytes, overwritten}
 use Rattle.terra_memory.specs.Region.{Contents, IsLawful, end_address, first_address, is_inside}
 use Rattle.terra_memory.proofs.Bytes.{length-low_bytes}
@@ -24,11 +24,13 @@ use Rattle.rv_operators.specs.Runs.{Stands}
 use Rattle.reg_alloc.specs.declared.assignment.Home.{Home}
 use Rattle.reg_alloc.specs.declared.assignment.Home.TheVariants as homes
 use Rattle.rv_select.specs.Places.{AreBytes, World, Holds, Housed, IsRead, Keeps, Layout, home_of, value_in, word_at}
-use Rattle.rv_select.specs.Shapes.{bounds_tested, first_taken, located, store_of, taken}
+use Rattle.rv_select.specs.Shapes.{bounds_tested, first_read, located, read_in, second_read, store_of}
 use Rattle.rv_select.specs.Steps.{AreFewer, Comes, Ends, behind}
-use Rattle.rv_select.proofs.Straight.{Loads, behind-both, loads-six, low-below, low-first, low-small}
+use Rattle.rv_select.proofs.Straight.{behind-both, low-below, low-first, low-small}
 use Rattle.rv_select.proofs.Ways.{Near, Way, near-both, scratch-near, stands-back, stands-front, step-way, straight-way, way-both}
-use Rattle.rv_select.proofs.Homes.{take-operand}
+use Rattle.rv_select.proofs.Sides.{FirstSide, SecondSide, first-side, second-side}
+use Rattle.rv_operators.proofs.Sequences.{read-elsewhere}
+use Rattle.rv_isa.specs.declared.operand.Register.{Register}
 use Rattle.rv_select.proofs.Words.{low-are-bytes, overwritten-bytes, size-range, store-bytes}
 use Rattle.rv_select.proofs.Claims.{RegionStoresAreCarried, with_region}
 use Rattle.rv_select.proofs.Moves.{first-small, near-holds, near-keeps}
@@ -81,16 +83,16 @@ region-holds y Used Next w base t bytes r p f c e g are = record {
     same (homes.Slot k) q = q
 
 -- the store, once the address stands in x5 and the word in x6
-store-act : (t : State) (r : Contents) (size : Size) (a v : ℕ) → t.region ≡ r.bytes → t.registers 5 ≡ a → t.registers 6 ≡ v → a < 2 ^ 64 → first_address ≤ a →
+store-act : (t : State) (q b : Register) (r : Contents) (size : Size) (a v : ℕ) → t.region ≡ r.bytes → value_at t q ≡ a → value_at t b ≡ v → a < 2 ^ 64 → first_address ≤ a →
     a + bytes_of size ≤ end_address r →
-    act (Store (store_of size) x5 x6 zero_immediate) t ≡ GoesOn (with-bytes-there t (overwritten r.bytes (a - 2 ^ 30) (low_bytes (bytes_of size) v)))
-store-act t r size a v e f g small h k =
+    act (Store (store_of size) q b zero_immediate) t ≡ GoesOn (with-bytes-there t (overwritten r.bytes (a - 2 ^ 30) (low_bytes (bytes_of size) v)))
+store-act t q b r size a v e f g small h k =
     let op = store_of size in
     let zero-sum : a + 0 ≡ a = omega arith in
-    let address : low (t.registers 5 + 0) ≡ a = ap (λ x. low (x + 0)) f ∙ (ap low zero-sum ∙ low-small a small) in
+    let address : low (value_at t q + 0) ≡ a = ap (λ x. low (x + 0)) f ∙ (ap low zero-sum ∙ low-small a small) in
     let width : store_width op ≡ bytes_of size = store-bytes size in
-    ap (λ x. stores t op x (t.registers 6)) address
-    ∙ (ap (λ x. stores_to t (low_bytes x (t.registers 6)) (place_of (length t.region) (length t.private) a x)) width
+    ap (λ x. stores t op x (value_at t b)) address
+    ∙ (ap (λ x. stores_to t (low_bytes x (value_at t b)) (place_of (length t.region) (length t.private) a x)) width
     ∙ (ap (λ x. stores_to t (low_bytes (bytes_of size) x) (place_of (length t.region) (length t.private) a (bytes_of size))) g
     ∙ (ap (λ x. stores_to t (low_bytes (bytes_of size) v) (place_of (length x) (length t.private) a (bytes_of size))) e
     ∙ (ap (λ x. stores_to t (low_bytes (bytes_of size) v) x) (region-place (length r.bytes) (length t.private) a (bytes_of size) h k)
@@ -100,28 +102,29 @@ pc-more : (p n : ℕ) → low (low (p + 4 * n) + 4) ≡ low (p + 4 * (n + 1))
 unfolding low
 pc-more p n = omega arith
 
-store-ends : (y : Layout) (size : Size) (b : Operand) (Used Next : ℕ → Type 0) (w : World) (base a : ℕ) (code : List Instr) (program : List (Option Instr)) (m : State) →
-    Reached program code m a → Holds y Used w base m → Housed y Used → AreFewer Used Next → IsRead y Used b →
+store-ends : (y : Layout) (size : Size) (b : Operand) (Used Next : ℕ → Type 0) (w : World) (base a : ℕ) (q : Register) (code : List Instr) (program : List (Option Instr)) (m : State) →
+    Reached program q code m a → Holds y Used w base m → Housed y Used → AreFewer Used Next → IsRead y Used b →
     a < 2 ^ 64 → first_address ≤ a → a + bytes_of size ≤ end_address w.region →
-    Stands program m.pc (code ++ (taken y x6 b ++ Store (store_of size) x5 x6 zero_immediate ∷ [])) →
+    Stands program m.pc (code ++ (second_read y b ++ Store (store_of size) q (read_in y x6 b) zero_immediate ∷ [])) →
     Comes y program Next (with_region w (stored-region w.region a (low_bytes (bytes_of size) (value_in w.temps b)))) base
-    (length (code ++ (taken y x6 b ++ Store (store_of size) x5 x6 zero_immediate ∷ [])))
-    (behind m (code ++ (taken y x6 b ++ Store (store_of size) x5 x6 zero_immediate ∷ []))) [] m
-store-ends y size b Used Next w base a code program m r p h f rb small low-end high-end there =
-    let i : Instr = Store (store_of size) x5 x6 zero_immediate in
-    let B : List Instr = taken y x6 b in
+    (length (code ++ (second_read y b ++ Store (store_of size) q (read_in y x6 b) zero_immediate ∷ [])))
+    (behind m (code ++ (second_read y b ++ Store (store_of size) q (read_in y x6 b) zero_immediate ∷ []))) [] m
+store-ends y size b Used Next w base a q code program m r p h f rb small low-end high-end there =
+    let bb : Register = read_in y x6 b in
+    let i : Instr = Store (store_of size) q bb zero_immediate in
+    let B : List Instr = second_read y b in
     let v : ℕ = value_in w.temps b in
     let n : State = r.after in
     let pc-small : n.pc < 2 ^ 64 = subst (λ q. q < 2 ^ 64) (sym r.pc) (low-below (m.pc + 4 * length code)) in
-    let q : Holds y Used w base n = near-holds y Used w base m n p h r.near pc-small in
-    let l : Loads 6 B n v = take-operand y x6 Used w base n b (λ e. omega (arith, e)) (λ e. omega (arith, e)) q h rb in
+    let hn : Holds y Used w base n = near-holds y Used w base m n p h r.near pc-small in
+    let l : SecondSide B n bb v = second-side y Used w base n b hn h rb in
     let t : State = l.after in
-    let near : Near n t = scratch-near B n t (loads-six B n v l) in
+    let near : Near n t = scratch-near B n t l.scratch in
     let rest : Stands program n.pc (B ++ i ∷ []) = subst (λ z. Stands program z (B ++ i ∷ [])) (sym r.pc) (stands-back program m.pc code (B ++ i ∷ []) p.pc there) in
-    let last : Stands program t.pc (i ∷ []) = subst (λ z. Stands program z (i ∷ [])) (sym l.behind) (stands-back program n.pc B (i ∷ []) pc-small rest) in
-    let five : t.registers 5 ≡ a = l.keeps 5 (λ e. omega (arith, e)) (λ e. omega (arith, e)) ∙ r.five in
-    let pc-t : t.pc < 2 ^ 64 = subst (λ z. z < 2 ^ 64) (sym l.behind) (low-below (n.pc + 4 * length B)) in
-    let s : Holds y Used w base t = near-holds y Used w base n t q h near pc-t in
+    let last : Stands program t.pc (i ∷ []) = subst (λ z. Stands program z (i ∷ [])) (sym l.scratch.behind) (stands-back program n.pc B (i ∷ []) pc-small rest) in
+    let here : value_at t q ≡ a = read-elsewhere n t q (l.keeps q.number r.apart.0 r.apart.1) ∙ r.gives in
+    let pc-t : t.pc < 2 ^ 64 = subst (λ z. z < 2 ^ 64) (sym l.scratch.behind) (low-below (n.pc + 4 * length B)) in
+    let s : Holds y Used w base t = near-holds y Used w base n t hn h near pc-t in
     let bs : List ℕ = low_bytes (bytes_of size) v in
     let count : length bs ≡ bytes_of size = length-low_bytes (bytes_of size) v in
     let new : List ℕ = overwritten w.region.bytes (a - first_address) bs in
@@ -131,15 +134,15 @@ store-ends y size b Used Next w base a code program m r p h f rb small low-end h
     let k : Keeps y base m t = near-keeps y base m t all in
     let way : Way program (r.steps + length B + 1) m z =
     way-both program (r.steps + length B) 1 m t z
-    (way-both program r.steps (length B) m n t r.way (straight-way program B n t (stands-front program n.pc B (i ∷ []) rest) l.straight l.goes))
-    (step-way program i t z last.0 (store-act t w.region size a v s.region five l.gives small low-end high-end)) in
+    (way-both program r.steps (length B) m n t r.way (straight-way program B n t (stands-front program n.pc B (i ∷ []) rest) l.scratch.straight l.scratch.goes))
+    (step-way program i t z last.0 (store-act t q bb w.region size a v s.region here l.gives small low-end high-end)) in
     record {
       steps = r.steps + length B + 1;
       after = z;
       some = omega arith;
       few = omega (arith, r.few, length-append code (B ++ i ∷ []), length-append B (i ∷ []));
       runs = way.runs;
-      at = behind-both code (B ++ i ∷ []) m.pc n.pc z.pc r.pc (behind-both B (i ∷ []) n.pc t.pc z.pc l.behind (low-first t.pc));
+      at = behind-both code (B ++ i ∷ []) m.pc n.pc z.pc r.pc (behind-both B (i ∷ []) n.pc t.pc z.pc l.scratch.behind (low-first t.pc));
       holds = region-holds y Used Next w base t new (stored-region w.region a bs) s f is (stored-count w.region a bs low-end (omega (arith, count))) refl
           (overwritten-bytes w.region.bytes bs (a - first_address) p.bytes (low-are-bytes (bytes_of size) v));
       keeps = record { registers = k.registers; link = k.link; long = k.long; outside = k.outside };
@@ -182,28 +185,31 @@ store-cases y size at Next w base weight target a v program m f g =
 
 pub region-stores : RegionStoresAreCarried
 region-stores y held size at (Word a) b Used Next w base program m there five place r rb p h f =
-    let code : List Instr = first_taken y held a ++ bounds_tested at (bytes_of size) in
-    let rest : List Instr = taken y x6 b ++ Store (store_of size) x5 x6 zero_immediate ∷ [] in
+    let A : List Instr = first_read y held a in
+    let q : Register = read_in y x5 a in
+    let code : List Instr = A ++ bounds_tested q at (bytes_of size) in
+    let rest : List Instr = second_read y b ++ Store (store_of size) q (read_in y x6 b) zero_immediate ∷ [] in
     let v : ℕ = value_in w.temps a in
     let some : 1 ≤ bytes_of size = (size-range size).0 in
     let few : bytes_of size ≤ 8 = (size-range size).1 in
     let front : Stands program m.pc code = stands-front program m.pc code rest there in
+    let l : FirstSide A m q v = first-side y held Used w base m a five p h r in
     store-cases y size at Next w base (length (code ++ rest)) (behind m (code ++ rest)) v (value_in w.temps b) program m
     (λ i.
-    store-ends y size b Used Next w base v code program m
-    (word-inside y held Used w base program m at a (bytes_of size) five p h r some (omega arith) front i.0 i.1)
+    store-ends y size b Used Next w base v q code program m
+    (word-inside y Used w base program m at A q v (bytes_of size) l p some (omega arith) front i.0 i.1)
     p h f rb (first-small held Used y w base m a p r) i.0 i.1 there)
     (λ o.
-    weaker-ends program at (length code) (length (code ++ rest)) m (omega (arith, length-append code rest)) (word-outside y held Used w base program m at a (bytes_of size) five p h r some (omega arith) front place o))
+    weaker-ends program at (length code) (length (code ++ rest)) m (omega (arith, length-append code rest)) (word-outside y Used w base program m at A q v (bytes_of size) l p some (omega arith) front place o))
 region-stores y held size at (Frame offset) b Used Next w base program m there five place r rb p h f =
     let code : List Instr = located offset in
-    let rest : List Instr = taken y x6 b ++ Store (store_of size) x5 x6 zero_immediate ∷ [] in
+    let rest : List Instr = second_read y b ++ Store (store_of size) x5 (read_in y x6 b) zero_immediate ∷ [] in
     let a : ℕ = w.placed + offset in
     let e = end-small y Used w base m p in
     let small : a < 2 ^ 64 = omega (arith, r, e.0) in
     store-cases y size at Next w base (length (code ++ rest)) (behind m (code ++ rest)) a (value_in w.temps b) program m
     (λ i.
-    store-ends y size b Used Next w base a code program m
+    store-ends y size b Used Next w base a x5 code program m
     (frame-reached y Used w base program m offset p small (stands-front program m.pc code rest there))
     p h f rb small i.0 i.1 there)
     (λ o.

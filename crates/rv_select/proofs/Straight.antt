@@ -8,7 +8,7 @@ use Rattle.rv_isa.specs.declared.instr.Instr.{Instr}
 use Rattle.rv_isa.specs.declared.operand.Register.{Register}
 use Rattle.rv_machine.specs.Word.{low}
 use Rattle.rv_machine.specs.Machine.{State, GoesOn, act, at_with, value_at, written}
-use Rattle.rv_operators.specs.Claims.{acts, then_on, Leads}
+use Rattle.rv_operators.specs.Claims.{acts, then_on}
 use Rattle.rv_operators.specs.Runs.{AreStraight}
 use Rattle.rv_operators.proofs.Runs.{straight-both}
 use Rattle.rv_operators.proofs.Sequences.{acts-both}
@@ -90,9 +90,6 @@ loads-five code m v l = record { goes = l.goes; behind = l.behind; keeps = λ r 
 
 pub loads-six : (code : List Instr) (m : State) (v : ℕ) (l : Loads 6 code m v) → Scratch code m l.after
 loads-six code m v l = record { goes = l.goes; behind = l.behind; keeps = λ r five six seven. l.keeps r six seven; region = l.region; private = l.private; straight = l.straight }
-
-pub leads-scratch : (code : List Instr) (m : State) (v : ℕ) (l : Leads code m v) → AreStraight code → Scratch code m l.after
-leads-scratch code m v l s = record { goes = l.goes; behind = l.behind; keeps = l.keeps; region = l.region; private = l.private; straight = s }
 
 pub written-there : (registers : ℕ → ℕ) (d v : ℕ) → d ≢ 0 → written registers d v d ≡ v
 written-there registers d v n =

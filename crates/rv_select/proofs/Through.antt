@@ -73,12 +73,12 @@ arrives : (p : Program) (image : Image) (program : List (Option Instr)) (most si
     held_in x.code s.here.block (suc s.here.at) ≡ held →
     suc s.here.at ≤ length (plain_in (reads_of x.code) (slice_get x.code.blocks s.here.block)) →
     (c : Comes (layout_of x.code (image s.here.function).homes) program (InUse (graph_of x.code) t.here.block t.here.at) (world_of t) base
-    weight target out m) → IsHeld held t.here.temps c.after →
+    weight target out m) → IsHeld (layout_of x.code (image s.here.function).homes) held t.here.temps c.after →
     Arrives p image program most size weight s.left out t m
 arrives p image program most size weight linked s t base m x out target held st to behind-it inside c five =
     subst
     (λ z. (d : Comes (layout_of x.code (image s.here.function).homes) program (InUse (graph_of x.code) z.here.block z.here.at) (world_of z)
-    base weight target out m) → IsHeld held z.here.temps d.after → Arrives p image program most size weight s.left out z m)
+    base weight target out m) → IsHeld (layout_of x.code (image s.here.function).homes) held z.here.temps d.after → Arrives p image program most size weight s.left out z m)
     (sym st.is) made c five
   where
     counted : (l n : ℕ) → l ≤ l + n
@@ -90,7 +90,7 @@ arrives p image program most size weight linked s t base m x out target held st 
           region = st.region;
           out =
               st.out;
-        })) base weight target out m) → IsHeld held st.temps d.after →
+        })) base weight target out m) → IsHeld (layout_of x.code (image s.here.function).homes) held st.temps d.after →
         Arrives p image program most size weight s.left out
         (record s {
           here = record s.here { at = suc s.here.at; temps = st.temps; areas = st.areas };
@@ -110,7 +110,7 @@ arrives p image program most size weight linked s t base m x out target held st 
         before_end = inside;
         pc = d.at ∙ to;
         holds = d.holds;
-        five = subst (λ o. IsHeld o st.temps d.after) (sym behind-it) h;
+        five = subst (λ o. IsHeld (layout_of x.code (image s.here.function).homes) o st.temps d.after) (sym behind-it) h;
         frame = subst (λ n. s.here.base + x.code.frame ≤ 2 ^ 30 + n) (sym st.long) x.frame;
         region = st.long ∙ x.region;
         room = x.room;

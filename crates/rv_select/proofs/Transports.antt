@@ -34,7 +34,8 @@ use Rattle.rv_select.specs.Steps.{AreFewer, Comes, Ends, IsPlace, behind}
 use Rattle.rv_select.proofs.Claims.{IsReached, address_in, with_area, with_region}
 use Rattle.rv_select.proofs.Areas.{Saves, area-comes, area-near, area-room, area-written, then-saves}
 use Rattle.rv_select.proofs.Frames.{framed-address, framed-count, framed-some}
-use Rattle.rv_select.proofs.Homes.{region-small}
+use Rattle.rv_select.proofs.Homes.{region-small, take-first}
+use Rattle.rv_select.proofs.Sides.{FirstSide, first-loaded}
 use Rattle.rv_select.proofs.Moves.{home-keeps, keeps-both, lasts-not, near-holds, near-keeps, scratch-holds}
 use Rattle.rv_select.proofs.Nothing.{nothing-done}
 use Rattle.rv_select.proofs.Parts.{none-written, part-within}
@@ -185,7 +186,7 @@ later-comes y program Next w base k most more target m n way near few c = record
 
 -- from the region to an area, once the address stands in x5
 to-area : (y : Layout) (n offset size : ℕ) (Used Next : ℕ → Type 0) (w : World) (base a : ℕ) (F : List Instr) (program : List (Option Instr)) (m : State) →
-    Reached program F m a → Stands program m.pc (F ++ to_area y n offset size) → n < y.areas → offset ≤ length (w.areas n) → offset + size ≤ 128 →
+    Reached program x5 F m a → Stands program m.pc (F ++ to_area y n offset size) → n < y.areas → offset ≤ length (w.areas n) → offset + size ≤ 128 →
     first_address ≤ a → a + size ≤ end_address w.region → Holds y Used w base m → Housed y Used → AreFewer Used Next →
     Comes y program Next (with_area w n (overwritten (w.areas n) offset (part w.region.bytes (a - first_address) size))) base
     (length (F ++ to_area y n offset size)) (behind m (F ++ to_area y n offset size)) [] m
@@ -205,7 +206,7 @@ to-area y n offset size Used Next w base a F program m r stands there within sho
     let inside : a - 2 ^ 30 + size ≤ length w.region.bytes = omega arith in
     let move : Moving x5 x6 (Region (a - 2 ^ 30)) (Private d) X l.after = record {
       pc = t.pc;
-      source = l.keeps 5 (λ e. omega (arith, e)) (λ e. omega (arith, e)) ∙ (r.five ∙ sym sum);
+      source = l.keeps 5 (λ e. omega (arith, e)) (λ e. omega (arith, e)) ∙ (r.gives ∙ sym sum);
       target = l.gives;
       region = region-small y Used w base l.after t;
       private = t.frame.private;
@@ -260,7 +261,7 @@ written-holds y Used Next w base m z r p h f keeps private region long heap are 
 
 -- from an area to the region, once the address stands in x5
 from-area : (y : Layout) (n offset size : ℕ) (Used Next : ℕ → Type 0) (w : World) (base a : ℕ) (F : List Instr) (program : List (Option Instr)) (m : State) →
-    Reached program F m a → Stands program m.pc (F ++ from_area y n offset size) → n < y.areas → offset + size ≤ length (w.areas n) →
+    Reached program x5 F m a → Stands program m.pc (F ++ from_area y n offset size) → n < y.areas → offset + size ≤ length (w.areas n) →
     first_address ≤ a → a + size ≤ end_address w.region → Holds y Used w base m → Housed y Used → AreFewer Used Next →
     Comes y program Next (with_region w (stored-region w.region a (part (w.areas n) offset size))) base
     (length (F ++ from_area y n offset size)) (behind m (F ++ from_area y n offset size)) [] m
@@ -283,7 +284,7 @@ from-area y n offset size Used Next w base a F program m r stands there source l
     let move : Moving x6 x5 (Private s) (Region (a - 2 ^ 30)) X l.after = record {
       pc = t.pc;
       source = l.gives;
-      target = l.keeps 5 (λ e. omega (arith, e)) (λ e. omega (arith, e)) ∙ (r.five ∙ sym sum);
+      target = l.keeps 5 (λ e. omega (arith, e)) (λ e. omega (arith, e)) ∙ (r.gives ∙ sym sum);
       region = region-small y Used w base l.after t;
       private = t.frame.private;
       there = subst (λ i. s + i ≤ length l.after.private) (sym count) inside;
@@ -367,22 +368,24 @@ put-cases r a size bs P Q some count f g =
 
 -- from the region to an area
 pub region-moves : (y : Layout) (held : Option ℕ) (n offset : ℕ) (at : Place) (a : Address) (size : ℕ) (Used Next : ℕ → Type 0) (w : World) (base : ℕ) (program : List (Option Instr)) (m : State) →
-    Stands program m.pc (some_moved y held (spots.Area n offset) (spots.Region at a) size) → IsHeld held w.temps m → IsPlace at → IsReached y held Used w size a → 1 ≤ size → n < y.areas → offset + size ≤ 128 →
+    Stands program m.pc (some_moved y held (spots.Area n offset) (spots.Region at a) size) → IsHeld y held w.temps m → IsPlace at → IsReached y held Used w size a → 1 ≤ size → n < y.areas → offset + size ≤ 128 →
     Holds y Used w base m → Housed y Used → AreFewer Used Next →
     ((bs : List ℕ) → range_of w.region (address_in w a) size ≡ Some bs → offset ≤ length (w.areas n) →
     Comes y program Next (with_area w n (overwritten (w.areas n) offset bs)) base
     (length (some_moved y held (spots.Area n offset) (spots.Region at a) size)) (behind m (some_moved y held (spots.Area n offset) (spots.Region at a) size)) [] m)
     × (range_of w.region (address_in w a) size ≡ None → Ends program BadAddress at (length (some_moved y held (spots.Area n offset) (spots.Region at a) size)) m)
 region-moves y held n offset at (Word a) size Used Next w base program m there five place r some area few p h f =
-    let F : List Instr = first_taken y held a ++ bounds_tested at size in
+    let A : List Instr = first_taken y held a in
+    let F : List Instr = A ++ bounds_tested x5 at size in
     let T : List Instr = to_area y n offset size in
     let v : ℕ = value_in w.temps a in
     let front : Stands program m.pc F = stands-front program m.pc F T there in
+    let l : FirstSide A m x5 v = first-loaded A m v (take-first y held Used w base m a five p h r) in
     range-cases w.region v size (λ bs. offset ≤ length (w.areas n) → Comes y program Next (with_area w n (overwritten (w.areas n) offset bs)) base (length (F ++ T)) (behind m (F ++ T)) [] m)
     (Ends program BadAddress at (length (F ++ T)) m) some
     (λ i within.
-    to-area y n offset size Used Next w base v F program m (word-inside y held Used w base program m at a size five p h r some (omega arith) front i.0 i.1) there area within few i.0 i.1 p h f)
-    (λ o. weaker-ends program at (length F) (length (F ++ T)) m (omega (arith, length-append F T)) (word-outside y held Used w base program m at a size five p h r some (omega arith) front place o))
+    to-area y n offset size Used Next w base v F program m (word-inside y Used w base program m at A x5 v size l p some (omega arith) front i.0 i.1) there area within few i.0 i.1 p h f)
+    (λ o. weaker-ends program at (length F) (length (F ++ T)) m (omega (arith, length-append F T)) (word-outside y Used w base program m at A x5 v size l p some (omega arith) front place o))
 region-moves y held n offset at (Frame far) size Used Next w base program m there five place r some area few p h f =
     let F : List Instr = located far in
     let T : List Instr = to_area y n offset size in
@@ -396,24 +399,26 @@ region-moves y held n offset at (Frame far) size Used Next w base program m ther
 
 -- from an area to the region
 pub stores-moved : (y : Layout) (held : Option ℕ) (at : Place) (a : Address) (n offset size : ℕ) (Used Next : ℕ → Type 0) (w : World) (base : ℕ) (program : List (Option Instr)) (m : State) →
-    Stands program m.pc (some_moved y held (spots.Region at a) (spots.Area n offset) size) → IsHeld held w.temps m → IsPlace at → IsReached y held Used w size a → 1 ≤ size → n < y.areas → offset + size ≤ length (w.areas n) →
+    Stands program m.pc (some_moved y held (spots.Region at a) (spots.Area n offset) size) → IsHeld y held w.temps m → IsPlace at → IsReached y held Used w size a → 1 ≤ size → n < y.areas → offset + size ≤ length (w.areas n) →
     Holds y Used w base m → Housed y Used → AreFewer Used Next →
     ((r : Contents) → put_bytes w.region (address_in w a) (part (w.areas n) offset size) ≡ Some r →
     Comes y program Next (with_region w r) base
     (length (some_moved y held (spots.Region at a) (spots.Area n offset) size)) (behind m (some_moved y held (spots.Region at a) (spots.Area n offset) size)) [] m)
     × (put_bytes w.region (address_in w a) (part (w.areas n) offset size) ≡ None → Ends program BadAddress at (length (some_moved y held (spots.Region at a) (spots.Area n offset) size)) m)
 stores-moved y held at (Word a) n offset size Used Next w base program m there five place r some area source p h f =
-    let F : List Instr = first_taken y held a ++ bounds_tested at size in
+    let A : List Instr = first_taken y held a in
+    let F : List Instr = A ++ bounds_tested x5 at size in
     let T : List Instr = from_area y n offset size in
     let v : ℕ = value_in w.temps a in
     let X : List ℕ = part (w.areas n) offset size in
     let short : length (w.areas n) ≤ 128 = p.short n area in
     let front : Stands program m.pc F = stands-front program m.pc F T there in
+    let l : FirstSide A m x5 v = first-loaded A m v (take-first y held Used w base m a five p h r) in
     put-cases w.region v size X (λ c. Comes y program Next (with_region w c) base (length (F ++ T)) (behind m (F ++ T)) [] m)
     (Ends program BadAddress at (length (F ++ T)) m) some (part-length (w.areas n) offset size source)
     (λ i.
-    from-area y n offset size Used Next w base v F program m (word-inside y held Used w base program m at a size five p h r some (omega arith) front i.0 i.1) there area source i.0 i.1 p h f)
-    (λ o. weaker-ends program at (length F) (length (F ++ T)) m (omega (arith, length-append F T)) (word-outside y held Used w base program m at a size five p h r some (omega arith) front place o))
+    from-area y n offset size Used Next w base v F program m (word-inside y Used w base program m at A x5 v size l p some (omega arith) front i.0 i.1) there area source i.0 i.1 p h f)
+    (λ o. weaker-ends program at (length F) (length (F ++ T)) m (omega (arith, length-append F T)) (word-outside y Used w base program m at A x5 v size l p some (omega arith) front place o))
 stores-moved y held at (Frame far) n offset size Used Next w base program m there five place r some area source p h f =
     let F : List Instr = located far in
     let T : List Instr = from_area y n offset size in

@@ -11,6 +11,7 @@ use Rattle.rv_isa.specs.declared.operation.BranchCondition.TheVariants.{Eq, Ne}
 use Rattle.rv_isa.specs.declared.operation.ImmediateOp.TheVariants.{Addi}
 use Rattle.terra_words.specs.declared.words.FaultKind.TheVariants.{BadAddress, DivZero}
 use Rattle.terra_words.specs.declared.words.BinaryOperator.{BinaryOperator}
+use Rattle.rv_isa.specs.declared.operand.Register.{Register}
 use Rattle.tac_form.specs.declared.tac.Number.{Number}
 use Rattle.tac_form.specs.declared.tac.Operand.{Operand}
 use Rattle.tac_form.specs.declared.tac.Operand.TheVariants.{Temp, Constant}
@@ -22,16 +23,17 @@ use Rattle.tac_form.specs.declared.tac.Exit.TheVariants.{Branch, Fail, Jump, Ret
 use Rattle.tac_form.specs.Flow.{bytes_of, width_of}
 use Rattle.tac_form.specs.Weights.{operand_words, operator_words, words_of}
 use Rattle.rv_operators.specs.Codes.{code_of, x0, x5, x6, zero_immediate}
-use Rattle.rv_select.specs.Places.{Layout, area_offset, home_of}
-use Rattle.rv_select.specs.Shapes.{all_carried, applied_to, area_reached, bounds_tested, branched_over, byte_taken, bytes_given, chosen}
-use Rattle.rv_select.specs.Shapes.{exit_shape, failed, first_taken, framed, from_area, heap_aligned, is_never_zero, is_second, is_turned}
-use Rattle.rv_select.specs.Shapes.{is_zero, limit_found}
+use Rattle.rv_select.specs.Places.{Layout, area_offset, home_of, in_register}
+use Rattle.rv_select.specs.Shapes.{address_read, all_carried, applied_to, area_reached, both_moved, bounds_tested, branched_over, brought, byte_taken, bytes_given, chosen}
+use Rattle.rv_select.specs.Shapes.{exit_shape, failed, first_taken, framed, from_area, heap_aligned, is_never_zero, is_turned}
+use Rattle.rv_select.specs.Shapes.{first_read, five_or_six, is_five, is_there, is_zero, limit_found, put_behind, read_in, result_in, second_read}
 use Rattle.rv_select.specs.Shapes.{load_of, located, moved, operated, operated_second, over, put_at, put_from, range_tested, reached}
 use Rattle.rv_select.specs.Shapes.{store_of, taken, to_area, write_call, x11, x12, zeros}
 use Rattle.rv_select.specs.Steps.{ExitsKeepWithin, ShapesKeepWithin}
 use Rattle.rv_select.proofs.Frames.{framed-count}
-use Rattle.rv_select.proofs.Homes.{first-count, operand-count, put-count, put-few}
-use Rattle.rv_select.proofs.Holding.{applied-count}
+use Rattle.rv_select.proofs.Homes.{brought-count, first-count, operand-count, put-count, put-few}
+use Rattle.rv_select.proofs.Holding.{applied-count, second-least}
+use Rattle.rv_select.proofs.Sides.{read-count}
 use Rattle.rv_select.proofs.Sequences.{operator-count}
 use Rattle.rv_select.proofs.Faults.{failed-count}
 use Rattle.rv_select.proofs.Divisors.{located-count}
@@ -52,14 +54,25 @@ more n k a e g = omega arith
 one-more : (i : Instr) (a : List Instr) (n : ℕ) → length a ≤ n → length (i ∷ a) ≤ 1 + n
 one-more i a n h = omega arith
 
-tested : (at : Place) (size : ℕ) → length (bounds_tested at size) ≤ 15
-tested at size = let h : length (failed BadAddress at) ≤ 11 = failed-count BadAddress at in omega arith
+tested : (r : Register) (at : Place) (size : ℕ) → length (bounds_tested r at size) ≤ 15
+tested r at size = let h : length (failed BadAddress at) ≤ 11 = failed-count BadAddress at in omega arith
 
 word-reached : (y : Layout) (held : Option ℕ) (at : Place) (a : Operand) (size : ℕ) → length (reached y held at (Word a) size) ≤ operand_words a + 15
-word-reached y held at a size = both (first_taken y held a) (bounds_tested at size) (operand_words a) 15 (first-count y held a) (tested at size)
+word-reached y held at a size = both (first_taken y held a) (bounds_tested x5 at size) (operand_words a) 15 (first-count y held a) (tested x5 at size)
 
-store-part : (y : Layout) (i : Instr) (b : Operand) → length (taken y x6 b ++ i ∷ []) ≤ operand_words b + 1
-store-part y i b = both (taken y x6 b) (i ∷ []) (operand_words b) 1 (operand-count y x6 b) (omega arith)
+word-read : (y : Layout) (held : Option ℕ) (at : Place) (a : Operand) (size : ℕ) → length (address_read y held at (Word a) size) ≤ operand_words a + 15
+word-read y held at a size =
+    both (first_read y held a) (bounds_tested (read_in y x5 a) at size) (operand_words a) 15 (read-count y held a) (tested (read_in y x5 a) at size)
+
+store-part : (y : Layout) (i : Instr) (b : Operand) → length (second_read y b ++ i ∷ []) ≤ operand_words b + 1
+store-part y i b = both (second_read y b) (i ∷ []) (operand_words b) 1 (second-least y b) (omega arith)
+
+behind-few : (y : Layout) (d : ℕ) → length (put_behind y d) ≤ 3
+behind-few y d = either (in_register y d)
+  where
+    either : (b : Bool) → length (if b then [] else put_at y d) ≤ 3
+    either true = omega arith
+    either false = put-few y d
 
 range-count : (at : Place) → length (range_tested at) ≤ 16
 range-count at = let h : length (failed BadAddress at) ≤ 11 = failed-count BadAddress at in omega arith
@@ -70,32 +83,41 @@ to-count y n offset size h = both (area_reached y x6 n offset) (all_carried x5 x
 from-count : (y : Layout) (n offset size : ℕ) → size ≤ 128 → length (from_area y n offset size) ≤ 39
 from-count y n offset size h = both (area_reached y x6 n offset) (all_carried x6 x5 size) 3 36 (area-count y x6 n offset) (carried-count x6 x5 size h)
 
-copy-count : (y : Layout) (held : Option ℕ) (d : ℕ) (a : Operand) (zero : Bool) →
-    length (if zero then put_from x0 (home_of y d) else first_taken y held a ++ put_at y d) ≤ operand_words a + 3
-copy-count y held d a true = let h : length (put_from x0 (home_of y d)) ≤ 3 = put-count x0 (home_of y d) in omega arith
-copy-count y held d a false = both (first_taken y held a) (put_at y d) (operand_words a) 3 (first-count y held a) (put-few y d)
+copy-count : (y : Layout) (held : Option ℕ) (d : ℕ) (a : Operand) (zero home : Bool) →
+    length (if zero then put_from x0 (home_of y d) else if home then brought y held (result_in y d) a else first_taken y held a ++ put_at y d)
+    ≤ operand_words a + 3
+copy-count y held d a true home = let h : length (put_from x0 (home_of y d)) ≤ 3 = put-count x0 (home_of y d) in omega arith
+copy-count y held d a false true = omega (arith, brought-count y held (result_in y d) a)
+copy-count y held d a false false = both (first_taken y held a) (put_at y d) (operand_words a) 3 (first-count y held a) (put-few y d)
 
 test-count : (y : Layout) (held : Option ℕ) (at : Place) (a : Operand) (never : Bool) →
-    length (if never then moved x0 x0 ∷ [] else first_taken y held a ++ branched_over Ne x5 x0 DivZero at) ≤ words_of (TestDivisor at a)
+    length (if never then moved x0 x0 ∷ [] else first_read y held a ++ branched_over Ne (read_in y x5 a) x0 DivZero at) ≤ words_of (TestDivisor at a)
 test-count y held at a true = omega arith
 test-count y held at a false =
     more (operand_words a + 12) (words_of (TestDivisor at a)) _ (omega arith)
-    (both (first_taken y held a) (branched_over Ne x5 x0 DivZero at) (operand_words a) 12 (first-count y held a)
-    (one-more (instrs.Branch Ne x5 x0 (over (failed DivZero at))) (failed DivZero at) 11 (failed-count DivZero at)))
+    (both (first_read y held a) (branched_over Ne (read_in y x5 a) x0 DivZero at) (operand_words a) 12 (read-count y held a)
+    (one-more (instrs.Branch Ne (read_in y x5 a) x0 (over (failed DivZero at))) (failed DivZero at) 11 (failed-count DivZero at)))
 
 operated-count : (y : Layout) (held : Option ℕ) (d : ℕ) (op : BinaryOperator) (form : Number) (a b : Operand) →
     length (operated y held d op (width_of form) a b) ≤ operand_words a + (operand_words b + operator_words op + 3)
 operated-count y held d op form a b =
-    both (first_taken y held a) _ (operand_words a) (operand_words b + operator_words op + 3) (first-count y held a)
-    (both (applied_to y (width_of form) op b) (put_at y d) (operand_words b + operator_words op) 3
-    (applied-count y (width_of form) op b) (put-few y d))
+    both (first_read y held a) _ (operand_words a) (operand_words b + operator_words op + 3) (read-count y held a)
+    (both (applied_to y (result_in y d) (read_in y x5 a) (width_of form) op b) (put_behind y d) (operand_words b + operator_words op) 3
+    (applied-count y (result_in y d) (read_in y x5 a) (width_of form) op b) (behind-few y d))
+
+six-count : (y : Layout) (held : Option ℕ) (a : Operand) → length (both_moved y held a) ≤ 1 + operand_words a
+six-count y held a = either (is_there y a)
+  where
+    either : (b : Bool) → length (if b then [] else moved x6 x5 ∷ first_taken y held a) ≤ 1 + operand_words a
+    either true = omega arith
+    either false = omega (arith, first-count y held a)
 
 second-count : (y : Layout) (held : Option ℕ) (d : ℕ) (op : BinaryOperator) (form : Number) (a : Operand) →
-    length (operated_second y held d op (width_of form) a) ≤ 1 + (operand_words a + (operator_words op + 3))
+    length (operated_second y held d op (width_of form) a) ≤ 1 + operand_words a + (operator_words op + 3)
 second-count y held d op form a =
-    one-more (moved x6 x5) _ (operand_words a + (operator_words op + 3))
-    (both (first_taken y held a) _ (operand_words a) (operator_words op + 3) (first-count y held a)
-    (both (code_of (width_of form) op) (put_at y d) (operator_words op) 3 (operator-count (width_of form) op) (put-few y d)))
+    both (both_moved y held a) _ (1 + operand_words a) (operator_words op + 3) (six-count y held a)
+    (both (code_of (result_in y d) (read_in y x5 a) (five_or_six y a) (width_of form) op) (put_behind y d) (operator_words op) 3
+    (operator-count (result_in y d) (read_in y x5 a) (five_or_six y a) (width_of form) op) (behind-few y d))
 
 operand-some : (b : Operand) → 1 ≤ operand_words b
 operand-some (Temp t) = omega arith
@@ -109,11 +131,11 @@ operand-some (Constant c) = either (nat_lt c 2048) (nat_lt c (2 ^ 31))
 pub within : ShapesKeepWithin
 within y held (Compute d op form a b) h =
     either (is_turned held op b) (operated y held d op (width_of form) b a)
-    (if is_second held b then operated_second y held d op (width_of form) a else operated y held d op (width_of form) a b)
+    (if is_five y held b then operated_second y held d op (width_of form) a else operated y held d op (width_of form) a b)
     (more (operand_words b + (operand_words a + operator_words op + 3)) (words_of (Compute d op form a b)) _ (omega arith)
     (operated-count y held d op form b a))
-    (either (is_second held b) (operated_second y held d op (width_of form) a) (operated y held d op (width_of form) a b)
-    (more (1 + (operand_words a + (operator_words op + 3))) (words_of (Compute d op form a b)) (operated_second y held d op (width_of form) a)
+    (either (is_five y held b) (operated_second y held d op (width_of form) a) (operated y held d op (width_of form) a b)
+    (more (1 + operand_words a + (operator_words op + 3)) (words_of (Compute d op form a b)) (operated_second y held d op (width_of form) a)
     (omega (arith, operand-some b))
     (second-count y held d op form a))
     (more (operand_words a + (operand_words b + operator_words op + 3)) (words_of (Compute d op form a b)) _ (omega arith)
@@ -124,32 +146,32 @@ within y held (Compute d op form a b) h =
     either true x z f g = f
     either false x z f g = g
 within y held (TestDivisor at a) h = test-count y held at a (is_never_zero a)
-within y held (Copy d a) h = copy-count y held d a (is_zero a)
+within y held (Copy d a) h = copy-count y held d a (is_zero a) (in_register y d)
 within y held (Locate d offset) h = both (located offset) (put_at y d) 9 3 (located-count offset) (put-few y d)
 within y held (Load d form (spots.Region at (Word a))) h =
     more (operand_words a + 15 + 4) (words_of (Load d form (spots.Region at (Word a)))) _ (omega arith)
-    (both (reached y held at (Word a) (bytes_of form.size)) (instrs.Load (load_of form.signed form.size) x5 x5 zero_immediate ∷ put_at y d) (operand_words a + 15) 4
-    (word-reached y held at a (bytes_of form.size)) (one-more (instrs.Load (load_of form.signed form.size) x5 x5 zero_immediate) (put_at y d) 3 (put-few y d)))
+    (both (address_read y held at (Word a) (bytes_of form.size)) (instrs.Load (load_of form.signed form.size) (result_in y d) (read_in y x5 a) zero_immediate ∷ put_behind y d) (operand_words a + 15) 4
+    (word-read y held at a (bytes_of form.size)) (one-more (instrs.Load (load_of form.signed form.size) (result_in y d) (read_in y x5 a) zero_immediate) (put_behind y d) 3 (behind-few y d)))
 within y held (Load d form (spots.Region at (Frame offset))) h =
     more 13 14 _ (omega arith)
-    (both (located offset) (instrs.Load (load_of form.signed form.size) x5 x5 zero_immediate ∷ put_at y d) 9 4
-    (located-count offset) (one-more (instrs.Load (load_of form.signed form.size) x5 x5 zero_immediate) (put_at y d) 3 (put-few y d)))
+    (both (located offset) (instrs.Load (load_of form.signed form.size) (result_in y d) x5 zero_immediate ∷ put_behind y d) 9 4
+    (located-count offset) (one-more (instrs.Load (load_of form.signed form.size) (result_in y d) x5 zero_immediate) (put_behind y d) 3 (behind-few y d)))
 within y held (Load d form (spots.Area n offset)) h =
     more 6 8 _ (omega arith)
-    (both (framed (λ r far. instrs.Load (load_of form.signed form.size) x5 r far) (area_offset y n + offset)) (put_at y d) 3 3
-    (framed-count (λ r far. instrs.Load (load_of form.signed form.size) x5 r far) (area_offset y n + offset)) (put-few y d))
+    (both (framed (λ r far. instrs.Load (load_of form.signed form.size) (result_in y d) r far) (area_offset y n + offset)) (put_behind y d) 3 3
+    (framed-count (λ r far. instrs.Load (load_of form.signed form.size) (result_in y d) r far) (area_offset y n + offset)) (behind-few y d))
 within y held (Store (spots.Region at (Word a)) size b) h =
     more (operand_words a + 15 + (operand_words b + 1)) (words_of (Store (spots.Region at (Word a)) size b)) _ (omega arith)
-    (both (reached y held at (Word a) (bytes_of size)) (taken y x6 b ++ instrs.Store (store_of size) x5 x6 zero_immediate ∷ []) (operand_words a + 15) (operand_words b + 1)
-    (word-reached y held at a (bytes_of size)) (store-part y (instrs.Store (store_of size) x5 x6 zero_immediate) b))
+    (both (address_read y held at (Word a) (bytes_of size)) (second_read y b ++ instrs.Store (store_of size) (read_in y x5 a) (read_in y x6 b) zero_immediate ∷ []) (operand_words a + 15) (operand_words b + 1)
+    (word-read y held at a (bytes_of size)) (store-part y (instrs.Store (store_of size) (read_in y x5 a) (read_in y x6 b) zero_immediate) b))
 within y held (Store (spots.Region at (Frame offset)) size b) h =
     more (9 + (operand_words b + 1)) (words_of (Store (spots.Region at (Frame offset)) size b)) _ (omega arith)
-    (both (located offset) (taken y x6 b ++ instrs.Store (store_of size) x5 x6 zero_immediate ∷ []) 9 (operand_words b + 1)
-    (located-count offset) (store-part y (instrs.Store (store_of size) x5 x6 zero_immediate) b))
+    (both (located offset) (second_read y b ++ instrs.Store (store_of size) x5 (read_in y x6 b) zero_immediate ∷ []) 9 (operand_words b + 1)
+    (located-count offset) (store-part y (instrs.Store (store_of size) x5 (read_in y x6 b) zero_immediate) b))
 within y held (Store (spots.Area n offset) size b) h =
     more (operand_words b + 3) (words_of (Store (spots.Area n offset) size b)) _ (omega arith)
-    (both (taken y x6 b) (framed (λ r far. instrs.Store (store_of size) r x6 far) (area_offset y n + offset)) (operand_words b) 3 (operand-count y x6 b)
-    (framed-count (λ r far. instrs.Store (store_of size) r x6 far) (area_offset y n + offset)))
+    (both (second_read y b) (framed (λ r far. instrs.Store (store_of size) r (read_in y x6 b) far) (area_offset y n + offset)) (operand_words b) 3 (second-least y b)
+    (framed-count (λ r far. instrs.Store (store_of size) r (read_in y x6 b) far) (area_offset y n + offset)))
 within y held (Move (spots.Area n offset) (spots.Area k other) size) h =
     moved-count y held (spots.Area n offset) (spots.Area k other) size 42
     (both (area_reached y x5 n offset) (from_area y k other size) 3 39 (area-count y x5 n offset) (from-count y k other size (leb-true size 128 h))) (omega arith)
@@ -188,10 +210,10 @@ within y held (Alloc d a) h =
 
 -- exits
 branch-count : (y : Layout) (near short : Bool) (o : Follows) (held : Option ℕ) (a : Operand) (at first second : ℕ) →
-    length (first_taken y held a ++ chosen near short o Ne x5 x0 at first second) ≡ length (first_taken y held a) + chosen_words near short o
+    length (first_read y held a ++ chosen near short o Ne (read_in y x5 a) x0 at first second) ≡ length (first_read y held a) + chosen_words near short o
 branch-count y near short o held a at first second =
-    length-append (first_taken y held a) (chosen near short o Ne x5 x0 at first second)
-    ∙ ap (λ n. length (first_taken y held a) + n) (chosen-count near short o Ne x5 x0 at first second)
+    length-append (first_read y held a) (chosen near short o Ne (read_in y x5 a) x0 at first second)
+    ∙ ap (λ n. length (first_read y held a) + n) (chosen-count near short o Ne (read_in y x5 a) x0 at first second)
 
 pub exits-within : ExitsKeepWithin
 exits-within y setting held (Jump e) at other starts others h =
@@ -202,9 +224,9 @@ exits-within y setting held (Jump e) at other starts others h =
     )
 exits-within y setting held (Branch a e f) at other starts others h =
     let o : Follows = follower setting.next e.block f.block in
-    let n = branch-count y setting.near setting.short o held a (at + 4 * length (first_taken y held a)) (starts e.block) (starts f.block) in (
-      omega (arith, n, chosen-few setting.near setting.short o, first-count y held a),
-      n ∙ sym (branch-count y setting.near setting.short o held a (other + 4 * length (first_taken y held a)) (others e.block) (others f.block)),
+    let n = branch-count y setting.near setting.short o held a (at + 4 * length (first_read y held a)) (starts e.block) (starts f.block) in (
+      omega (arith, n, chosen-few setting.near setting.short o, read-count y held a),
+      n ∙ sym (branch-count y setting.near setting.short o held a (other + 4 * length (first_read y held a)) (others e.block) (others f.block)),
     )
 exits-within y setting held (Return v) at other starts others h = cc
 exits-within y setting held (Fail kind place) at other starts others h = (failed-count kind place, refl)

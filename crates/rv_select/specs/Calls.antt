@@ -1,5 +1,5 @@
 -- Calls and returns, and the code of a whole function.
-use Rattle.std.specs.Prelude.{◌≡◌, ℕ, ◌+◌, ◌*◌, ◌≤◌, IsTrue, Bool, ◌&&◌, true, if◌then◌else◌, List, [], ◌∷◌, ◌++◌, length, map, Option}
+use Rattle.std.specs.Prelude.{◌≡◌, ℕ, ◌+◌, ◌*◌, ◌≤◌, IsTrue, Bool, ◌&&◌, true, List, [], ◌∷◌, ◌++◌, length, map, Option}
 use Rattle.std.specs.Prelude.{Some, None}
 use Rattle.std.specs.List.{list_all}
 use Rattle.tl_base.specs.declared.place.Place.{Place}
@@ -13,7 +13,6 @@ use Rattle.rv_isa.specs.Table.{word_of}
 use Rattle.reg_alloc.specs.declared.assignment.Home.{Home}
 use Rattle.terra_words.specs.declared.words.FaultKind.TheVariants.{CallDepth}
 use Rattle.tac_form.specs.declared.tac.Operand.{Operand}
-use Rattle.tac_form.specs.declared.tac.Operand.TheVariants as operands
 use Rattle.tac_form.specs.declared.tac.Part.{Part}
 use Rattle.tac_form.specs.declared.tac.Part.TheVariants as parts
 use Rattle.tac_form.specs.declared.tac.Destination.{Destination}
@@ -36,8 +35,8 @@ use Rattle.rv_select.specs.Compared.{compared_shape}
 use Rattle.rv_select.specs.Pairs.{pair_of, plain_of}
 use Rattle.rv_select.specs.Numbers.{below_zero, constant, immediate_of, lower_of, upper_of}
 use Rattle.rv_select.specs.Places.{Layout, frame_bytes, layout_of}
-use Rattle.rv_select.specs.Shapes.{area_reached, distance, exit_shape, fault_call, has_exit_shape, has_shape, held_after, is_held, jump}
-use Rattle.rv_select.specs.Shapes.{moved, over, place_number, shape_of, small, start_of, taken, x10, x11, first_taken}
+use Rattle.rv_select.specs.Shapes.{area_reached, distance, exit_shape, fault_call, has_exit_shape, has_shape, held_after, jump}
+use Rattle.rv_select.specs.Shapes.{brought, moved, over, place_number, shape_of, small, start_of, taken, x10, x11, first_taken}
 use Rattle.rv_select.specs.Entering.{begun, entered, left, received, result_put, stored_below, words_offset, x1, x28}
 
 -- The run fails at the place in x11 where 511 calls wait already. What x5 holds stays.
@@ -91,8 +90,7 @@ instruction_code y sizes places at held i = shape_of y held i
 
 -- x10 gets what is given back: a word, from x5 where x5 holds it, or the address of an area
 abbrev pub word_given : Layout → (held : Option ℕ) → Operand → List Instr
-word_given y held (operands.Temp t) = if is_held held t then moved x10 x5 ∷ [] else taken y x10 (operands.Temp t)
-word_given y held (operands.Constant c) = constant x10 c
+word_given y held a = brought y held x10 a
 
 abbrev pub part_given : Layout → (held : Option ℕ) → Part → List Instr
 part_given y held (parts.Word a) = word_given y held a

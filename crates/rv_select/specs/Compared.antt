@@ -1,5 +1,5 @@
 -- A comparison at a block's end and the branch on its result, as one branch of the machine.
-use Rattle.std.specs.Prelude.{◌≡◌, ℕ, suc, ◌+◌, ◌*◌, ◌%◌, ◌^◌, ◌<◌, ◌≤◌, Bool, true, false, if◌then◌else◌, IsTrue, List, [], ◌++◌, length}
+use Rattle.std.specs.Prelude.{◌≡◌, ℕ, suc, ◌+◌, ◌*◌, ◌%◌, ◌^◌, ◌<◌, ◌≤◌, Bool, true, false, if◌then◌else◌, IsTrue, List, ◌++◌, length}
 use Rattle.std.specs.Prelude.{Option, Some, None, slice_get}
 use Rattle.rv_isa.specs.declared.instr.Instr.{Instr}
 use Rattle.rv_isa.specs.declared.operation.BranchCondition.{BranchCondition}
@@ -24,14 +24,14 @@ use Rattle.tac_form.specs.Fits.{exit_fits, instruction_fits}
 use Rattle.tac_form.specs.Graph.{graph_of}
 use Rattle.tac_form.specs.Live.{InUse, IsLive}
 use Rattle.tac_form.specs.Weights.{exit_words, words_of}
-use Rattle.rv_operators.specs.Codes.{is_comparison, x0, x5, x6}
+use Rattle.rv_operators.specs.Codes.{is_comparison, x5, x6}
 use Rattle.rv_operators.specs.Runs.{Stands}
 use Rattle.rv_select.specs.declared.settings.Follows.{Follows}
 use Rattle.rv_select.specs.declared.settings.Setting.{Setting}
 use Rattle.rv_select.specs.Settings.{follower}
 use Rattle.rv_select.specs.Asked.{compared_asks}
 use Rattle.rv_select.specs.Places.{HaveHomes, IsHeld, Layout, Holds, is_near, is_short, layout_of}
-use Rattle.rv_select.specs.Shapes.{chosen, first_taken, is_second, is_zero, taken}
+use Rattle.rv_select.specs.Shapes.{chosen, first_read, is_second, read_in, second_read}
 use Rattle.rv_select.specs.Steps.{IsReached, Left, world_of}
 
 -- the branches on "below" and on "not below", of numbers with a sign and without
@@ -67,35 +67,26 @@ abbrev pub compared : (near short : Bool) → Follows → (signed : Bool) → Bi
 compared near short behind signed op a b at first second =
     chosen near short behind (condition_of signed op) (left_of op a b) (right_of op a b) at first second
 
--- two operands are in x5 and x6, but a zero is in x0, which no code takes
-abbrev pub first_of : Operand → Register
-first_of a = if is_zero a then x0 else x5
-
-abbrev pub second_of : Operand → Register
-second_of b = if is_zero b then x0 else x6
-
-abbrev pub unless_zero : Operand → List Instr → List Instr
-unless_zero a code = if is_zero a then [] else code
-
+-- two operands, where they are read
 abbrev pub both_taken : Layout → (held : Option ℕ) → (a b : Operand) → List Instr
-both_taken y held a b = unless_zero a (first_taken y held a) ++ unless_zero b (taken y x6 b)
+both_taken y held a b = first_read y held a ++ second_read y b
 
 -- the same where x5 may hold the second of them, which stays there then
 abbrev pub operands_taken : Layout → (held : Option ℕ) → (a b : Operand) → List Instr
 operands_taken y held a b = if is_second held b then both_taken y held b a else both_taken y held a b
 
-abbrev pub first_register : (held : Option ℕ) → (a b : Operand) → Register
-first_register held a b = if is_second held b then second_of a else first_of a
+abbrev pub first_register : Layout → (held : Option ℕ) → (a b : Operand) → Register
+first_register y held a b = if is_second held b then read_in y x6 a else read_in y x5 a
 
-abbrev pub second_register : (held : Option ℕ) → (a b : Operand) → Register
-second_register held a b = if is_second held b then first_of b else second_of b
+abbrev pub second_register : Layout → (held : Option ℕ) → (a b : Operand) → Register
+second_register y held a b = if is_second held b then read_in y x5 b else read_in y x6 b
 
 abbrev pub compared_shape : Layout → Setting → (held : Option ℕ) → (at : ℕ) → (starts : ℕ → ℕ) → BinaryOperator → Number →
     (a b : Operand) → (e f : Edge) → List Instr
 compared_shape y setting held at starts op form a b e f =
     operands_taken y held a b
-    ++ compared setting.near setting.short (follower setting.next e.block f.block) form.signed op (first_register held a b)
-    (second_register held a b) (at + 4 * length (operands_taken y held a b)) (starts e.block) (starts f.block)
+    ++ compared setting.near setting.short (follower setting.next e.block f.block) form.signed op (first_register y held a b)
+    (second_register y held a b) (at + 4 * length (operands_taken y held a b)) (starts e.block) (starts f.block)
 
 -- Where a function's code stands at the last instruction of a block, a comparison, whose result the block's branch tests and nothing
 -- reads after that: its temporary is live at the begin of neither block. So no home gets it. Behind this code stands the next block.
@@ -125,7 +116,7 @@ pub record StandsAtCompare (p : Program) (code : Tac) (homes : List (Option Home
   pub next_there : (n : ℕ) → setting.next ≡ Some n →
       starts n ≡ m.pc + 4 * length (compared_shape (layout_of code homes) setting held m.pc starts op form a b e f)
   pub holds : Holds (layout_of code homes) (InUse (graph_of code) s.here.block s.here.at) (world_of s) base m
-  pub five : IsHeld held s.here.temps m
+  pub five : IsHeld (layout_of code homes) held s.here.temps m
 
 -- The code carries out the two steps, in at most as many of its own as it has words.
 abbrev pub ComparesAreCarried : Type 0

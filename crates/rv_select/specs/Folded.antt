@@ -1,6 +1,6 @@
--- Operators of x5 and a constant that instructions hold: in twelve bits with a sign, or as the count of a shift.
+-- Operators of a word and a constant that instructions hold: in twelve bits with a sign, or as the count of a shift.
 use Rattle.std.specs.Prelude.{◌≡◌, ℕ, ◌+◌, ◌-◌, ◌%◌, ◌^◌, Bool, true, false, ◌&&◌, ◌||◌, nat_eq, nat_le, nat_lt, if◌then◌else◌, List, []}
-use Rattle.std.specs.Prelude.{◌∷◌, ◌++◌}
+use Rattle.std.specs.Prelude.{◌∷◌}
 use Rattle.std.proofs.Common.{lit≤, subst, sym, refl}
 use lib.Dec.{T, leb→le}
 use Rattle.std.specs.Int.Count.{count_trailing_zeros}
@@ -11,13 +11,14 @@ use Rattle.rv_isa.specs.declared.operation.ImmediateOp.TheVariants.{Addi, Slti, 
 use Rattle.rv_isa.specs.declared.operation.RegisterOp.TheVariants.{Sltu}
 use Rattle.rv_isa.specs.declared.operation.ShiftOp.{ShiftOp}
 use Rattle.rv_isa.specs.declared.operation.ShiftOp.TheVariants.{Slli, Srli, Srai}
+use Rattle.rv_isa.specs.declared.operand.Register.{Register}
 use Rattle.rv_isa.specs.declared.operand.ShiftCount.{ShiftCount}
 use Rattle.rv_isa.specs.declared.operand.WordShiftCount.{WordShiftCount}
 use Rattle.terra_words.specs.declared.words.Width.{Width}
 use Rattle.terra_words.specs.declared.words.BinaryOperator.{BinaryOperator}
 use Rattle.terra_words.specs.declared.words.BinaryOperator.TheVariants.{Add, Subtract, Multiply, Xor, And, Or, ShiftLeft, ShiftRight, Equal}
 use Rattle.terra_words.specs.declared.words.BinaryOperator.TheVariants.{NotEqual, Less, LessEqual, Greater, GreaterEqual}
-use Rattle.rv_operators.specs.Codes.{cut, one_immediate, x0, x5}
+use Rattle.rv_operators.specs.Codes.{cut, one_immediate, x0}
 use Rattle.rv_select.specs.Numbers.{lower_of}
 
 -- a number that twelve bits with a sign hold: below 2,048, or one of the last 2,048 below 2 ^ 64, for those below zero
@@ -51,31 +52,31 @@ shift_for c = count_trailing_zeros 64 c
 abbrev pub is_power : ℕ → Bool
 is_power c = nat_lt (shift_for c) 64 && nat_eq (2 ^ shift_for c) c
 
--- x5 and a number
-abbrev pub by_number : ImmediateOp → ℕ → Instr
-by_number op c = RegisterImmediate op x5 x5 (lower_of c)
+-- d gets what an instruction gives of a and a number
+abbrev pub by_number : (d a : Register) → ImmediateOp → ℕ → Instr
+by_number d a op c = RegisterImmediate op d a (lower_of c)
 
 -- their sum: at 32 bits with a sign one instruction adds and cuts
-abbrev pub sum_of : Width → ℕ → List Instr
-sum_of w c = if w.signed && nat_eq w.bits 32 then Addiw x5 x5 (lower_of c) ∷ [] else by_number Addi c ∷ cut w
+abbrev pub sum_of : (d a : Register) → Width → ℕ → List Instr
+sum_of d a w c = if w.signed && nat_eq w.bits 32 then Addiw d a (lower_of c) ∷ [] else by_number d a Addi c ∷ cut d w
 
--- x5 shifted left: at 32 bits with a sign, and by fewer, one instruction shifts and cuts
-abbrev pub shifted_up : Width → ℕ → List Instr
-shifted_up w k =
-    if w.signed && (nat_eq w.bits 32 && nat_le k 31) then ShiftWord Slli x5 x5 (word_count_of k) ∷ []
-    else Shift Slli x5 x5 (count_of k) ∷ cut w
+-- a word shifted left: at 32 bits with a sign, and by fewer, one instruction shifts and cuts
+abbrev pub shifted_up : (d a : Register) → Width → ℕ → List Instr
+shifted_up d a w k =
+    if w.signed && (nat_eq w.bits 32 && nat_le k 31) then ShiftWord Slli d a (word_count_of k) ∷ []
+    else Shift Slli d a (count_of k) ∷ cut d w
 
 abbrev pub test_of : Bool → ImmediateOp
 test_of true = Slti
 test_of false = Sltiu
 
 -- a test turned round
-abbrev pub turned_round : List Instr
-turned_round = RegisterImmediate Xori x5 x5 one_immediate ∷ []
+abbrev pub turned_round : Register → List Instr
+turned_round d = RegisterImmediate Xori d d one_immediate ∷ []
 
--- zero exactly where x5 is the number
-abbrev pub differing : ℕ → List Instr
-differing c = if nat_eq c 0 then [] else by_number Addi (opposite c) ∷ []
+-- a test of a word that is zero exactly where that in a is the number
+abbrev pub differing : (d a : Register) → ℕ → (test : Register → Instr) → List Instr
+differing d a c test = if nat_eq c 0 then test a ∷ [] else by_number d a Addi (opposite c) ∷ test d ∷ []
 
 abbrev pub shift_down : Bool → ShiftOp
 shift_down true = Srai
@@ -100,20 +101,20 @@ is_folded LessEqual c = nat_lt c 2047
 is_folded Greater c = nat_lt c 2047
 is_folded _ c = false
 
--- the instructions
-abbrev pub folded : Width → BinaryOperator → ℕ → List Instr
-folded w Add c = sum_of w c
-folded w Subtract c = sum_of w (opposite c)
-folded w Multiply c = shifted_up w (shift_for c)
-folded w Xor c = by_number Xori c ∷ cut w
-folded w And c = by_number Andi c ∷ cut w
-folded w Or c = by_number Ori c ∷ cut w
-folded w ShiftLeft c = shifted_up w (c % w.bits)
-folded w ShiftRight c = Shift (shift_down w.signed) x5 x5 (count_of (c % w.bits)) ∷ cut w
-folded w Equal c = differing c ++ RegisterImmediate Sltiu x5 x5 one_immediate ∷ []
-folded w NotEqual c = differing c ++ RegisterRegister Sltu x5 x0 x5 ∷ []
-folded w Less c = by_number (test_of w.signed) c ∷ []
-folded w GreaterEqual c = by_number (test_of w.signed) c ∷ turned_round
-folded w LessEqual c = by_number (test_of w.signed) (c + 1) ∷ []
-folded w Greater c = by_number (test_of w.signed) (c + 1) ∷ turned_round
-folded w _ c = []
+-- The instructions. d gets the result, of a and the number.
+abbrev pub folded : (d a : Register) → Width → BinaryOperator → ℕ → List Instr
+folded d a w Add c = sum_of d a w c
+folded d a w Subtract c = sum_of d a w (opposite c)
+folded d a w Multiply c = shifted_up d a w (shift_for c)
+folded d a w Xor c = by_number d a Xori c ∷ cut d w
+folded d a w And c = by_number d a Andi c ∷ cut d w
+folded d a w Or c = by_number d a Ori c ∷ cut d w
+folded d a w ShiftLeft c = shifted_up d a w (c % w.bits)
+folded d a w ShiftRight c = Shift (shift_down w.signed) d a (count_of (c % w.bits)) ∷ cut d w
+folded d a w Equal c = differing d a c (λ r. RegisterImmediate Sltiu d r one_immediate)
+folded d a w NotEqual c = differing d a c (λ r. RegisterRegister Sltu d x0 r)
+folded d a w Less c = by_number d a (test_of w.signed) c ∷ []
+folded d a w GreaterEqual c = by_number d a (test_of w.signed) c ∷ turned_round d
+folded d a w LessEqual c = by_number d a (test_of w.signed) (c + 1) ∷ []
+folded d a w Greater c = by_number d a (test_of w.signed) (c + 1) ∷ turned_round d
+folded d a w _ c = []

@@ -130,7 +130,7 @@ CallsAreBegun =
     (at : Place) (ps : List Part) (m : State) →
     let y : Layout = layout_of code homes in
     let Used : ℕ → Type 0 = InUse (graph_of code) block step in
-    IsRight code homes → Holds y Used w base m → IsHeld held w.temps m → place_number at < 2 ^ 64 →
+    IsRight code homes → Holds y Used w base m → IsHeld y held w.temps m → place_number at < 2 ^ 64 →
     Stands program m.pc (call_begun y held at ps) →
     (511 ≤ w.depth → Ends program CallDepth at (length (call_begun y held at ps)) m) ×
     (w.depth < 511 → ArePassed y held Used ps → 8 * length ps ≤ base → Calls program y held base w at ps m)
@@ -161,7 +161,7 @@ FunctionsAreLeft =
     (base frame last link : ℕ) (v : Part) (m : State) (setting : Setting) →
     let y : Layout = layout_of code homes in
     let Used : ℕ → Type 0 = InUse (graph_of code) block step in
-    IsRight code homes → Holds y Used w base m → IsHeld held w.temps m → IsPartFirst y held Used v → m.pc + 256 ≤ 2 ^ 30 →
+    IsRight code homes → Holds y Used w base m → IsHeld y held w.temps m → IsPartFirst y held Used v → m.pc + 256 ≤ 2 ^ 30 →
     last < 2 ^ 30 → last % 2 ≡ 0 →
     (IsTrue setting.short → (m.pc ≤ last) × (last ≤ m.pc + 2 ^ 19)) →
     (setting.next ≡ None → last ≡ m.pc + 4 * length (returned y setting held m.pc last v)) →

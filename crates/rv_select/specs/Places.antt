@@ -3,14 +3,14 @@
 -- x2 has the address of the activation's frame in private memory. x3 is the end of the heap, x4 that of the region, x8 the
 -- address of the frame in the region, and x28 the number of calls that wait. x18 to x27 hold temporaries, and x1 the return address of a
 -- function that makes no calls. x5 to x7 and x10 to x17 are scratch: between two instructions of three-address code they hold nothing,
--- but for x5, which behind an instruction of a block may hold the word that this one wrote. A temporary whose word is only ever taken from
+-- but for x5, which behind an instruction of a block may hold the word that this one wrote, unless its home is a register. A temporary whose word is only ever taken from
 -- x5 has no home.
 --
 -- The private frame has, from x2 upwards, a word for the return address, in which a function that makes calls keeps it, and a word for
 -- each of x18 to x27, in which a function that uses one keeps its caller's word; then the slots, a word each; then 128 bytes for each
 -- area; and at its end the words of the parameters, which the caller stores below its own frame, the first uppermost. These are
 -- slots too, of the temporaries that take them.
-use Rattle.std.specs.Prelude.{◌≡◌, ℕ, ◌+◌, ◌*◌, ◌^◌, ◌<◌, ◌≤◌, Bool, true, false, ◌&&◌, ◌||◌, nat_eq, nat_le, nat_lt, List, take, drop}
+use Rattle.std.specs.Prelude.{◌≡◌, ℕ, ◌+◌, ◌*◌, ◌^◌, ◌<◌, ◌≤◌, Bool, true, false, ◌&&◌, ◌||◌, not, nat_eq, nat_le, nat_lt, List, take, drop}
 use Rattle.std.specs.Prelude.{length, Option, Some, None, slice_get, IsTrue, ◌⊎◌, [], ◌∷◌, if◌then◌else◌}
 use Rattle.std.specs.List.{list_any}
 use Rattle.tl_base.specs.declared.limits.TheConstants.{MAX_PRIVATE, PRIVATE_ADDRESS}
@@ -125,6 +125,14 @@ or_first _ = Slot 0
 abbrev pub home_of : Layout → ℕ → Home
 home_of y t = or_first (slice_get y.homes t)
 
+-- whether a temporary's home is a register
+abbrev pub is_in_register : Option (Option Home) → Bool
+is_in_register (Some (Some (Register x))) = true
+is_in_register _ = false
+
+abbrev pub in_register : Layout → ℕ → Bool
+in_register y t = is_in_register (slice_get y.homes t)
+
 -- whether a function uses a register, and so keeps its caller's word of it
 abbrev pub is_register : ℕ → Option Home → Bool
 is_register x (Some (Register z)) = nat_eq x z
@@ -213,10 +221,14 @@ pub record Keeps (y : Layout) (base : ℕ) (m after : State) : Type 0 where
   pub outside : (at n : ℕ) → base ≤ at → (at + n ≤ base + kept_bytes) ⊎ (base + frame_bytes y ≤ at) →
       take n (drop at after.private) ≡ take n (drop at m.private)
 
--- whether x5 holds the word of a temporary, where it is said to
-abbrev pub IsHeld : (held : Option ℕ) → Temps → State → Type 0
-IsHeld None temps m = Unit {0}
-IsHeld (Some t) temps m = m.registers 5 ≡ temps t
+-- The last instruction's word is held: its temporary's home is a register, or x5 has the word.
+abbrev pub IsHeld : Layout → (held : Option ℕ) → Temps → State → Type 0
+IsHeld y None temps m = Unit {0}
+IsHeld y (Some t) temps m = in_register y t ≡ false → m.registers 5 ≡ temps t
+
+-- whether x5 has the word of a temporary that is held
+abbrev pub in_five : Layout → (held : Option ℕ) → ℕ → Bool
+in_five y held t = is_held held t && not (in_register y t)
 
 -- an operand's word, and what is in use where it is read: a temporary with a home, or, where x5 takes the operand, one that x5 holds
 abbrev pub value_in : Temps → Operand → ℕ

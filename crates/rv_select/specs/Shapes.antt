@@ -1,6 +1,6 @@
 -- Which instructions carry out those of three-address code that stay within a function.
-use Rattle.std.specs.Prelude.{◌≡◌, ℕ, suc, zero, ◌+◌, ◌-◌, ◌*◌, ◌/◌, ◌%◌, ◌^◌, pos, negsuc, Bool, true, false, ◌&&◌, nat_eq, nat_le}
-use Rattle.std.specs.Prelude.{nat_lt, if◌then◌else◌, List, [], ◌∷◌, ◌++◌, length, Option, Some, None, slice_get, unwrap_or}
+use Rattle.std.specs.Prelude.{◌≡◌, ℕ, suc, zero, ◌+◌, ◌-◌, ◌*◌, ◌/◌, ◌%◌, ◌^◌, pos, negsuc, Bool, true, false, nat_eq, nat_le}
+use Rattle.std.specs.Prelude.{nat_lt, if◌then◌else◌, List, [], ◌∷◌, ◌++◌, length, Option, Some, slice_get, unwrap_or}
 use Rattle.std.proofs.Common.{lit≤, subst, sym, refl, eqb→eq}
 use Rattle.tl_base.specs.declared.limits.TheConstants.{REGION_ADDRESS}
 use lib.Dec.{T}
@@ -26,7 +26,6 @@ use Rattle.reg_alloc.specs.declared.assignment.Home.{Home}
 use Rattle.reg_alloc.specs.declared.assignment.Home.TheVariants as homes
 use Rattle.terra_words.specs.declared.words.Width.{Width}
 use Rattle.terra_words.specs.declared.words.BinaryOperator.{BinaryOperator}
-use Rattle.terra_words.specs.declared.words.BinaryOperator.TheVariants as operators
 use Rattle.terra_words.specs.declared.words.FaultKind.{FaultKind}
 use Rattle.terra_words.specs.declared.words.FaultKind.TheVariants.{BadAddress, DivZero}
 use Rattle.terra_words.specs.Words.{fault_number}
@@ -54,7 +53,7 @@ pub use Rattle.rv_select.specs.Asked.{held_after, is_held, is_second, is_symmetr
 use Rattle.rv_select.specs.Folded.{folded, is_folded}
 pub use Rattle.rv_select.specs.Numbers.{x7}
 use Rattle.rv_select.specs.Numbers.{constant, immediate_of, below_zero, lower_of, register_of, upper_of}
-use Rattle.rv_select.specs.Places.{Layout, area_offset, home_of, slot_offset}
+use Rattle.rv_select.specs.Places.{Layout, area_offset, home_of, in_five, in_register, slot_offset}
 
 -- the frame, the end of the heap, the end of the region, the frame in the region, and the registers in
 -- which the machine takes the parts of a call
@@ -107,8 +106,35 @@ taken y d (Constant c) = constant d c
 
 -- x5 gets an operand, unless it holds it: where an instruction leaves a temporary's word in x5, the next one knows
 abbrev pub first_taken : Layout → (held : Option ℕ) → Operand → List Instr
-first_taken y held (Temp t) = if is_held held t then [] else taken y x5 (Temp t)
+first_taken y held (Temp t) = if in_five y held t then [] else taken y x5 (Temp t)
 first_taken y held (Constant c) = constant x5 c
+
+-- another register gets an operand, from x5 where that holds it
+abbrev pub brought : Layout → (held : Option ℕ) → Register → Operand → List Instr
+brought y held d (Temp t) = if in_five y held t then moved d x5 ∷ [] else taken y d (Temp t)
+brought y held d (Constant c) = constant d c
+
+-- Where an operand is read: in its home, if that is a register; a zero in x0; and any other in a register that takes it.
+abbrev pub register_or : Register → Option (Option Home) → Register
+register_or r (Some (Some (homes.Register x))) = register_of x
+register_or r _ = r
+
+abbrev pub read_in : Layout → Register → Operand → Register
+read_in y r (Temp t) = register_or r (slice_get y.homes t)
+read_in y r (Constant c) = if nat_eq c 0 then x0 else r
+
+abbrev pub is_there : Layout → Operand → Bool
+is_there y (Temp t) = in_register y t
+is_there y (Constant c) = nat_eq c 0
+
+abbrev pub unless_there : Layout → Operand → List Instr → List Instr
+unless_there y a code = if is_there y a then [] else code
+
+abbrev pub first_read : Layout → (held : Option ℕ) → Operand → List Instr
+first_read y held a = unless_there y a (first_taken y held a)
+
+abbrev pub second_read : Layout → Operand → List Instr
+second_read y b = unless_there y b (taken y x6 b)
 
 -- a home gets the word in a register, and that in x5
 abbrev pub put_from : Register → Home → List Instr
@@ -125,6 +151,13 @@ put_in _ = []
 
 abbrev pub put_at : Layout → ℕ → List Instr
 put_at y d = put_in (slice_get y.homes d)
+
+-- Where a temporary's word is computed: in its home, if that is a register, and else in x5, from where it is put to the home.
+abbrev pub result_in : Layout → ℕ → Register
+result_in y d = register_or x5 (slice_get y.homes d)
+
+abbrev pub put_behind : Layout → ℕ → List Instr
+put_behind y d = if in_register y d then [] else put_at y d
 
 -- the offset of a branch over so many instructions
 abbrev pub offset_if : (n : ℕ) (fits even : Bool) → nat_le n 4094 ≡ fits → nat_eq (n % 2) 0 ≡ even → BranchOffset
@@ -169,25 +202,41 @@ branched_over condition a b kind at = Branch condition a b (over (failed kind at
 
 -- a copy, and an operator. A zero needs no register but x0
 abbrev pub copied : Layout → (held : Option ℕ) → ℕ → Operand → List Instr
-copied y held d a = if is_zero a then put_from x0 (home_of y d) else first_taken y held a ++ put_at y d
+copied y held d a =
+    if is_zero a then put_from x0 (home_of y d)
+    else if in_register y d then brought y held (result_in y d) a
+    else first_taken y held a ++ put_at y d
 
--- x5 gets what an operator gives of x5 and an operand, which instructions hold where they can
-abbrev pub applied_to : Layout → Width → BinaryOperator → Operand → List Instr
-applied_to y w op (Temp t) = taken y x6 (Temp t) ++ code_of w op
-applied_to y w op (Constant c) = if is_folded op c then folded w op c else constant x6 c ++ code_of w op
+-- d gets what an operator gives of a and an operand, which instructions hold where they can
+abbrev pub applied_to : Layout → (d a : Register) → Width → BinaryOperator → Operand → List Instr
+applied_to y d a w op (Temp t) = second_read y (Temp t) ++ code_of d a (read_in y x6 (Temp t)) w op
+applied_to y d a w op (Constant c) =
+    if is_folded op c then folded d a w op c
+    else second_read y (Constant c) ++ code_of d a (read_in y x6 (Constant c)) w op
 
 abbrev pub operated : Layout → (held : Option ℕ) → ℕ → BinaryOperator → Width → Operand → Operand → List Instr
-operated y held d op w a b = first_taken y held a ++ (applied_to y w op b ++ put_at y d)
+operated y held d op w a b = first_read y held a ++ (applied_to y (result_in y d) (read_in y x5 a) w op b ++ put_behind y d)
 
--- x5 holds the second operand, which goes to x6, and gets the first
+-- x5 holds the second operand, which goes to x6 if x5 has to get the first
+abbrev pub both_moved : Layout → (held : Option ℕ) → Operand → List Instr
+both_moved y held a = unless_there y a (moved x6 x5 ∷ first_taken y held a)
+
+abbrev pub five_or_six : Layout → Operand → Register
+five_or_six y a = if is_there y a then x5 else x6
+
 abbrev pub operated_second : Layout → (held : Option ℕ) → ℕ → BinaryOperator → Width → Operand → List Instr
-operated_second y held d op w a = moved x6 x5 ∷ (first_taken y held a ++ (code_of w op ++ put_at y d))
+operated_second y held d op w a =
+    both_moved y held a ++ (code_of (result_in y d) (read_in y x5 a) (five_or_six y a) w op ++ put_behind y d)
 
--- an operator, whose operands change places if x5 holds the second and they may
+abbrev pub is_five : Layout → (held : Option ℕ) → Operand → Bool
+is_five y held (Temp t) = in_five y held t
+is_five y held (Constant c) = false
+
+-- an operator, whose operands change places if the second is held and they may
 abbrev pub computed : Layout → (held : Option ℕ) → ℕ → BinaryOperator → Width → Operand → Operand → List Instr
 computed y held d op w a b =
     if is_turned held op b then operated y held d op w b a
-    else if is_second held b then operated_second y held d op w a
+    else if is_five y held b then operated_second y held d op w a
     else operated y held d op w a b
 
 -- A test of a divisor. A constant that isn't zero needs none, so that its test only takes a step.
@@ -197,7 +246,8 @@ is_never_zero (Constant c) = nat_lt 0 c
 
 abbrev pub divisor_tested : Layout → (held : Option ℕ) → Place → Operand → List Instr
 divisor_tested y held at a =
-    if is_never_zero a then moved x0 x0 ∷ [] else first_taken y held a ++ branched_over Ne x5 x0 DivZero at
+    if is_never_zero a then moved x0 x0 ∷ []
+    else first_read y held a ++ branched_over Ne (read_in y x5 a) x0 DivZero at
 
 -- x5 gets the address of an offset of the frame in the region
 abbrev pub located : ℕ → List Instr
@@ -205,23 +255,32 @@ located offset =
     if nat_le offset 2047 then RegisterImmediate Addi x5 x8 (immediate_of offset) ∷ []
     else constant x5 offset ++ RegisterRegister Add x5 x5 x8 ∷ []
 
--- The run fails unless so many bytes, at most 128, from the address in x5 on lie in the region: it begins at 0x40000000, and
+-- The run fails unless so many bytes, at most 128, from the address in a register on lie in the region: it begins at 0x40000000, and
 -- x4 has its end. A branch passes the second test where the address is too low already.
 abbrev pub first_address : Instr
 first_address = Lui x6 (upper_of REGION_ADDRESS)
 
-abbrev pub bounds_tested : Place → ℕ → List Instr
-bounds_tested at size =
+abbrev pub bounds_tested : Register → Place → ℕ → List Instr
+bounds_tested a at size =
     first_address
-    ∷ Branch Ltu x5 x6 (offset_of 12)
+    ∷ Branch Ltu a x6 (offset_of 12)
     ∷ RegisterImmediate Addi x6 x4 (below_zero (size - 1))
-    ∷ Branch Geu x6 x5 (over (failed BadAddress at))
+    ∷ Branch Geu x6 a (over (failed BadAddress at))
     ∷ failed BadAddress at
 
 -- x5 gets the address of bytes in the region, tested where it isn't one of the frame's
 abbrev pub reached : Layout → (held : Option ℕ) → Place → Address → ℕ → List Instr
-reached y held at (Word a) size = first_taken y held a ++ bounds_tested at size
+reached y held at (Word a) size = first_taken y held a ++ bounds_tested x5 at size
 reached y held at (Frame offset) size = located offset
+
+-- the same of an address that is read where it is, and its register
+abbrev pub address_read : Layout → (held : Option ℕ) → Place → Address → ℕ → List Instr
+address_read y held at (Word a) size = first_read y held a ++ bounds_tested (read_in y x5 a) at size
+address_read y held at (Frame offset) size = located offset
+
+abbrev pub address_register : Layout → Address → Register
+address_register y (Word a) = read_in y x5 a
+address_register y (Frame offset) = x5
 
 -- how numbers of a size are loaded and stored
 abbrev pub load_of : Bool → Size → LoadOp
@@ -242,16 +301,17 @@ store_of Eight = Sd
 -- loads and stores
 abbrev pub loaded : Layout → (held : Option ℕ) → ℕ → Number → Spot → List Instr
 loaded y held d form (spots.Region at a) =
-    reached y held at a (bytes_of form.size)
-    ++ (Load (load_of form.signed form.size) x5 x5 zero_immediate ∷ put_at y d)
+    address_read y held at a (bytes_of form.size)
+    ++ (Load (load_of form.signed form.size) (result_in y d) (address_register y a) zero_immediate ∷ put_behind y d)
 loaded y held d form (spots.Area n offset) =
-    framed (λ r far. Load (load_of form.signed form.size) x5 r far) (area_offset y n + offset) ++ put_at y d
+    framed (λ r far. Load (load_of form.signed form.size) (result_in y d) r far) (area_offset y n + offset) ++ put_behind y d
 
 abbrev pub stored : Layout → (held : Option ℕ) → Spot → Size → Operand → List Instr
 stored y held (spots.Region at a) size b =
-    reached y held at a (bytes_of size) ++ (taken y x6 b ++ Store (store_of size) x5 x6 zero_immediate ∷ [])
+    address_read y held at a (bytes_of size)
+    ++ (second_read y b ++ Store (store_of size) (address_register y a) (read_in y x6 b) zero_immediate ∷ [])
 stored y held (spots.Area n offset) size b =
-    taken y x6 b ++ framed (λ r far. Store (store_of size) r x6 far) (area_offset y n + offset)
+    second_read y b ++ framed (λ r far. Store (store_of size) r (read_in y x6 b) far) (area_offset y n + offset)
 
 -- bytes go from where one register points to where another does, through x7: eight at a time, then four, two and one
 abbrev pub carried : (from to : Register) → LoadOp → StoreOp → ℕ → List Instr
@@ -508,9 +568,9 @@ abbrev pub exit_shape : Layout → Setting → (held : Option ℕ) → (at : ℕ
 exit_shape y setting held at starts (exits.Jump e) =
     if falls setting.next e then [] else jump setting.short at (starts e.block)
 exit_shape y setting held at starts (exits.Branch a e f) =
-    first_taken y held a
-    ++ chosen setting.near setting.short (follower setting.next e.block f.block) Ne x5 x0 (at + 4 * length (first_taken y held a))
-    (starts e.block) (starts f.block)
+    first_read y held a
+    ++ chosen setting.near setting.short (follower setting.next e.block f.block) Ne (read_in y x5 a) x0
+    (at + 4 * length (first_read y held a)) (starts e.block) (starts f.block)
 exit_shape y setting held at starts (exits.Return v) = []
 exit_shape y setting held at starts (exits.Fail kind at_place) = failed kind at_place
 

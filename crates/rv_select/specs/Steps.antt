@@ -90,7 +90,7 @@ abbrev pub Carried : Layout → List FlowBlock → List (Option Instr) → (base
 Carried y graph program base held code s m (Goes t) =
     (out : List ℕ) × (t.out ≡ s.out ++ out) ×
     (c : Comes y program (InUse graph t.here.block t.here.at) (world_of t) base (length code) (behind m code) out m)
-    × IsHeld held t.here.temps c.after
+    × IsHeld y held t.here.temps c.after
 Carried y graph program base held code s m (Stops (Over (Fault kind at) out)) = (out ≡ s.out) × Ends program kind at (length code) m
 Carried y graph program base held code s m (Stops (Over (Returned v) out)) = ⊥
 Carried y graph program base held code s m (Stops (Over Stuck out)) = Unit {0}
@@ -112,7 +112,7 @@ pub record StandsBefore (p : Program) (code : Tac) (homes : List (Option Home)) 
   pub asked : HaveHomes (layout_of code homes) (asks held i)
   pub stands : Stands program m.pc (shape_of (layout_of code homes) held i)
   pub holds : Holds (layout_of code homes) (InUse (graph_of code) s.here.block s.here.at) (world_of s) base m
-  pub five : IsHeld held s.here.temps m
+  pub five : IsHeld (layout_of code homes) held s.here.temps m
 
 -- Each instruction that has code so far is carried out by it.
 abbrev pub InstructionsAreCarried : Type 0
@@ -171,7 +171,7 @@ pub record StandsAtExit (p : Program) (code : Tac) (homes : List (Option Home)) 
   pub next_there : (n : ℕ) → setting.next ≡ Some n →
       starts n ≡ m.pc + 4 * length (exit_shape (layout_of code homes) setting held m.pc starts exit)
   pub holds : Holds (layout_of code homes) (InUse (graph_of code) s.here.block s.here.at) (world_of s) base m
-  pub five : IsHeld held s.here.temps m
+  pub five : IsHeld (layout_of code homes) held s.here.temps m
 
 -- Each exit that has code so far is carried out by it, in at most as many steps as this code has words.
 abbrev pub ExitsAreCarried : Type 0

@@ -159,7 +159,7 @@ pub record StandsIn (p : Program) (image : Image) (program : List (Option Instr)
   pub before_end : s.here.at ≤ length (plain_in (reads_of code) (slice_get code.blocks s.here.block))
   pub pc : m.pc ≡ place_in p image code (image s.here.function) s.here.block s.here.at
   pub holds : Holds (layout_of code (image s.here.function).homes) (InUse (graph_of code) s.here.block s.here.at) (world_of s) base m
-  pub five : IsHeld (held_in code s.here.block s.here.at) s.here.temps m
+  pub five : IsHeld (layout_of code (image s.here.function).homes) (held_in code s.here.block s.here.at) s.here.temps m
   pub frame : s.here.base + code.frame ≤ end_address s.region
   pub region : length s.region.bytes ≡ size
   pub room : HasRoom most (length s.callers) base

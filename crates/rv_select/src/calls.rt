@@ -15,7 +15,8 @@ use crate::emit::{X5, X6, push_constant, push_moved, push_taken, put};
 use crate::entries::{X1, X28, push_result_put, push_stored_below};
 use crate::exits::{distance, push_jump};
 use crate::instructions::{
-    X10, X11, is_held, place_number, push_area_address, push_fault_call, push_first, push_small,
+    X10, X11, place_number, push_area_address, push_brought, push_fault_call, push_first,
+    push_small,
 };
 use crate::operands::{below_zero, immediate, lower, offset, upper};
 use reg_alloc::Home;
@@ -134,26 +135,7 @@ fn push_word_given(
 ) -> Result<(), NoMemory>
     ensures { OnOk result (code.new.items ≡ code.old.items ++ map word_of (word_given (with_homes homes.now) held a)) }
 {
-    match a {
-        Operand::Temp(temp) => push_temp_given(code, homes, held, temp),
-        Operand::Constant(number) => push_constant(code, X10, number),
-    }
-}
-
-/// x10 gets a temporary's word, from x5 where x5 holds it.
-fn push_temp_given(
-    code: &mut Vec<u32>,
-    homes: &[Option<Home>],
-    held: Option<u64>,
-    temp: u64,
-) -> Result<(), NoMemory>
-    ensures { OnOk result (code.new.items ≡ code.old.items ++ map word_of (word_given (with_homes homes.now) held (operands.Temp temp))) }
-{
-    if is_held(held, temp) {
-        push_moved(code, X10, X5)
-    } else {
-        push_taken(code, homes, X10, Operand::Temp(temp))
-    }
+    push_brought(code, homes, held, X10, a)
 }
 
 /// The words of parts from one on go below the frame, where x5 may hold the first of them.

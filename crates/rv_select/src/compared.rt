@@ -2,17 +2,16 @@
 
 ghost use Rattle.std.specs.Prelude.{◌≡◌, ◌+◌, ◌^◌, ◌≤◌, [], ◌∷◌, ◌++◌, map, length, IfOk, OnOk};
 ghost use Rattle.rv_isa.specs.Table.{word_of};
-ghost use Rattle.rv_operators.specs.Codes.{x6};
 ghost use Rattle.rv_select.specs.Places.{with_homes};
-ghost use Rattle.rv_select.specs.Compared.{below_condition, both_taken, compared, compared_shape, condition_of, first_of, first_register};
+ghost use Rattle.rv_select.specs.Compared.{below_condition, both_taken, compared, compared_shape, condition_of, first_register};
 ghost use Rattle.rv_select.specs.Compared.{least_condition, left_of};
-ghost use Rattle.rv_select.specs.Compared.{operands_taken, right_of, second_of, second_register, unless_zero};
+ghost use Rattle.rv_select.specs.Compared.{operands_taken, right_of, second_register};
 ghost use Rattle.rv_select.specs.Settings.{follower};
-ghost use Rattle.rv_select.specs.Shapes.{first_taken, start_of, taken};
+ghost use Rattle.rv_select.specs.Shapes.{start_of};
 
-use crate::emit::{X0, X5, X6};
+use crate::emit::{X5, X6};
 use crate::exits::{push_chosen, start_of};
-use crate::instructions::{is_second, is_zero, push_first, push_second};
+use crate::instructions::{is_second, push_first_read, push_second_read, read_in};
 use crate::settings::{Follows, Setting, follower};
 use reg_alloc::Home;
 use rv_isa::{BranchCondition, Register};
@@ -47,17 +46,46 @@ pub fn push_compared(
     let words = push_counted(code, homes, held, a, b)?;
     let to = start_of(starts, first.block);
     let other = start_of(starts, second.block);
-    push_test(
+    push_read_test(
         code,
+        homes,
         setting,
         follower(setting.next, first.block, second.block),
+        held,
         form.signed,
         operator,
-        first_register(held, a, b),
-        second_register(held, a, b),
+        a,
+        b,
         at + 4 * words,
         to,
         other,
+    )
+}
+
+/// The branch on a comparison of both, where they are read, and the jumps.
+fn push_read_test(
+    code: &mut Vec<u32>,
+    homes: &[Option<Home>],
+    setting: Setting,
+    follows: Follows,
+    held: Option<u64>,
+    signed: bool,
+    operator: BinaryOperator,
+    a: Operand,
+    b: Operand,
+    at: u64,
+    first: u64,
+    second: u64,
+) -> Result<(), NoMemory>
+    requires { at + 12 ≤ 2 ^ 32 }
+    ensures { OnOk result (code.new.items ≡ code.old.items
+        ++ map word_of (compared setting.near setting.short follows signed operator (first_register (with_homes homes.now) held a b)
+        (second_register (with_homes homes.now) held a b) at first second)) }
+{
+    let ra = first_register(homes, held, a, b);
+    let rb = second_register(homes, held, a, b);
+    push_test(
+        code, setting, follows, signed, operator, ra, rb, at, first, second,
     )
 }
 
@@ -104,69 +132,29 @@ fn push_both(
 ) -> Result<(), NoMemory>
     ensures { OnOk result (code.new.items ≡ code.old.items ++ map word_of (both_taken (with_homes homes.now) held a b)) }
 {
-    push_first_side(code, homes, held, a)?;
-    push_second_side(code, homes, b)
+    push_first_read(code, homes, held, a)?;
+    push_second_read(code, homes, b)
 }
 
-/// x5 gets the first operand, unless x5 or x0 holds it.
-fn push_first_side(
-    code: &mut Vec<u32>,
-    homes: &[Option<Home>],
-    held: Option<u64>,
-    a: Operand,
-) -> Result<(), NoMemory>
-    ensures { OnOk result (code.new.items ≡ code.old.items ++ map word_of (unless_zero a (first_taken (with_homes homes.now) held a))) }
-{
-    if is_zero(a) {
-        Ok(())
-    } else {
-        push_first(code, homes, held, a)
-    }
-}
-
-/// x6 gets the second operand, unless x0 holds it.
-fn push_second_side(code: &mut Vec<u32>, homes: &[Option<Home>], b: Operand) -> Result<(), NoMemory>
-    ensures { OnOk result (code.new.items ≡ code.old.items ++ map word_of (unless_zero b (taken (with_homes homes.now) x6 b))) }
-{
-    if is_zero(b) {
-        Ok(())
-    } else {
-        push_second(code, homes, b)
-    }
-}
-
-/// The register of the first operand, where x5 may hold the second.
-fn first_register(held: Option<u64>, a: Operand, b: Operand) -> Register
-    ensures { result ≡ first_register held a b }
+/// The register of the first operand, where the second may be held.
+fn first_register(homes: &[Option<Home>], held: Option<u64>, a: Operand, b: Operand) -> Register
+    ensures { result ≡ first_register (with_homes homes.now) held a b }
 {
     if is_second(held, b) {
-        second_of(a)
+        read_in(homes, X6, a)
     } else {
-        first_of(a)
+        read_in(homes, X5, a)
     }
 }
 
-fn second_register(held: Option<u64>, a: Operand, b: Operand) -> Register
-    ensures { result ≡ second_register held a b }
+fn second_register(homes: &[Option<Home>], held: Option<u64>, a: Operand, b: Operand) -> Register
+    ensures { result ≡ second_register (with_homes homes.now) held a b }
 {
     if is_second(held, b) {
-        first_of(b)
+        read_in(homes, X5, b)
     } else {
-        second_of(b)
+        read_in(homes, X6, b)
     }
-}
-
-/// The register of an operand that x5 takes.
-fn first_of(a: Operand) -> Register
-    ensures { result ≡ first_of a }
-{
-    if is_zero(a) { X0 } else { X5 }
-}
-
-fn second_of(b: Operand) -> Register
-    ensures { result ≡ second_of b }
-{
-    if is_zero(b) { X0 } else { X6 }
 }
 
 /// The branch on a comparison of two registers, and the jumps.

@@ -1,6 +1,6 @@
 // The words of operands and of places in the frame.
 
-ghost use Rattle.std.specs.Prelude.{◌≡◌, ◌+◌, ◌^◌, ◌<◌, ◌≤◌, [], ◌∷◌, ◌++◌, map, length, nat_eq, IfOk, OnOk};
+ghost use Rattle.std.specs.Prelude.{◌≡◌, ◌+◌, ◌^◌, ◌<◌, ◌≤◌, [], ◌∷◌, ◌++◌, map, length, nat_eq, slice_get, Some, IfOk, OnOk};
 ghost use Rattle.rv_isa.specs.declared.instr.Instr.TheVariants as instrs;
 ghost use Rattle.rv_isa.specs.declared.operation.ImmediateOp.TheVariants as immediates;
 ghost use Rattle.rv_isa.specs.declared.operation.RegisterOp.TheVariants as ops;
@@ -10,8 +10,8 @@ ghost use Rattle.rv_operators.specs.Codes.{x0};
 ghost use Rattle.rv_select.specs.Numbers.{constant, half, half_added, in_both, in_halves, is_twice, long_constant, short_constant};
 ghost use Rattle.rv_select.specs.Numbers.{upper_half, x7};
 ghost use Rattle.rv_machine.specs.Word.{extended_word};
-ghost use Rattle.rv_select.specs.Places.{area_offset, home_of, slot_offset, with_homes};
-ghost use Rattle.rv_select.specs.Shapes.{far_part, framed, moved, put_at, put_from, taken, taken_from, x11};
+ghost use Rattle.rv_select.specs.Places.{area_offset, home_of, in_register, slot_offset, with_homes};
+ghost use Rattle.rv_select.specs.Shapes.{far_part, framed, moved, put_at, put_from, register_or, taken, taken_from, x11};
 
 use crate::operands::{immediate, lower, register, upper};
 use reg_alloc::Home;
@@ -363,6 +363,37 @@ fn home_of(homes: &[Option<Home>], temp: u64) -> Home
     match homes.get(temp as usize) {
         Some(Some(home)) => *home,
         _ => Home::Slot(0),
+    }
+}
+
+/// Whether a temporary's home is a register.
+pub(crate) fn in_register(homes: &[Option<Home>], temp: u64) -> bool
+    ensures { result ≡ in_register (with_homes homes.now) temp }
+{
+    match homes.get(temp as usize) {
+        Some(Some(Home::Register(_))) => true,
+        _ => false,
+    }
+}
+
+/// That register, and else another.
+pub(crate) fn register_or(homes: &[Option<Home>], rd: Register, temp: u64) -> Register
+    ensures { result ≡ register_or rd (slice_get (with_homes homes.now).homes temp) }
+{
+    match homes.get(temp as usize) {
+        Some(Some(home)) => register_at(*home, rd),
+        _ => rd,
+    }
+}
+
+/// A home that is a register, and else another register.
+#[tactic(auto, using(rv_isa::proofs::Operands::register_same))]
+fn register_at(home: Home, rd: Register) -> Register
+    ensures { result ≡ register_or rd (Some (Some home)) }
+{
+    match home {
+        Home::Register(number) => register(number),
+        Home::Slot(_) => rd,
     }
 }
 

@@ -3,16 +3,17 @@
 ghost use Rattle.std.specs.Prelude.{◌≡◌, ◌*◌, ◌+◌, ◌%◌, ◌^◌, ◌<◌, ◌≤◌, [], ◌∷◌, ◌++◌, map, length, false, if◌then◌else◌, IsTrue, IfOk};
 ghost use Rattle.std.specs.Prelude.{OnOk};
 ghost use Rattle.rv_isa.specs.declared.instr.Instr.TheVariants.{Auipc, Branch, Jal, Jalr};
+ghost use Rattle.rv_isa.specs.declared.operation.BranchCondition.TheVariants.{Ne};
 ghost use Rattle.rv_isa.specs.Table.{word_of};
 ghost use Rattle.rv_operators.specs.Codes.{x0, x5};
 ghost use Rattle.rv_select.specs.Numbers.{lower_of, upper_of};
 ghost use Rattle.rv_select.specs.Places.{with_homes};
 ghost use Rattle.rv_select.specs.Settings.{falls, follower};
-ghost use Rattle.rv_select.specs.Shapes.{branch_bytes, branch_offset, branched, branched_bytes, chosen, distance, exit_shape, first_taken};
+ghost use Rattle.rv_select.specs.Shapes.{branch_bytes, branch_offset, branched, branched_bytes, chosen, distance, exit_shape, first_read, read_in};
 ghost use Rattle.rv_select.specs.Shapes.{has_exit_shape, jump, jump_offset, negated, start_of};
 
 use crate::emit::{X0, X5, put};
-use crate::instructions::{push_failed, push_first};
+use crate::instructions::{push_failed, push_first_read, read_in};
 use crate::operands::{branch_offset, jump_offset, lower, offset, upper};
 use crate::settings::{Follows, Setting, falls, follower};
 use reg_alloc::Home;
@@ -42,12 +43,12 @@ pub fn push_exit(
             let words = push_tested(code, homes, held, *a)?;
             let to = start_of(starts, first.block);
             let other = start_of(starts, second.block);
-            push_chosen(
+            push_read_chosen(
                 code,
+                homes,
                 setting,
                 follower(setting.next, first.block, second.block),
-                BranchCondition::Ne,
-                X5,
+                *a,
                 X0,
                 at + 4 * words,
                 to,
@@ -57,6 +58,36 @@ pub fn push_exit(
         Exit::Return(_) => Ok(()),
         Exit::Fail(kind, place) => push_failed(code, *kind, *place),
     }
+}
+
+/// A branch where a word, which stays where it is read, isn't that of a register, and the jumps.
+fn push_read_chosen(
+    code: &mut Vec<u32>,
+    homes: &[Option<Home>],
+    setting: Setting,
+    follows: Follows,
+    a: Operand,
+    b: Register,
+    at: u64,
+    first: u64,
+    second: u64,
+) -> Result<(), NoMemory>
+    requires { at + 12 ≤ 2 ^ 32 }
+    ensures { OnOk result (code.new.items ≡ code.old.items
+        ++ map word_of (chosen setting.near setting.short follows Ne (read_in (with_homes homes.now) x5 a) b at first second)) }
+{
+    let ra = read_in(homes, X5, a);
+    push_chosen(
+        code,
+        setting,
+        follows,
+        BranchCondition::Ne,
+        ra,
+        b,
+        at,
+        first,
+        second,
+    )
 }
 
 /// A jump to a block, unless the code comes there by itself.
@@ -87,7 +118,7 @@ pub(crate) fn start_of(starts: &[u64], block: u64) -> u64
     }
 }
 
-/// x5 gets an operand, unless it holds it. The answer is how many words that takes.
+/// An operand to where it is read. The answer is how many words that takes.
 #[tactic(auto, using(crate::proofs::Numbers::pushed_words))]
 fn push_tested(
     code: &mut Vec<u32>,
@@ -95,11 +126,11 @@ fn push_tested(
     held: Option<u64>,
     a: Operand,
 ) -> Result<u64, NoMemory>
-    ensures code { OnOk result (code.new.items ≡ code.old.items ++ map word_of (first_taken (with_homes homes.now) held a)) }
-    ensures words { IfOk result (λ words. words ≡ length (first_taken (with_homes homes.now) held a)) }
+    ensures code { OnOk result (code.new.items ≡ code.old.items ++ map word_of (first_read (with_homes homes.now) held a)) }
+    ensures words { IfOk result (λ words. words ≡ length (first_read (with_homes homes.now) held a)) }
 {
     let before = code.len();
-    push_first(code, homes, held, a)?;
+    push_first_read(code, homes, held, a)?;
     Ok((code.len() - before) as u64)
 }
 

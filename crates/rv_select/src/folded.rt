@@ -1,4 +1,4 @@
-// The words of operators of x5 and a constant that instructions hold.
+// The words of operators of a register's word and a constant that instructions hold.
 
 ghost use Rattle.std.specs.Prelude.{◌≡◌, ◌+◌, ◌%◌, ◌^◌, ◌<◌, ◌≤◌, [], ◌∷◌, ◌++◌, map, IsTrue, OnOk};
 ghost use Rattle.rv_isa.specs.declared.instr.Instr.TheVariants as instrs;
@@ -6,14 +6,16 @@ ghost use Rattle.rv_isa.specs.declared.operation.ImmediateOp.TheVariants as imme
 ghost use Rattle.rv_isa.specs.declared.operation.RegisterOp.TheVariants as ops;
 ghost use Rattle.rv_isa.specs.Table.{word_of};
 ghost use Rattle.tac_form.specs.Flow.{width_of};
-ghost use Rattle.rv_operators.specs.Codes.{cut, one_immediate, x0, x5};
+ghost use Rattle.rv_operators.specs.Codes.{cut, one_immediate, x0};
 ghost use Rattle.rv_select.specs.Folded.{by_number, count_of, differing, folded, is_folded, is_near, is_power, opposite, shift_down};
 ghost use Rattle.rv_select.specs.Folded.{shift_for, shifted_up, sum_of, test_of, turned_round, word_count_of};
 
-use crate::emit::{X0, X5, put};
+use crate::emit::{X0, put};
 use crate::instructions::{bytes_of, width_of};
 use crate::operands::lower;
-use rv_isa::{Immediate, ImmediateOp, Instr, RegisterOp, ShiftCount, ShiftOp, WordShiftCount};
+use rv_isa::{
+    Immediate, ImmediateOp, Instr, Register, RegisterOp, ShiftCount, ShiftOp, WordShiftCount,
+};
 use rv_operators::push_cut;
 use tac_form::Number;
 use terra_words::BinaryOperator;
@@ -83,54 +85,66 @@ fn opposite(number: u64) -> u64
     number.wrapping_neg()
 }
 
-/// The instructions for an operator of x5 and a constant, which they hold.
+/// The instructions for an operator of a register's word and a constant, which they hold.
 pub(crate) fn push_folded(
     code: &mut Vec<u32>,
+    rd: Register,
+    a: Register,
     operator: BinaryOperator,
     form: Number,
     number: u64,
 ) -> Result<(), NoMemory>
     requires { IsTrue (is_folded operator number) }
-    ensures { OnOk result (code.new.items ≡ code.old.items ++ map word_of (folded (width_of form) operator number)) }
+    ensures { OnOk result (code.new.items ≡ code.old.items ++ map word_of (folded rd a (width_of form) operator number)) }
 {
     match operator {
-        BinaryOperator::Add => push_sum(code, form, number),
-        BinaryOperator::Subtract => push_sum(code, form, opposite(number)),
-        BinaryOperator::Multiply => push_shifted_up(code, form, shift_for(number)),
-        BinaryOperator::Xor => push_cut_number(code, form, ImmediateOp::Xori, number),
-        BinaryOperator::And => push_cut_number(code, form, ImmediateOp::Andi, number),
-        BinaryOperator::Or => push_cut_number(code, form, ImmediateOp::Ori, number),
+        BinaryOperator::Add => push_sum(code, rd, a, form, number),
+        BinaryOperator::Subtract => push_sum(code, rd, a, form, opposite(number)),
+        BinaryOperator::Multiply => push_shifted_up(code, rd, a, form, shift_for(number)),
+        BinaryOperator::Xor => push_cut_number(code, rd, a, form, ImmediateOp::Xori, number),
+        BinaryOperator::And => push_cut_number(code, rd, a, form, ImmediateOp::Andi, number),
+        BinaryOperator::Or => push_cut_number(code, rd, a, form, ImmediateOp::Ori, number),
         BinaryOperator::ShiftLeft => push_shifted_up(
             code,
+            rd,
+            a,
             form,
             number % (8 * bytes_of(form.size)),
         ),
         BinaryOperator::ShiftRight => push_shift(
             code,
+            rd,
+            a,
             form,
             shift_down(form.signed),
             number % (8 * bytes_of(form.size)),
         ),
-        BinaryOperator::Equal => push_equal(code, number),
-        BinaryOperator::NotEqual => push_not_equal(code, number),
-        BinaryOperator::Less => push_number(code, test_of(form.signed), number),
-        BinaryOperator::GreaterEqual => push_turned_test(code, form.signed, number),
-        BinaryOperator::LessEqual => push_number(code, test_of(form.signed), number + 1),
-        BinaryOperator::Greater => push_turned_test(code, form.signed, number + 1),
+        BinaryOperator::Equal => push_equal(code, rd, a, number),
+        BinaryOperator::NotEqual => push_not_equal(code, rd, a, number),
+        BinaryOperator::Less => push_number(code, rd, a, test_of(form.signed), number),
+        BinaryOperator::GreaterEqual => push_turned_test(code, rd, a, form.signed, number),
+        BinaryOperator::LessEqual => push_number(code, rd, a, test_of(form.signed), number + 1),
+        BinaryOperator::Greater => push_turned_test(code, rd, a, form.signed, number + 1),
         _ => Ok(()),
     }
 }
 
-/// An instruction of x5 and a number.
-fn push_number(code: &mut Vec<u32>, op: ImmediateOp, number: u64) -> Result<(), NoMemory>
-    ensures { OnOk result (code.new.items ≡ code.old.items ++ map word_of (by_number op number ∷ [])) }
+/// An instruction of a register and a number.
+fn push_number(
+    code: &mut Vec<u32>,
+    rd: Register,
+    a: Register,
+    op: ImmediateOp,
+    number: u64,
+) -> Result<(), NoMemory>
+    ensures { OnOk result (code.new.items ≡ code.old.items ++ map word_of (by_number rd a op number ∷ [])) }
 {
     put(
         code,
         Instr::RegisterImmediate {
             op,
-            rd: X5,
-            rs1: X5,
+            rd,
+            rs1: a,
             imm: lower(number),
         },
     )
@@ -139,70 +153,91 @@ fn push_number(code: &mut Vec<u32>, op: ImmediateOp, number: u64) -> Result<(), 
 /// The same, and the cut to the width.
 fn push_cut_number(
     code: &mut Vec<u32>,
+    rd: Register,
+    a: Register,
     form: Number,
     op: ImmediateOp,
     number: u64,
 ) -> Result<(), NoMemory>
-    ensures { OnOk result (code.new.items ≡ code.old.items ++ map word_of (by_number op number ∷ cut (width_of form))) }
+    ensures { OnOk result (code.new.items ≡ code.old.items ++ map word_of (by_number rd a op number ∷ cut rd (width_of form))) }
 {
-    push_number(code, op, number)?;
-    push_cut(code, width_of(form))
+    push_number(code, rd, a, op, number)?;
+    push_cut(code, rd, width_of(form))
 }
 
-/// The sum of x5 and a number: at 32 bits with a sign one instruction adds and cuts.
-fn push_sum(code: &mut Vec<u32>, form: Number, number: u64) -> Result<(), NoMemory>
-    ensures { OnOk result (code.new.items ≡ code.old.items ++ map word_of (sum_of (width_of form) number)) }
+/// The sum of a word and a number: at 32 bits with a sign one instruction adds and cuts.
+fn push_sum(
+    code: &mut Vec<u32>,
+    rd: Register,
+    a: Register,
+    form: Number,
+    number: u64,
+) -> Result<(), NoMemory>
+    ensures { OnOk result (code.new.items ≡ code.old.items ++ map word_of (sum_of rd a (width_of form) number)) }
 {
     if form.signed && 8 * bytes_of(form.size) == 32 {
         put(
             code,
             Instr::Addiw {
-                rd: X5,
-                rs1: X5,
+                rd,
+                rs1: a,
                 imm: lower(number),
             },
         )
     } else {
-        push_cut_number(code, form, ImmediateOp::Addi, number)
+        push_cut_number(code, rd, a, form, ImmediateOp::Addi, number)
     }
 }
 
 /// A shift left: at 32 bits with a sign one instruction shifts and cuts.
-fn push_shifted_up(code: &mut Vec<u32>, form: Number, bits: u64) -> Result<(), NoMemory>
+fn push_shifted_up(
+    code: &mut Vec<u32>,
+    rd: Register,
+    a: Register,
+    form: Number,
+    bits: u64,
+) -> Result<(), NoMemory>
     requires { bits ≤ 63 }
-    ensures { OnOk result (code.new.items ≡ code.old.items ++ map word_of (shifted_up (width_of form) bits)) }
+    ensures { OnOk result (code.new.items ≡ code.old.items ++ map word_of (shifted_up rd a (width_of form) bits)) }
 {
     if form.signed && 8 * bytes_of(form.size) == 32 && bits <= 31 {
         put(
             code,
             Instr::ShiftWord {
                 op: ShiftOp::Slli,
-                rd: X5,
-                rs1: X5,
+                rd,
+                rs1: a,
                 count: word_count_of(bits),
             },
         )
     } else {
-        push_shift(code, form, ShiftOp::Slli, bits)
+        push_shift(code, rd, a, form, ShiftOp::Slli, bits)
     }
 }
 
 /// A shift, and the cut to the width.
-fn push_shift(code: &mut Vec<u32>, form: Number, op: ShiftOp, bits: u64) -> Result<(), NoMemory>
+fn push_shift(
+    code: &mut Vec<u32>,
+    rd: Register,
+    a: Register,
+    form: Number,
+    op: ShiftOp,
+    bits: u64,
+) -> Result<(), NoMemory>
     requires { bits ≤ 63 }
-    ensures { OnOk result (code.new.items ≡ code.old.items ++ map word_of (instrs.Shift op x5 x5 (count_of bits) ∷ cut (width_of form))) }
+    ensures { OnOk result (code.new.items ≡ code.old.items ++ map word_of (instrs.Shift op rd a (count_of bits) ∷ cut rd (width_of form))) }
 {
     let count = count_of(bits);
     put(
         code,
         Instr::Shift {
             op,
-            rd: X5,
-            rs1: X5,
+            rd,
+            rs1: a,
             count,
         },
     )?;
-    push_cut(code, width_of(form))
+    push_cut(code, rd, width_of(form))
 }
 
 /// The count of a shift.
@@ -225,60 +260,80 @@ fn word_count_of(number: u64) -> WordShiftCount
     }
 }
 
-/// Zero to x5 exactly where it is a number.
-fn push_differing(code: &mut Vec<u32>, number: u64) -> Result<(), NoMemory>
-    ensures { OnOk result (code.new.items ≡ code.old.items ++ map word_of (differing number)) }
+fn push_equal(code: &mut Vec<u32>, rd: Register, a: Register, number: u64) -> Result<(), NoMemory>
+    ensures { OnOk result (code.new.items ≡ code.old.items
+        ++ map word_of (differing rd a number (λ r. instrs.RegisterImmediate immediates.Sltiu rd r one_immediate))) }
 {
     if number == 0 {
-        Ok(())
-    } else {
-        push_number(code, ImmediateOp::Addi, opposite(number))
+        return push_zero_test(code, rd, a);
     }
+    push_number(code, rd, a, ImmediateOp::Addi, opposite(number))?;
+    push_zero_test(code, rd, rd)
 }
 
-fn push_equal(code: &mut Vec<u32>, number: u64) -> Result<(), NoMemory>
-    ensures { OnOk result (code.new.items ≡ code.old.items
-        ++ map word_of (differing number ++ instrs.RegisterImmediate immediates.Sltiu x5 x5 one_immediate ∷ [])) }
+/// Whether a word is zero.
+fn push_zero_test(code: &mut Vec<u32>, rd: Register, a: Register) -> Result<(), NoMemory>
+    ensures { OnOk result (code.new.items ≡ code.old.items ++ word_of (instrs.RegisterImmediate immediates.Sltiu rd a one_immediate) ∷ []) }
 {
-    push_differing(code, number)?;
     put(
         code,
         Instr::RegisterImmediate {
             op: ImmediateOp::Sltiu,
-            rd: X5,
-            rs1: X5,
+            rd,
+            rs1: a,
             imm: Immediate { value: 1 },
         },
     )
 }
 
-fn push_not_equal(code: &mut Vec<u32>, number: u64) -> Result<(), NoMemory>
+fn push_not_equal(
+    code: &mut Vec<u32>,
+    rd: Register,
+    a: Register,
+    number: u64,
+) -> Result<(), NoMemory>
     ensures { OnOk result (code.new.items ≡ code.old.items
-        ++ map word_of (differing number ++ instrs.RegisterRegister ops.Sltu x5 x0 x5 ∷ [])) }
+        ++ map word_of (differing rd a number (λ r. instrs.RegisterRegister ops.Sltu rd x0 r))) }
 {
-    push_differing(code, number)?;
+    if number == 0 {
+        return push_other_test(code, rd, a);
+    }
+    push_number(code, rd, a, ImmediateOp::Addi, opposite(number))?;
+    push_other_test(code, rd, rd)
+}
+
+/// Whether a word isn't zero.
+fn push_other_test(code: &mut Vec<u32>, rd: Register, a: Register) -> Result<(), NoMemory>
+    ensures { OnOk result (code.new.items ≡ code.old.items ++ word_of (instrs.RegisterRegister ops.Sltu rd x0 a) ∷ []) }
+{
     put(
         code,
         Instr::RegisterRegister {
             op: RegisterOp::Sltu,
-            rd: X5,
+            rd,
             rs1: X0,
-            rs2: X5,
+            rs2: a,
         },
     )
 }
 
-/// Whether x5 isn't below a number.
-fn push_turned_test(code: &mut Vec<u32>, signed: bool, number: u64) -> Result<(), NoMemory>
-    ensures { OnOk result (code.new.items ≡ code.old.items ++ map word_of (by_number (test_of signed) number ∷ turned_round)) }
+/// Whether a word isn't below a number.
+fn push_turned_test(
+    code: &mut Vec<u32>,
+    rd: Register,
+    a: Register,
+    signed: bool,
+    number: u64,
+) -> Result<(), NoMemory>
+    ensures { OnOk result (code.new.items ≡ code.old.items ++ map word_of (by_number rd a (test_of signed) number ∷ turned_round rd)) }
 {
-    push_number(code, test_of(signed), number)?;
+    push_number(code, rd, a, test_of(signed), number)?;
     put(
         code,
         Instr::RegisterImmediate {
             op: ImmediateOp::Xori,
-            rd: X5,
-            rs1: X5,
+            rd,
+            rs1: rd,
             imm: Immediate { value: 1 },
         },
     )

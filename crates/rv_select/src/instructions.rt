@@ -1,23 +1,25 @@
 // The words of instructions of three-address code.
 
-ghost use Rattle.std.specs.Prelude.{◌≡◌, ◌*◌, ◌+◌, ◌≤◌, [], ◌∷◌, ◌++◌, map, length, if◌then◌else◌, IsTrue, OnOk};
+ghost use Rattle.std.specs.Prelude.{◌≡◌, ◌*◌, ◌+◌, ◌≤◌, [], ◌∷◌, ◌++◌, map, length, nat_eq, if◌then◌else◌, IsTrue, OnOk};
 ghost use Rattle.rv_isa.specs.declared.instr.Instr.TheVariants as instrs;
 ghost use Rattle.rv_isa.specs.Table.{word_of};
+ghost use Rattle.rv_isa.specs.declared.operation.BranchCondition.TheVariants.{Ne};
+ghost use Rattle.terra_words.specs.declared.words.FaultKind.TheVariants.{DivZero};
 ghost use Rattle.terra_words.specs.Words.{fault_number};
 ghost use Rattle.tac_form.specs.declared.tac.Operand.TheVariants as operands;
 ghost use Rattle.tac_form.specs.Flow.{bytes_of, width_of};
-ghost use Rattle.rv_operators.specs.Codes.{code_of, x5, x6, zero_immediate};
-ghost use Rattle.rv_select.specs.Folded.{folded, is_folded};
-ghost use Rattle.rv_select.specs.Numbers.{constant};
-ghost use Rattle.rv_select.specs.Places.{with_homes};
-ghost use Rattle.rv_select.specs.Shapes.{applied_to, area_reached, bounds_tested, cleared, computed, copied, divisor_tested, failed};
+ghost use Rattle.rv_operators.specs.Codes.{code_of, x0, x5, x6, zero_immediate};
+ghost use Rattle.rv_select.specs.Places.{in_five, with_homes};
+ghost use Rattle.rv_select.specs.Shapes.{address_read, address_register, applied_to, area_reached, both_moved, bounds_tested, brought, cleared, computed, copied, divisor_tested};
+ghost use Rattle.rv_select.specs.Shapes.{failed, first_read, five_or_six, is_five, is_there, put_behind, read_in, result_in, second_read};
 ghost use Rattle.rv_select.specs.Shapes.{fault_call, first_taken, branched_over, has_shape, held_after, is_held, is_never_zero};
 ghost use Rattle.rv_select.specs.Shapes.{is_second, is_symmetric, is_turned, is_zero, load_of, loaded, located, operated, operated_second};
 ghost use Rattle.rv_select.specs.Shapes.{place_number, put_at, reached, shape_of, small, store_of, stored, taken, zero_put, zeros};
 
 use crate::emit::{
-    X0, X5, X6, area_offset, constant_words, push_constant, push_frame_address, push_frame_load,
-    push_frame_store, push_moved, push_put, push_put_zero, push_taken, put,
+    X0, X5, X6, area_offset, constant_words, in_register, push_constant, push_frame_address,
+    push_frame_load, push_frame_store, push_moved, push_put, push_put_zero, push_taken, put,
+    register_or,
 };
 use crate::folded::{is_folded, push_folded};
 use crate::moving::push_bytes_moved;
@@ -114,8 +116,125 @@ fn push_copied(
     if is_zero(a) {
         return push_put_zero(code, homes, temp);
     }
+    if in_register(homes, temp) {
+        return push_brought(code, homes, held, result_in(homes, temp), a);
+    }
     push_first(code, homes, held, a)?;
     push_put(code, homes, temp)
+}
+
+/// Another register than x5 gets an operand, from x5 where that holds it.
+pub(crate) fn push_brought(
+    code: &mut Vec<u32>,
+    homes: &[Option<Home>],
+    held: Option<u64>,
+    rd: Register,
+    a: Operand,
+) -> Result<(), NoMemory>
+    ensures { OnOk result (code.new.items ≡ code.old.items ++ map word_of (brought (with_homes homes.now) held rd a)) }
+{
+    match a {
+        Operand::Temp(temp) => push_temp_brought(code, homes, held, rd, temp),
+        Operand::Constant(number) => push_constant(code, rd, number),
+    }
+}
+
+fn push_temp_brought(
+    code: &mut Vec<u32>,
+    homes: &[Option<Home>],
+    held: Option<u64>,
+    rd: Register,
+    temp: u64,
+) -> Result<(), NoMemory>
+    ensures { OnOk result (code.new.items ≡ code.old.items ++ map word_of (brought (with_homes homes.now) held rd (operands.Temp temp))) }
+{
+    if in_five(homes, held, temp) {
+        push_moved(code, rd, X5)
+    } else {
+        push_taken(code, homes, rd, Operand::Temp(temp))
+    }
+}
+
+/// Whether x5 has the word of a temporary.
+fn in_five(homes: &[Option<Home>], held: Option<u64>, temp: u64) -> bool
+    ensures { result ≡ in_five (with_homes homes.now) held temp }
+{
+    is_held(held, temp) && !in_register(homes, temp)
+}
+
+/// Where an operand is read: in its home, if that is a register; a zero in x0; and any other in a register that takes it.
+pub(crate) fn read_in(homes: &[Option<Home>], rd: Register, a: Operand) -> Register
+    ensures { result ≡ read_in (with_homes homes.now) rd a }
+{
+    match a {
+        Operand::Temp(temp) => register_or(homes, rd, temp),
+        Operand::Constant(number) => unless_zero(rd, number),
+    }
+}
+
+/// x0 for a zero.
+fn unless_zero(rd: Register, number: u64) -> Register
+    ensures { result ≡ (if nat_eq number 0 then x0 else rd) }
+{
+    if number == 0 { X0 } else { rd }
+}
+
+fn is_there(homes: &[Option<Home>], a: Operand) -> bool
+    ensures { result ≡ is_there (with_homes homes.now) a }
+{
+    match a {
+        Operand::Temp(temp) => in_register(homes, temp),
+        Operand::Constant(number) => number == 0,
+    }
+}
+
+/// x5 gets an operand that isn't read elsewhere.
+pub(crate) fn push_first_read(
+    code: &mut Vec<u32>,
+    homes: &[Option<Home>],
+    held: Option<u64>,
+    a: Operand,
+) -> Result<(), NoMemory>
+    ensures { OnOk result (code.new.items ≡ code.old.items ++ map word_of (first_read (with_homes homes.now) held a)) }
+{
+    if is_there(homes, a) {
+        Ok(())
+    } else {
+        push_first(code, homes, held, a)
+    }
+}
+
+/// x6 gets an operand that isn't read elsewhere.
+pub(crate) fn push_second_read(
+    code: &mut Vec<u32>,
+    homes: &[Option<Home>],
+    b: Operand,
+) -> Result<(), NoMemory>
+    ensures { OnOk result (code.new.items ≡ code.old.items ++ map word_of (second_read (with_homes homes.now) b)) }
+{
+    if is_there(homes, b) {
+        Ok(())
+    } else {
+        push_second(code, homes, b)
+    }
+}
+
+/// The register in which a temporary's word is computed.
+fn result_in(homes: &[Option<Home>], temp: u64) -> Register
+    ensures { result ≡ result_in (with_homes homes.now) temp }
+{
+    register_or(homes, X5, temp)
+}
+
+/// A temporary's home gets the word in x5, where it is computed there.
+fn push_put_behind(code: &mut Vec<u32>, homes: &[Option<Home>], temp: u64) -> Result<(), NoMemory>
+    ensures { OnOk result (code.new.items ≡ code.old.items ++ map word_of (put_behind (with_homes homes.now) temp)) }
+{
+    if in_register(homes, temp) {
+        Ok(())
+    } else {
+        push_put(code, homes, temp)
+    }
 }
 
 /// Whether an operand is a zero, which x0 holds.
@@ -143,14 +262,14 @@ fn push_computed(
 {
     if is_turned(held, operator, b) {
         push_operated(code, homes, held, temp, operator, form, b, a)
-    } else if is_second(held, b) {
+    } else if is_five(homes, held, b) {
         push_operated_second(code, homes, held, temp, operator, form, a)
     } else {
         push_operated(code, homes, held, temp, operator, form, a, b)
     }
 }
 
-/// The second operand goes from x5 to x6, and the first to x5.
+/// x5 holds the second operand, which goes to x6 if x5 has to get the first.
 fn push_operated_second(
     code: &mut Vec<u32>,
     homes: &[Option<Home>],
@@ -163,10 +282,49 @@ fn push_operated_second(
     ensures { OnOk result (code.new.items ≡ code.old.items
         ++ map word_of (operated_second (with_homes homes.now) held temp operator (width_of form) a)) }
 {
+    push_both_moved(code, homes, held, a)?;
+    push_moved_operation(code, homes, temp, operator, form, a)?;
+    push_put_behind(code, homes, temp)
+}
+
+/// The operator, once both are where they are read.
+fn push_moved_operation(
+    code: &mut Vec<u32>,
+    homes: &[Option<Home>],
+    temp: u64,
+    operator: BinaryOperator,
+    form: Number,
+    a: Operand,
+) -> Result<(), NoMemory>
+    ensures { OnOk result (code.new.items ≡ code.old.items
+        ++ map word_of (code_of (result_in (with_homes homes.now) temp) (read_in (with_homes homes.now) x5 a)
+        (five_or_six (with_homes homes.now) a) (width_of form) operator)) }
+{
+    let rd = result_in(homes, temp);
+    let ra = read_in(homes, X5, a);
+    let rb = five_or_six(homes, a);
+    push_operation(code, rd, ra, rb, operator, form)
+}
+
+fn push_both_moved(
+    code: &mut Vec<u32>,
+    homes: &[Option<Home>],
+    held: Option<u64>,
+    a: Operand,
+) -> Result<(), NoMemory>
+    ensures { OnOk result (code.new.items ≡ code.old.items ++ map word_of (both_moved (with_homes homes.now) held a)) }
+{
+    if is_there(homes, a) {
+        return Ok(());
+    }
     push_moved(code, X6, X5)?;
-    push_first(code, homes, held, a)?;
-    push_operation(code, operator, form)?;
-    push_put(code, homes, temp)
+    push_first(code, homes, held, a)
+}
+
+fn five_or_six(homes: &[Option<Home>], a: Operand) -> Register
+    ensures { result ≡ five_or_six (with_homes homes.now) a }
+{
+    if is_there(homes, a) { X5 } else { X6 }
 }
 
 /// The same with the operands in this order.
@@ -183,12 +341,41 @@ fn push_operated(
     ensures { OnOk result (code.new.items ≡ code.old.items
         ++ map word_of (operated (with_homes homes.now) held temp operator (width_of form) a b)) }
 {
-    push_first(code, homes, held, a)?;
-    push_applied(code, homes, operator, form, b)?;
-    push_put(code, homes, temp)
+    push_first_read(code, homes, held, a)?;
+    push_applied_to(code, homes, temp, operator, form, a, b)?;
+    push_put_behind(code, homes, temp)
 }
 
-/// Whether the operands change places: where x5 holds the second.
+/// What is computed of both, once the first is where it is read.
+fn push_applied_to(
+    code: &mut Vec<u32>,
+    homes: &[Option<Home>],
+    temp: u64,
+    operator: BinaryOperator,
+    form: Number,
+    a: Operand,
+    b: Operand,
+) -> Result<(), NoMemory>
+    ensures { OnOk result (code.new.items ≡ code.old.items
+        ++ map word_of (applied_to (with_homes homes.now) (result_in (with_homes homes.now) temp) (read_in (with_homes homes.now) x5 a)
+        (width_of form) operator b)) }
+{
+    let rd = result_in(homes, temp);
+    let ra = read_in(homes, X5, a);
+    push_applied(code, homes, rd, ra, operator, form, b)
+}
+
+/// Whether x5 has an operand's word.
+fn is_five(homes: &[Option<Home>], held: Option<u64>, b: Operand) -> bool
+    ensures { result ≡ is_five (with_homes homes.now) held b }
+{
+    match b {
+        Operand::Temp(temp) => in_five(homes, held, temp),
+        Operand::Constant(_) => false,
+    }
+}
+
+/// Whether the operands change places: where the second is held.
 pub(crate) fn is_turned(held: Option<u64>, operator: BinaryOperator, b: Operand) -> bool
     ensures { result ≡ is_turned held operator b }
 {
@@ -198,7 +385,7 @@ pub(crate) fn is_turned(held: Option<u64>, operator: BinaryOperator, b: Operand)
     }
 }
 
-/// Whether x5 holds an operand.
+/// Whether an operand is held.
 pub(crate) fn is_second(held: Option<u64>, b: Operand) -> bool
     ensures { result ≡ is_second held b }
 {
@@ -223,42 +410,88 @@ fn is_symmetric(operator: BinaryOperator) -> bool
     }
 }
 
-/// x5 gets what an operator gives of x5 and an operand.
+/// A register gets what an operator gives of another and an operand.
 fn push_applied(
     code: &mut Vec<u32>,
     homes: &[Option<Home>],
+    rd: Register,
+    ra: Register,
     operator: BinaryOperator,
     form: Number,
     b: Operand,
 ) -> Result<(), NoMemory>
-    ensures { OnOk result (code.new.items ≡ code.old.items ++ map word_of (applied_to (with_homes homes.now) (width_of form) operator b)) }
+    ensures { OnOk result (code.new.items ≡ code.old.items
+        ++ map word_of (applied_to (with_homes homes.now) rd ra (width_of form) operator b)) }
 {
     match b {
-        Operand::Temp(_) => {
-            push_second(code, homes, b)?;
-            push_operation(code, operator, form)
+        Operand::Temp(_) => push_read_operation(code, homes, rd, ra, operator, form, b),
+        Operand::Constant(number) => {
+            push_with_constant(code, homes, rd, ra, operator, form, number)
         }
-        Operand::Constant(number) => push_with_constant(code, operator, form, number),
     }
 }
 
 /// The same with a constant, which instructions hold where they can.
 fn push_with_constant(
     code: &mut Vec<u32>,
+    homes: &[Option<Home>],
+    rd: Register,
+    ra: Register,
     operator: BinaryOperator,
     form: Number,
     number: u64,
 ) -> Result<(), NoMemory>
     ensures { OnOk result (code.new.items ≡ code.old.items
-        ++ map word_of (if is_folded operator number then folded (width_of form) operator number else constant x6 number
-        ++ code_of (width_of form) operator)) }
+        ++ map word_of (applied_to (with_homes homes.now) rd ra (width_of form) operator (operands.Constant number))) }
 {
     if is_folded(operator, number) {
-        push_folded(code, operator, form, number)
+        push_folded(code, rd, ra, operator, form, number)
     } else {
-        push_constant(code, X6, number)?;
-        push_operation(code, operator, form)
+        push_read_operation(
+            code,
+            homes,
+            rd,
+            ra,
+            operator,
+            form,
+            Operand::Constant(number),
+        )
     }
+}
+
+/// The same with an operand that a register has or takes.
+fn push_read_operation(
+    code: &mut Vec<u32>,
+    homes: &[Option<Home>],
+    rd: Register,
+    ra: Register,
+    operator: BinaryOperator,
+    form: Number,
+    b: Operand,
+) -> Result<(), NoMemory>
+    ensures { OnOk result (code.new.items ≡ code.old.items
+        ++ map word_of (second_read (with_homes homes.now) b
+        ++ code_of rd ra (read_in (with_homes homes.now) x6 b) (width_of form) operator)) }
+{
+    push_second_read(code, homes, b)?;
+    push_operation_of(code, homes, rd, ra, operator, form, b)
+}
+
+/// An operator of a register and an operand, where that is read.
+fn push_operation_of(
+    code: &mut Vec<u32>,
+    homes: &[Option<Home>],
+    rd: Register,
+    ra: Register,
+    operator: BinaryOperator,
+    form: Number,
+    b: Operand,
+) -> Result<(), NoMemory>
+    ensures { OnOk result (code.new.items ≡ code.old.items
+        ++ map word_of (code_of rd ra (read_in (with_homes homes.now) x6 b) (width_of form) operator)) }
+{
+    let rb = read_in(homes, X6, b);
+    push_operation(code, rd, ra, rb, operator, form)
 }
 
 /// x5 gets an operand, unless it holds it.
@@ -285,7 +518,7 @@ pub(crate) fn push_first_temp(
 ) -> Result<(), NoMemory>
     ensures { OnOk result (code.new.items ≡ code.old.items ++ map word_of (first_taken (with_homes homes.now) held (operands.Temp temp))) }
 {
-    if is_held(held, temp) {
+    if in_five(homes, held, temp) {
         Ok(())
     } else {
         push_taken_first(code, homes, Operand::Temp(temp))
@@ -322,12 +555,15 @@ pub(crate) fn push_second(
 /// An operator on numbers of a form.
 fn push_operation(
     code: &mut Vec<u32>,
+    rd: Register,
+    a: Register,
+    b: Register,
     operator: BinaryOperator,
     form: Number,
 ) -> Result<(), NoMemory>
-    ensures { OnOk result (code.new.items ≡ code.old.items ++ map word_of (code_of (width_of form) operator)) }
+    ensures { OnOk result (code.new.items ≡ code.old.items ++ map word_of (code_of rd a b (width_of form) operator)) }
 {
-    push_operator(code, width_of(form), operator)
+    push_operator(code, rd, a, b, width_of(form), operator)
 }
 
 /// The width of the words of a number.
@@ -452,8 +688,22 @@ fn push_divisor_test(
     if is_never_zero(a) {
         return push_moved(code, X0, X0);
     }
-    push_first(code, homes, held, a)?;
-    push_branch_over(code, BranchCondition::Ne, X5, X0, FaultKind::DivZero, at)
+    push_first_read(code, homes, held, a)?;
+    push_zero_fault(code, homes, at, a)
+}
+
+/// The run ends by a fault where a divisor is zero.
+fn push_zero_fault(
+    code: &mut Vec<u32>,
+    homes: &[Option<Home>],
+    at: Place,
+    a: Operand,
+) -> Result<(), NoMemory>
+    ensures { OnOk result (code.new.items ≡ code.old.items
+        ++ map word_of (branched_over Ne (read_in (with_homes homes.now) x5 a) x0 DivZero at)) }
+{
+    let ra = read_in(homes, X5, a);
+    push_branch_over(code, BranchCondition::Ne, ra, X0, FaultKind::DivZero, at)
 }
 
 /// Whether an operand is a constant that isn't zero.
@@ -493,11 +743,11 @@ fn push_located(code: &mut Vec<u32>, offset: u64) -> Result<(), NoMemory>
     )
 }
 
-/// The run fails unless so many bytes from the address in x5 on lie in the region.
-fn push_bounds_test(code: &mut Vec<u32>, at: Place, size: u64) -> Result<(), NoMemory>
+/// The run fails unless so many bytes from the address in a register on lie in the region.
+fn push_bounds_test(code: &mut Vec<u32>, a: Register, at: Place, size: u64) -> Result<(), NoMemory>
     requires some { 1 ≤ size }
     requires few { size ≤ MAX_VALUE_BYTES }
-    ensures { OnOk result (code.new.items ≡ code.old.items ++ map word_of (bounds_tested at size)) }
+    ensures { OnOk result (code.new.items ≡ code.old.items ++ map word_of (bounds_tested a at size)) }
 {
     put(
         code,
@@ -510,7 +760,7 @@ fn push_bounds_test(code: &mut Vec<u32>, at: Place, size: u64) -> Result<(), NoM
         code,
         Instr::Branch {
             condition: BranchCondition::Ltu,
-            rs1: X5,
+            rs1: a,
             rs2: X6,
             offset: offset(12),
         },
@@ -524,14 +774,7 @@ fn push_bounds_test(code: &mut Vec<u32>, at: Place, size: u64) -> Result<(), NoM
             imm: below_zero(size - 1),
         },
     )?;
-    push_branch_over(
-        code,
-        BranchCondition::Geu,
-        X6,
-        X5,
-        FaultKind::BadAddress,
-        at,
-    )
+    push_branch_over(code, BranchCondition::Geu, X6, a, FaultKind::BadAddress, at)
 }
 
 /// x5 gets the address of bytes in the region.
@@ -550,9 +793,57 @@ pub(crate) fn push_reached(
     match address {
         Address::Word(a) => {
             push_first(code, homes, held, a)?;
-            push_bounds_test(code, at, size)
+            push_bounds_test(code, X5, at, size)
         }
         Address::Frame(offset) => push_located(code, offset),
+    }
+}
+
+/// The same of an address that is read where it is.
+fn push_address_read(
+    code: &mut Vec<u32>,
+    homes: &[Option<Home>],
+    held: Option<u64>,
+    at: Place,
+    address: Address,
+    size: u64,
+) -> Result<(), NoMemory>
+    requires some { 1 ≤ size }
+    requires few { size ≤ MAX_VALUE_BYTES }
+    ensures { OnOk result (code.new.items ≡ code.old.items ++ map word_of (address_read (with_homes homes.now) held at address size)) }
+{
+    match address {
+        Address::Word(a) => {
+            push_first_read(code, homes, held, a)?;
+            push_read_test(code, homes, a, at, size)
+        }
+        Address::Frame(offset) => push_located(code, offset),
+    }
+}
+
+/// The bounds of an access at an address, where that is read.
+fn push_read_test(
+    code: &mut Vec<u32>,
+    homes: &[Option<Home>],
+    a: Operand,
+    at: Place,
+    size: u64,
+) -> Result<(), NoMemory>
+    requires some { 1 ≤ size }
+    requires few { size ≤ MAX_VALUE_BYTES }
+    ensures { OnOk result (code.new.items ≡ code.old.items ++ map word_of (bounds_tested (read_in (with_homes homes.now) x5 a) at size)) }
+{
+    let ra = read_in(homes, X5, a);
+    push_bounds_test(code, ra, at, size)
+}
+
+/// The register of an address.
+fn address_register(homes: &[Option<Home>], address: Address) -> Register
+    ensures { result ≡ address_register (with_homes homes.now) address }
+{
+    match address {
+        Address::Word(a) => read_in(homes, X5, a),
+        Address::Frame(_) => X5,
     }
 }
 
@@ -595,29 +886,34 @@ fn push_loaded(
 {
     match spot {
         Spot::Region(at, address) => {
-            push_reached(code, homes, held, at, address, bytes_of(form.size))?;
-            push_load(code, form)?;
-            push_put(code, homes, temp)
+            push_address_read(code, homes, held, at, address, bytes_of(form.size))?;
+            push_load(
+                code,
+                result_in(homes, temp),
+                address_register(homes, address),
+                form,
+            )?;
+            push_put_behind(code, homes, temp)
         }
         Spot::Area(area, offset) => {
             let at = area_offset(homes, area, offset)?;
-            push_frame_load(code, load_of(form), X5, at)?;
-            push_put(code, homes, temp)
+            push_frame_load(code, load_of(form), result_in(homes, temp), at)?;
+            push_put_behind(code, homes, temp)
         }
     }
 }
 
-/// x5 gets the number at the address in x5.
-fn push_load(code: &mut Vec<u32>, form: Number) -> Result<(), NoMemory>
+/// A register gets the number at the address in another.
+fn push_load(code: &mut Vec<u32>, rd: Register, a: Register, form: Number) -> Result<(), NoMemory>
     ensures { OnOk result (code.new.items ≡ code.old.items
-        ++ word_of (instrs.Load (load_of form.signed form.size) x5 x5 zero_immediate) ∷ []) }
+        ++ word_of (instrs.Load (load_of form.signed form.size) rd a zero_immediate) ∷ []) }
 {
     put(
         code,
         Instr::Load {
             op: load_of(form),
-            rd: X5,
-            rs1: X5,
+            rd,
+            rs1: a,
             offset: Immediate { value: 0 },
         },
     )
@@ -635,28 +931,33 @@ fn push_stored(
 {
     match spot {
         Spot::Region(at, address) => {
-            push_reached(code, homes, held, at, address, bytes_of(size))?;
-            push_second(code, homes, b)?;
-            push_store(code, size)
+            push_address_read(code, homes, held, at, address, bytes_of(size))?;
+            push_second_read(code, homes, b)?;
+            push_store(
+                code,
+                address_register(homes, address),
+                read_in(homes, X6, b),
+                size,
+            )
         }
         Spot::Area(area, offset) => {
             let at = area_offset(homes, area, offset)?;
-            push_second(code, homes, b)?;
-            push_frame_store(code, store_of(size), X6, at)
+            push_second_read(code, homes, b)?;
+            push_frame_store(code, store_of(size), read_in(homes, X6, b), at)
         }
     }
 }
 
-/// The number in x6 is stored at the address in x5.
-fn push_store(code: &mut Vec<u32>, size: Size) -> Result<(), NoMemory>
-    ensures { OnOk result (code.new.items ≡ code.old.items ++ word_of (instrs.Store (store_of size) x5 x6 zero_immediate) ∷ []) }
+/// The number in a register is stored at the address in another.
+fn push_store(code: &mut Vec<u32>, a: Register, b: Register, size: Size) -> Result<(), NoMemory>
+    ensures { OnOk result (code.new.items ≡ code.old.items ++ word_of (instrs.Store (store_of size) a b zero_immediate) ∷ []) }
 {
     put(
         code,
         Instr::Store {
             op: store_of(size),
-            rs1: X5,
-            rs2: X6,
+            rs1: a,
+            rs2: b,
             offset: Immediate { value: 0 },
         },
     )
