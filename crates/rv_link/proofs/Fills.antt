@@ -35,15 +35,15 @@ use Rattle.rv_select.specs.declared.settings.Follows.{Follows}
 use Rattle.rv_select.specs.declared.settings.Follows.TheVariants.{Neither, First, Second}
 use Rattle.rv_select.specs.declared.settings.Setting.{Setting}
 use Rattle.rv_select.specs.Settings.{falls, follower, setting_of}
-use Rattle.rv_select.specs.Shapes.{branch_bytes, branch_offset, branched, branched_bytes, chosen, distance, first_taken, held_after, jump}
-use Rattle.rv_select.specs.Shapes.{jump_offset, negated, offset_of, shape_of, start_of}
+use Rattle.rv_select.specs.Shapes.{branch_bytes, branch_offset, branched, branched_bytes, chosen, distance, first_read, held_after, jump}
+use Rattle.rv_select.specs.Shapes.{jump_offset, negated, offset_of, read_in, shape_of, start_of}
 use Rattle.rv_select.specs.Entering.{left}
 use Rattle.rv_select.specs.Calls.{block_code, block_starts, blocks_calls, blocks_code, body_code, call_begun, call_ended, call_jump}
 use Rattle.rv_select.specs.Calls.{end_code, exit_code, function_calls, function_code, head_code, held_behind, instruction_calls}
 use Rattle.rv_select.specs.Calls.{instruction_code, instructions_calls, instructions_code, jump_unless_last, last_address, pair_code}
 use Rattle.rv_select.specs.Calls.{part_given, starts_from}
 use Rattle.rv_select.proofs.Branched.{branched-few}
-use Rattle.rv_select.proofs.Homes.{first-few}
+use Rattle.rv_select.proofs.Sides.{read-few}
 use Rattle.rv_select.proofs.Lengths.{block-length, instruction-length, instructions-length}
 use Rattle.rv_select.proofs.Pairing.{pair-parts}
 use Rattle.rv_select.proofs.Passes.{given-count}
@@ -347,14 +347,14 @@ exit-moved code y setting held b at last starts moved (Jump e) same fits near =
     edge-from (falls setting.next e) setting.short b at (starts e.block) (b + at) (moved e.block) refl (same e.block (ltb-true e.block (length code.blocks) fits)) (omega (arith, near))
 exit-moved code y setting held b at last starts moved (Branch a e f) same fits near =
     ap (λ z. T ++ z)
-    (chosen-moved setting.near setting.short (follower setting.next e.block f.block) Ne x5 x0 b at (4 * length T) (starts e.block) (starts f.block) (moved e.block) (moved f.block) (omega (arith, near, few))
+    (chosen-moved setting.near setting.short (follower setting.next e.block f.block) Ne (read_in y x5 a) x0 b at (4 * length T) (starts e.block) (starts f.block) (moved e.block) (moved f.block) (omega (arith, near, few))
     (same e.block (ltb-true e.block (length code.blocks) parts.0)) (same f.block (ltb-true f.block (length code.blocks) parts.1)))
   where
     T : List Instr
-    T = first_taken y held a
+    T = first_read y held a
 
     few : length T ≤ 8
-    few = first-few y held a
+    few = read-few y held a
 
     parts : (edge_there code e ≡ true) × (edge_there code f ≡ true)
     parts = both-true (edge_there code e) (edge_there code f) fits
@@ -378,8 +378,8 @@ end-moved code y setting held b at last starts moved k None q same fits near =
 end-moved code y setting held b at last starts moved k (Some pair) q same fits near =
     ap (λ z. T ++ z)
     (chosen-moved setting.near setting.short behind (condition_of pair.form.signed pair.operator)
-    (left_of pair.operator (first_register held pair.a pair.b) (second_register held pair.a pair.b))
-    (right_of pair.operator (first_register held pair.a pair.b) (second_register held pair.a pair.b)) b at
+    (left_of pair.operator (first_register y held pair.a pair.b) (second_register y held pair.a pair.b))
+    (right_of pair.operator (first_register y held pair.a pair.b) (second_register y held pair.a pair.b)) b at
     (4 * length T) (starts pair.first.block) (starts pair.second.block) (moved pair.first.block) (moved pair.second.block) room
     (same pair.first.block (ltb-true pair.first.block (length code.blocks) parts.0))
     (same pair.second.block (ltb-true pair.second.block (length code.blocks) parts.1)))
@@ -393,11 +393,11 @@ end-moved code y setting held b at last starts moved k (Some pair) q same fits n
     room : b + at + 4 * length (operands_taken y held pair.a pair.b) + 12 ≤ 2 ^ 32
     room =
         let count : length (end_code y setting held at starts last (Some pair) k.exit) ≡ length (operands_taken y held pair.a pair.b) + length
-        (compared setting.near setting.short behind pair.form.signed pair.operator (first_register held pair.a pair.b) (second_register held pair.a pair.b)
+        (compared setting.near setting.short behind pair.form.signed pair.operator (first_register y held pair.a pair.b) (second_register y held pair.a pair.b)
         (at + 4 * length (operands_taken y held pair.a pair.b)) (starts pair.first.block)
         (starts pair.second.block)) =
         length-append (operands_taken y held pair.a pair.b)
-        (compared setting.near setting.short behind pair.form.signed pair.operator (first_register held pair.a pair.b) (second_register held pair.a pair.b)
+        (compared setting.near setting.short behind pair.form.signed pair.operator (first_register y held pair.a pair.b) (second_register y held pair.a pair.b)
         (at + 4 * length (operands_taken y held pair.a pair.b)) (starts pair.first.block)
         (starts pair.second.block)) in
         omega (arith, near, count)
