@@ -6,8 +6,8 @@
 //! A row that begins with `run` is the name of a program of `functions` and its arguments: its functions are selected with the
 //! homes that `assign` gives, and run. What comes of them is worked out by hand.
 //!
-//! A row that begins with `words` is the name of an instruction, and its words are written: addiw x5, x0, 5 and addi x18, x5, 0 of the
-//! copy; ld x5, 88(x2), ld x6, 96(x2), add x5, x5, x6 and sd x5, 88(x2) of the sum.
+//! A row that begins with `words` is the name of an instruction, and its words are written: addiw x18, x0, 5 of the copy;
+//! ld x5, 88(x2), ld x6, 96(x2), add x5, x5, x6 and sd x5, 88(x2) of the sum.
 #![tactic(auto)]
 
 mod functions;
