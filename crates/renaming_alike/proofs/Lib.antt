@@ -22,3 +22,5 @@ pub mod Placing
 pub mod OwnersDeclare
 -- The whole.
 pub mod RenamedAlike
+-- Its bytes.
+pub mod Utf8

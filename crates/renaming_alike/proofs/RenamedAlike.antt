@@ -49,16 +49,16 @@ use Rattle.renaming_alike.proofs.Letters.{letters_free, some_letter, AllShort, l
 
 -- ---- the names of a text, with what they give way to
 
-abbrev new_by : ℕ → Option ℕ → Option (List ℕ)
+abbrev pub new_by : ℕ → Option ℕ → Option (List ℕ)
 new_by l None = None
 new_by l (Some k) = Some (new_name l k)
 
-abbrev entries : Items → ℕ → ℕ → List Item → List Entry
+abbrev pub entries : Items → ℕ → ℕ → List Item → List Entry
 entries items l n [] = []
 entries items l n (kept.Name place offset text ∷ more) = (offset, text, new_by l (local_number items n)) ∷ entries items l (n + 1) more
 entries items l n (_ ∷ more) = entries items l (n + 1) more
 
-renamed_is : (items : Items) (l : ℕ) (text : List ℕ) (at n : ℕ) (more : List Item)
+pub renamed_is : (items : Items) (l : ℕ) (text : List ℕ) (at n : ℕ) (more : List Item)
     → renamed_from items l text at n more ≡ substituted text at (entries items l n more)
 renamed_is items l text at n [] = refl
 renamed_is items l text at n (kept.Name place offset name ∷ more) = go (local_number items n) (λ i. renamed_is items l text i (n + 1) more)
@@ -282,6 +282,16 @@ of_locals items P h n k e = go (number_of items n) refl e
     go (Some j) a f = h n k (a ∙ f)
     go None a f = by_found (binder items (record { 0 = n })) f
 
+-- the names of a tree are those of its tokens
+names_all : (text : List ℕ) (tree : Tree) → Reads text tree → named_items (lay tree []) ≡ all_named (tokens_of text)
+names_all text tree reads = lay_names tree ∙ (keeps_tree (change_of [] []) (tokens_of text) tree reads).names
+
+pub all_match : (text : List ℕ) (tree : Tree) → Reads text tree
+    → Matches (entries (lay tree []) (letters (lay tree [])) 0 (lay tree [])) (lexed.answers_of text)
+all_match text tree reads =
+    matches_from (lexed.answers_of text) (entries (lay tree []) (letters (lay tree [])) 0 (lay tree [])) (ends_once text) (all_good (tokens_of text) tree reads)
+    (names_are (lay tree []) (letters (lay tree [])) 0 (lay tree []) ∙ names_all text tree reads)
+
 module _ (text : List ℕ) (tree : Tree) (le : length text ≤ LONGEST_TEXT) (reads : Reads text tree)
     (short : HaveShortNames (lay tree [])) where
   abbrev items : Items
@@ -305,13 +315,10 @@ module _ (text : List ℕ) (tree : Tree) (le : length text ≤ LONGEST_TEXT) (re
   abbrev c : Change
   c = change_of ts us
 
-  names_all : named_items items ≡ all_named ts
-  names_all = lay_names tree ∙ (keeps_tree c ts tree reads).names
-
   few_numbers : (d k : ℕ) → number_of items d ≡ Some k → k ≤ 1048577
   few_numbers d k h =
       let a = number_counted items d k h in
-      let b = ap (λ (x : List Named). length x) names_all in
+      let b = ap (λ (x : List Named). length x) (names_all text tree reads) in
       let f = few_named ts in
       let g = few_tokens (lexed.answers_of text) in
       let e = few_answers text in
@@ -327,8 +334,7 @@ module _ (text : List ℕ) (tree : Tree) (le : length text ≤ LONGEST_TEXT) (re
       new_is_name l k (some_letter items) all_are_short (omega (arith, small)) (omega (arith, small))) 0 items
 
   match : Matches es (lexed.answers_of text)
-  match =
-      matches_from (lexed.answers_of text) es (ends_once text) (all_good ts tree reads) (names_are items l 0 items ∙ names_all)
+  match = all_match text tree reads
 
   now_texts : SameTexts es (lexed.answers_of text) (lexed.answers_of text')
   now_texts = same_tokens (lexed.answers_of text) (lexed.answers_of text') es (ends_once text) match (same_answers text es new_names match)

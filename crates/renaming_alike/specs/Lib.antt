@@ -1,2 +1,3 @@
--- The promise: a text with its locals renamed reads, binds alike, and has its tokens where they were. A reader can stop here.
+-- The promise: a text with its locals renamed reads, binds alike, has its tokens where they were, and is UTF-8 where the text is. A reader can
+-- stop here.
 pub mod Renamed

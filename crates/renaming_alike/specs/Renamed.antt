@@ -1,5 +1,6 @@
--- That a text with its locals renamed reads, binds alike, and has its tokens where they were.
+-- That a text with its locals renamed reads, binds alike, has its tokens where they were, and is UTF-8 where the text is.
 use Rattle.std.specs.Prelude.{◌≡◌, ℕ, ◌≤◌, List, [], ◌∷◌, ◌++◌, length, map}
+use Rattle.std.specs.Str.{IsUtf8}
 use Rattle.tl_base.specs.declared.ids.NodeId.{NodeId}
 use Rattle.tl_base.specs.declared.place.Place.{Place}
 use Rattle.tl_lex.specs.declared.TheConstants.{LONGEST_TEXT}
@@ -39,3 +40,7 @@ abbrev pub RenamedTextsHaveSamePlaces : Type 0
 RenamedTextsHaveSamePlaces =
     (text : List ℕ) (tree : Tree) → length text ≤ LONGEST_TEXT → Reads text tree → HaveShortNames (lay tree [])
     → places (renamed (lay tree []) text) ≡ places text
+
+-- It is UTF-8 where the text is.
+abbrev pub RenamedTextsAreUtf8 : Type 0
+RenamedTextsAreUtf8 = (text : List ℕ) (tree : Tree) → Reads text tree → IsUtf8 text → IsUtf8 (renamed (lay tree []) text)

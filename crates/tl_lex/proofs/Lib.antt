@@ -22,3 +22,4 @@ pub mod CutTexts
 pub mod SwapLemmas
 pub mod NewNameLemmas
 pub mod NewNames
+pub mod NewNameUtf8
