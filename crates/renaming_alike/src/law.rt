@@ -1,8 +1,6 @@
 // What renaming keeps. Each function does nothing, and its clause is a law.
 
-ghost use Rattle.renaming_alike.specs.Renamed.{
-    RenamedTextsAreAlike, RenamedTextsAreUtf8, RenamedTextsHaveSamePlaces, RenamedTextsRead,
-};
+ghost use Rattle.renaming_alike.specs.Renamed.{RenamedTextsAreAlike, RenamedTextsAreUtf8, RenamedTextsHaveSamePlaces, RenamedTextsRead};
 
 /// A text that reads, of at most `LONGEST_TEXT` bytes and with no name of more than 248, reads with its locals renamed. That text may have
 /// more than `LONGEST_TEXT` bytes.

@@ -9,4 +9,7 @@
 
 pub mod law;
 
-pub use law::{renamed_texts_are_alike, renamed_texts_are_utf8, renamed_texts_have_same_places, renamed_texts_read};
+pub use law::{
+    renamed_texts_are_alike, renamed_texts_are_utf8, renamed_texts_have_same_places,
+    renamed_texts_read,
+};
