@@ -9,7 +9,7 @@ use Rattle.tac_form.specs.declared.graph.FlowBlock.{FlowBlock}
 use Rattle.tac_form.specs.Graph.{graph_of}
 use Rattle.tac_form.specs.Live.{at_place, at_step, read_within, IsLive, InUse, step_writes, written_in, is_just_written}
 use Rattle.reg_alloc.specs.declared.assignment.Home.{Home}
-use Rattle.reg_alloc.specs.declared.intervals.Span.{Span}
+use Rattle.reg_alloc.specs.declared.spans.Span.{Span}
 use Rattle.reg_alloc.specs.Right.{IsRight}
 use Rattle.reg_alloc.specs.Homes.{are_below}
 use Rattle.reg_alloc.specs.Intervals.{IsPlace, place_number, IsCrowded, HasSlot}

@@ -8,6 +8,9 @@ pub mod Whole
 pub mod OwnSlots
 pub mod Fewest
 pub mod Noting
-pub mod Walks
+pub mod Grouping
+pub mod Reaching
+pub mod Ordering
+pub mod Covering
 pub mod Turns
 pub mod Ends

@@ -9,7 +9,7 @@ use Rattle.std.proofs.lemmas.Option.{slice_get-get_or, get_or_from_slice_get}
 use Rattle.std.proofs.lemmas.Bool.{cases_eq, cases_lt, ltb-true, ltb-false, lt-ltb, le-leb, and_from, true≢false}
 use Rattle.reg_alloc.specs.declared.assignment.Home.{Home}
 use Rattle.reg_alloc.specs.declared.assignment.Home.TheVariants.{Register, Slot}
-use Rattle.reg_alloc.specs.declared.intervals.Span.{Span}
+use Rattle.reg_alloc.specs.declared.spans.Span.{Span}
 use Rattle.reg_alloc.specs.declared.scan.Holder.{Holder}
 use Rattle.reg_alloc.specs.Right.{is_home, is_some_home}
 use Rattle.reg_alloc.specs.Noted.{span_at, IsOrdered, Covers}

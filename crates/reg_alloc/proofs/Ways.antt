@@ -22,7 +22,7 @@ none-drop (y ∷ ys) zero e = cc
 none-drop (y ∷ ys) (suc i) e = none-drop ys i e
 
 -- what a block that follows has
-any-pick : (p : ℕ → Bool) (ns : List ℕ) → list_any p ns ≡ true → (n : ℕ) × (has ns n ≡ true) × (p n ≡ true)
+pub any-pick : (p : ℕ → Bool) (ns : List ℕ) → list_any p ns ≡ true → (n : ℕ) × (has ns n ≡ true) × (p n ≡ true)
 any-pick p [] e = absurd (false≢true e)
 any-pick p (n ∷ ns) e =
     ⊎_elim
@@ -30,7 +30,7 @@ any-pick p (n ∷ ns) e =
     (λ t. let r = any-pick p ns t in (r.0, or_right (eqb n r.0) (has ns r.0) r.1, r.2))
     (or_cases (p n) (list_any p ns) e)
 
-any-from : (p : ℕ → Bool) (ns : List ℕ) (n : ℕ) → has ns n ≡ true → p n ≡ true → list_any p ns ≡ true
+pub any-from : (p : ℕ → Bool) (ns : List ℕ) (n : ℕ) → has ns n ≡ true → p n ≡ true → list_any p ns ≡ true
 any-from p [] n h e = absurd (false≢true h)
 any-from p (m ∷ ms) n h e =
     ⊎_elim
@@ -95,7 +95,7 @@ abbrev Reached : List FlowBlock → (ℕ → Bool) → ℕ → ℕ → Type 0
 Reached graph begins t k =
     (b at : ℕ) → read_within graph k b at t ≡ true → (block : FlowBlock) → slice_get graph b ≡ Some block → before_from block at begins t ≡ true
 
-nothing-there : (graph : List FlowBlock) (k b at t : ℕ) → slice_get graph b ≡ None → read_within graph k b at t ≡ true → ⊥
+pub nothing-there : (graph : List FlowBlock) (k b at t : ℕ) → slice_get graph b ≡ None → read_within graph k b at t ≡ true → ⊥
 nothing-there graph zero b at t g r = false≢true r
 nothing-there graph (suc k) b at t g r =
     false≢true (sym (ap (λ o. at_place o at (λ n. read_within graph k n 0 t) (read_within graph k b (suc at) t) t) g) ∙ r)

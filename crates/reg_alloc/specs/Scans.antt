@@ -3,7 +3,7 @@ use Rattle.std.specs.Prelude.{◌≡◌, ◌≢◌, ℕ, ◌+◌, ◌<◌, ◌�
 use Rattle.std.specs.Prelude.{Option, Some, None, slice_get, slice_set, slice_index_or}
 use Rattle.reg_alloc.specs.declared.assignment.Home.{Home}
 use Rattle.reg_alloc.specs.declared.assignment.Home.TheVariants.{Register, Slot}
-use Rattle.reg_alloc.specs.declared.intervals.Span.{Span}
+use Rattle.reg_alloc.specs.declared.spans.Span.{Span}
 use Rattle.reg_alloc.specs.declared.scan.Holder.{Holder}
 use Rattle.reg_alloc.specs.Right.{has_home}
 use Rattle.reg_alloc.specs.Noted.{Covers, span_at}

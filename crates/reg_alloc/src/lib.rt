@@ -8,10 +8,15 @@
 pub mod all_slots;
 pub mod assignment;
 pub mod check;
+mod flow;
+mod groups;
 mod intervals;
 mod live;
 mod marks;
+mod numbers;
+mod reach;
 pub mod scan;
+mod spans;
 mod uses;
 
 pub use all_slots::assign;

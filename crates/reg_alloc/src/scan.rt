@@ -12,8 +12,8 @@ ghost use Rattle.reg_alloc.specs.Scans.{holder_at, is_free, last_of, scan_of, he
 use crate::all_slots::room_for;
 use crate::assignment::{Assignment, Home};
 use crate::check::{FIRST, KEPT};
-use crate::intervals::{Span, find_intervals};
-use crate::live::live_at_begins;
+use crate::intervals::find_intervals;
+use crate::spans::Span;
 use crate::uses::flow_graph;
 use std::alloc::Global;
 use tac_form::{FlowBlock, Tac};
@@ -211,7 +211,6 @@ pub fn assign_registers(alloc: Global, tac: &Tac) -> Result<Assignment, NoMemory
 {
     let graph = flow_graph(alloc, tac)?;
     let count = room_for(&graph, tac.temps)?;
-    let table = live_at_begins(alloc, &graph, count)?;
-    let found = find_intervals(alloc, &graph, &table, count)?;
+    let found = find_intervals(alloc, &graph, count)?;
     Ok(Assignment::from_vec(scan(alloc, &found.spans, &found.order)?))
 }
