@@ -10,7 +10,7 @@ use Rattle.std.proofs.lemmas.Bool.{cases_eq, cases_lt, cases_Bool, or_cases, or_
 use Rattle.tac_form.specs.declared.graph.FlowBlock.{FlowBlock}
 use Rattle.tac_form.specs.Live.{has, before_exit, read_within, IsLive}
 use Rattle.reg_alloc.specs.Sets.{before_steps, before_from}
-use Rattle.reg_alloc.specs.Flows.{group_at, is_turn, is_marked, all_marked, exposes, steps_write, writes, leads, in_block, AreGrouped, IsFlowOf, AreBelow}
+use Rattle.reg_alloc.specs.Flows.{group_at, is_turn, is_marked, all_marked, exposes, steps_write, writes, leads, in_block, AreGrouped, AreFlows, IsFlowOf, AreBelow}
 use Rattle.reg_alloc.specs.Reach.{Search, search, found_if, reached_at, reached, reached_unless, all_reached, AreLive, unmarked_count, IsSearch, IsSearchOf}
 use Rattle.reg_alloc.proofs.Ways.{any-pick, any-from, before-live, live-before, nothing-there}
 use Rattle.reg_alloc.proofs.Grouping.{has-push, marked-set, set-low, not-marked, all-marked-at, eqb-other, steps-parts}
@@ -295,3 +295,12 @@ search-ends graph t i found l s b = (s.sound b, λ w. reached-there (slice_get g
     reached-there : (o : Option FlowBlock) → slice_get graph b ≡ o → (k : ℕ) → read_within graph k b 0 t ≡ true → has found b ≡ true
     reached-there (Some block) g k r = close b block g (live-before graph t (λ n. has found n) close k b 0 r block g)
     reached-there None g k r = absurd (nothing-there graph k b 0 t g r)
+
+-- one temporary of all
+pub flow-of : (graph : List FlowBlock) (count t : ℕ) (exposed writers before : List (List ℕ)) (xs ws : List ℕ) (bs : List (List ℕ)) →
+    AreFlows graph count exposed writers before → t < count → xs ≡ group_at exposed t → ws ≡ group_at writers t → bs ≡ before → IsFlowOf graph t xs ws bs
+flow-of graph count t exposed writers before xs ws bs f l x w b = record {
+  exposed_are = λ k. ap (λ v. has v k) x ∙ f.exposed_are.holds t k l;
+  writers_are = λ k. ap (λ v. has v k) w ∙ f.writers_are.holds t k l;
+  before_are = subst (λ v. AreGrouped graph (length graph) leads v) (sym b) f.before_are;
+}
