@@ -1,12 +1,12 @@
 -- The intervals of temporaries begin and end where these are in use, and contain each place where they are.
-use Rattle.std.proofs.Common.{◌≡◌, ℕ, zero, suc, ◌+◌, ◌<◌, ◌≤◌, Bool, true, false, not, ◌&&◌, ◌||◌, eqb, List, [], ◌∷◌, ◌++◌, length, get_or, take}
-use Rattle.std.proofs.Common.{drop, replicate, Option, Some, None, refl, sym, ap, ◌∙◌, subst, ⊎_elim, inl, inr, arith}
+use Rattle.std.proofs.Common.{◌≡◌, ℕ, zero, suc, ◌+◌, ◌<◌, ◌≤◌, Bool, true, false, not, ◌&&◌, eqb, List, [], ◌∷◌, ◌++◌, length, get_or}
+use Rattle.std.proofs.Common.{replicate, Option, Some, None, refl, sym, ap, ◌∙◌, subst, ⊎_elim, inl, inr, arith}
 use Rattle.std.specs.Prelude.{slice_get, sum_by, MatchOption, ◌^◌}
 use Rattle.std.specs.List.{list_any}
 use Rattle.std.proofs.lemmas.List.{drop_all, take_all, get_or_append_left, get_or_push, length_push}
 use Rattle.std.proofs.lemmas.List.Sums.{sum_by_more, sum_by-take-le}
 use Rattle.std.proofs.lemmas.Option.{slice_get_within, get_or_from_slice_get, slice_get-get_or}
-use Rattle.std.proofs.lemmas.Bool.{cases_lt, cases_eq, cases_Bool, or_cases, or_left, or_right, and_parts, and_from, false≢true, eqb-true}
+use Rattle.std.proofs.lemmas.Bool.{cases_eq, cases_Bool, or_cases, or_left, or_right, and_parts, and_from, false≢true, eqb-true}
 use Rattle.tac_form.specs.declared.graph.Step.{Step}
 use Rattle.tac_form.specs.declared.graph.FlowBlock.{FlowBlock}
 use Rattle.tac_form.specs.Live.{has, is_written, before_exit, at_step, at_place, read_within, IsLive, InUse, step_writes, written_in, is_just_written}
@@ -14,11 +14,11 @@ use Rattle.reg_alloc.specs.declared.spans.Span.{Span}
 use Rattle.reg_alloc.specs.Intervals.{places_in, IsPlace, place_number, IsUsedAt}
 use Rattle.reg_alloc.specs.Flows.{group_at, leads, in_block, AreGrouped}
 use Rattle.reg_alloc.specs.Reach.{AreLive}
-use Rattle.reg_alloc.specs.Noted.{span_at, noted_at, all_noted, steps_noted, all_noted_at, live_noted, Covers, ArePlacesTo, ArePlaces, AreSpans}
+use Rattle.reg_alloc.specs.Noted.{noted_at, all_noted, steps_noted, all_noted_at, live_noted, Covers, ArePlacesTo, ArePlaces, AreSpans}
 use Rattle.reg_alloc.specs.Noted.{HasUsesOf, HasUses, HasLive, HasSpans, IsOrdered, AreIntervals}
 use Rattle.reg_alloc.proofs.Ways.{any-pick, any-from, live-here, before-live, nothing-there}
 use Rattle.reg_alloc.proofs.Noting.{IsNoted, Goes, then-goes, stays, AreUses, all-goes, all-covers, steps-goes, steps-covers, at-goes, at-covers}
-use Rattle.reg_alloc.proofs.Noting.{all-at-goes, all-at-covers, none-noted, or-here, or-there, one-more}
+use Rattle.reg_alloc.proofs.Noting.{all-at-goes, all-at-covers, none-noted, or-here, or-there}
 
 -- a use at a place of a block
 used-at : (graph : List FlowBlock) (b : ℕ) (block : FlowBlock) → slice_get graph b ≡ Some block → (p i t : ℕ) → place_number graph b 0 ≡ p →

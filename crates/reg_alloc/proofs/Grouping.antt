@@ -1,16 +1,16 @@
 -- Which blocks groups have, as blocks are gone through one after the other.
-use Rattle.std.proofs.Common.{◌≡◌, ◌≢◌, ℕ, zero, suc, ◌+◌, ◌<◌, ◌≤◌, Bool, true, false, not, ◌&&◌, ◌||◌, eqb, List, [], ◌∷◌, ◌++◌, length, get_or, replicate}
+use Rattle.std.proofs.Common.{◌≡◌, ◌≢◌, ℕ, ◌+◌, ◌<◌, ◌≤◌, Bool, true, false, not, ◌&&◌, ◌||◌, eqb, List, [], ◌∷◌, ◌++◌, length, get_or, replicate}
 use Rattle.std.proofs.Common.{set, Option, Some, None, refl, sym, ap, ◌∙◌, subst, ⊎_elim, arith}
 use Rattle.std.specs.Prelude.{slice_get}
 use Rattle.std.proofs.lemmas.List.{length-set, get_or-set_same, get_or-set_other, get_or-replicate, length-replicate, set_past, get_or_past}
-use Rattle.std.proofs.lemmas.Option.{slice_get_within, slice_get-get_or, slice_get_past, get_or_from_slice_get}
-use Rattle.std.proofs.lemmas.Bool.{cases_eq, cases_lt, cases_Bool, eqb-true, eq-eqb, false≢true}
+use Rattle.std.proofs.lemmas.Option.{slice_get-get_or, slice_get_past, get_or_from_slice_get}
+use Rattle.std.proofs.lemmas.Bool.{cases_eq, cases_lt, cases_Bool, eqb-true, eq-eqb}
 use Rattle.tac_form.specs.declared.graph.Step.{Step}
 use Rattle.tac_form.specs.declared.graph.FlowBlock.{FlowBlock}
 use Rattle.tac_form.specs.Live.{has, is_written}
 use Rattle.reg_alloc.specs.Sets.{before_steps}
 use Rattle.reg_alloc.specs.Flows.{group_at, put, all_put, is_turn, is_marked, all_marked, write_marked, Seen, exposed_unless, all_exposed, step_exposed}
-use Rattle.reg_alloc.specs.Flows.{steps_exposed, block_exposed, write_put, steps_put, exposes, steps_write, writes, leads, in_block, AreGroupedTo}
+use Rattle.reg_alloc.specs.Flows.{steps_exposed, block_exposed, write_put, steps_put, exposes, steps_write, in_block, AreGroupedTo}
 use Rattle.reg_alloc.specs.Flows.{AreGrouped, AreBelow}
 
 or-false : (a : Bool) → (a || false) ≡ a

@@ -1,19 +1,19 @@
 -- The search for the blocks at whose begin one temporary is live finds exactly these.
-use Rattle.std.proofs.Common.{◌≡◌, ◌≢◌, ℕ, zero, suc, ◌+◌, ◌<◌, ◌≤◌, Bool, true, false, not, ◌&&◌, ◌||◌, cond, eqb, List, [], ◌∷◌, ◌++◌, length, get_or, drop}
+use Rattle.std.proofs.Common.{◌≡◌, ℕ, zero, suc, ◌+◌, ◌<◌, ◌≤◌, Bool, true, false, not, ◌&&◌, ◌||◌, cond, eqb, List, [], ◌∷◌, length, get_or}
 use Rattle.std.proofs.Common.{set, Option, Some, None, refl, sym, ap, ◌∙◌, subst, ◌⊎◌, ⊎_elim, inl, inr, arith}
 use Rattle.std.specs.Prelude.{slice_get}
 use Rattle.std.specs.List.{list_any}
-use Rattle.std.proofs.lemmas.List.{length-set, get_or_append_left, get_or_push, length_push}
+use Rattle.std.proofs.lemmas.List.{length-set, get_or_append_left, length_push}
 use Rattle.std.proofs.lemmas.List.Sums.{sum_by-set, sum_by-cons}
 use Rattle.std.proofs.lemmas.Option.{slice_get_within, slice_get-get_or, slice_get_past, get_or_from_slice_get}
-use Rattle.std.proofs.lemmas.Bool.{cases_eq, cases_lt, cases_Bool, or_cases, or_left, or_right, and_parts, and_from, eqb-true, eq-eqb, false≢true, true≢false}
+use Rattle.std.proofs.lemmas.Bool.{cases_eq, cases_lt, or_cases, or_left, or_right, and_parts, and_from, eqb-true, eq-eqb, false≢true}
 use Rattle.tac_form.specs.declared.graph.FlowBlock.{FlowBlock}
 use Rattle.tac_form.specs.Live.{has, before_exit, read_within, IsLive}
 use Rattle.reg_alloc.specs.Sets.{before_steps, before_from}
-use Rattle.reg_alloc.specs.Flows.{group_at, is_turn, is_marked, all_marked, exposes, steps_write, writes, leads, in_block, AreGrouped, AreFlows, IsFlowOf, AreBelow}
-use Rattle.reg_alloc.specs.Reach.{Search, search, found_if, reached_at, reached, reached_unless, all_reached, AreLive, unmarked_count, IsSearch, IsSearchOf}
+use Rattle.reg_alloc.specs.Flows.{group_at, is_turn, is_marked, exposes, steps_write, writes, leads, in_block, AreGrouped, AreFlows, IsFlowOf, AreBelow}
+use Rattle.reg_alloc.specs.Reach.{Search, search, found_if, reached_at, reached_unless, all_reached, AreLive, unmarked_count, IsSearch, IsSearchOf}
 use Rattle.reg_alloc.proofs.Ways.{any-pick, any-from, before-live, live-before, nothing-there}
-use Rattle.reg_alloc.proofs.Grouping.{has-push, marked-set, set-low, not-marked, all-marked-at, eqb-other, steps-parts}
+use Rattle.reg_alloc.proofs.Grouping.{has-push, marked-set, set-low, not-marked, eqb-other, steps-parts}
 
 -- a turn begins with nothing found
 all-unmarked : (marks : List ℕ) (turn : ℕ) → ((k : ℕ) → get_or marks k 0 < turn) → unmarked_count marks turn ≡ length marks

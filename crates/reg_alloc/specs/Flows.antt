@@ -1,5 +1,5 @@
 -- Views of the code, which private contracts cite: groups of numbers, marks, and what a search for live temporaries goes by.
-use Rattle.std.specs.Prelude.{◌≡◌, ℕ, ◌+◌, ◌<◌, ◌≤◌, Bool, true, false, ◌||◌, nat_eq, List, [], ◌∷◌, ◌++◌, length}
+use Rattle.std.specs.Prelude.{◌≡◌, ℕ, ◌<◌, ◌≤◌, Bool, true, false, ◌||◌, nat_eq, List, [], ◌∷◌, ◌++◌, length}
 use Rattle.std.specs.Prelude.{Option, Some, None, slice_get, slice_set, slice_index_or}
 use Rattle.tac_form.specs.declared.graph.Step.{Step}
 use Rattle.tac_form.specs.declared.graph.FlowBlock.{FlowBlock}

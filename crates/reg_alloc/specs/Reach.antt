@@ -3,7 +3,7 @@ use Rattle.std.specs.Prelude.{◌≡◌, ℕ, ◌+◌, ◌<◌, ◌↔◌, Bool,
 use Rattle.std.specs.Prelude.{Option, Some, None, slice_get, slice_set, slice_index_or, count_by}
 use Rattle.tac_form.specs.declared.graph.FlowBlock.{FlowBlock}
 use Rattle.tac_form.specs.Live.{has, IsLive}
-use Rattle.reg_alloc.specs.Flows.{group_at, is_marked, in_block, exposes, writes, leads, IsFlowOf}
+use Rattle.reg_alloc.specs.Flows.{is_marked, in_block, exposes, writes, leads, IsFlowOf}
 
 -- which blocks were found, as marks, and in the order in which they were found
 pub record Search : Type 0 where

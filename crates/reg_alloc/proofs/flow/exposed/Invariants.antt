@@ -1,4 +1,4 @@
-use Rattle.std.proofs.Common.{◌+◌, ◌≤◌, length}
+use Rattle.std.proofs.Common.{◌+◌}
 use Rattle.reg_alloc.specs.Flows.{exposes, AreBelow, AreGroupedTo}
 use Rattle.reg_alloc.proofs.flow.exposed.Given as goal
 

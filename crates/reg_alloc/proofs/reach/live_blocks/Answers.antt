@@ -1,8 +1,8 @@
-use Rattle.std.proofs.Common.{◌≡◌, ◌+◌, ◌<◌, ◌||◌, ℕ, [], length, get_or, sym, ap, ◌∙◌, subst, refl, arith}
+use Rattle.std.proofs.Common.{◌≡◌, ◌+◌, ◌<◌, ◌||◌, ℕ, [], length, sym, ap, ◌∙◌, subst, refl, arith}
 use Rattle.std.proofs.lemmas.List.{get_or_default}
 use Rattle.tac_form.specs.Live.{has}
-use Rattle.reg_alloc.specs.Flows.{group_at, is_marked, all_marked, AreBelow}
-use Rattle.reg_alloc.specs.Reach.{Search, search, all_reached, IsSearch}
+use Rattle.reg_alloc.specs.Flows.{group_at, is_marked, AreBelow}
+use Rattle.reg_alloc.specs.Reach.{search, all_reached}
 use Rattle.reg_alloc.proofs.Grouping.{below-next, below-all, not-marked, all-marked-at}
 use Rattle.reg_alloc.proofs.Reaching.{IsFurther, search-none, all-further, begun-search, search-turn, search-ends}
 use Rattle.reg_alloc.proofs.reach.live_blocks.Goals as goal

@@ -11,12 +11,12 @@ use Rattle.reg_alloc.proofs.scan.assign_registers.Goals.{After-from_vec}
 found : (c : After-from_vec) → AreIntervals (graph_of c.args.tac.now) c.in_ok-count.count c.in_ok-found.found.spans.items c.in_ok-found.found.order.items
 found c =
     subst (λ g. AreIntervals g c.in_ok-count.count c.in_ok-found.found.spans.items c.in_ok-found.found.order.items)
-    (c.deref-3.ensures.value ∙ c.in_ok-graph.ensures) c.in_ok-found.ensures
+    (c.deref-2.ensures.value ∙ c.in_ok-graph.ensures) c.in_ok-found.ensures
 
 given : (c : After-from_vec) → AreHomes c.in_ok-found.found.spans.items c.from_vec.result
 given c =
     subst (λ h. AreHomes c.in_ok-found.found.spans.items h) (sym c.from_vec.ensures)
-    (subst (λ s. AreHomes s c.in_ok-scan.field-0.items) c.deref-5.ensures.value c.in_ok-scan.ensures)
+    (subst (λ s. AreHomes s c.in_ok-scan.field-0.items) c.deref-3.ensures.value c.in_ok-scan.ensures)
 
 pub returns-clause-right : goal.returns-clause-right
 returns-clause-right c =

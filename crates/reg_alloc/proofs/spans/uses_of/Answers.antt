@@ -1,8 +1,6 @@
-use Rattle.std.proofs.Common.{◌≡◌, ◌+◌, ◌<◌, length, get_or, Some, sym, ap, ◌∙◌, subst, arith}
+use Rattle.std.proofs.Common.{◌+◌, Some, sym, ap, ◌∙◌, subst, arith}
 use Rattle.std.proofs.lemmas.List.{get_or_default}
 use Rattle.std.proofs.lemmas.Option.{slice_get-get_or}
-use Rattle.tac_form.specs.declared.graph.FlowBlock.{FlowBlock}
-use Rattle.reg_alloc.specs.Intervals.{place_number}
 use Rattle.reg_alloc.specs.Noted.{HasUses}
 use Rattle.reg_alloc.proofs.Covering.{uses-none, uses-turn, short-place}
 use Rattle.reg_alloc.proofs.spans.uses_of.Goals as goal
