@@ -201,8 +201,8 @@ fn scan(
 
 /// A right assignment for code, with slots only where more than ten intervals contain one place.
 ///
-/// Finding what is live takes time in the order of rounds by blocks by temporaries, as in `check_assignment`, and memory of
-/// blocks by temporaries. The rest is a walk over the code and one over the intervals.
+/// It takes memory of the order of the code, and time of the order of the code and, over all temporaries, of the blocks at whose
+/// begin they are live.
 pub fn assign_registers(alloc: Global, tac: &Tac) -> Result<Assignment, NoMemory>
     ensures right { IfOk result (λ assignment. IsRight tac.now assignment) }
     // No more homes than temporaries, where the code names none but its own.

@@ -208,8 +208,7 @@ fn note_temps(
     Ok(())
 }
 
-/// The intervals of so many temporaries. It takes memory of the order of the code, and time of the order of the code and, for
-/// each temporary, of the blocks at whose begin it is live, and of those that lead to them.
+/// The intervals of so many temporaries.
 pub fn spans_of(
     alloc: Global,
     graph: &[FlowBlock],
