@@ -5,7 +5,6 @@ pub mod Rounds
 pub mod Taking
 pub mod Places
 pub mod Whole
-pub mod OwnSlots
 pub mod Fewest
 pub mod Noting
 pub mod Grouping

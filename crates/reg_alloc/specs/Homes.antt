@@ -1,6 +1,6 @@
 -- Views of the code, which private contracts cite: homes that are taken one after the other.
 use Rattle.std.specs.Prelude.{◌≡◌, ◌≢◌, ℕ, zero, suc, ◌+◌, ◌-◌, ◌<◌, ◌≤◌, Bool, true, false, ◌&&◌, ◌||◌, nat_lt, nat_le, if◌then◌else◌}
-use Rattle.std.specs.Prelude.{List, [], ◌∷◌, ◌++◌, length, Option, Some, None, slice_get, slice_set, slice_index_or}
+use Rattle.std.specs.Prelude.{List, length, Option, Some, None, slice_get, slice_set, slice_index_or}
 use Rattle.std.specs.List.{list_all}
 use Rattle.reg_alloc.specs.declared.assignment.Home.{Home}
 use Rattle.reg_alloc.specs.declared.assignment.Home.TheVariants.{Register, Slot}
@@ -79,12 +79,7 @@ block_below count b = steps_below count b.steps && all_below count b.reads
 abbrev pub are_below : ℕ → List FlowBlock → Bool
 are_below count graph = list_all (block_below count) graph
 
--- a slot of its own for each temporary below a number
-abbrev pub own_slots : ℕ → List (Option Home)
-own_slots zero = []
-own_slots (suc n) = own_slots n ++ Some (Slot n) ∷ []
-
--- the same where the temporary is in use, and else nothing
+-- a home is taken where its temporary is in use, and else nothing
 abbrev pub TakesIf : Bool → (slots : ℕ) → Option Home → List Bool → List Bool → Bool → Type 0
 TakesIf false slots home old new free = (free ≡ true) × (new ≡ old)
 TakesIf true slots home old new free = Takes slots home old new free

@@ -1,11 +1,10 @@
 //! Registers and slots for the temporaries of three-address code.
 //!
 //! `tac_form` says where a temporary is in use, and `specs/Right.antt` which assignments are right.
-//! `check_assignment` answers that exactly, for an assignment made in any way. `assign` makes only such, with a slot for each
-//! temporary, and so does `assign_registers`, by a linear scan over intervals (`specs/Intervals.antt`).
+//! `check_assignment` answers that exactly, for an assignment made in any way. `assign` makes only such, by a linear scan over
+//! intervals (`specs/Intervals.antt`).
 #![tactic(auto)]
 
-pub mod all_slots;
 pub mod assignment;
 pub mod check;
 mod flow;
@@ -19,8 +18,7 @@ pub mod scan;
 mod spans;
 mod uses;
 
-pub use all_slots::assign;
 pub use assignment::{Assignment, Home};
 pub use check::check_assignment;
-pub use scan::assign_registers;
+pub use scan::assign;
 pub use uses::flow_graph;

@@ -5,19 +5,22 @@ ghost use Rattle.std.specs.Prelude.{◌≡◌, ◌+◌, ◌<◌, ◌≤◌, ℕ,
 ghost use Rattle.tac_form.specs.Fits.{is_within};
 ghost use Rattle.tac_form.specs.Graph.{graph_of};
 ghost use Rattle.reg_alloc.specs.Right.{IsRight};
+ghost use Rattle.reg_alloc.specs.Homes.{are_below};
 ghost use Rattle.reg_alloc.specs.Intervals.{HasSlot, IsCrowded};
 ghost use Rattle.reg_alloc.specs.Noted.{span_at, IsOrdered};
 ghost use Rattle.reg_alloc.specs.Scans.{holder_at, is_free, last_of, scan_of, held, AllBusy, Begins, BeginsIf, AreHomes};
 
-use crate::all_slots::room_for;
 use crate::assignment::{Assignment, Home};
-use crate::check::{FIRST, KEPT};
+use crate::check::{FIRST, KEPT, is_graph_below};
 use crate::intervals::find_intervals;
 use crate::spans::Span;
 use crate::uses::flow_graph;
 use std::alloc::Global;
 use tac_form::{FlowBlock, Tac};
 use tl_base::NoMemory;
+
+/// Numbers of temporaries from here on leave no room for a list of homes.
+const TOO_MANY: usize = 1 << 40;
 
 /// The temporary that got a register last, and the place at which its interval ends.
 #[derive(Clone, Copy)]
@@ -199,11 +202,26 @@ fn scan(
     Ok(homes)
 }
 
+/// A number above those of all temporaries: that of the code itself, or else the next power of two that serves.
+fn room_for(graph: &[FlowBlock], temps: u64) -> Result<usize, NoMemory>
+    ensures serves { IfOk result (λ count. are_below count graph.now ≡ true) }
+    ensures few { are_below temps graph.now ≡ true → IfOk result (λ count. count ≤ temps) }
+{
+    let mut count = temps as usize;
+    'grow: while !is_graph_below(graph, count) {
+        if count >= TOO_MANY {
+            return Err(NoMemory);
+        }
+        count = 2 * count + 1;
+    }
+    Ok(count)
+}
+
 /// A right assignment for code, with slots only where more than ten intervals contain one place.
 ///
 /// It takes memory of the order of the code, and time of the order of the code and, over all temporaries, of the blocks at whose
 /// begin they are live.
-pub fn assign_registers(alloc: Global, tac: &Tac) -> Result<Assignment, NoMemory>
+pub fn assign(alloc: Global, tac: &Tac) -> Result<Assignment, NoMemory>
     ensures right { IfOk result (λ assignment. IsRight tac.now assignment) }
     // No more homes than temporaries, where the code names none but its own.
     ensures few { IsTrue (is_within tac.now) → IfOk result (λ assignment. length assignment ≤ tac.now.temps) }

@@ -1,5 +1,5 @@
 //! Says of the rows of standard input, one a line, whether `check_assignment` takes an assignment for a small piece of
-//! three-address code, whether it takes that of `assign_registers`, and whether this has a slot. `stdin` and `stdout` are written by
+//! three-address code, whether it takes that of `assign`, and whether this has a slot. `stdin` and `stdout` are written by
 //! `bench/reg_rows`, by its own reading of the rules.
 //!
 //! A row is the homes, a letter or digit for each temporary, and then the code's words, of which those of an exit
@@ -9,7 +9,7 @@
 mod reading;
 
 use reading::{code_of, homes_of};
-use reg_alloc::{Home, assign_registers, check_assignment};
+use reg_alloc::{Home, assign, check_assignment};
 use std::alloc::Global;
 use tl_base::NoMemory;
 
@@ -25,12 +25,12 @@ fn main(rt: HostRuntime) -> anyhow::Result<()> {
     Ok(())
 }
 
-/// Whether the row's homes are right for its code, whether those of `assign_registers` are, and whether these have a slot.
+/// Whether the row's homes are right for its code, whether those of `assign` are, and whether these have a slot.
 fn answers(alloc: Global, words: &[&str]) -> Result<(bool, bool, bool), NoMemory> {
     let homes = homes_of(alloc, words)?;
     let code = code_of(alloc, words)?;
     let given = check_assignment(alloc, &code, &homes)?;
-    let made = assign_registers(alloc, &code)?;
+    let made = assign(alloc, &code)?;
     let own = check_assignment(alloc, &code, &made)?;
     Ok((
         given,

@@ -5,8 +5,8 @@ use Rattle.reg_alloc.specs.Noted.{AreIntervals}
 use Rattle.reg_alloc.specs.Scans.{AreHomes}
 use Rattle.reg_alloc.proofs.Fewest.{own-temps}
 use Rattle.reg_alloc.proofs.Ends.{assigned, crowded}
-use Rattle.reg_alloc.proofs.scan.assign_registers.Goals as goal
-use Rattle.reg_alloc.proofs.scan.assign_registers.Goals.{After-from_vec}
+use Rattle.reg_alloc.proofs.scan.assign.Goals as goal
+use Rattle.reg_alloc.proofs.scan.assign.Goals.{After-from_vec}
 
 found : (c : After-from_vec) → AreIntervals (graph_of c.args.tac.now) c.in_ok-count.count c.in_ok-found.found.spans.items c.in_ok-found.found.order.items
 found c =

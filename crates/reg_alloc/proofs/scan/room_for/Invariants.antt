@@ -1,6 +1,6 @@
 use Rattle.std.proofs.Common.{◌≡◌, ◌-◌, true}
 use Rattle.reg_alloc.specs.Homes.{are_below}
-use Rattle.reg_alloc.proofs.all_slots.room_for.Given as goal
+use Rattle.reg_alloc.proofs.scan.room_for.Given as goal
 
 abbrev pub decreases-grow : goal.decreases-grow
 decreases-grow l = 4398046511104 - l.count
