@@ -3,6 +3,7 @@
 ghost use Rattle.std.specs.Prelude.{◌≡◌, ◌≤◌, List};
 ghost use Rattle.tl_base.specs.Layer.{State, Given, at};
 ghost use Rattle.stage_form.specs.Stage.{Stage};
+ghost use Rattle.stage_form.specs.Holding.{LayersHold};
 
 use std::alloc::Global;
 use tl_base::Layer;
@@ -37,11 +38,19 @@ pub trait Stages {
     /// The meaning of each question's layer, the answer with which each layer begins, and the answer that each end is.
     ghost stage: { Self → Stage Self.World Self.Question Self.Answer Self.End };
 
+    /// What a question demands of the world in which it is asked, and what its layer leaves there with an end, seen from that world.
+    ghost begins: { Self → Self.Question → Self.World → Type 0 };
+
+    ghost leaves: { Self → Self.Question → Self.World → Self.End → Self.World → Type 0 };
+
+    /// Each layer that begins as its question demands asks so, and leaves what it should, if its questions' layers do.
+    ghost layers_hold: { (stages : Self) → LayersHold (stage stages) (begins stages) (leaves stages) };
+
     /// The layer that a question names, which is to begin.
     fn start(&self, alloc: Global, question: Self::Question) -> Self::Staged
         ensures means { (first : Given Self.World Self.Answer) (later : List (Given Self.World Self.Answer)) →
             Self.Staged.rest result first later ≡ (stage self.now).meaning question first later }
-        ensures fits { (s : State Self.World) → Self.Staged.fits result (at (stage self.now).go s) };
+        ensures fits { (s : State Self.World) → begins self.now question s.world → Self.Staged.fits result (at (stage self.now).go s) };
 
     /// The answer with which each layer begins.
     fn go(&self) -> Self::Answer
@@ -54,7 +63,7 @@ pub trait Stages {
     /// Each end may follow each question, in a world that kept what the turns since keep, with a budget that hasn't
     /// risen.
     ghost ends_follow: { (stages : Self) (question : Self.Question) (asked now : State Self.World) (end : Self.End) →
-        Self.Staged.keeps asked.world now.world → now.left ≤ asked.left →
+        Self.Staged.keeps asked.world now.world → now.left ≤ asked.left → leaves stages question asked.world end now.world →
         Self.Staged.follows question asked (at ((stage stages).answer_of end) now) };
 
     /// What did nothing kept the world.

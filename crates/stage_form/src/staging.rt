@@ -3,6 +3,7 @@
 ghost use Rattle.std.specs.Prelude.{ℕ, Option, Some, List, ◌++◌, ◌≡◌, ◌≤◌, IfOk, OnOk};
 ghost use Rattle.tl_base.specs.Layer.{State, Given, Meaning, state, IsSameUnlessAsks};
 ghost use Rattle.stage_form.specs.Stage.{Stage, Final, staged, final_of};
+ghost use Rattle.stage_form.specs.Holding.{OnEnds};
 ghost use Rattle.stage_form.specs.Within.{Fitting, within};
 
 use crate::form::Stages;
@@ -41,10 +42,12 @@ pub fn run<S: Stages>(
     world: &mut S::World,
     budget: &mut Budget,
 ) -> Result<Outcome<S::End>, NoMemory>
+    requires { S.begins stages.now question world.old }
     ensures means { IfOk result (λ outcome.
         (n : ℕ)
         × (staged (S.stage stages.now) n question (state world.old budget.old)
         ≡ Some (final_of outcome (state world.new budget.new)))) }
+    ensures left { IfOk result (λ outcome. OnEnds outcome (λ end. S.leaves stages.now question world.old end world.new)) }
     ensures kept { OnOk result (S.Staged.keeps world.old world.new) }
     ensures paid { OnOk result (budget.new ≤ budget.old) }
 {
