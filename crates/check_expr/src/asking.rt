@@ -85,8 +85,7 @@ pub fn quoted(
     let mut frame = frame;
     let value = new_quote(typing, made)?;
     frame.values.push(value)?;
-    let step = quotes_left(frames, frame)?;
-    Ok(step)
+    quotes_left(frames, frame)
 }
 
 /// What comes of a value that is to be a term.
@@ -173,10 +172,7 @@ pub fn after_asked(
     ensures kept { OnOk result (KeepsTyping typing.old typing.new) }
 {
     match end {
-        PartEnd::Answered(answer) => {
-            let step = after_answer(frames, typing, budget, then, answer)?;
-            Ok(step)
-        }
+        PartEnd::Answered(answer) => after_answer(frames, typing, budget, then, answer),
         end => Ok(Step::Return(end)),
     }
 }
@@ -194,14 +190,8 @@ fn after_answer(
     ensures kept { OnOk result (KeepsTyping typing.old typing.new) }
 {
     match given(answer) {
-        Some(value) => {
-            let step = with_value(frames, typing, budget, then, value)?;
-            Ok(step)
-        }
-        None => {
-            let step = after_raise(typing, then)?;
-            Ok(step)
-        }
+        Some(value) => with_value(frames, typing, budget, then, value),
+        None => after_raise(typing, then),
     }
 }
 
@@ -218,20 +208,15 @@ fn with_value(
     ensures kept { OnOk result (KeepsTyping typing.old typing.new) }
 {
     match then {
-        AskedThen::InPlace(at, site) => {
-            let step = in_place(typing, budget, value, at, site)?;
-            Ok(step)
-        }
+        AskedThen::InPlace(at, site) => in_place(typing, budget, value, at, site),
         AskedThen::Cast(to, at, site) => {
             frames.push(BodyFrame::Made(MadeFrame::OfType(to, at, site)))?;
-            let step = in_place(typing, budget, value, at, site)?;
-            Ok(step)
+            in_place(typing, budget, value, at, site)
         }
         AskedThen::Method(of, name, object, arguments, node) => {
-            let step = given_method(
+            given_method(
                 frames, typing, budget, of, name, value, object, arguments, node,
-            )?;
-            Ok(step)
+            )
         }
     }
 }

@@ -43,8 +43,7 @@ pub fn assign(
         at,
         site,
     };
-    let step = values_left(frames, typing, frame)?;
-    Ok(step)
+    values_left(frames, typing, frame)
 }
 
 /// Types the values that are left, and then the targets.
@@ -80,8 +79,7 @@ fn values_left(
                 at,
                 site,
             };
-            let step = targets_left(frames, typing, frame)?;
-            Ok(step)
+            targets_left(frames, typing, frame)
         }
     }
 }
@@ -100,8 +98,7 @@ pub fn value(
 {
     let mut frame = frame;
     frame.made.push(made)?;
-    let step = values_left(frames, typing, frame)?;
-    Ok(step)
+    values_left(frames, typing, frame)
 }
 
 /// Types the targets that are left, and converts the values.
@@ -142,8 +139,7 @@ fn targets_left(
                 at,
                 site,
             };
-            let step = conversions_left(frames, typing, frame)?;
-            Ok(step)
+            conversions_left(frames, typing, frame)
         }
     }
 }
@@ -174,8 +170,7 @@ pub fn target(
     if made.is_place {
         let mut frame = frame;
         frame.places.push(made)?;
-        let step = targets_left(frames, typing, frame)?;
-        Ok(step)
+        targets_left(frames, typing, frame)
     } else {
         Ok(refuse(RefusalKind::NotPlace, made.at, frame.site))
     }
@@ -194,14 +189,8 @@ fn conversions_left(
 {
     let mut frame = frame;
     match frame.made.take() {
-        None => {
-            let step = assigned(typing, frame)?;
-            Ok(step)
-        }
-        Some(made) => {
-            let step = conversion_left(frames, typing, made, frame)?;
-            Ok(step)
-        }
+        None => assigned(typing, frame),
+        Some(made) => conversion_left(frames, typing, made, frame),
     }
 }
 
@@ -221,15 +210,11 @@ fn conversion_left(
 {
     let mut frame = frame;
     match frame.places.take() {
-        None => {
-            let step = assigned(typing, frame)?;
-            Ok(step)
-        }
+        None => assigned(typing, frame),
         Some(place) => {
             let site = frame.site;
             frames.push(BodyFrame::Doing(DoingFrame::Assigned(frame)))?;
-            let step = convert(frames, typing, Mode::Implicit, made, place.of, site)?;
-            Ok(step)
+            convert(frames, typing, Mode::Implicit, made, place.of, site)
         }
     }
 }
@@ -248,8 +233,7 @@ pub fn converted(
 {
     let mut frame = frame;
     frame.ids.push(made.id)?;
-    let step = conversions_left(frames, typing, frame)?;
-    Ok(step)
+    conversions_left(frames, typing, frame)
 }
 
 /// Makes the assignment.
@@ -267,6 +251,5 @@ fn assigned(typing: &mut Typing, frame: AssignedFrame) -> Result<BodyStep, NoMem
     } = frame;
     let list = TermList::from_list(ids)?;
     let form = TypedStatement::Assign(targets, list);
-    let step = states(typing, at, form, site.result)?;
-    Ok(step)
+    states(typing, at, form, site.result)
 }

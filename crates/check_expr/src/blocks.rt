@@ -38,8 +38,7 @@ pub fn block(
         then,
         site,
     };
-    let step = statements_left(frames, typing, frame)?;
-    Ok(step)
+    statements_left(frames, typing, frame)
 }
 
 /// Types the statements of a block that are left.
@@ -67,8 +66,7 @@ fn statements_left(
                 site,
                 ..
             } = frame;
-            let step = with_statements(frames, typing, then, ids, site.result)?;
-            Ok(step)
+            with_statements(frames, typing, then, ids, site.result)
         }
     }
 }
@@ -91,8 +89,7 @@ pub fn after_statement(
             let mut frame = frame;
             frame.ids.push(id)?;
             frame.site.result = found;
-            let step = statements_left(frames, typing, frame)?;
-            Ok(step)
+            statements_left(frames, typing, frame)
         }
         end => Ok(Step::Return(end)),
     }
@@ -115,28 +112,24 @@ fn with_statements(
         BlockThen::Do(count, at) => {
             typing.leave(count);
             let list = TermList::from_list(ids)?;
-            let step = states(typing, at, TypedStatement::Do(list), found)?;
-            Ok(step)
+            states(typing, at, TypedStatement::Do(list), found)
         }
         BlockThen::Then(count, test, more, at, site) => {
             typing.leave(count);
-            let step = with_else(frames, typing, test, ids, more, at, site, found)?;
-            Ok(step)
+            with_else(frames, typing, test, ids, more, at, site, found)
         }
         BlockThen::Else(count, test, before, at) => {
             typing.leave(count);
             let first = TermList::from_list(before)?;
             let others = TermList::from_list(ids)?;
             let form = TypedStatement::If(test.id, first, Some(others));
-            let step = states(typing, at, form, found)?;
-            Ok(step)
+            states(typing, at, form, found)
         }
         BlockThen::While(count, test, at) => {
             typing.leave(count);
             let list = TermList::from_list(ids)?;
             let form = TypedStatement::While(test.id, list);
-            let step = states(typing, at, form, found)?;
-            Ok(step)
+            states(typing, at, form, found)
         }
         BlockThen::Repeat(count, test, at, site) => {
             let frame = DoingFrame::Repeat(count, ids, found, at, site);
@@ -148,17 +141,13 @@ fn with_statements(
             let limits = TermList::from_list(bounds)?;
             let list = TermList::from_list(ids)?;
             let form = TypedStatement::For(name, limits, list);
-            let step = states(typing, at, form, found)?;
-            Ok(step)
+            states(typing, at, form, found)
         }
         BlockThen::Let(count, value, node) => {
             frames.push(BodyFrame::Made(MadeFrame::Let(count, ids, node)))?;
             Ok(Step::Enter(BodyJob::Expression(value, node.site)))
         }
-        BlockThen::Function(names, at, site) => {
-            let step = function(typing, names, found, ids, at, site)?;
-            Ok(step)
-        }
+        BlockThen::Function(names, at, site) => function(typing, names, found, ids, at, site),
     }
 }
 
@@ -183,16 +172,14 @@ fn with_else(
             let first = TermList::from_list(ids)?;
             let none: Option<TermList> = None;
             let form = TypedStatement::If(test.id, first, none);
-            let step = states(typing, at, form, found)?;
-            Ok(step)
+            states(typing, at, form, found)
         }
         Some(statements) => {
             let site = Site {
                 result: found,
                 ..site
             };
-            let step = else_block(frames, typing, test, ids, statements, at, site)?;
-            Ok(step)
+            else_block(frames, typing, test, ids, statements, at, site)
         }
     }
 }
@@ -231,8 +218,7 @@ fn else_block(
             let first = TermList::from_list(ids)?;
             let list = TermList::from_list(others)?;
             let form = TypedStatement::If(test.id, first, Some(list));
-            let step = states(typing, at, form, site.result)?;
-            Ok(step)
+            states(typing, at, form, site.result)
         }
     }
 }

@@ -80,26 +80,13 @@ pub fn call_named(
     ensures kept { OnOk result (KeepsTyping typing.old typing.new) }
 {
     match callee {
-        Callee::Function(f) => {
-            let step = call_function(frames, typing, f, operands, fitting, node)?;
-            Ok(step)
-        }
+        Callee::Function(f) => call_function(frames, typing, f, operands, fitting, node),
         Callee::Primitive(primitive) => {
-            let step = call_primitive(frames, typing, primitive, operands, fitting, node)?;
-            Ok(step)
+            call_primitive(frames, typing, primitive, operands, fitting, node)
         }
-        Callee::Macro(id) => {
-            let step = call_macro(frames, typing, id, operands, node)?;
-            Ok(step)
-        }
-        Callee::Type(of) => {
-            let step = cast(frames, typing, of, operands, node)?;
-            Ok(step)
-        }
-        Callee::SizeOf => {
-            let step = call_size(frames, typing, budget, operands, node)?;
-            Ok(step)
-        }
+        Callee::Macro(id) => call_macro(frames, typing, id, operands, node),
+        Callee::Type(of) => cast(frames, typing, of, operands, node),
+        Callee::SizeOf => call_size(frames, typing, budget, operands, node),
         Callee::Value => Ok(refuse(RefusalKind::NotCallable, node.at, node.site)),
     }
 }
@@ -136,8 +123,7 @@ fn call_function(
                 fitting,
                 node,
             };
-            let step = by_result(frames, typing, f, frame)?;
-            Ok(step)
+            by_result(frames, typing, f, frame)
         }
     }
 }
@@ -157,10 +143,7 @@ fn by_result(
     ensures kept { OnOk result (KeepsTyping typing.old typing.new) }
 {
     match result_type(&typing.world, f) {
-        KnownResult::Is(of) => {
-            let step = operands_left(frames, typing, frame, of)?;
-            Ok(step)
-        }
+        KnownResult::Is(of) => operands_left(frames, typing, frame, of),
         KnownResult::BeingTyped => Ok(refuse(
             RefusalKind::RecursiveNeedsType,
             frame.node.at,
@@ -188,10 +171,7 @@ pub fn after_result(
     ensures kept { OnOk result (KeepsTyping typing.old typing.new) }
 {
     match end {
-        PartEnd::Answered(answer) => {
-            let step = after_answer(frames, typing, frame, answer)?;
-            Ok(step)
-        }
+        PartEnd::Answered(answer) => after_answer(frames, typing, frame, answer),
         end => Ok(Step::Return(end)),
     }
 }
@@ -210,10 +190,7 @@ fn after_answer(
     ensures kept { OnOk result (KeepsTyping typing.old typing.new) }
 {
     match answer {
-        CheckAnswer::Result(of) => {
-            let step = operands_left(frames, typing, frame, of)?;
-            Ok(step)
-        }
+        CheckAnswer::Result(of) => operands_left(frames, typing, frame, of),
         CheckAnswer::Refused(refusal) => Ok(Step::Return(PartEnd::Refused(refusal))),
         _ => Ok(refuse(RefusalKind::Undefined, frame.node.at, frame.node.site)),
     }
@@ -233,14 +210,8 @@ pub fn operands_left(
 {
     let mut frame = frame;
     match frame.operands.take() {
-        None => {
-            let step = call(typing, frame, of)?;
-            Ok(step)
-        }
-        Some(operand) => {
-            let step = with_operand(frames, typing, frame, of, operand)?;
-            Ok(step)
-        }
+        None => call(typing, frame, of),
+        Some(operand) => with_operand(frames, typing, frame, of, operand),
     }
 }
 
@@ -261,20 +232,14 @@ fn with_operand(
 {
     let mut frame = frame;
     match frame.types.take() {
-        None => {
-            let step = call(typing, frame, of)?;
-            Ok(step)
-        }
+        None => call(typing, frame, of),
         Some(parameter) => match operand {
             Operand::Untyped(term) => {
                 let site = frame.node.site;
                 frames.push(BodyFrame::Made(MadeFrame::Argument(parameter, frame, of)))?;
                 Ok(Step::Enter(BodyJob::Expression(term, site)))
             }
-            Operand::Typed(made) => {
-                let step = argument(frames, typing, parameter, frame, of, made)?;
-                Ok(step)
-            }
+            Operand::Typed(made) => argument(frames, typing, parameter, frame, of, made),
         },
     }
 }
@@ -298,11 +263,9 @@ pub fn argument(
     let (fitting, node) = (frame.fitting, frame.node);
     frames.push(BodyFrame::Made(MadeFrame::Fitted(frame, of)))?;
     if fitting {
-        let step = fit(frames, typing, made, parameter, node.at, node.site)?;
-        Ok(step)
+        fit(frames, typing, made, parameter, node.at, node.site)
     } else {
-        let step = convert(frames, typing, Mode::Implicit, made, parameter, node.site)?;
-        Ok(step)
+        convert(frames, typing, Mode::Implicit, made, parameter, node.site)
     }
 }
 
@@ -322,8 +285,7 @@ pub fn fitted(
     let mut frame = frame;
     frame.ids.push(made.id)?;
     frame.fitting = false;
-    let step = operands_left(frames, typing, frame, of)?;
-    Ok(step)
+    operands_left(frames, typing, frame, of)
 }
 
 /// The operation that is a call.
@@ -349,8 +311,7 @@ fn call(typing: &mut Typing, frame: CallFrame, of: TypeId) -> Result<BodyStep, N
         ..
     } = frame;
     let form = TypedExpression::Operate(operation_of(target), TermList::from_list(ids)?);
-    let step = gives(typing, node.source, node.at, of, form)?;
-    Ok(step)
+    gives(typing, node.source, node.at, of, form)
 }
 
 /// Calls a primitive.
@@ -370,26 +331,23 @@ fn call_primitive(
     match primitive {
         Primitive::PutByte => {
             let types = one_type(typing, UINT8)?;
-            let step = call_by(
+            call_by(
                 frames, typing, primitive, types, UNIT, operands, fitting, node,
-            )?;
-            Ok(step)
+            )
         }
         Primitive::Write => {
             let bytes = pointer_to(typing, UINT8)?;
             let types = two_types(typing, bytes, INT64)?;
-            let step = call_by(
+            call_by(
                 frames, typing, primitive, types, UNIT, operands, fitting, node,
-            )?;
-            Ok(step)
+            )
         }
         Primitive::Alloc => {
             let bytes = pointer_to(typing, UINT8)?;
             let types = one_type(typing, INT64)?;
-            let step = call_by(
+            call_by(
                 frames, typing, primitive, types, bytes, operands, fitting, node,
-            )?;
-            Ok(step)
+            )
         }
     }
 }
@@ -442,8 +400,7 @@ fn call_by(
         fitting,
         node,
     };
-    let step = operands_left(frames, typing, frame, of)?;
-    Ok(step)
+    operands_left(frames, typing, frame, of)
 }
 
 /// Calls the function of a macro with typed quotes of the operands.
@@ -466,8 +423,7 @@ fn call_macro(
         at: node.at,
         site: node.site,
     };
-    let step = quotes_left(frames, frame)?;
-    Ok(step)
+    quotes_left(frames, frame)
 }
 
 /// Converts the only operand to a type.
@@ -490,10 +446,7 @@ fn cast(
                 frames.push(BodyFrame::Made(MadeFrame::Cast(to, node)))?;
                 Ok(Step::Enter(BodyJob::Expression(term, node.site)))
             }
-            Operand::Typed(made) => {
-                let step = cast_made(frames, typing, to, node, made)?;
-                Ok(step)
-            }
+            Operand::Typed(made) => cast_made(frames, typing, to, node, made),
         },
     }
 }
@@ -525,8 +478,7 @@ pub fn cast_made(
     ensures kept { OnOk result (KeepsTyping typing.old typing.new) }
 {
     frames.push(BodyFrame::Made(MadeFrame::Recast(node.source)))?;
-    let step = convert(frames, typing, Mode::Explicit, made, to, node.site)?;
-    Ok(step)
+    convert(frames, typing, Mode::Explicit, made, to, node.site)
 }
 
 /// The size of the only operand, which is a type.
@@ -546,10 +498,7 @@ fn call_size(
         None => Ok(refuse(RefusalKind::WrongCount, node.at, node.site)),
         Some(operand) => match operand {
             Operand::Typed(made) => Ok(refuse(RefusalKind::BadOperand, made.at, node.site)),
-            Operand::Untyped(term) => {
-                let step = size_of_term(frames, typing, budget, term, node)?;
-                Ok(step)
-            }
+            Operand::Untyped(term) => size_of_term(frames, typing, budget, term, node),
         },
     }
 }
@@ -573,8 +522,7 @@ fn size_of_term(
                 return Ok(Step::Spent);
             }
             let then = LaidThen::Size(of, node);
-            let step = lay_out(frames, typing, of, node.at, node.site, then)?;
-            Ok(step)
+            lay_out(frames, typing, of, node.at, node.site, then)
         }
         _ => {
             let named = place_of(&typing.world, term);
@@ -605,8 +553,7 @@ pub fn call_term(
         }
         callee => {
             let operands = Rest::from_vec(operands);
-            let step = call_named(frames, typing, budget, callee, operands, fitting, node)?;
-            Ok(step)
+            call_named(frames, typing, budget, callee, operands, fitting, node)
         }
     }
 }
@@ -630,10 +577,7 @@ pub fn call_becoming(
 {
     let spliced = splice(typing, budget, value, node.at, node.site)?;
     match spliced {
-        Spliced::Term(term) => {
-            let step = call_term(frames, typing, budget, term, operands, fitting, node)?;
-            Ok(step)
-        }
+        Spliced::Term(term) => call_term(frames, typing, budget, term, operands, fitting, node),
         Spliced::Ended(step) => Ok(step),
     }
 }
@@ -656,8 +600,7 @@ pub fn call_handler(
     if handler.is_nil() {
         Ok(refuse(kind, node.at, node.site))
     } else {
-        let step = call_becoming(frames, typing, budget, handler, operands, false, node)?;
-        Ok(step)
+        call_becoming(frames, typing, budget, handler, operands, false, node)
     }
 }
 
@@ -677,7 +620,7 @@ pub fn call_value(
 {
     let handler = metamethod(&typing.world, made.of, b"__apply");
     let operands = behind(typing, made, operands.as_slice())?;
-    let step = call_handler(
+    call_handler(
         frames,
         typing,
         budget,
@@ -685,8 +628,7 @@ pub fn call_value(
         RefusalKind::NotCallable,
         operands,
         node,
-    )?;
-    Ok(step)
+    )
 }
 
 /// Operands behind one that is typed.

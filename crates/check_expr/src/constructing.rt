@@ -41,8 +41,7 @@ pub fn new_struct(
         return Ok(refuse(RefusalKind::BadOperand, node.at, node.site));
     }
     let then = LaidThen::New(of, values, node);
-    let step = lay_out(frames, typing, of, node.at, node.site, then)?;
-    Ok(step)
+    lay_out(frames, typing, of, node.at, node.site, then)
 }
 
 /// Makes a struct whose layout is settled.
@@ -68,13 +67,11 @@ pub fn construct(
                 return Ok(refuse(RefusalKind::WrongCount, node.at, node.site));
             }
             let entries = entries_in_order(&typing.world, of, values.as_slice())?;
-            let step = with_entries(frames, typing, of, entries, values, node)?;
-            Ok(step)
+            with_entries(frames, typing, of, entries, values, node)
         }
         Some(names) => {
             let entries = entries_by_name(&typing.world, of, names.as_slice())?;
-            let step = with_entries(frames, typing, of, entries, values, node)?;
-            Ok(step)
+            with_entries(frames, typing, of, entries, values, node)
         }
     }
 }
@@ -105,8 +102,7 @@ fn with_entries(
         ids,
         node,
     };
-    let step = values_left(frames, typing, frame)?;
-    Ok(step)
+    values_left(frames, typing, frame)
 }
 
 /// How many entries a struct has.
@@ -175,14 +171,8 @@ pub fn values_left(
 {
     let mut frame = frame;
     match frame.entries.take() {
-        None => {
-            let step = constructed(typing, frame)?;
-            Ok(step)
-        }
-        Some(entry) => {
-            let step = value_left(frames, typing, entry, frame)?;
-            Ok(step)
-        }
+        None => constructed(typing, frame),
+        Some(entry) => value_left(frames, typing, entry, frame),
     }
 }
 
@@ -202,14 +192,8 @@ fn value_left(
 {
     let mut frame = frame;
     match frame.values.take() {
-        None => {
-            let step = constructed(typing, frame)?;
-            Ok(step)
-        }
-        Some(value) => {
-            let step = value_for(frames, typing, entry, value, frame)?;
-            Ok(step)
-        }
+        None => constructed(typing, frame),
+        Some(value) => value_for(frames, typing, entry, value, frame),
     }
 }
 
@@ -254,8 +238,7 @@ pub fn initial(
 {
     let site = frame.node.site;
     frames.push(BodyFrame::Made(MadeFrame::Initialised(laid, frame)))?;
-    let step = convert(frames, typing, Mode::Implicit, made, laid.of, site)?;
-    Ok(step)
+    convert(frames, typing, Mode::Implicit, made, laid.of, site)
 }
 
 /// Goes on with the values behind one that is converted.
@@ -274,8 +257,7 @@ pub fn initialised(
     let mut frame = frame;
     frame.offsets.push(laid.offset)?;
     frame.ids.push(made.id)?;
-    let step = values_left(frames, typing, frame)?;
-    Ok(step)
+    values_left(frames, typing, frame)
 }
 
 /// Makes the struct, once its values are converted.
@@ -295,6 +277,5 @@ fn constructed(typing: &mut Typing, frame: InitialFrame) -> Result<BodyStep, NoM
     let offsets = OffsetList::from_list(offsets)?;
     let list = TermList::from_list(ids)?;
     let form = TypedExpression::Operate(Operation::Construct(offsets), list);
-    let step = gives(typing, node.source, node.at, of, form)?;
-    Ok(step)
+    gives(typing, node.source, node.at, of, form)
 }

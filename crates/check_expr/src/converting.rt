@@ -66,11 +66,9 @@ pub fn convert(
 {
     let conv = conversion(typing, mode, made.of, to);
     if conv != Conv::Same && is_nil(&typing.world, made) && is_pointer(&typing.world, to) {
-        let step = remade(typing, made, to, TypedExpression::Constant(Constant::Nil))?;
-        Ok(step)
+        remade(typing, made, to, TypedExpression::Constant(Constant::Nil))
     } else {
-        let step = by_conversion(frames, typing, conv, made, to, site)?;
-        Ok(step)
+        by_conversion(frames, typing, conv, made, to, site)
     }
 }
 
@@ -89,27 +87,19 @@ fn by_conversion(
     ensures kept { OnOk result (KeepsTyping typing.old typing.new) }
 {
     match conv {
-        Conv::Same => {
-            let step = as_value(frames, typing, made, site)?;
-            Ok(step)
-        }
+        Conv::Same => as_value(frames, typing, made, site),
         Conv::Array => {
             if made.is_place {
-                let step = remade(typing, made, to, TypedExpression::Decay(made.id))?;
-                Ok(step)
+                remade(typing, made, to, TypedExpression::Decay(made.id))
             } else {
                 Ok(refuse(RefusalKind::NotPlace, made.at, site))
             }
         }
-        Conv::No => {
-            let step = cast(frames, typing, made, to, site)?;
-            Ok(step)
-        }
+        Conv::No => cast(frames, typing, made, to, site),
         _ => {
             let list = one(typing, made.id)?;
             let form = TypedExpression::Operate(Operation::Convert, list);
-            let step = remade(typing, made, to, form)?;
-            Ok(step)
+            remade(typing, made, to, form)
         }
     }
 }
@@ -125,8 +115,7 @@ fn remade(
         Does (plans.make made.source made.at of form give) typing.old left step typing.new left) }
     ensures kept { OnOk result (KeepsTyping typing.old typing.new) }
 {
-    let step = gives(typing, made.source, made.at, of, form)?;
-    Ok(step)
+    gives(typing, made.source, made.at, of, form)
 }
 
 /// Converts an expression by `__cast`, which is asked.
@@ -150,8 +139,7 @@ fn cast(
     let quote = new_quote(typing, made)?;
     let arguments = cast_values(typing, made.of, to, quote)?;
     let then = AskedThen::Cast(to, made.at, site);
-    let step = ask(frames, handler, arguments, made.at, then)?;
-    Ok(step)
+    ask(frames, handler, arguments, made.at, then)
 }
 
 /// What `__cast` is called with: both types, and a quote of the expression.
@@ -197,18 +185,16 @@ pub fn fit(
     ensures kept { OnOk result (KeepsTyping typing.old typing.new) }
 {
     if made.of.0 == to.0 {
-        let step = as_value(frames, typing, made, site)?;
-        Ok(step)
+        as_value(frames, typing, made, site)
     } else if points_to(&typing.world, to, made.of) {
         if made.is_place {
-            let step = gives(
+            gives(
                 typing,
                 made.source,
                 at,
                 to,
                 TypedExpression::Address(made.id),
-            )?;
-            Ok(step)
+            )
         } else {
             Ok(refuse(RefusalKind::NotPlace, made.at, site))
         }
@@ -220,10 +206,8 @@ pub fn fit(
             to,
             TypedExpression::Dereference(made.id),
         )?;
-        let step = as_value(frames, typing, target, site)?;
-        Ok(step)
+        as_value(frames, typing, target, site)
     } else {
-        let step = convert(frames, typing, Mode::Implicit, made, to, site)?;
-        Ok(step)
+        convert(frames, typing, Mode::Implicit, made, to, site)
     }
 }

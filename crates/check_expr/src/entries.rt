@@ -44,8 +44,7 @@ pub fn select(
         None => Ok(refuse(RefusalKind::NoField, node.at, node.site)),
         Some(of) => {
             let then = LaidThen::Entry(of, object, field, node);
-            let step = lay_out(frames, typing, of, node.at, node.site, then)?;
-            Ok(step)
+            lay_out(frames, typing, of, node.at, node.site, then)
         }
     }
 }
@@ -75,14 +74,8 @@ pub fn with_entry(
     ensures kept { OnOk result (KeepsTyping typing.old typing.new) }
 {
     match entry_of(&typing.world, of, field) {
-        Some(laid) => {
-            let step = entry(frames, typing, object, laid, node)?;
-            Ok(step)
-        }
-        None => {
-            let step = missing_entry(frames, typing, of, object, field, node)?;
-            Ok(step)
-        }
+        Some(laid) => entry(frames, typing, object, laid, node),
+        None => missing_entry(frames, typing, of, object, field, node),
     }
 }
 
@@ -108,8 +101,7 @@ fn missing_entry(
     let object = new_quote(typing, object)?;
     let arguments = two_values(typing, Value::Text(field), object)?;
     let then = AskedThen::InPlace(node.at, node.site);
-    let step = ask(frames, handler, arguments, node.at, then)?;
-    Ok(step)
+    ask(frames, handler, arguments, node.at, then)
 }
 
 /// An entry of a place, of a pointer's target, or of a value.
@@ -128,17 +120,14 @@ fn entry(
     if is_struct(&typing.world, object.of) {
         if object.is_place {
             let form = TypedExpression::Select(laid.offset, object.id);
-            let step = gives(typing, node.source, node.at, laid.of, form)?;
-            Ok(step)
+            gives(typing, node.source, node.at, laid.of, form)
         } else {
             frames.push(BodyFrame::Made(MadeFrame::Extract(laid, node)))?;
-            let step = as_value(frames, typing, object, node.site)?;
-            Ok(step)
+            as_value(frames, typing, object, node.site)
         }
     } else {
         let form = TypedExpression::Follow(laid.offset, object.id);
-        let step = gives(typing, node.source, node.at, laid.of, form)?;
-        Ok(step)
+        gives(typing, node.source, node.at, laid.of, form)
     }
 }
 
@@ -155,8 +144,7 @@ pub fn extract(
 {
     let list = one(typing, object.id)?;
     let form = TypedExpression::Operate(Operation::Extract(laid.offset), list);
-    let step = gives(typing, node.source, node.at, laid.of, form)?;
-    Ok(step)
+    gives(typing, node.source, node.at, laid.of, form)
 }
 
 /// What a type has elements of.
@@ -197,13 +185,11 @@ pub fn index(
                 return Ok(refuse(RefusalKind::NotPlace, object.at, node.site));
             }
             let form = TypedExpression::Element(object.id, key.id);
-            let step = indexed(frames, typing, of, form, key, node)?;
-            Ok(step)
+            indexed(frames, typing, of, form, key, node)
         }
         Elements::Behind(of) => {
             let form = TypedExpression::Index(object.id, key.id);
-            let step = indexed(frames, typing, of, form, key, node)?;
-            Ok(step)
+            indexed(frames, typing, of, form, key, node)
         }
         Elements::Nothing => Ok(refuse(RefusalKind::BadOperand, node.at, node.site)),
     }
@@ -228,8 +214,7 @@ fn indexed(
 {
     if is_integer(&typing.world, key.of) {
         let then = LaidThen::Makes(of, form, node);
-        let step = lay_out(frames, typing, of, node.at, node.site, then)?;
-        Ok(step)
+        lay_out(frames, typing, of, node.at, node.site, then)
     } else {
         Ok(refuse(RefusalKind::BadOperand, node.at, node.site))
     }

@@ -68,32 +68,24 @@ pub fn expression(
             match form {
                 Expression::Number(bits, of) => {
                     let (bits, of) = (*bits, *of);
-                    let step = constant(typing, node, of, Constant::Number(bits))?;
-                    Ok(step)
+                    constant(typing, node, of, Constant::Number(bits))
                 }
                 Expression::Truth(truth) => {
                     let truth = *truth;
-                    let step = constant(typing, node, BOOL, Constant::Truth(truth))?;
-                    Ok(step)
+                    constant(typing, node, BOOL, Constant::Truth(truth))
                 }
-                Expression::Nil => {
-                    let step = constant(typing, node, RAWSTRING, Constant::Nil)?;
-                    Ok(step)
-                }
+                Expression::Nil => constant(typing, node, RAWSTRING, Constant::Nil),
                 Expression::Static(address) => {
                     let address = *address;
-                    let step = constant(typing, node, RAWSTRING, Constant::Static(address))?;
-                    Ok(step)
+                    constant(typing, node, RAWSTRING, Constant::Static(address))
                 }
                 Expression::Variable(symbol) => {
                     let symbol = *symbol;
-                    let step = variable(typing, symbol, node)?;
-                    Ok(step)
+                    variable(typing, symbol, node)
                 }
                 Expression::Global(global) => {
                     let id = *global;
-                    let step = global_variable(typing, id, node)?;
-                    Ok(step)
+                    global_variable(typing, id, node)
                 }
                 Expression::Function(_) => Ok(refuse(RefusalKind::FunctionValue, node.at, site)),
                 Expression::Primitive(_) => Ok(refuse(RefusalKind::BadOperand, node.at, site)),
@@ -102,8 +94,7 @@ pub fn expression(
                 Expression::SizeOf => Ok(refuse(RefusalKind::BadOperand, node.at, site)),
                 Expression::Typed(source, made) => {
                     let (source, made) = (*source, *made);
-                    let step = typed_quote(typing, budget, source, made, site)?;
-                    Ok(step)
+                    typed_quote(typing, budget, source, made, site)
                 }
                 Expression::Unary(op, operand) => {
                     let operand = *operand;
@@ -135,14 +126,12 @@ pub fn expression(
                 Expression::Call(f, arguments) => {
                     let f = *f;
                     let arguments = Rest::copy(alloc, arguments.as_slice())?;
-                    let step = call(frames, typing, budget, f, arguments, node)?;
-                    Ok(step)
+                    call(frames, typing, budget, f, arguments, node)
                 }
                 Expression::New(of, values) => {
                     let of = *of;
                     let values = initials(alloc, values)?;
-                    let step = new_struct(frames, typing, of, values, node)?;
-                    Ok(step)
+                    new_struct(frames, typing, of, values, node)
                 }
                 Expression::Let(statements, value) => {
                     let value = *value;
@@ -153,8 +142,7 @@ pub fn expression(
                         ..site
                     };
                     let then = BlockThen::Let(typing.count(), value, node);
-                    let step = block(frames, typing, statements, within, then)?;
-                    Ok(step)
+                    block(frames, typing, statements, within, then)
                 }
             }
         }
@@ -164,8 +152,7 @@ pub fn expression(
                 at: Place { line: 0, word: 0 },
                 site,
             };
-            let step = constant(typing, node, RAWSTRING, Constant::Nil)?;
-            Ok(step)
+            constant(typing, node, RAWSTRING, Constant::Nil)
         }
     }
 }
@@ -182,8 +169,7 @@ fn constant(
     ensures kept { OnOk result (KeepsTyping typing.old typing.new) }
 {
     let form = TypedExpression::Constant(constant);
-    let step = gives(typing, node.source, node.at, of, form)?;
-    Ok(step)
+    gives(typing, node.source, node.at, of, form)
 }
 
 /// A variable, whose declaration must be in scope.
@@ -196,8 +182,7 @@ fn variable(typing: &mut Typing, symbol: SymId, node: Node) -> Result<BodyStep, 
     match typing.variable(node.site.base, symbol) {
         Some(of) => {
             let form = TypedExpression::Variable(symbol);
-            let step = gives(typing, node.source, node.at, of, form)?;
-            Ok(step)
+            gives(typing, node.source, node.at, of, form)
         }
         None => Ok(refuse(RefusalKind::OutOfScope, node.at, node.site)),
     }
@@ -213,8 +198,7 @@ fn global_variable(typing: &mut Typing, global: GlobalId, node: Node) -> Result<
     match typing.world.store.global(global) {
         Some(found) => {
             let form = TypedExpression::Global(found.address);
-            let step = gives(typing, node.source, node.at, found.of, form)?;
-            Ok(step)
+            gives(typing, node.source, node.at, found.of, form)
         }
         None => Ok(refuse(RefusalKind::BadOperand, node.at, node.site)),
     }
@@ -245,8 +229,7 @@ fn call(
                 return Ok(Step::Spent);
             }
             let operands = Rest::from_vec(operands);
-            let step = call_named(frames, typing, budget, callee, operands, false, node)?;
-            Ok(step)
+            call_named(frames, typing, budget, callee, operands, false, node)
         }
     }
 }
@@ -266,8 +249,7 @@ pub fn let_value(
     ensures kept { OnOk result (KeepsTyping typing.old typing.new) }
 {
     frames.push(BodyFrame::Made(MadeFrame::LetValue(count, ids, node)))?;
-    let step = as_value(frames, typing, made, node.site)?;
-    Ok(step)
+    as_value(frames, typing, made, node.site)
 }
 
 /// Makes a `let`, whose variables go.
@@ -285,6 +267,5 @@ pub fn let_end(
     typing.leave(count);
     let list = TermList::from_list(ids)?;
     let form = TypedExpression::Let(list, made.id);
-    let step = gives(typing, node.source, node.at, made.of, form)?;
-    Ok(step)
+    gives(typing, node.source, node.at, made.of, form)
 }

@@ -103,8 +103,7 @@ pub fn body(
                 let definition = definition_of(&typing.world, term)?;
                 frames.push(BodyFrame::Function(f, base))?;
                 begin(typing, f);
-                let step = defined(frames, typing, budget, definition, function.place, site)?;
-                Ok(step)
+                defined(frames, typing, budget, definition, function.place, site)
             }
         },
     }
@@ -166,8 +165,7 @@ fn defined(
                     ..site
                 },
             };
-            let step = parameters_left(frames, typing, budget, frame)?;
-            Ok(step)
+            parameters_left(frames, typing, budget, frame)
         }
     }
 }
@@ -199,8 +197,7 @@ fn parameters_left(
             };
             let site = frame.site;
             let then = LaidThen::Parameter(name, frame);
-            let step = lay_out(frames, typing, parameter.of, parameter.place, site, then)?;
-            Ok(step)
+            lay_out(frames, typing, parameter.of, parameter.place, site, then)
         }
         None => {
             let ParametersFrame {
@@ -210,14 +207,13 @@ fn parameters_left(
                 site,
                 ..
             } = frame;
-            let step = block(
+            block(
                 frames,
                 typing,
                 body,
                 site,
                 BlockThen::Function(named, at, site),
-            )?;
-            Ok(step)
+            )
         }
     }
 }
@@ -236,8 +232,7 @@ pub fn with_parameter(
     ensures kept { OnOk result (KeepsTyping typing.old typing.new) }
 {
     typing.declare(name)?;
-    let step = parameters_left(frames, typing, budget, frame)?;
-    Ok(step)
+    parameters_left(frames, typing, budget, frame)
 }
 
 /// How many nodes and levels a typed term has.

@@ -28,10 +28,7 @@ fn defined_parameters(world: &World, term: TermId) -> Result<Rest<TypeId>, NoMem
 {
     let alloc = world.store.allocator();
     match world.store.term(term) {
-        Some(Term::Function(parameters, _, _)) => {
-            let types = types_of(alloc, parameters.as_slice())?;
-            Ok(types)
-        }
+        Some(Term::Function(parameters, _, _)) => types_of(alloc, parameters.as_slice()),
         _ => Ok(Rest::from_vec(Vec::new(alloc))),
     }
 }

@@ -77,10 +77,7 @@ pub fn after_layout(
     ensures kept { OnOk result (KeepsTyping typing.old typing.new) }
 {
     match end {
-        PartEnd::Answered(answer) => {
-            let step = after_answer(frames, typing, budget, at, site, then, answer)?;
-            Ok(step)
-        }
+        PartEnd::Answered(answer) => after_answer(frames, typing, budget, at, site, then, answer),
         end => Ok(Step::Return(end)),
     }
 }
@@ -102,10 +99,7 @@ fn after_answer(
 {
     match answer {
         CheckAnswer::NoLayout(kind) => Ok(refuse(kind, at, site)),
-        _ => {
-            let step = with_layout(frames, typing, budget, site, then)?;
-            Ok(step)
-        }
+        _ => with_layout(frames, typing, budget, site, then),
     }
 }
 
@@ -123,34 +117,15 @@ fn with_layout(
 {
     match then {
         LaidThen::Value(made) => Ok(value_if_narrow(typing, made, site)),
-        LaidThen::Makes(of, form, node) => {
-            let step = gives(typing, node.source, node.at, of, form)?;
-            Ok(step)
-        }
-        LaidThen::Difference(of, left, right, node) => {
-            let step = difference(typing, of, left, right, node)?;
-            Ok(step)
-        }
-        LaidThen::Size(of, node) => {
-            let step = size(typing, of, node)?;
-            Ok(step)
-        }
+        LaidThen::Makes(of, form, node) => gives(typing, node.source, node.at, of, form),
+        LaidThen::Difference(of, left, right, node) => difference(typing, of, left, right, node),
+        LaidThen::Size(of, node) => size(typing, of, node),
         LaidThen::Entry(of, object, field, node) => {
-            let step = with_entry(frames, typing, of, object, field, node)?;
-            Ok(step)
+            with_entry(frames, typing, of, object, field, node)
         }
-        LaidThen::New(of, values, node) => {
-            let step = construct(frames, typing, of, values, node)?;
-            Ok(step)
-        }
-        LaidThen::Name(name, frame) => {
-            let step = with_name(frames, typing, budget, name, frame)?;
-            Ok(step)
-        }
-        LaidThen::Parameter(name, frame) => {
-            let step = with_parameter(frames, typing, budget, name, frame)?;
-            Ok(step)
-        }
+        LaidThen::New(of, values, node) => construct(frames, typing, of, values, node),
+        LaidThen::Name(name, frame) => with_name(frames, typing, budget, name, frame),
+        LaidThen::Parameter(name, frame) => with_parameter(frames, typing, budget, name, frame),
     }
 }
 
@@ -174,6 +149,5 @@ fn size(typing: &mut Typing, of: TypeId, node: Node) -> Result<BodyStep, NoMemor
 {
     let size = bytes(&typing.world, of);
     let form = TypedExpression::Constant(Constant::Number(size));
-    let step = gives(typing, node.source, node.at, UINT64, form)?;
-    Ok(step)
+    gives(typing, node.source, node.at, UINT64, form)
 }

@@ -62,8 +62,7 @@ pub fn if_block(
         return Ok(no_condition(made, site));
     }
     let then = BlockThen::Then(typing.count(), made, more, at, site);
-    let step = block(frames, typing, body, site, then)?;
-    Ok(step)
+    block(frames, typing, body, site, then)
 }
 
 /// Goes on with a `while` behind its condition.
@@ -84,8 +83,7 @@ pub fn while_block(
         return Ok(no_condition(made, site));
     }
     let then = BlockThen::While(typing.count(), made, at);
-    let step = block(frames, typing, body, in_loop(site), then)?;
-    Ok(step)
+    block(frames, typing, body, in_loop(site), then)
 }
 
 /// Makes a `repeat`, once its condition is typed.
@@ -108,8 +106,7 @@ pub fn repeat_end(
     typing.leave(count);
     let list = TermList::from_list(ids)?;
     let form = TypedStatement::Repeat(list, made.id);
-    let step = states(typing, at, form, found)?;
-    Ok(step)
+    states(typing, at, form, found)
 }
 
 /// A `repeat` with these statements and this condition, which sees their variables.
@@ -127,8 +124,7 @@ pub fn repeat_loop(
     ensures kept { OnOk result (KeepsTyping typing.old typing.new) }
 {
     let then = BlockThen::Repeat(typing.count(), test, at, site);
-    let step = block(frames, typing, body, in_loop(site), then)?;
-    Ok(step)
+    block(frames, typing, body, in_loop(site), then)
 }
 
 /// A `for` with these bounds.
@@ -154,8 +150,7 @@ pub fn for_loop(
         at,
         site,
     };
-    let step = bounds_left(frames, typing, frame)?;
-    Ok(step)
+    bounds_left(frames, typing, frame)
 }
 
 /// Types the bounds that are left, and then converts them.
@@ -195,8 +190,7 @@ fn bounds_left(
                 at,
                 site,
             };
-            let step = conversions_left(frames, typing, frame)?;
-            Ok(step)
+            conversions_left(frames, typing, frame)
         }
     }
 }
@@ -247,8 +241,7 @@ pub fn bound(
     if is_integer(&typing.world, made.of) {
         let mut frame = frame;
         frame.made.push(made)?;
-        let step = bounds_left(frames, typing, frame)?;
-        Ok(step)
+        bounds_left(frames, typing, frame)
     } else {
         Ok(refuse(RefusalKind::BadOperand, made.at, frame.site))
     }
@@ -267,15 +260,11 @@ fn conversions_left(
 {
     let mut frame = frame;
     match frame.made.take() {
-        None => {
-            let step = for_block(frames, typing, frame)?;
-            Ok(step)
-        }
+        None => for_block(frames, typing, frame),
         Some(made) => {
             let (of, site) = (frame.of, frame.site);
             frames.push(BodyFrame::Doing(DoingFrame::Counted(frame)))?;
-            let step = convert(frames, typing, Mode::Implicit, made, of, site)?;
-            Ok(step)
+            convert(frames, typing, Mode::Implicit, made, of, site)
         }
     }
 }
@@ -294,8 +283,7 @@ pub fn converted(
 {
     let mut frame = frame;
     frame.ids.push(made.id)?;
-    let step = conversions_left(frames, typing, frame)?;
-    Ok(step)
+    conversions_left(frames, typing, frame)
 }
 
 /// Types the block of a `for`.
@@ -325,6 +313,5 @@ fn for_block(
     };
     typing.declare(variable)?;
     let then = BlockThen::For(count, variable, ids, at);
-    let step = block(frames, typing, body, in_loop(site), then)?;
-    Ok(step)
+    block(frames, typing, body, in_loop(site), then)
 }

@@ -45,88 +45,42 @@ fn with_made(
     ensures kept { OnOk result (KeepsTyping typing.old typing.new) }
 {
     match frame {
-        MadeFrame::Unary(op, node) => {
-            let step = unary(frames, typing, budget, op, made, node)?;
-            Ok(step)
-        }
+        MadeFrame::Unary(op, node) => unary(frames, typing, budget, op, made, node),
         MadeFrame::Left(op, right, node) => {
             frames.push(BodyFrame::Made(MadeFrame::Right(op, made, node)))?;
             Ok(Step::Enter(BodyJob::Expression(right, node.site)))
         }
-        MadeFrame::Right(op, left, node) => {
-            let step = binary(frames, typing, budget, op, left, made, node)?;
-            Ok(step)
-        }
-        MadeFrame::MeetLeft(frame, right) => {
-            let step = meet_next(frames, typing, frame, made, right)?;
-            Ok(step)
-        }
+        MadeFrame::Right(op, left, node) => binary(frames, typing, budget, op, left, made, node),
+        MadeFrame::MeetLeft(frame, right) => meet_next(frames, typing, frame, made, right),
         MadeFrame::MeetRight(frame, left) => {
-            let step = both(typing, frame.op, frame.of, left, made, frame.node)?;
-            Ok(step)
+            both(typing, frame.op, frame.of, left, made, frame.node)
         }
         MadeFrame::Callee(operands, at, source, site) => {
             let node = Node { source, at, site };
-            let step = call_value(frames, typing, budget, made, operands, node)?;
-            Ok(step)
+            call_value(frames, typing, budget, made, operands, node)
         }
-        MadeFrame::Quoted(frame) => {
-            let step = quoted(frames, typing, frame, made)?;
-            Ok(step)
-        }
-        MadeFrame::Cast(to, node) => {
-            let step = cast_made(frames, typing, to, node, made)?;
-            Ok(step)
-        }
+        MadeFrame::Quoted(frame) => quoted(frames, typing, frame, made),
+        MadeFrame::Cast(to, node) => cast_made(frames, typing, to, node, made),
         MadeFrame::Recast(source) => Ok(Step::Return(PartEnd::Made(Made { source, ..made }))),
-        MadeFrame::OfType(to, at, site) => {
-            let step = value_of_type(frames, typing, to, at, site, made)?;
-            Ok(step)
-        }
+        MadeFrame::OfType(to, at, site) => value_of_type(frames, typing, to, at, site, made),
         MadeFrame::Argument(parameter, frame, of) => {
-            let step = argument(frames, typing, parameter, frame, of, made)?;
-            Ok(step)
+            argument(frames, typing, parameter, frame, of, made)
         }
-        MadeFrame::Fitted(frame, of) => {
-            let step = fitted(frames, typing, frame, of, made)?;
-            Ok(step)
-        }
+        MadeFrame::Fitted(frame, of) => fitted(frames, typing, frame, of, made),
         MadeFrame::Method(name, arguments, node) => {
-            let step = call_method(frames, typing, budget, made, name, arguments, node)?;
-            Ok(step)
+            call_method(frames, typing, budget, made, name, arguments, node)
         }
-        MadeFrame::Select(field, node) => {
-            let step = select(frames, typing, made, field, node)?;
-            Ok(step)
-        }
-        MadeFrame::Extract(laid, node) => {
-            let step = extract(typing, laid, node, made)?;
-            Ok(step)
-        }
+        MadeFrame::Select(field, node) => select(frames, typing, made, field, node),
+        MadeFrame::Extract(laid, node) => extract(typing, laid, node, made),
         MadeFrame::Object(key, node) => {
             frames.push(BodyFrame::Made(MadeFrame::Key(made, node)))?;
             Ok(Step::Enter(BodyJob::Expression(key, node.site)))
         }
-        MadeFrame::Key(object, node) => {
-            let step = index(frames, typing, object, made, node)?;
-            Ok(step)
-        }
-        MadeFrame::Initial(laid, frame) => {
-            let step = initial(frames, typing, laid, frame, made)?;
-            Ok(step)
-        }
-        MadeFrame::Initialised(laid, frame) => {
-            let step = initialised(frames, typing, laid, frame, made)?;
-            Ok(step)
-        }
-        MadeFrame::Let(count, ids, node) => {
-            let step = let_value(frames, typing, count, ids, node, made)?;
-            Ok(step)
-        }
-        MadeFrame::LetValue(count, ids, node) => {
-            let step = let_end(typing, count, ids, node, made)?;
-            Ok(step)
-        }
+        MadeFrame::Key(object, node) => index(frames, typing, object, made, node),
+        MadeFrame::Initial(laid, frame) => initial(frames, typing, laid, frame, made),
+        MadeFrame::Initialised(laid, frame) => initialised(frames, typing, laid, frame, made),
+        MadeFrame::Let(count, ids, node) => let_value(frames, typing, count, ids, node, made),
+        MadeFrame::LetValue(count, ids, node) => let_end(typing, count, ids, node, made),
     }
 }
 
@@ -144,61 +98,29 @@ fn with_doing(
     ensures kept { OnOk result (KeepsTyping typing.old typing.new) }
 {
     match frame {
-        DoingFrame::VarValue(name, frame) => {
-            let step = variables::value(frames, typing, name, frame, made)?;
-            Ok(step)
-        }
+        DoingFrame::VarValue(name, frame) => variables::value(frames, typing, name, frame, made),
         DoingFrame::VarReady(name, of, frame) => {
-            let step = variables::ready(frames, typing, budget, name, of, frame, made)?;
-            Ok(step)
+            variables::ready(frames, typing, budget, name, of, frame, made)
         }
-        DoingFrame::Value(frame) => {
-            let step = assigning::value(frames, typing, frame, made)?;
-            Ok(step)
-        }
-        DoingFrame::Target(frame) => {
-            let step = assigning::target(frames, typing, frame, made)?;
-            Ok(step)
-        }
-        DoingFrame::Assigned(frame) => {
-            let step = assigning::converted(frames, typing, frame, made)?;
-            Ok(step)
-        }
+        DoingFrame::Value(frame) => assigning::value(frames, typing, frame, made),
+        DoingFrame::Target(frame) => assigning::target(frames, typing, frame, made),
+        DoingFrame::Assigned(frame) => assigning::converted(frames, typing, frame, made),
         DoingFrame::If(body, more, at, site) => {
-            let step = loops::if_block(frames, typing, body, more, at, site, made)?;
-            Ok(step)
+            loops::if_block(frames, typing, body, more, at, site, made)
         }
         DoingFrame::While(body, at, site) => {
-            let step = loops::while_block(frames, typing, body, at, site, made)?;
-            Ok(step)
+            loops::while_block(frames, typing, body, at, site, made)
         }
         DoingFrame::Repeat(count, ids, found, at, site) => {
-            let step = loops::repeat_end(typing, count, ids, found, at, site, made)?;
-            Ok(step)
+            loops::repeat_end(typing, count, ids, found, at, site, made)
         }
-        DoingFrame::Bound(frame) => {
-            let step = loops::bound(frames, typing, frame, made)?;
-            Ok(step)
-        }
-        DoingFrame::Counted(frame) => {
-            let step = loops::converted(frames, typing, frame, made)?;
-            Ok(step)
-        }
-        DoingFrame::Return(at, site) => {
-            let step = return_value(frames, typing, made, at, site)?;
-            Ok(step)
-        }
-        DoingFrame::Returned(of, at) => {
-            let step = returned(typing, of, at, made)?;
-            Ok(step)
-        }
-        DoingFrame::Perform(at, site) => {
-            let step = perform(frames, typing, at, site, made)?;
-            Ok(step)
-        }
+        DoingFrame::Bound(frame) => loops::bound(frames, typing, frame, made),
+        DoingFrame::Counted(frame) => loops::converted(frames, typing, frame, made),
+        DoingFrame::Return(at, site) => return_value(frames, typing, made, at, site),
+        DoingFrame::Returned(of, at) => returned(typing, of, at, made),
+        DoingFrame::Perform(at, site) => perform(frames, typing, at, site, made),
         DoingFrame::Performed(at, site) => {
-            let step = states(typing, at, TypedStatement::Perform(made.id), site.result)?;
-            Ok(step)
+            states(typing, at, TypedStatement::Perform(made.id), site.result)
         }
     }
 }
@@ -217,10 +139,7 @@ fn after_made(
     ensures kept { OnOk result (KeepsTyping typing.old typing.new) }
 {
     match end {
-        PartEnd::Made(made) => {
-            let step = with_made(frames, typing, budget, frame, made)?;
-            Ok(step)
-        }
+        PartEnd::Made(made) => with_made(frames, typing, budget, frame, made),
         end => Ok(Step::Return(end)),
     }
 }
@@ -239,10 +158,7 @@ fn after_doing(
     ensures kept { OnOk result (KeepsTyping typing.old typing.new) }
 {
     match end {
-        PartEnd::Made(made) => {
-            let step = with_doing(frames, typing, budget, frame, made)?;
-            Ok(step)
-        }
+        PartEnd::Made(made) => with_doing(frames, typing, budget, frame, made),
         end => Ok(Step::Return(end)),
     }
 }
@@ -283,8 +199,7 @@ impl Machine for Steps {
         budget: &mut Budget,
         task: FnId,
     ) -> Result<BodyStep, NoMemory> {
-        let step = body(frames, world, budget, task)?;
-        Ok(step)
+        body(frames, world, budget, task)
     }
 
     fn begin(
@@ -295,19 +210,12 @@ impl Machine for Steps {
         job: BodyJob,
     ) -> Result<BodyStep, NoMemory> {
         match job {
-            BodyJob::Expression(term, site) => {
-                let step = expression(frames, world, budget, term, site)?;
-                Ok(step)
-            }
-            BodyJob::Statement(term, site) => {
-                let step = statement(frames, world, budget, term, site)?;
-                Ok(step)
-            }
+            BodyJob::Expression(term, site) => expression(frames, world, budget, term, site),
+            BodyJob::Statement(term, site) => statement(frames, world, budget, term, site),
             BodyJob::Callee(term, operands, at, source, site) => {
                 let frame = MadeFrame::Callee(operands, at, source, site);
                 frames.push(BodyFrame::Made(frame))?;
-                let step = expression(frames, world, budget, term, site)?;
-                Ok(step)
+                expression(frames, world, budget, term, site)
             }
         }
     }
@@ -321,30 +229,14 @@ impl Machine for Steps {
         end: PartEnd,
     ) -> Result<BodyStep, NoMemory> {
         match frame {
-            BodyFrame::Made(frame) => {
-                let step = after_made(frames, world, budget, frame, end)?;
-                Ok(step)
-            }
-            BodyFrame::Doing(frame) => {
-                let step = after_doing(frames, world, budget, frame, end)?;
-                Ok(step)
-            }
-            BodyFrame::Block(frame) => {
-                let step = after_statement(frames, world, frame, end)?;
-                Ok(step)
-            }
+            BodyFrame::Made(frame) => after_made(frames, world, budget, frame, end),
+            BodyFrame::Doing(frame) => after_doing(frames, world, budget, frame, end),
+            BodyFrame::Block(frame) => after_statement(frames, world, frame, end),
             BodyFrame::Laid(at, site, then) => {
-                let step = after_layout(frames, world, budget, at, site, then, end)?;
-                Ok(step)
+                after_layout(frames, world, budget, at, site, then, end)
             }
-            BodyFrame::Result(_, frame) => {
-                let step = after_result(frames, world, frame, end)?;
-                Ok(step)
-            }
-            BodyFrame::Asked(then) => {
-                let step = after_asked(frames, world, budget, then, end)?;
-                Ok(step)
-            }
+            BodyFrame::Result(_, frame) => after_result(frames, world, frame, end),
+            BodyFrame::Asked(then) => after_asked(frames, world, budget, then, end),
             BodyFrame::Function(f, base) => Ok(close(world, f, base, end)),
         }
     }

@@ -43,10 +43,7 @@ pub fn call_method(
 {
     match struct_of(&typing.world, object.of) {
         None => Ok(refuse(RefusalKind::NoMethod, node.at, node.site)),
-        Some(of) => {
-            let step = method_of(frames, typing, budget, of, object, name, arguments, node)?;
-            Ok(step)
-        }
+        Some(of) => method_of(frames, typing, budget, of, object, name, arguments, node),
     }
 }
 
@@ -70,17 +67,13 @@ fn method_of(
 {
     match typing.world.kept.known(Property::Method(of, name)) {
         Known::Value(value) => {
-            let step = as_method(
+            as_method(
                 frames, typing, budget, value, of, object, name, arguments, node,
-            )?;
-            Ok(step)
+            )
         }
         Known::Refused(kind) => Ok(refuse(kind, node.at, node.site)),
         Known::Asked => Ok(refuse(RefusalKind::Incomplete, node.at, node.site)),
-        Known::Unasked => {
-            let step = find_method(frames, typing, budget, of, object, name, arguments, node)?;
-            Ok(step)
-        }
+        Known::Unasked => find_method(frames, typing, budget, of, object, name, arguments, node),
     }
 }
 
@@ -107,13 +100,11 @@ fn find_method(
     let own = method(&typing.world, of, name);
     begin_method(typing, of, name)?;
     if handler.is_nil() {
-        let step = given_method(
+        given_method(
             frames, typing, budget, of, name, own, object, arguments, node,
-        )?;
-        Ok(step)
+        )
     } else {
-        let step = ask_method(frames, typing, handler, of, object, name, arguments, node)?;
-        Ok(step)
+        ask_method(frames, typing, handler, of, object, name, arguments, node)
     }
 }
 
@@ -146,8 +137,7 @@ fn ask_method(
 {
     let values = two_values(typing, Value::TerraType(of), Value::Text(name))?;
     let then = AskedThen::Method(of, name, object, arguments, node);
-    let step = ask(frames, handler, values, node.at, then)?;
-    Ok(step)
+    ask(frames, handler, values, node.at, then)
 }
 
 /// Keeps the value that is a method, and calls it.
@@ -168,10 +158,9 @@ pub fn given_method(
     ensures kept { OnOk result (KeepsTyping typing.old typing.new) }
 {
     settle_method(typing, of, name, Known::Value(value.copy()));
-    let step = as_method(
+    as_method(
         frames, typing, budget, value, of, object, name, arguments, node,
-    )?;
-    Ok(step)
+    )
 }
 
 /// Keeps what is known of a method, where it is being asked for. Whoever asked is the one who settles, so else nothing is changed.
@@ -204,12 +193,10 @@ fn as_method(
     ensures kept { OnOk result (KeepsTyping typing.old typing.new) }
 {
     if value.is_nil() {
-        let step = missing(frames, typing, of, object, name, arguments, node)?;
-        Ok(step)
+        missing(frames, typing, of, object, name, arguments, node)
     } else {
         let operands = untyped(typing, Some(object), arguments.as_slice())?;
-        let step = call_becoming(frames, typing, budget, value, operands, true, node)?;
-        Ok(step)
+        call_becoming(frames, typing, budget, value, operands, true, node)
     }
 }
 
@@ -243,6 +230,5 @@ fn missing(
         at: node.at,
         site: node.site,
     };
-    let step = quotes_left(frames, frame)?;
-    Ok(step)
+    quotes_left(frames, frame)
 }

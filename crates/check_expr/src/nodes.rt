@@ -42,8 +42,7 @@ fn add_node(world: &mut World, node: Typed) -> Result<TermId, NoMemory>
     ensures ok { OnOk result (world.new ≡ with_store world.old (with_typed world.old.store node)) }
     ensures kept { OnOk result (KeepsStage world.old world.new) }
 {
-    let id = world.store.new_typed(node)?;
-    Ok(id)
+    world.store.new_typed(node)
 }
 
 /// Adds a typed node.
@@ -52,8 +51,7 @@ pub fn new_node(typing: &mut Typing, node: Typed) -> Result<TermId, NoMemory>
     ensures ok { OnOk result (typing.new ≡ with_node typing.old node) }
     ensures kept { OnOk result (KeepsTyping typing.old typing.new) }
 {
-    let id = add_node(&mut typing.world, node)?;
-    Ok(id)
+    add_node(&mut typing.world, node)
 }
 
 /// Makes the type of pointers to a type.
@@ -62,8 +60,7 @@ pub fn pointer_to(typing: &mut Typing, of: TypeId) -> Result<TypeId, NoMemory>
     ensures ok { OnOk result (typing.new ≡ with_stage typing.old (with_pointer typing.old.stage of)) }
     ensures kept { OnOk result (KeepsTyping typing.old typing.new) }
 {
-    let id = typing.world.pointer_to(of)?;
-    Ok(id)
+    typing.world.pointer_to(of)
 }
 
 /// Makes a value a term, at the place of what it stands for.
@@ -72,8 +69,7 @@ pub fn term_of(typing: &mut Typing, value: Value, at: Place) -> Result<Became, N
     ensures ok { OnOk result (typing.new ≡ with_stage typing.old (becoming.with_term_of typing.old.stage value at)) }
     ensures kept { OnOk result (KeepsTyping typing.old typing.new) }
 {
-    let became = typing.world.term_of(value, at)?;
-    Ok(became)
+    typing.world.term_of(value, at)
 }
 
 /// Makes a typed quote of an expression. What was typed is in the store, but no frame says so of what it keeps: so this looks, and
@@ -84,10 +80,7 @@ pub fn new_quote(typing: &mut Typing, made: Made) -> Result<Value, NoMemory>
     ensures kept { OnOk result (KeepsTyping typing.old typing.new) }
 {
     match typing.world.store.typed(made.id) {
-        Some(_) => {
-            let value = add_quote(&mut typing.world, Quote::Typed(made.source, made.id))?;
-            Ok(value)
-        }
+        Some(_) => add_quote(&mut typing.world, Quote::Typed(made.source, made.id)),
         None => Err(NoMemory),
     }
 }

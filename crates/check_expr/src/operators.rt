@@ -190,8 +190,7 @@ pub fn binary(
         return Ok(step);
     }
     let rule = rule_of(&typing.world, op, left.of, right.of);
-    let step = by_rule(frames, typing, rule, op, left, right, node)?;
-    Ok(step)
+    by_rule(frames, typing, rule, op, left, right, node)
 }
 
 /// Two typed operands.
@@ -222,7 +221,7 @@ fn by_rule(
     match rule {
         Rule::Meets => {
             let meet = meeting(typing, left, right);
-            let step = at_type(
+            at_type(
                 frames,
                 typing,
                 MeetFrame {
@@ -233,12 +232,11 @@ fn by_rule(
                 },
                 left,
                 right,
-            )?;
-            Ok(step)
+            )
         }
         Rule::Compares => {
             let meet = meeting(typing, left, right);
-            let step = at_type(
+            at_type(
                 frames,
                 typing,
                 MeetFrame {
@@ -249,33 +247,21 @@ fn by_rule(
                 },
                 left,
                 right,
-            )?;
-            Ok(step)
+            )
         }
-        Rule::Shifts => {
-            let step = both(typing, op, left.of, left, right, node)?;
-            Ok(step)
-        }
-        Rule::Tells => {
-            let step = both(typing, op, BOOL, left, right, node)?;
-            Ok(step)
-        }
+        Rule::Shifts => both(typing, op, left.of, left, right, node),
+        Rule::Tells => both(typing, op, BOOL, left, right, node),
         Rule::Ands => {
             let form = TypedExpression::Both(left.id, right.id);
-            let step = gives(typing, node.source, node.at, BOOL, form)?;
-            Ok(step)
+            gives(typing, node.source, node.at, BOOL, form)
         }
         Rule::Ors => {
             let form = TypedExpression::Either(left.id, right.id);
-            let step = gives(typing, node.source, node.at, BOOL, form)?;
-            Ok(step)
+            gives(typing, node.source, node.at, BOOL, form)
         }
-        Rule::Addresses => {
-            let step = addresses(typing, op, left, right, node)?;
-            Ok(step)
-        }
+        Rule::Addresses => addresses(typing, op, left, right, node),
         Rule::Forward(of) => {
-            let step = moved(
+            moved(
                 frames,
                 typing,
                 of,
@@ -283,18 +269,13 @@ fn by_rule(
                 left,
                 right,
                 node,
-            )?;
-            Ok(step)
+            )
         }
-        Rule::Back(of) => {
-            let step = moved(frames, typing, of, Operation::StepBack, left, right, node)?;
-            Ok(step)
-        }
+        Rule::Back(of) => moved(frames, typing, of, Operation::StepBack, left, right, node),
         Rule::Differs(of) => {
             if left.of.0 == right.of.0 {
                 let then = LaidThen::Difference(of, left.id, right.id, node);
-                let step = lay_out(frames, typing, of, node.at, node.site, then)?;
-                Ok(step)
+                lay_out(frames, typing, of, node.at, node.site, then)
             } else {
                 Ok(refuse(RefusalKind::BadOperand, node.at, node.site))
             }
@@ -351,15 +332,14 @@ fn convert_left(
     ensures kept { OnOk result (KeepsTyping typing.old typing.new) }
 {
     frames.push(BodyFrame::Made(MadeFrame::MeetLeft(frame, right)))?;
-    let step = convert(
+    convert(
         frames,
         typing,
         Mode::Implicit,
         left,
         frame.meet,
         frame.node.site,
-    )?;
-    Ok(step)
+    )
 }
 
 /// Converts the right operand, behind the left one.
@@ -398,15 +378,14 @@ fn convert_right(
     ensures kept { OnOk result (KeepsTyping typing.old typing.new) }
 {
     frames.push(BodyFrame::Made(MadeFrame::MeetRight(frame, left)))?;
-    let step = convert(
+    convert(
         frames,
         typing,
         Mode::Implicit,
         right,
         frame.meet,
         frame.node.site,
-    )?;
-    Ok(step)
+    )
 }
 
 /// An operator on two operands as they are.
@@ -424,8 +403,7 @@ pub fn both(
 {
     let list = two(typing, left.id, right.id)?;
     let form = TypedExpression::Operate(Operation::Binary(op), list);
-    let step = gives(typing, node.source, node.at, of, form)?;
-    Ok(step)
+    gives(typing, node.source, node.at, of, form)
 }
 
 /// Moves a pointer to a type.
@@ -447,8 +425,7 @@ fn moved(
 {
     let list = two(typing, left.id, right.id)?;
     let then = LaidThen::Makes(left.of, TypedExpression::Operate(step, list), node);
-    let step = lay_out(frames, typing, of, node.at, node.site, then)?;
-    Ok(step)
+    lay_out(frames, typing, of, node.at, node.site, then)
 }
 
 /// Subtracts two pointers to a type whose layout is settled.
@@ -468,8 +445,7 @@ pub fn difference(
     }
     let list = two(typing, left, right)?;
     let form = TypedExpression::Operate(Operation::Difference, list);
-    let step = gives(typing, node.source, node.at, INT64, form)?;
-    Ok(step)
+    gives(typing, node.source, node.at, INT64, form)
 }
 
 /// An operator on the addresses in two pointers, of which a `nil` takes the other one's type.
@@ -489,8 +465,7 @@ fn addresses(
     let second_is_nil = is_nil(&typing.world, right);
     let left = retyped(typing, first_is_nil, left, right)?;
     let right = retyped(typing, second_is_nil, right, left)?;
-    let step = same_pointers(typing, op, left, right, node)?;
-    Ok(step)
+    same_pointers(typing, op, left, right, node)
 }
 
 /// An operator on the addresses in two pointers of one type.
@@ -506,8 +481,7 @@ fn same_pointers(
     ensures kept { OnOk result (KeepsTyping typing.old typing.new) }
 {
     if left.of.0 == right.of.0 {
-        let step = both(typing, op, BOOL, left, right, node)?;
-        Ok(step)
+        both(typing, op, BOOL, left, right, node)
     } else {
         Ok(refuse(RefusalKind::BadOperand, node.at, node.site))
     }
@@ -543,30 +517,20 @@ pub fn unary(
     ensures kept { OnOk result (KeepsTyping typing.old typing.new) }
 {
     match op {
-        UnaryOperator::Address => {
-            let step = address(typing, made, node)?;
-            Ok(step)
-        }
-        UnaryOperator::Dereference => {
-            let step = dereference(typing, made, node)?;
-            Ok(step)
-        }
+        UnaryOperator::Address => address(typing, made, node),
+        UnaryOperator::Dereference => dereference(typing, made, node),
         UnaryOperator::Negate => {
             if is_integer(&typing.world, made.of) {
-                let step = operated(typing, Operation::Negate, made, node)?;
-                Ok(step)
+                operated(typing, Operation::Negate, made, node)
             } else {
-                let step = by_own(frames, typing, budget, b"__unm", made, node)?;
-                Ok(step)
+                by_own(frames, typing, budget, b"__unm", made, node)
             }
         }
         UnaryOperator::Not => {
             if is_integer(&typing.world, made.of) || is_bool(&typing.world, made.of) {
-                let step = operated(typing, Operation::Not, made, node)?;
-                Ok(step)
+                operated(typing, Operation::Not, made, node)
             } else {
-                let step = by_own(frames, typing, budget, b"__not", made, node)?;
-                Ok(step)
+                by_own(frames, typing, budget, b"__not", made, node)
             }
         }
     }
@@ -590,8 +554,7 @@ fn by_own(
     let handler = metamethod(&typing.world, made.of, event);
     let operands = untyped(typing, Some(made), &[])?;
     let kind = RefusalKind::BadOperand;
-    let step = call_handler(frames, typing, budget, handler, kind, operands, node)?;
-    Ok(step)
+    call_handler(frames, typing, budget, handler, kind, operands, node)
 }
 
 /// An operation on one operand, with a result of its type.
@@ -607,8 +570,7 @@ fn operated(
 {
     let list = one(typing, made.id)?;
     let form = TypedExpression::Operate(operation, list);
-    let step = gives(typing, node.source, node.at, made.of, form)?;
-    Ok(step)
+    gives(typing, node.source, node.at, made.of, form)
 }
 
 /// The place to which a pointer points.
@@ -622,8 +584,7 @@ fn dereference(typing: &mut Typing, made: Made, node: Node) -> Result<BodyStep, 
     match target(&typing.world, made.of) {
         Some(to) => {
             let form = TypedExpression::Dereference(made.id);
-            let step = gives(typing, node.source, node.at, to, form)?;
-            Ok(step)
+            gives(typing, node.source, node.at, to, form)
         }
         None => Ok(refuse(RefusalKind::BadOperand, node.at, node.site)),
     }
@@ -641,12 +602,11 @@ fn address(typing: &mut Typing, made: Made, node: Node) -> Result<BodyStep, NoMe
         return Ok(refuse(RefusalKind::NotPlace, made.at, node.site));
     }
     let of = pointer_to(typing, made.of)?;
-    let step = gives(
+    gives(
         typing,
         node.source,
         node.at,
         of,
         TypedExpression::Address(made.id),
-    )?;
-    Ok(step)
+    )
 }

@@ -54,14 +54,12 @@ pub fn statement(
                 Statement::Var(names, values) => {
                     let names = Rest::copy(alloc, names.as_slice())?;
                     let values = copy_if_any(alloc, values)?;
-                    let step = var(frames, typing, budget, names, values, at, site)?;
-                    Ok(step)
+                    var(frames, typing, budget, names, values, at, site)
                 }
                 Statement::Assign(targets, values) => {
                     let targets = Rest::copy(alloc, targets.as_slice())?;
                     let values = Rest::copy(alloc, values.as_slice())?;
-                    let step = assign(frames, typing, targets, values, at, site)?;
-                    Ok(step)
+                    assign(frames, typing, targets, values, at, site)
                 }
                 Statement::If(test, body, more) => {
                     let test = *test;
@@ -79,29 +77,22 @@ pub fn statement(
                 Statement::Repeat(body, test) => {
                     let test = *test;
                     let body = Rest::copy(alloc, body.as_slice())?;
-                    let step = repeat_loop(frames, typing, body, test, at, site)?;
-                    Ok(step)
+                    repeat_loop(frames, typing, body, test, at, site)
                 }
                 Statement::For(name, bounds, body) => {
                     let name = *name.name();
                     let bounds = Rest::copy(alloc, bounds.as_slice())?;
                     let body = Rest::copy(alloc, body.as_slice())?;
-                    let step = for_loop(frames, typing, name, bounds, body, at, site)?;
-                    Ok(step)
+                    for_loop(frames, typing, name, bounds, body, at, site)
                 }
                 Statement::Do(body) => {
                     let body = Rest::copy(alloc, body.as_slice())?;
-                    let step = do_block(frames, typing, body, at, site)?;
-                    Ok(step)
+                    do_block(frames, typing, body, at, site)
                 }
-                Statement::Break => {
-                    let step = break_statement(typing, at, site)?;
-                    Ok(step)
-                }
+                Statement::Break => break_statement(typing, at, site),
                 Statement::Return(values) => {
                     let values = Rest::copy(alloc, values.as_slice())?;
-                    let step = return_statement(frames, typing, values, at, site)?;
-                    Ok(step)
+                    return_statement(frames, typing, values, at, site)
                 }
                 Statement::Perform(call) => {
                     let call = *call;
@@ -111,13 +102,12 @@ pub fn statement(
             }
         }
         _ => {
-            let step = states(
+            states(
                 typing,
                 Place { line: 0, word: 0 },
                 TypedStatement::Break,
                 site.result,
-            )?;
-            Ok(step)
+            )
         }
     }
 }
@@ -136,8 +126,7 @@ fn do_block(
     ensures kept { OnOk result (KeepsTyping typing.old typing.new) }
 {
     let then = BlockThen::Do(typing.count(), at);
-    let step = block(frames, typing, body, site, then)?;
-    Ok(step)
+    block(frames, typing, body, site, then)
 }
 
 /// A `break`.
@@ -147,8 +136,7 @@ fn break_statement(typing: &mut Typing, at: Place, site: Site) -> Result<BodySte
     ensures kept { OnOk result (KeepsTyping typing.old typing.new) }
 {
     if site.in_loop {
-        let step = states(typing, at, TypedStatement::Break, site.result)?;
-        Ok(step)
+        states(typing, at, TypedStatement::Break, site.result)
     } else {
         Ok(refuse(RefusalKind::Misplaced, at, site))
     }
@@ -180,10 +168,7 @@ fn return_statement(
             frames.push(BodyFrame::Doing(DoingFrame::Return(at, site)))?;
             Ok(Step::Enter(BodyJob::Expression(value, site)))
         }
-        None => {
-            let step = return_nothing(typing, at, site)?;
-            Ok(step)
-        }
+        None => return_nothing(typing, at, site),
     }
 }
 
@@ -194,14 +179,10 @@ fn return_nothing(typing: &mut Typing, at: Place, site: Site) -> Result<BodyStep
     ensures kept { OnOk result (KeepsTyping typing.old typing.new) }
 {
     match site.result {
-        None => {
-            let step = states(typing, at, TypedStatement::Return(None), Some(UNIT))?;
-            Ok(step)
-        }
+        None => states(typing, at, TypedStatement::Return(None), Some(UNIT)),
         Some(of) => {
             if of == UNIT {
-                let step = states(typing, at, TypedStatement::Return(None), Some(of))?;
-                Ok(step)
+                states(typing, at, TypedStatement::Return(None), Some(of))
             } else {
                 Ok(refuse(RefusalKind::Mismatch, at, site))
             }
@@ -225,13 +206,11 @@ pub fn return_value(
     match site.result {
         None => {
             frames.push(BodyFrame::Doing(DoingFrame::Returned(made.of, at)))?;
-            let step = as_value(frames, typing, made, site)?;
-            Ok(step)
+            as_value(frames, typing, made, site)
         }
         Some(of) => {
             frames.push(BodyFrame::Doing(DoingFrame::Returned(of, at)))?;
-            let step = convert(frames, typing, Mode::Implicit, made, of, site)?;
-            Ok(step)
+            convert(frames, typing, Mode::Implicit, made, of, site)
         }
     }
 }
@@ -247,8 +226,7 @@ pub fn returned(
         Does (waiting.with_doing (DoingFrame.Returned of at) made) typing.old left step typing.new left) }
     ensures kept { OnOk result (KeepsTyping typing.old typing.new) }
 {
-    let step = states(typing, at, TypedStatement::Return(Some(made.id)), Some(of))?;
-    Ok(step)
+    states(typing, at, TypedStatement::Return(Some(made.id)), Some(of))
 }
 
 /// Uses the call that a statement is as a value.
@@ -265,6 +243,5 @@ pub fn perform(
     ensures kept { OnOk result (KeepsTyping typing.old typing.new) }
 {
     frames.push(BodyFrame::Doing(DoingFrame::Performed(at, site)))?;
-    let step = as_value(frames, typing, made, site)?;
-    Ok(step)
+    as_value(frames, typing, made, site)
 }

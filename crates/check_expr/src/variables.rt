@@ -48,8 +48,7 @@ pub fn var(
                 at,
                 site,
             };
-            let step = names_left(frames, typing, budget, frame)?;
-            Ok(step)
+            names_left(frames, typing, budget, frame)
         }
         Some(values) => {
             let wanted = names.len();
@@ -67,8 +66,7 @@ pub fn var(
                 at,
                 site,
             };
-            let step = values_left(frames, typing, budget, frame)?;
-            Ok(step)
+            values_left(frames, typing, budget, frame)
         }
     }
 }
@@ -87,14 +85,8 @@ fn values_left(
 {
     let mut frame = frame;
     match frame.names.take() {
-        None => {
-            let step = declare(frames, typing, budget, frame)?;
-            Ok(step)
-        }
-        Some(name) => {
-            let step = value_left(frames, typing, budget, name, frame)?;
-            Ok(step)
-        }
+        None => declare(frames, typing, budget, frame),
+        Some(name) => value_left(frames, typing, budget, name, frame),
     }
 }
 
@@ -115,10 +107,7 @@ fn value_left(
 {
     let mut frame = frame;
     match frame.values.take() {
-        None => {
-            let step = declare(frames, typing, budget, frame)?;
-            Ok(step)
-        }
+        None => declare(frames, typing, budget, frame),
         Some(value) => {
             let site = frame.site;
             frames.push(BodyFrame::Doing(DoingFrame::VarValue(name, frame)))?;
@@ -146,16 +135,14 @@ pub fn value(
     match name.of {
         Some(of) => {
             frames.push(BodyFrame::Doing(DoingFrame::VarReady(name, of, frame)))?;
-            let step = convert(frames, typing, Mode::Implicit, made, of, site)?;
-            Ok(step)
+            convert(frames, typing, Mode::Implicit, made, of, site)
         }
         None => {
             if is_nil(&typing.world, made) {
                 return Ok(refuse(RefusalKind::Mismatch, made.at, site));
             }
             frames.push(BodyFrame::Doing(DoingFrame::VarReady(name, made.of, frame)))?;
-            let step = as_value(frames, typing, made, site)?;
-            Ok(step)
+            as_value(frames, typing, made, site)
         }
     }
 }
@@ -182,8 +169,7 @@ pub fn ready(
         ..name
     })?;
     frame.ids.push(made.id)?;
-    let step = values_left(frames, typing, budget, frame)?;
-    Ok(step)
+    values_left(frames, typing, budget, frame)
 }
 
 /// Declares the names, each of which has its type.
@@ -212,8 +198,7 @@ fn declare(
         at,
         site,
     };
-    let step = names_left(frames, typing, budget, frame)?;
-    Ok(step)
+    names_left(frames, typing, budget, frame)
 }
 
 /// Whether a type is a function type.
@@ -240,16 +225,12 @@ fn names_left(
 {
     let mut frame = frame;
     match frame.names.take() {
-        None => {
-            let step = named(typing, frame)?;
-            Ok(step)
-        }
+        None => named(typing, frame),
         Some(name) => {
             if !budget.pay(1) {
                 return Ok(Step::Spent);
             }
-            let step = name_for(frames, typing, name, frame)?;
-            Ok(step)
+            name_for(frames, typing, name, frame)
         }
     }
 }
@@ -278,15 +259,14 @@ fn name_for(
                 symbol: name.symbol,
                 of,
             };
-            let step = lay_out(
+            lay_out(
                 frames,
                 typing,
                 of,
                 name.place,
                 site,
                 LaidThen::Name(typed, frame),
-            )?;
-            Ok(step)
+            )
         }
     }
 }
@@ -306,8 +286,7 @@ pub fn with_name(
 {
     let mut frame = frame;
     frame.named.push(name)?;
-    let step = names_left(frames, typing, budget, frame)?;
-    Ok(step)
+    names_left(frames, typing, budget, frame)
 }
 
 /// Variables are in scope from now on.
@@ -337,6 +316,5 @@ fn named(typing: &mut Typing, frame: NamesFrame) -> Result<BodyStep, NoMemory>
     let names = TypedNameList::from_list(named)?;
     let list = TermList::from_list(ids)?;
     let form = TypedStatement::Var(names, list);
-    let step = states(typing, at, form, site.result)?;
-    Ok(step)
+    states(typing, at, form, site.result)
 }

@@ -6,6 +6,7 @@ use Rattle.check_model.specs.Plans.{BodyPlan, refuse, ids_of}
 use Rattle.check_model.specs.Statements as models
 use Rattle.check_expr.specs.Frames as waiting
 use Rattle.check_expr.proofs.Doing.{moved, chosen}
+use Rattle.tl_base.proofs.Results.{carried}
 use Rattle.check_expr.proofs.assigning.assign.Goals as goal
 
 pub returns-then-given-wanted-clause-means : goal.returns-then-given-wanted-clause-means
@@ -20,15 +21,14 @@ returns-then-given-wanted-clause-means c = λ left.
     (c.refuse.ensures.means w left fs)
 
 pub returns-clause-means : goal.returns-clause-means
-returns-clause-means c = λ left.
+returns-clause-means c = carried _ _ c.values_left.result c.values_left.ensures.means (λ step g left.
     let a = c.args in
     let fs = a.frames.now.items in
     let fs2 = c.values_left.new.frames.items in
     let w = a.typing.now in
     let w2 = c.values_left.new.typing in
-    let step = c.in_ok-step.step in
     let body : List Made → BodyPlan = λ before. models.typing_all a.values a.site before (λ ms. models.targets a.targets a.site [] (λ ps.
     models.converting_all ms ps a.site [] (λ ids. waiting.assigned (ids_of ps) ids a.at a.site))) in
     chosen fs fs2 (nat_eq (length a.targets) (length a.values)) true (body []) (refuse WrongCount a.at a.site) w w2 left left step
     (eq-eqb _ _ (sym c.len-wanted.ensures ∙ sym c.if-given-wanted.false ∙ c.len-given.ensures))
-    (moved fs fs2 (body []) (body c.new.result) w w w2 left left step (ap body (sym c.new.ensures)) refl (c.in_ok-step.ensures.means left))
+    (moved fs fs2 (body []) (body c.new.result) w w w2 left left step (ap body (sym c.new.ensures)) refl (g left)))

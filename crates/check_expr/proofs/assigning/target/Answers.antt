@@ -4,10 +4,11 @@ use Rattle.check_model.specs.declared.made.Made.{Made}
 use Rattle.check_model.specs.Plans.{BodyPlan, refuse}
 use Rattle.check_expr.specs.Frames as waiting
 use Rattle.check_expr.proofs.Doing.{moved, chosen}
+use Rattle.tl_base.proofs.Results.{carried}
 use Rattle.check_expr.proofs.assigning.target.Goals as goal
 
-pub returns-in_ok-step-clause-means : goal.returns-in_ok-step-clause-means
-returns-in_ok-step-clause-means c = λ left.
+pub returns-in_ok-push-clause-means : goal.returns-in_ok-push-clause-means
+returns-in_ok-push-clause-means c = carried _ _ c.targets_left.result c.targets_left.ensures.means (λ step g left.
     let a = c.args in
     let f = a.frame in
     let m = a.made in
@@ -15,11 +16,10 @@ returns-in_ok-step-clause-means c = λ left.
     let fs2 = c.targets_left.new.frames.items in
     let w = a.typing.now in
     let w2 = c.targets_left.new.typing in
-    let step = c.in_ok-step.step in
     let plan : List Made → BodyPlan = λ ps. waiting.targets_from f ps in
     chosen fs fs2 m.is_place true (plan (f.places ++ m ∷ [])) (refuse NotPlace m.at f.site) w w2 left left step c.if-made.true
     (moved fs fs2 (plan (f.places ++ m ∷ [])) (plan c.push.new.self) w w w2 left left step (ap plan (sym c.in_ok-push.ensures.ok)) refl
-    (c.in_ok-step.ensures.means left))
+    (g left)))
 
 pub returns-else-made-clause-means : goal.returns-else-made-clause-means
 returns-else-made-clause-means c = λ left.

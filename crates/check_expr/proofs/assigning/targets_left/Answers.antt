@@ -9,6 +9,7 @@ use Rattle.check_expr.specs.declared.frame.BodyFrame.TheVariants as frames
 use Rattle.check_expr.specs.declared.frame.DoingFrame.TheVariants as of_doing
 use Rattle.check_expr.specs.Frames as waiting
 use Rattle.check_expr.proofs.Doing.{moved, enters}
+use Rattle.tl_base.proofs.Results.{carried}
 use Rattle.check_expr.proofs.assigning.targets_left.Goals as goal
 
 pub returns-in_ok-push-in-Some-clause-means : goal.returns-in_ok-push-in-Some-clause-means
@@ -27,8 +28,8 @@ returns-in_ok-push-in-Some-clause-means c = λ left.
     moved fs fs2 (plan f.targets) (plan (t ∷ rest)) w w w left left (Enter job) (ap plan c.in-Some.ensures) refl
     (enters fs fs2 (frames.Doing (of_doing.Target (record f { targets = rest }))) job w left c.in_ok-push-in-Some.ensures.items)
 
-pub returns-in_ok-step-in-None-clause-means : goal.returns-in_ok-step-in-None-clause-means
-returns-in_ok-step-in-None-clause-means c = λ left.
+pub returns-in_ok-nodes-in-None-clause-means : goal.returns-in_ok-nodes-in-None-clause-means
+returns-in_ok-nodes-in-None-clause-means c = carried _ _ c.conversions_left.result c.conversions_left.ensures.means (λ step g left.
     let a = c.args in
     let f = a.frame in
     let fs = a.frames.now.items in
@@ -42,9 +43,9 @@ returns-in_ok-step-in-None-clause-means c = λ left.
     let plan : List TermId → BodyPlan = λ ts. models.targets ts f.site f.places go in
     moved fs c.conversions_left.new.frames.items (plan f.targets) (all values kept nodes c.new.result) w w
     c.conversions_left.new.typing left left
-    c.in_ok-step-in-None.step
+    step
     (ap plan c.in-None.ensures ∙ ap (λ (ms : List Made). all ms f.places (ids_of f.places) []) (sym c.from_list-values.ensures)
     ∙ ap (λ (ps : List Made). all values ps (ids_of f.places) []) (sym c.from_list-kept.ensures)
     ∙ ap (λ (ns : List TermId). all values kept ns []) (ap ids_of (sym c.as_slice.ensures) ∙ sym c.in_ok-nodes-in-None.ensures)
     ∙ ap (all values kept nodes) (sym c.new.ensures)) refl
-    (c.in_ok-step-in-None.ensures.means left)
+    (g left))

@@ -9,6 +9,7 @@ use Rattle.check_expr.specs.declared.frame.BodyFrame.TheVariants as frames
 use Rattle.check_expr.specs.declared.frame.DoingFrame.TheVariants as of_doing
 use Rattle.check_expr.specs.Frames as waiting
 use Rattle.check_expr.proofs.Doing.{moved, enters}
+use Rattle.tl_base.proofs.Results.{carried}
 use Rattle.check_expr.proofs.assigning.values_left.Goals as goal
 
 pub returns-in_ok-push-in-Some-clause-means : goal.returns-in_ok-push-in-Some-clause-means
@@ -25,8 +26,8 @@ returns-in_ok-push-in-Some-clause-means c = λ left.
     moved fs fs2 (plan f.values) (plan (t ∷ c.take.new.self)) w w w left left (Enter job) (ap plan c.in-Some.ensures) refl
     (enters fs fs2 (frames.Doing (of_doing.Value (record f { values = c.take.new.self }))) job w left c.in_ok-push-in-Some.ensures.items)
 
-pub returns-in_ok-step-in-None-clause-means : goal.returns-in_ok-step-in-None-clause-means
-returns-in_ok-step-in-None-clause-means c = λ left.
+pub returns-in-None-clause-means : goal.returns-in-None-clause-means
+returns-in-None-clause-means c = carried _ _ c.targets_left.result c.targets_left.ensures.means (λ step g left.
     let a = c.args in
     let f = a.frame in
     let fs = a.frames.now.items in
@@ -37,5 +38,5 @@ returns-in_ok-step-in-None-clause-means c = λ left.
     λ ps. models.targets f.targets f.site ps (λ qs. models.converting_all f.made qs f.site [] (λ ids. waiting.assigned
     (ids_of qs) ids f.at f.site)) in
     moved fs c.targets_left.new.frames.items (plan f.values) (after c.new.result) w w c.targets_left.new.typing left
-    left c.in_ok-step-in-None.step
-    (ap plan c.in-None.ensures ∙ ap after (sym c.new.ensures)) refl (c.in_ok-step-in-None.ensures.means left)
+    left step
+    (ap plan c.in-None.ensures ∙ ap after (sym c.new.ensures)) refl (g left))

@@ -8,6 +8,7 @@ use Rattle.check_expr.specs.Frames as waiting
 use Rattle.check_expr.specs.Kept.{keeps_itself}
 use Rattle.check_expr.proofs.Doing.{returns as returned, moved}
 use Rattle.check_expr.proofs.Passing.{none_stated}
+use Rattle.tl_base.proofs.Results.{carried}
 use Rattle.check_expr.proofs.blocks.after_statement.Goals as goal
 
 pub returns-in_default : goal.returns-in_default
@@ -24,8 +25,8 @@ returns-in_default c =
       kept = keeps_itself w;
     }
 
-pub returns-in_ok-step-in-Stated-clause-means : goal.returns-in_ok-step-in-Stated-clause-means
-returns-in_ok-step-in-Stated-clause-means c = λ left.
+pub returns-in_ok-push-in-Stated-clause-means : goal.returns-in_ok-push-in-Stated-clause-means
+returns-in_ok-push-in-Stated-clause-means c = carried _ _ c.statements_left.result c.statements_left.ensures.means (λ step g left.
     let a = c.args in
     let f = a.frame in
     let m = c.in-Stated in
@@ -33,6 +34,6 @@ returns-in_ok-step-in-Stated-clause-means c = λ left.
     let plan : List TermId → BodyPlan = λ ids. waiting.block_from f m.found ids in
     rw m.is (moved a.frames.now.items c.statements_left.new.frames.items (plan (f.ids ++ m.id ∷ []))
     (plan c.push.new.self) w w
-    c.statements_left.new.typing left left c.in_ok-step-in-Stated.step (ap plan (sym c.in_ok-push-in-Stated.ensures.ok))
+    c.statements_left.new.typing left left step (ap plan (sym c.in_ok-push-in-Stated.ensures.ok))
     refl
-    (c.in_ok-step-in-Stated.ensures.means left))
+    (g left)))

@@ -11,6 +11,7 @@ use Rattle.check_expr.specs.declared.frame.BlockThen.TheVariants as of_block
 use Rattle.check_expr.specs.Frames as waiting
 use Rattle.check_expr.proofs.Doing.{moved, enters}
 use Rattle.check_expr.proofs.Keeping.{kept_from}
+use Rattle.tl_base.proofs.Results.{carried, on-ok}
 use Rattle.check_expr.proofs.blocks.else_block.Goals as goal
 
 pub returns-in_ok-push-in-Some-clause-means : goal.returns-in_ok-push-in-Some-clause-means
@@ -35,8 +36,8 @@ returns-in_ok-push-in-Some-clause-means c = λ left.
     (enters fs fs2 (frames.Block (record { rest = rest; ids = none; then = behind; site = a.site })) job w left
     c.in_ok-push-in-Some.ensures.items)
 
-pub returns-in_ok-step-in-None-clause-means : goal.returns-in_ok-step-in-None-clause-means
-returns-in_ok-step-in-None-clause-means c = λ left.
+pub returns-in_ok-list-in-None-clause-means : goal.returns-in_ok-list-in-None-clause-means
+returns-in_ok-list-in-None-clause-means c = carried _ _ c.states.result c.states.ensures.means (λ step g left.
     let a = c.args in
     let fs = a.frames.now.items in
     let w = a.typing.now in
@@ -45,7 +46,6 @@ returns-in_ok-step-in-None-clause-means c = λ left.
     let first = c.in_ok-first-in-None in
     let list = c.in_ok-list-in-None in
     let w2 = c.states.new.typing in
-    let step = c.in_ok-step-in-None.step in
     let plan : ℕ → List TermId → List TermId → BodyPlan = λ count before ss.
     expressions.statements ss a.site before (λ all last. waiting.block_then (of_block.Else count a.test a.ids a.at) all
     last) in
@@ -58,9 +58,9 @@ returns-in_ok-step-in-None-clause-means c = λ left.
     (moved fs fs (form a.ids none) (form first.first list.list) (cut_to w n) c.leave.new.self w2 left left step
     (ap (λ (before : List TermId). form before none) (sym first.ensures) ∙ ap (form first.first) (sym list.ensures))
     (sym c.leave.ensures)
-    (c.in_ok-step-in-None.ensures.means left fs))
+    (g left fs)))
 
-pub returns-in_ok-step-in-None-clause-kept : goal.returns-in_ok-step-in-None-clause-kept
-returns-in_ok-step-in-None-clause-kept c =
+pub returns-in_ok-list-in-None-clause-kept : goal.returns-in_ok-list-in-None-clause-kept
+returns-in_ok-list-in-None-clause-kept c = on-ok c.states.result c.states.ensures.kept (λ g.
     kept_from (cut_to c.args.typing.now c.count-count.result) c.leave.new.self c.states.new.typing c.leave.ensures
-    c.in_ok-step-in-None.ensures.kept
+    g)

@@ -7,6 +7,7 @@ use Rattle.check_model.specs.Expressions as expressions
 use Rattle.check_expr.specs.declared.frame.BodyFrame.TheVariants as frames
 use Rattle.check_expr.specs.Frames as waiting
 use Rattle.check_expr.proofs.Doing.{moved, enters}
+use Rattle.tl_base.proofs.Results.{carried}
 use Rattle.check_expr.proofs.blocks.statements_left.Goals as goal
 
 pub returns-in_ok-push-in-Some-clause-means : goal.returns-in_ok-push-in-Some-clause-means
@@ -24,8 +25,8 @@ returns-in_ok-push-in-Some-clause-means c = λ left.
     refl
     (enters fs fs2 (frames.Block (record f { rest = c.take.new.self })) job w left c.in_ok-push-in-Some.ensures.items)
 
-pub returns-in_ok-step-in-None-clause-means : goal.returns-in_ok-step-in-None-clause-means
-returns-in_ok-step-in-None-clause-means c = λ left.
+pub returns-in-None-clause-means : goal.returns-in-None-clause-means
+returns-in-None-clause-means c = carried _ _ c.with_statements.result c.with_statements.ensures.means (λ step g left.
     let a = c.args in
     let f = a.frame in
     let fs = a.frames.now.items in
@@ -33,5 +34,5 @@ returns-in_ok-step-in-None-clause-means c = λ left.
     let plan : List TermId → BodyPlan = λ ts. expressions.statements ts f.site f.ids
     (λ all last. waiting.block_then f.then all last) in
     moved fs c.with_statements.new.frames.items (plan f.rest) (waiting.block_then f.then f.ids f.site.result) w w
-    c.with_statements.new.typing left left c.in_ok-step-in-None.step
-    (ap plan c.in-None.ensures) refl (c.in_ok-step-in-None.ensures.means left)
+    c.with_statements.new.typing left left step
+    (ap plan c.in-None.ensures) refl (g left))

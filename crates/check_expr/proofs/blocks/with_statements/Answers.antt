@@ -11,31 +11,32 @@ use Rattle.check_expr.specs.declared.frame.MadeFrame.TheVariants as of_made
 use Rattle.check_expr.proofs.Declaring.{cut_twice}
 use Rattle.check_expr.proofs.Doing.{moved, enters}
 use Rattle.check_expr.proofs.Keeping.{kept_from}
+use Rattle.tl_base.proofs.Results.{carried, on-ok}
 use Rattle.check_expr.proofs.blocks.with_statements.Goals as goal
 
-pub returns-in_ok-step-in-Do-clause-means : goal.returns-in_ok-step-in-Do-clause-means
-returns-in_ok-step-in-Do-clause-means c = λ left.
+pub returns-in_ok-list-in-Do-clause-means : goal.returns-in_ok-list-in-Do-clause-means
+returns-in_ok-list-in-Do-clause-means c = carried _ _ c.states.result c.states.ensures.means (λ step g left.
     let a = c.args in
     let m = c.in-Do in
     let fs = a.frames.now.items in
     let plan : List TermId → BodyPlan = λ ids. states m.at (ts.Do ids) a.found in
     rw m.is (moved fs fs (plan a.ids) (plan c.in_ok-list-in-Do.list) (cut_to a.typing.now m.count) c.leave.new.self
     c.states.new.typing left left
-    c.in_ok-step-in-Do.step (ap plan (sym c.in_ok-list-in-Do.ensures)) (sym c.leave.ensures)
-    (c.in_ok-step-in-Do.ensures.means left fs))
+    step (ap plan (sym c.in_ok-list-in-Do.ensures)) (sym c.leave.ensures)
+    (g left fs)))
 
-pub returns-in_ok-step-in-Then-clause-means : goal.returns-in_ok-step-in-Then-clause-means
-returns-in_ok-step-in-Then-clause-means c = λ left.
+pub returns-in-Then-clause-means : goal.returns-in-Then-clause-means
+returns-in-Then-clause-means c = carried _ _ c.with_else.result c.with_else.ensures.means (λ step g left.
     let a = c.args in
     let m = c.in-Then in
     let plan = models.else_plan m.more m.test a.ids a.found m.at m.site in
     rw m.is (moved a.frames.now.items c.with_else.new.frames.items plan plan (cut_to a.typing.now m.count)
     c.leave-in-Then.new.self
-    c.with_else.new.typing left left c.in_ok-step-in-Then.step refl (sym c.leave-in-Then.ensures)
-    (c.in_ok-step-in-Then.ensures.means left))
+    c.with_else.new.typing left left step refl (sym c.leave-in-Then.ensures)
+    (g left)))
 
-pub returns-in_ok-step-in-Else-clause-means : goal.returns-in_ok-step-in-Else-clause-means
-returns-in_ok-step-in-Else-clause-means c = λ left.
+pub returns-in_ok-others-in-Else-clause-means : goal.returns-in_ok-others-in-Else-clause-means
+returns-in_ok-others-in-Else-clause-means c = carried _ _ c.states-in-Else.result c.states-in-Else.ensures.means (λ step g left.
     let a = c.args in
     let m = c.in-Else in
     let fs = a.frames.now.items in
@@ -45,21 +46,21 @@ returns-in_ok-step-in-Else-clause-means c = λ left.
     a.found in
     rw m.is (moved fs fs (plan m.before a.ids) (plan first.first others.others) (cut_to a.typing.now m.count)
     c.leave-in-Else.new.self
-    c.states-in-Else.new.typing left left c.in_ok-step-in-Else.step
+    c.states-in-Else.new.typing left left step
     (ap (λ (before : List TermId). plan before a.ids) (sym first.ensures) ∙ ap (plan first.first)
     (sym others.ensures))
-    (sym c.leave-in-Else.ensures) (c.in_ok-step-in-Else.ensures.means left fs))
+    (sym c.leave-in-Else.ensures) (g left fs)))
 
-pub returns-in_ok-step-in-While-clause-means : goal.returns-in_ok-step-in-While-clause-means
-returns-in_ok-step-in-While-clause-means c = λ left.
+pub returns-in_ok-list-in-While-clause-means : goal.returns-in_ok-list-in-While-clause-means
+returns-in_ok-list-in-While-clause-means c = carried _ _ c.states-in-While.result c.states-in-While.ensures.means (λ step g left.
     let a = c.args in
     let m = c.in-While in
     let fs = a.frames.now.items in
     let plan : List TermId → BodyPlan = λ ids. states m.at (ts.While m.test.id ids) a.found in
     rw m.is (moved fs fs (plan a.ids) (plan c.in_ok-list-in-While.list) (cut_to a.typing.now m.count)
     c.leave-in-While.new.self
-    c.states-in-While.new.typing left left c.in_ok-step-in-While.step (ap plan (sym c.in_ok-list-in-While.ensures))
-    (sym c.leave-in-While.ensures) (c.in_ok-step-in-While.ensures.means left fs))
+    c.states-in-While.new.typing left left step (ap plan (sym c.in_ok-list-in-While.ensures))
+    (sym c.leave-in-While.ensures) (g left fs)))
 
 pub returns-in_ok-push-in-Repeat-clause-means : goal.returns-in_ok-push-in-Repeat-clause-means
 returns-in_ok-push-in-Repeat-clause-means c = λ left.
@@ -70,8 +71,8 @@ returns-in_ok-push-in-Repeat-clause-means c = λ left.
     (jobs.Expression m.test m.site) a.typing.now left c.in_ok-push-in-Repeat.ensures.items)
 
 -- the variable of the loop goes with the block's own
-pub returns-in_ok-step-in-For-clause-means : goal.returns-in_ok-step-in-For-clause-means
-returns-in_ok-step-in-For-clause-means c = λ left.
+pub returns-in_ok-list-in-For-clause-means : goal.returns-in_ok-list-in-For-clause-means
+returns-in_ok-list-in-For-clause-means c = carried _ _ c.states-in-For.result c.states-in-For.ensures.means (λ step g left.
     let a = c.args in
     let m = c.in-For in
     let fs = a.frames.now.items in
@@ -83,11 +84,11 @@ returns-in_ok-step-in-For-clause-means c = λ left.
     let within : m.count ≤ m.count + 1 = omega arith in
     rw m.is (moved fs fs (plan m.bounds a.ids) (plan limits.limits list.list) (cut_to (cut_to w (m.count + 1)) m.count)
     c.leave-in-For.new.self
-    c.states-in-For.new.typing left left c.in_ok-step-in-For.step
+    c.states-in-For.new.typing left left step
     (ap (λ (bounds : List TermId). plan bounds a.ids) (sym limits.ensures) ∙ ap (plan limits.limits)
     (sym list.ensures))
     (cut_twice w m.count (m.count + 1) within ∙ sym c.leave-in-For.ensures)
-    (c.in_ok-step-in-For.ensures.means left fs))
+    (g left fs)))
 
 pub returns-in_ok-push-in-Let-clause-means : goal.returns-in_ok-push-in-Let-clause-means
 returns-in_ok-push-in-Let-clause-means c = λ left.
@@ -96,31 +97,31 @@ returns-in_ok-push-in-Let-clause-means c = λ left.
     rw m.is (enters a.frames.now.items c.push-in-Let.new.self.items (frames.Made (of_made.Let m.count a.ids m.node))
     (jobs.Expression m.value m.node.site) a.typing.now left c.in_ok-push-in-Let.ensures.items)
 
-pub returns-in_ok-step-in-Function-clause-means : goal.returns-in_ok-step-in-Function-clause-means
-returns-in_ok-step-in-Function-clause-means c = λ left.
-    rw c.in-Function.is (c.in_ok-step-in-Function.ensures.means left c.args.frames.now.items)
+pub returns-in-Function-clause-means : goal.returns-in-Function-clause-means
+returns-in-Function-clause-means c = carried _ _ c.function.result c.function.ensures.means (λ step g left.
+    rw c.in-Function.is (g left c.args.frames.now.items))
 
-pub returns-in_ok-step-in-Do-clause-kept : goal.returns-in_ok-step-in-Do-clause-kept
-returns-in_ok-step-in-Do-clause-kept c =
+pub returns-in_ok-list-in-Do-clause-kept : goal.returns-in_ok-list-in-Do-clause-kept
+returns-in_ok-list-in-Do-clause-kept c = on-ok c.states.result c.states.ensures.kept (λ g.
     kept_from (cut_to c.args.typing.now c.in-Do.count) c.leave.new.self c.states.new.typing c.leave.ensures
-    c.in_ok-step-in-Do.ensures.kept
+    g)
 
-pub returns-in_ok-step-in-Then-clause-kept : goal.returns-in_ok-step-in-Then-clause-kept
-returns-in_ok-step-in-Then-clause-kept c =
+pub returns-in-Then-clause-kept : goal.returns-in-Then-clause-kept
+returns-in-Then-clause-kept c = on-ok c.with_else.result c.with_else.ensures.kept (λ g.
     kept_from (cut_to c.args.typing.now c.in-Then.count) c.leave-in-Then.new.self c.with_else.new.typing
-    c.leave-in-Then.ensures c.in_ok-step-in-Then.ensures.kept
+    c.leave-in-Then.ensures g)
 
-pub returns-in_ok-step-in-Else-clause-kept : goal.returns-in_ok-step-in-Else-clause-kept
-returns-in_ok-step-in-Else-clause-kept c =
+pub returns-in_ok-others-in-Else-clause-kept : goal.returns-in_ok-others-in-Else-clause-kept
+returns-in_ok-others-in-Else-clause-kept c = on-ok c.states-in-Else.result c.states-in-Else.ensures.kept (λ g.
     kept_from (cut_to c.args.typing.now c.in-Else.count) c.leave-in-Else.new.self c.states-in-Else.new.typing
-    c.leave-in-Else.ensures c.in_ok-step-in-Else.ensures.kept
+    c.leave-in-Else.ensures g)
 
-pub returns-in_ok-step-in-While-clause-kept : goal.returns-in_ok-step-in-While-clause-kept
-returns-in_ok-step-in-While-clause-kept c =
+pub returns-in_ok-list-in-While-clause-kept : goal.returns-in_ok-list-in-While-clause-kept
+returns-in_ok-list-in-While-clause-kept c = on-ok c.states-in-While.result c.states-in-While.ensures.kept (λ g.
     kept_from (cut_to c.args.typing.now c.in-While.count) c.leave-in-While.new.self c.states-in-While.new.typing
-    c.leave-in-While.ensures c.in_ok-step-in-While.ensures.kept
+    c.leave-in-While.ensures g)
 
-pub returns-in_ok-step-in-For-clause-kept : goal.returns-in_ok-step-in-For-clause-kept
-returns-in_ok-step-in-For-clause-kept c =
+pub returns-in_ok-list-in-For-clause-kept : goal.returns-in_ok-list-in-For-clause-kept
+returns-in_ok-list-in-For-clause-kept c = on-ok c.states-in-For.result c.states-in-For.ensures.kept (λ g.
     kept_from (cut_to c.args.typing.now c.in-For.count) c.leave-in-For.new.self c.states-in-For.new.typing
-    c.leave-in-For.ensures c.in_ok-step-in-For.ensures.kept
+    c.leave-in-For.ensures g)

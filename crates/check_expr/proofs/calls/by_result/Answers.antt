@@ -11,10 +11,11 @@ use Rattle.check_model.specs.Typing.{TypingState}
 use Rattle.check_expr.specs.declared.frame.BodyFrame.TheVariants as frames
 use Rattle.check_expr.specs.Frames.{operands_from}
 use Rattle.check_expr.proofs.Doing.{moved, asks}
+use Rattle.tl_base.proofs.Results.{carried}
 use Rattle.check_expr.proofs.calls.by_result.Goals as goal
 
-pub returns-in_ok-step-in-Is-clause-means : goal.returns-in_ok-step-in-Is-clause-means
-returns-in_ok-step-in-Is-clause-means c = λ left.
+pub returns-in-Is-clause-means : goal.returns-in-Is-clause-means
+returns-in-Is-clause-means c = carried _ _ c.operands_left.result c.operands_left.ensures.means (λ step g left.
     let a = c.args in
     let f = a.frame in
     let w = a.typing.now in
@@ -22,10 +23,10 @@ returns-in_ok-step-in-Is-clause-means c = λ left.
     let plan : KnownResult → BodyPlan = λ k. models.by_result k a.f f.node.at f.node.site go in
     moved a.frames.now.items c.operands_left.new.frames.items (plan (models.result_of w.stage a.f))
     (plan (Is c.in-Is.of)) w w
-    c.operands_left.new.typing left left c.in_ok-step-in-Is.step
+    c.operands_left.new.typing left left step
     (ap plan (ap (λ (v : TypingState). models.result_of v.stage a.f) (sym c.typing.view_is) ∙ sym c.result_type.ensures
     ∙ c.in-Is.is)) refl
-    (c.in_ok-step-in-Is.ensures.means left)
+    (g left))
 
 pub returns-in-BeingTyped-clause-means : goal.returns-in-BeingTyped-clause-means
 returns-in-BeingTyped-clause-means c = λ left.

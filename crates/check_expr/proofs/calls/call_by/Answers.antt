@@ -7,6 +7,7 @@ use Rattle.terra_term.specs.declared.typed.TypedExpression.TheVariants as te
 use Rattle.check_model.specs.Calls as models
 use Rattle.check_model.specs.Plans.{BodyPlan, refuse, gives}
 use Rattle.check_expr.proofs.Doing.{moved, chosen}
+use Rattle.tl_base.proofs.Results.{carried}
 use Rattle.check_expr.proofs.calls.call_by.Goals as goal
 
 pub returns-then-given-wanted-clause-means : goal.returns-then-given-wanted-clause-means
@@ -23,18 +24,17 @@ returns-then-given-wanted-clause-means c = λ left.
     (c.refuse.ensures.means w left fs)
 
 pub returns-clause-means : goal.returns-clause-means
-returns-clause-means c = λ left.
+returns-clause-means c = carried _ _ c.operands_left.result c.operands_left.ensures.means (λ step g left.
     let a = c.args in
     let n = a.node in
     let fs = a.frames.now.items in
     let fs2 = c.operands_left.new.frames.items in
     let w = a.typing.now in
     let w2 = c.operands_left.new.typing in
-    let step = c.in_ok-step.step in
     let body : List TermId → BodyPlan = λ before. models.arguments a.fitting a.operands a.types n.at n.site before
     (λ ids. gives n.source n.at a.of (te.Operate (operations.Primitive a.primitive) ids)) in
     chosen fs fs2 (nat_eq (length a.operands) (length a.types)) true (body []) (refuse WrongCount n.at n.site) w w2 left
     left step
     (eq-eqb _ _ (sym c.len-given.ensures ∙ c.if-given-wanted.false ∙ c.len-wanted.ensures))
     (moved fs fs2 (body []) (body c.new.result) w w w2 left left step (ap body (sym c.new.ensures)) refl
-    (c.in_ok-step.ensures.means left))
+    (g left)))

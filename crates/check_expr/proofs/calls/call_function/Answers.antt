@@ -9,6 +9,7 @@ use Rattle.check_model.specs.Plans.{BodyPlan, refuse, gives}
 use Rattle.check_model.specs.Typing.{TypingState, function_at}
 use Rattle.check_expr.proofs.Calling.{function_unknown, function_known}
 use Rattle.check_expr.proofs.Doing.{moved, chosen}
+use Rattle.tl_base.proofs.Results.{carried}
 use Rattle.check_expr.proofs.calls.call_function.Goals as goal
 
 pub returns-in-None-clause-means : goal.returns-in-None-clause-means
@@ -47,8 +48,8 @@ returns-then-given-wanted-clause-means c = λ left.
     (ne_eqb _ _ (λ same. c.if-given-wanted.true (c.len-given.ensures ∙ same ∙ sym c.len-wanted.ensures)))
     (c.refuse-then-given-wanted.ensures.means w left fs))
 
-pub returns-in_ok-step-in-Some-clause-means : goal.returns-in_ok-step-in-Some-clause-means
-returns-in_ok-step-in-Some-clause-means c = λ left.
+pub returns-else-given-wanted-clause-means : goal.returns-else-given-wanted-clause-means
+returns-else-given-wanted-clause-means c = carried _ _ c.by_result.result c.by_result.ensures.means (λ step g left.
     let a = c.args in
     let n = a.node in
     let fs = a.frames.now.items in
@@ -57,7 +58,6 @@ returns-in_ok-step-in-Some-clause-means c = λ left.
     let w2 = c.by_result.new.typing in
     let x = function_at w.stage a.f in
     let ps = c.in-Some.types in
-    let step = c.in_ok-step-in-Some.step in
     let body : List TermId → BodyPlan = λ before. models.by_result (models.result_of w.stage a.f) a.f n.at n.site
     (λ result.
     models.arguments a.fitting a.operands ps n.at n.site before (λ ids. gives n.source n.at result (te.Operate
@@ -71,4 +71,4 @@ returns-in_ok-step-in-Some-clause-means c = λ left.
     left step
     (eq-eqb _ _ (sym c.len-given.ensures ∙ c.if-given-wanted.false ∙ c.len-wanted.ensures))
     (moved fs fs2 (body []) (body c.new.result) w w w2 left left step (ap body (sym c.new.ensures)) refl
-    (c.in_ok-step-in-Some.ensures.means left)))
+    (g left))))

@@ -1,22 +1,23 @@
+use Rattle.tl_base.proofs.Results.{carried}
 use Rattle.check_expr.proofs.calls.call_named.Goals as goal
 
-pub returns-in_ok-step-in-Function-clause-means : goal.returns-in_ok-step-in-Function-clause-means
-returns-in_ok-step-in-Function-clause-means c = rw c.in-Function.is
-    (c.in_ok-step-in-Function.ensures.means c.args.budget.now)
+pub returns-in-Function-clause-means : goal.returns-in-Function-clause-means
+returns-in-Function-clause-means c = carried _ _ c.call_function.result c.call_function.ensures.means (λ step g. rw c.in-Function.is
+    (g c.args.budget.now))
 
-pub returns-in_ok-step-in-Primitive-clause-means : goal.returns-in_ok-step-in-Primitive-clause-means
-returns-in_ok-step-in-Primitive-clause-means c = rw c.in-Primitive.is
-    (c.in_ok-step-in-Primitive.ensures.means c.args.budget.now)
+pub returns-in-Primitive-clause-means : goal.returns-in-Primitive-clause-means
+returns-in-Primitive-clause-means c = carried _ _ c.call_primitive.result c.call_primitive.ensures.means (λ step g. rw c.in-Primitive.is
+    (g c.args.budget.now))
 
-pub returns-in_ok-step-in-Macro-clause-means : goal.returns-in_ok-step-in-Macro-clause-means
-returns-in_ok-step-in-Macro-clause-means c =
-    rw c.in-Macro.is (c.in_ok-step-in-Macro.ensures.means c.args.budget.now)
+pub returns-in-Macro-clause-means : goal.returns-in-Macro-clause-means
+returns-in-Macro-clause-means c = carried _ _ c.call_macro.result c.call_macro.ensures.means (λ step g.
+    rw c.in-Macro.is (g c.args.budget.now))
 
-pub returns-in_ok-step-in-Type-clause-means : goal.returns-in_ok-step-in-Type-clause-means
-returns-in_ok-step-in-Type-clause-means c = rw c.in-Type.is (c.in_ok-step-in-Type.ensures.means c.args.budget.now)
+pub returns-in-Type-clause-means : goal.returns-in-Type-clause-means
+returns-in-Type-clause-means c = carried _ _ c.cast.result c.cast.ensures.means (λ step g. rw c.in-Type.is (g c.args.budget.now))
 
-pub returns-in_ok-step-in-SizeOf-clause-means : goal.returns-in_ok-step-in-SizeOf-clause-means
-returns-in_ok-step-in-SizeOf-clause-means c = rw c.in-SizeOf.is c.in_ok-step-in-SizeOf.ensures.means
+pub returns-in-SizeOf-clause-means : goal.returns-in-SizeOf-clause-means
+returns-in-SizeOf-clause-means c = carried _ _ c.call_size.result c.call_size.ensures.means (λ step g. rw c.in-SizeOf.is g)
 
 pub returns-in-Value-clause-means : goal.returns-in-Value-clause-means
 returns-in-Value-clause-means c =

@@ -6,6 +6,7 @@ use Rattle.check_model.specs.Calls as models
 use Rattle.check_model.specs.Plans.{BodyPlan, refuse}
 use Rattle.check_expr.proofs.Calling.{size_none, size_one}
 use Rattle.check_expr.proofs.Doing.{moved, does_as}
+use Rattle.tl_base.proofs.Results.{carried}
 use Rattle.check_expr.proofs.calls.call_size.Goals as goal
 
 pub returns-in-None-clause-means : goal.returns-in-None-clause-means
@@ -33,8 +34,8 @@ returns-in-Typed-clause-means c =
     ∙ ap (λ (x : Operand). models.size_of_operand x n.at n.source n.site) c.in-Typed.is)
     (c.refuse-in-Typed.ensures.means w left)
 
-pub returns-in_ok-step-in-Untyped-clause-means : goal.returns-in_ok-step-in-Untyped-clause-means
-returns-in_ok-step-in-Untyped-clause-means c =
+pub returns-in-Untyped-clause-means : goal.returns-in-Untyped-clause-means
+returns-in-Untyped-clause-means c = carried _ _ c.size_of_term.result c.size_of_term.ensures.means (λ step g.
     let a = c.args in
     let n = a.node in
     let w = a.typing.now in
@@ -42,6 +43,6 @@ returns-in_ok-step-in-Untyped-clause-means c =
     let plan : Operand → BodyPlan = λ x. models.size_of_operand x n.at n.source n.site in
     moved a.frames.now.items c.size_of_term.new.frames.items (models.call_size a.operands n.at n.source n.site) (plan
     (Untyped c.in-Untyped.term))
-    w w c.size_of_term.new.typing a.budget.now c.size_of_term.new.budget c.in_ok-step-in-Untyped.step
+    w w c.size_of_term.new.typing a.budget.now c.size_of_term.new.budget step
     (size_one a.operands o n.at n.source n.site (sym c.only.ensures ∙ c.in-Some.is) ∙ ap plan c.in-Untyped.is) refl
-    c.in_ok-step-in-Untyped.ensures.means
+    g)

@@ -11,6 +11,7 @@ use Rattle.check_expr.specs.Callees.{callee_in, named_plan}
 use Rattle.check_expr.specs.declared.calls.Callee.{Callee}
 use Rattle.check_expr.proofs.Calling.{named_means, value_uncalled, others_called}
 use Rattle.check_expr.proofs.Doing.{moved, tails}
+use Rattle.tl_base.proofs.Results.{carried}
 use Rattle.check_expr.proofs.calls.call_term.Goals as goal
 
 pub returns-in-Value-clause-means : goal.returns-in-Value-clause-means
@@ -34,8 +35,8 @@ returns-in-Value-clause-means c =
     ∙ ap (plan false) (sym c.from_vec-operands.ensures)) refl
     (tails fs job w left)
 
-pub returns-in_ok-step-in_default-clause-means : goal.returns-in_ok-step-in_default-clause-means
-returns-in_ok-step-in_default-clause-means c =
+pub returns-in_default-clause-means : goal.returns-in_default-clause-means
+returns-in_default-clause-means c = carried _ _ c.call_named.result c.call_named.ensures.means (λ step g.
     let a = c.args in
     let n = a.node in
     let fs = a.frames.now.items in
@@ -44,7 +45,6 @@ returns-in_ok-step-in_default-clause-means c =
     let w2 = c.call_named.new.typing in
     let left = a.budget.now in
     let left2 = c.call_named.new.budget in
-    let step = c.in_ok-step-in_default.step in
     let x = expression_at w.stage a.term in
     let os = a.operands.items in
     let last = c.from_vec-operands-in_default.result in
@@ -58,4 +58,4 @@ returns-in_ok-step-in_default-clause-means c =
     (ap plan (others_called x (λ value. c.in_default.not-Value (sym same ∙ value)))
     ∙ named_means x w.stage os n.at a.fitting n.source n.site ∙ ap (λ (k : Callee). named k os) same
     ∙ ap (named c.callee_of.result) (sym c.from_vec-operands-in_default.ensures)) refl
-    c.in_ok-step-in_default.ensures.means
+    g)

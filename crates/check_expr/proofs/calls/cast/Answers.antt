@@ -10,6 +10,7 @@ use Rattle.check_expr.specs.declared.frame.BodyFrame.TheVariants as frames
 use Rattle.check_expr.specs.declared.frame.MadeFrame.TheVariants as of_made
 use Rattle.check_expr.proofs.Calling.{cast_none, cast_one}
 use Rattle.check_expr.proofs.Doing.{moved, enters, does_as}
+use Rattle.tl_base.proofs.Results.{carried}
 use Rattle.check_expr.proofs.calls.cast.Goals as goal
 
 pub returns-in-None-clause-means : goal.returns-in-None-clause-means
@@ -36,8 +37,8 @@ returns-in_ok-push-in-Untyped-clause-means c = λ left.
     (cast_one a.operands o a.to n.at n.source n.site (sym c.only.ensures ∙ c.in-Some.is) ∙ ap plan c.in-Untyped.is) refl
     (enters fs fs2 (frames.Made (of_made.Cast a.to n)) job w left c.in_ok-push-in-Untyped.ensures.items)
 
-pub returns-in_ok-step-in-Typed-clause-means : goal.returns-in_ok-step-in-Typed-clause-means
-returns-in_ok-step-in-Typed-clause-means c = λ left.
+pub returns-in-Typed-clause-means : goal.returns-in-Typed-clause-means
+returns-in-Typed-clause-means c = carried _ _ c.cast_made.result c.cast_made.ensures.means (λ step g left.
     let a = c.args in
     let n = a.node in
     let w = a.typing.now in
@@ -45,6 +46,6 @@ returns-in_ok-step-in-Typed-clause-means c = λ left.
     let plan : Operand → BodyPlan = λ x. models.cast a.to (x ∷ []) n.at n.source n.site in
     moved a.frames.now.items c.cast_made.new.frames.items (models.cast a.to a.operands n.at n.source n.site) (plan
     (Typed c.in-Typed.made)) w w
-    c.cast_made.new.typing left left c.in_ok-step-in-Typed.step
+    c.cast_made.new.typing left left step
     (cast_one a.operands o a.to n.at n.source n.site (sym c.only.ensures ∙ c.in-Some.is) ∙ ap plan c.in-Typed.is) refl
-    (c.in_ok-step-in-Typed.ensures.means left)
+    (g left))

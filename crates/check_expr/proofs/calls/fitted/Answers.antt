@@ -4,14 +4,15 @@ use Rattle.check_model.specs.Plans.{BodyPlan}
 use Rattle.std.specs.Prelude.{false}
 use Rattle.check_expr.specs.Frames as waiting
 use Rattle.check_expr.proofs.Doing.{moved}
+use Rattle.tl_base.proofs.Results.{carried}
 use Rattle.check_expr.proofs.calls.fitted.Goals as goal
 
 pub returns-clause-means : goal.returns-clause-means
-returns-clause-means c = λ left.
+returns-clause-means c = carried _ _ c.operands_left.result c.operands_left.ensures.means (λ step g left.
     let a = c.args in
     let f = a.frame in
     let w = a.typing.now in
     let plan : List TermId → BodyPlan = λ ids. waiting.operands_from f false ids a.of in
     moved a.frames.now.items c.operands_left.new.frames.items (plan (f.ids ++ a.made.id ∷ [])) (plan c.push.new.self) w
     w c.operands_left.new.typing left left
-    c.in_ok-step.step (ap plan (sym c.in_ok-push.ensures.ok)) refl (c.in_ok-step.ensures.means left)
+    step (ap plan (sym c.in_ok-push.ensures.ok)) refl (g left))

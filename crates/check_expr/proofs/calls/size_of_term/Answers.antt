@@ -12,6 +12,7 @@ use Rattle.check_model.specs.Typing.{TypingState, expression_at, place_of, bytes
 use Rattle.check_expr.specs.Callees.{callee_in}
 use Rattle.check_expr.proofs.Calling.{size_type, size_other}
 use Rattle.check_expr.proofs.Doing.{moved, does_as, pays, unpaid}
+use Rattle.tl_base.proofs.Results.{carried}
 use Rattle.check_expr.proofs.calls.size_of_term.Goals as goal
 
 pub returns-then-not-pay-clause-means : goal.returns-then-not-pay-clause-means
@@ -34,8 +35,8 @@ returns-then-not-pay-clause-means c =
     c.callee_of.ensures ∙ c.in-Type.is)) refl
     (unpaid fs 1 laid w left c.pay.new.self c.if-not-pay.ensures.short c.if-not-pay.ensures.refused)
 
-pub returns-in_ok-step-in-Type-clause-means : goal.returns-in_ok-step-in-Type-clause-means
-returns-in_ok-step-in-Type-clause-means c =
+pub returns-else-not-pay-clause-means : goal.returns-else-not-pay-clause-means
+returns-else-not-pay-clause-means c = carried _ _ c.lay_out.result c.lay_out.ensures.means (λ step g.
     let a = c.args in
     let n = a.node in
     let fs = a.frames.now.items in
@@ -46,7 +47,6 @@ returns-in_ok-step-in-Type-clause-means c =
     let t = c.in-Type.of in
     let x = expression_at w.stage a.term in
     let named = place_of w.stage a.term in
-    let step = c.in_ok-step-in-Type.step in
     let laid : BodyPlan =
     laid_out t n.at n.site (reading (λ v. gives n.source n.at uint64 (te.Constant (constants.Number (bytes_in v t)))))
     in
@@ -56,7 +56,7 @@ returns-in_ok-step-in-Type-clause-means c =
     (ap (λ (v : TypingState). callee_in (expression_at v.stage a.term)) (sym c.typing.view_is) ∙ sym
     c.callee_of.ensures ∙ c.in-Type.is)) refl
     (pays fs fs2 1 laid w w left after after step (grind (arith, c.if-not-pay.ensures.enough)) c.if-not-pay.ensures.paid
-    (c.in_ok-step-in-Type.ensures.means after))
+    (g after)))
 
 pub returns-in_default-clause-means : goal.returns-in_default-clause-means
 returns-in_default-clause-means c =

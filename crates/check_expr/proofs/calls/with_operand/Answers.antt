@@ -10,10 +10,11 @@ use Rattle.check_expr.specs.declared.frame.BodyFrame.TheVariants as frames
 use Rattle.check_expr.specs.declared.frame.MadeFrame.TheVariants as of_made
 use Rattle.check_expr.specs.Frames.{called_with}
 use Rattle.check_expr.proofs.Doing.{moved, enters}
+use Rattle.tl_base.proofs.Results.{carried}
 use Rattle.check_expr.proofs.calls.with_operand.Goals as goal
 
-pub returns-in_ok-step-in-None-clause-means : goal.returns-in_ok-step-in-None-clause-means
-returns-in_ok-step-in-None-clause-means c = λ left.
+pub returns-in-None-clause-means : goal.returns-in-None-clause-means
+returns-in-None-clause-means c = carried _ _ c.call.result c.call.ensures.means (λ step g left.
     let a = c.args in
     let f = a.frame in
     let fs = a.frames.now.items in
@@ -21,8 +22,8 @@ returns-in_ok-step-in-None-clause-means c = λ left.
     let plan : Operand → List TypeId → BodyPlan = λ o ps. models.arguments f.fitting (o ∷ f.operands) ps f.node.at
     f.node.site f.ids (called_with f a.of) in
     moved fs fs (plan a.operand f.types) (called_with f a.of f.ids) w w c.call.new.typing left left
-    c.in_ok-step-in-None.step
-    (ap (λ (ps : List TypeId). plan a.operand ps) c.in-None.ensures) refl (c.in_ok-step-in-None.ensures.means left fs)
+    step
+    (ap (λ (ps : List TypeId). plan a.operand ps) c.in-None.ensures) refl (g left fs))
 
 pub returns-in_ok-push-in-Untyped-clause-means : goal.returns-in_ok-push-in-Untyped-clause-means
 returns-in_ok-push-in-Untyped-clause-means c = λ left.
@@ -42,8 +43,8 @@ returns-in_ok-push-in-Untyped-clause-means c = λ left.
     (enters fs c.push.new.self.items (frames.Made (of_made.Argument p (record f { types = rest }) a.of)) job w left
     c.in_ok-push-in-Untyped.ensures.items)
 
-pub returns-in_ok-step-in-Typed-clause-means : goal.returns-in_ok-step-in-Typed-clause-means
-returns-in_ok-step-in-Typed-clause-means c = λ left.
+pub returns-in-Typed-clause-means : goal.returns-in-Typed-clause-means
+returns-in-Typed-clause-means c = carried _ _ c.argument.result c.argument.ensures.means (λ step g left.
     let a = c.args in
     let f = a.frame in
     let fs = a.frames.now.items in
@@ -55,7 +56,7 @@ returns-in_ok-step-in-Typed-clause-means c = λ left.
     let m = c.in-Typed.made in
     moved fs c.argument.new.frames.items (plan a.operand f.types) (plan (Typed m) (p ∷ rest)) w w c.argument.new.typing
     left left
-    c.in_ok-step-in-Typed.step
+    step
     (ap (λ (ps : List TypeId). plan a.operand ps) c.in-Some.ensures ∙ ap (λ (o : Operand). plan o (p ∷ rest))
     c.in-Typed.is) refl
-    (c.in_ok-step-in-Typed.ensures.means left)
+    (g left))

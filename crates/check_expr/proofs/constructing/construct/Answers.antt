@@ -11,6 +11,7 @@ use Rattle.check_model.specs.Plans.{BodyPlan, refuse}
 use Rattle.check_model.specs.Typing.{TypingState, bytes_in}
 use Rattle.check_expr.specs.Frames.{initials_in}
 use Rattle.check_expr.proofs.Doing.{moved, chosen}
+use Rattle.tl_base.proofs.Results.{carried}
 use Rattle.check_expr.proofs.constructing.construct.Goals as goal
 
 pub returns-then-bytes-gt-MAX_VALUE_BYTES-clause-means : goal.returns-then-bytes-gt-MAX_VALUE_BYTES-clause-means
@@ -46,8 +47,8 @@ returns-then-entry_count-len-clause-means c = λ left.
     ∙ lt-ltb c.entry_count.result c.len.result c.if-entry_count-len.true)
     (c.refuse-then-entry_count-len.ensures.means w left fs)))
 
-pub returns-in_ok-step-in-None-clause-means : goal.returns-in_ok-step-in-None-clause-means
-returns-in_ok-step-in-None-clause-means c = λ left.
+pub returns-in_ok-entries-in-None-clause-means : goal.returns-in_ok-entries-in-None-clause-means
+returns-in_ok-entries-in-None-clause-means c = carried _ _ c.with_entries.result c.with_entries.ensures.means (λ step g left.
     let a = c.args in
     let n = a.node in
     let fs = a.frames.now.items in
@@ -56,7 +57,6 @@ returns-in_ok-step-in-None-clause-means c = λ left.
     let w2 = c.with_entries.new.typing in
     let ts = a.values.values in
     let ls = entries_of w.stage.store.types a.of in
-    let step = c.in_ok-step-in-None.step in
     let plan : Option (List TextId) → BodyPlan = λ ns. models.initialised ls (initials_in ns ts) a.of n.at n.source n.site in
     let all : List (Option Laid) → BodyPlan = λ es. models.into es ts n.at n.site [] [] (models.constructed a.of n.at n.source) in
     chosen fs fs2 (nat_lt widest (bytes_in w.stage a.of)) false (refuse TooWide n.at n.site) (plan a.values.names) w w2 left left step
@@ -70,10 +70,10 @@ returns-in_ok-step-in-None-clause-means c = λ left.
     (moved fs fs2 (all (models.in_order ls ts)) (all c.in_ok-entries-in-None.entries) w w w2 left left step
     (ap all (ap (models.in_order ls) (sym c.as_slice.ensures)
     ∙ ap (λ (v : TypingState). models.in_order (entries_of v.stage.store.types a.of) c.as_slice.result.now) (sym c.typing.view_is)
-    ∙ sym c.in_ok-entries-in-None.ensures)) refl (c.in_ok-step-in-None.ensures.means left))))
+    ∙ sym c.in_ok-entries-in-None.ensures)) refl (g left)))))
 
-pub returns-in_ok-step-in-Some-clause-means : goal.returns-in_ok-step-in-Some-clause-means
-returns-in_ok-step-in-Some-clause-means c = λ left.
+pub returns-in_ok-entries-in-Some-clause-means : goal.returns-in_ok-entries-in-Some-clause-means
+returns-in_ok-entries-in-Some-clause-means c = carried _ _ c.with_entries-in-Some.result c.with_entries-in-Some.ensures.means (λ step g left.
     let a = c.args in
     let n = a.node in
     let fs = a.frames.now.items in
@@ -82,7 +82,6 @@ returns-in_ok-step-in-Some-clause-means c = λ left.
     let w2 = c.with_entries-in-Some.new.typing in
     let ts = a.values.values in
     let ls = entries_of w.stage.store.types a.of in
-    let step = c.in_ok-step-in-Some.step in
     let names = c.in-Some.names in
     let plan : Option (List TextId) → BodyPlan = λ ns. models.initialised ls (initials_in ns ts) a.of n.at n.source n.site in
     let all : List (Option Laid) → BodyPlan = λ es. models.into es ts n.at n.site [] [] (models.constructed a.of n.at n.source) in
@@ -93,4 +92,4 @@ returns-in_ok-step-in-Some-clause-means c = λ left.
     (moved fs fs2 (all (models.by_name ls names)) (all c.in_ok-entries-in-Some.entries) w w w2 left left step
     (ap all (ap (models.by_name ls) (sym c.as_slice-in-Some.ensures)
     ∙ ap (λ (v : TypingState). models.by_name (entries_of v.stage.store.types a.of) c.as_slice-in-Some.result.now) (sym c.typing.view_is)
-    ∙ sym c.in_ok-entries-in-Some.ensures)) refl (c.in_ok-step-in-Some.ensures.means left)))
+    ∙ sym c.in_ok-entries-in-Some.ensures)) refl (g left))))

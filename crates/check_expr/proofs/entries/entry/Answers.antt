@@ -8,10 +8,11 @@ use Rattle.check_expr.specs.declared.frame.MadeFrame.TheVariants as of_made
 use Rattle.check_expr.specs.Frames.{with_made}
 use Rattle.check_expr.proofs.Behind.{behind_value}
 use Rattle.check_expr.proofs.Doing.{chosen}
+use Rattle.tl_base.proofs.Results.{carried}
 use Rattle.check_expr.proofs.entries.entry.Goals as goal
 
-pub returns-in_ok-step-2-clause-means : goal.returns-in_ok-step-2-clause-means
-returns-in_ok-step-2-clause-means c = λ left.
+pub returns-in_ok-push-clause-means : goal.returns-in_ok-push-clause-means
+returns-in_ok-push-clause-means c = carried _ _ c.as_value.result c.as_value.ensures.means (λ step g left.
     let a = c.args in
     let o = a.object in
     let l = a.laid in
@@ -19,7 +20,6 @@ returns-in_ok-step-2-clause-means c = λ left.
     let fs = a.frames.now.items in
     let fs2 = c.as_value.new.frames.items in
     let w = a.typing.now in
-    let step = c.in_ok-step-2.step in
     let behind : BodyPlan = as_value o n.site (with_made (of_made.Extract l n) o) in
     let placed : BodyPlan = gives n.source n.at l.of (te.Select l.offset o.id) in
     let within : BodyPlan = if o.is_place then placed else behind in
@@ -32,4 +32,4 @@ returns-in_ok-step-2-clause-means c = λ left.
     (chosen fs fs2 o.is_place false placed behind w w left left step c.if-object.false
     (behind_value fs c.push.new.self.items fs2 (of_made.Extract l n) o n.site w w left left step
     c.in_ok-push.ensures.items
-    (c.in_ok-step-2.ensures.means left)))
+    (g left))))

@@ -12,6 +12,7 @@ use Rattle.check_expr.specs.Callees.{callee_in, named_plan}
 use Rattle.check_expr.specs.declared.calls.Callee.{Callee}
 use Rattle.check_expr.proofs.Calling.{named_means, value_uncalled, others_called}
 use Rattle.check_expr.proofs.Doing.{moved, tails, pays, unpaid}
+use Rattle.tl_base.proofs.Results.{carried}
 use Rattle.check_expr.proofs.expressions.call.Goals as goal
 
 pub returns-in-Value-clause-means : goal.returns-in-Value-clause-means
@@ -64,7 +65,6 @@ returns c =
     let left = a.budget.now in
     let after = c.pay.new.self in
     let left2 = c.call_named.new.budget in
-    let step = c.in_ok-step-in_default.step in
     let x = expression_at w.stage a.f in
     let os = untyped a.arguments in
     let last = c.from_vec-operands-in_default.result in
@@ -74,7 +74,7 @@ returns c =
     let same = ap (λ (v : TypingState). callee_in (expression_at v.stage a.f)) (sym c.typing.view_is) ∙ sym
     c.callee_of.ensures in
     record {
-      means =
+      means = carried _ _ c.call_named.result c.call_named.ensures.means (λ step g.
           moved fs fs2 (plan (models.is_called x)) (plan true) w w w2 left left2 step
           (ap plan (others_called x (λ value. c.in_default.not-Value (sym same ∙ value)))) refl
           (pays fs fs2 1 call w w2 left after left2 step (grind (arith, c.if-not-pay.ensures.enough))
@@ -84,6 +84,6 @@ returns c =
           ∙ ap (λ (ts : List TermId). named c.callee_of.result (untyped ts)) (sym c.as_slice.ensures)
           ∙ ap (named c.callee_of.result) (sym c.in_ok-operands.ensures ∙ sym c.from_vec-operands-in_default.ensures))
           refl
-          c.in_ok-step-in_default.ensures.means));
-      kept = c.in_ok-step-in_default.ensures.kept;
+          g)));
+      kept = c.call_named.ensures.kept;
     }

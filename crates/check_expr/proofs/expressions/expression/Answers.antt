@@ -7,10 +7,11 @@ use Rattle.check_model.specs.Expressions as models
 use Rattle.check_model.specs.Plans.{BodyPlan}
 use Rattle.check_expr.proofs.Doing.{moved}
 use Rattle.check_expr.proofs.Expressing.{expresses}
+use Rattle.tl_base.proofs.Results.{carried}
 use Rattle.check_expr.proofs.expressions.expression.Goals as goal
 
-pub returns-in_ok-step-in-Let-clause-means : goal.returns-in_ok-step-in-Let-clause-means
-returns-in_ok-step-in-Let-clause-means c =
+pub returns-in_ok-statements-in-Let-clause-means : goal.returns-in_ok-statements-in-Let-clause-means
+returns-in_ok-statements-in-Let-clause-means c = carried _ _ c.block.result c.block.ensures.means (λ step g.
     let a = c.args in
     let at = c.in-Some-Expression.at in
     let m = c.in-Let in
@@ -19,7 +20,6 @@ returns-in_ok-step-in-Let-clause-means c =
     let w = a.typing.now in
     let w2 = c.block.new.typing in
     let left = a.budget.now in
-    let step = c.in_ok-step-in-Let.step in
     let copy = c.in_ok-statements-in-Let.statements in
     let count = c.count.result in
     let found : slice_get w.stage.store.terms a.term.0 ≡ Some (kinds.Expression at (e.Let m.statements m.value)) =
@@ -30,4 +30,4 @@ returns-in_ok-step-in-Let-clause-means c =
     (moved fs fs2 (plan (length w.variables) m.statements) (plan count copy) w w w2 left left step
     (ap (λ (k : ℕ). plan k m.statements) (sym counted)
     ∙ ap (plan count) (sym c.as_slice-in-Let.ensures ∙ sym c.in_ok-statements-in-Let.ensures)) refl
-    (c.in_ok-step-in-Let.ensures.means left))
+    (g left)))

@@ -5,10 +5,11 @@ use Rattle.terra_term.specs.declared.store.TerraGlobal.{TerraGlobal}
 use Rattle.check_model.specs.Expressions as models
 use Rattle.check_model.specs.Plans.{BodyPlan, refuse}
 use Rattle.check_expr.proofs.Doing.{moved}
+use Rattle.tl_base.proofs.Results.{carried}
 use Rattle.check_expr.proofs.expressions.global_variable.Goals as goal
 
-pub returns-in_ok-step-in-Some-clause-means : goal.returns-in_ok-step-in-Some-clause-means
-returns-in_ok-step-in-Some-clause-means c = λ left fs.
+pub returns-in-Some-clause-means : goal.returns-in-Some-clause-means
+returns-in-Some-clause-means c = carried _ _ c.gives.result c.gives.ensures.means (λ step g left fs.
     let a = c.args in
     let n = a.node in
     let w = a.typing.now in
@@ -16,8 +17,8 @@ returns-in_ok-step-in-Some-clause-means c = λ left fs.
     let plan : Option TerraGlobal → BodyPlan = λ g. models.global g n.at n.source n.site in
     moved fs fs (plan (slice_get w.stage.store.globals a.global.0)) (plan (Some c.in-Some.found)) w w c.gives.new.typing
     left left
-    c.in_ok-step-in-Some.step
-    (ap plan found) refl (c.in_ok-step-in-Some.ensures.means left fs)
+    step
+    (ap plan found) refl (g left fs))
 
 pub returns-in-None-clause-means : goal.returns-in-None-clause-means
 returns-in-None-clause-means c = λ left fs.

@@ -5,17 +5,18 @@ use Rattle.check_model.specs.Expressions as models
 use Rattle.check_model.specs.Plans.{BodyPlan, refuse}
 use Rattle.check_model.specs.Typing.{variable_at}
 use Rattle.check_expr.proofs.Doing.{moved}
+use Rattle.tl_base.proofs.Results.{carried}
 use Rattle.check_expr.proofs.expressions.variable.Goals as goal
 
-pub returns-in_ok-step-in-Some-clause-means : goal.returns-in_ok-step-in-Some-clause-means
-returns-in_ok-step-in-Some-clause-means c = λ left fs.
+pub returns-in-Some-clause-means : goal.returns-in-Some-clause-means
+returns-in-Some-clause-means c = carried _ _ c.gives.result c.gives.ensures.means (λ step g left fs.
     let a = c.args in
     let n = a.node in
     let w = a.typing.now in
     let plan : Option TypeId → BodyPlan = λ t. models.variable t a.symbol n.at n.source n.site in
     moved fs fs (plan (variable_at w n.site.base a.symbol)) (plan (Some c.in-Some.of)) w w c.gives.new.typing left left
-    c.in_ok-step-in-Some.step
-    (ap plan (sym c.variable.ensures ∙ c.in-Some.is)) refl (c.in_ok-step-in-Some.ensures.means left fs)
+    step
+    (ap plan (sym c.variable.ensures ∙ c.in-Some.is)) refl (g left fs))
 
 pub returns-in-None-clause-means : goal.returns-in-None-clause-means
 returns-in-None-clause-means c = λ left fs.

@@ -13,6 +13,7 @@ use Rattle.check_expr.specs.declared.functions.Definition.{Definition}
 use Rattle.check_expr.proofs.Behind.{behind_function}
 use Rattle.check_expr.proofs.Defining.{parts_mean}
 use Rattle.check_expr.proofs.Doing.{moved}
+use Rattle.tl_base.proofs.Results.{carried, on-ok}
 use Rattle.check_expr.proofs.functions.body.Goals as goal
 
 pub returns-in-None-clause-means : goal.returns-in-None-clause-means
@@ -43,8 +44,8 @@ returns-in-None-term-clause-means c =
     (c.refuse-in-None-term.ensures.means w left fs)
 
 -- the function's frame waits for the end of its body, which is typed in the world where it has begun
-pub returns-in_ok-step-in-Some-term-clause-means : goal.returns-in_ok-step-in-Some-term-clause-means
-returns-in_ok-step-in-Some-term-clause-means c =
+pub returns-in_ok-push-in-Some-term-clause-means : goal.returns-in_ok-push-in-Some-term-clause-means
+returns-in_ok-push-in-Some-term-clause-means c = carried _ _ c.defined.result c.defined.ensures.means (λ step it.
     let a = c.args in
     let g = c.in-Some.function in
     let t = c.in-Some-term.term in
@@ -56,7 +57,6 @@ returns-in_ok-step-in-Some-term-clause-means c =
     let w2 = c.defined.new.typing in
     let left = a.budget.now in
     let left2 = c.defined.new.budget in
-    let step = c.in_ok-step-in-Some-term.step in
     let n = c.count-base.result in
     let term = slice_get w.stage.store.terms t.0 in
     let plan : Option Function → BodyPlan = λ o. models.for_function w a.f o in
@@ -77,9 +77,9 @@ returns-in_ok-step-in-Some-term-clause-means c =
     (parts_mean term g.place (site n)
     ∙ ap parts (ap (λ (u : TypingState). parts_in (slice_get u.stage.store.terms t.0)) (sym c.typing.view_is)
     ∙ sym c.in_ok-definition-in-Some-term.ensures))
-    (sym c.begin.ensures.means) c.in_ok-step-in-Some-term.ensures.means)))
+    (sym c.begin.ensures.means) it))))
 
-pub returns-in_ok-step-in-Some-term-clause-kept : goal.returns-in_ok-step-in-Some-term-clause-kept
-returns-in_ok-step-in-Some-term-clause-kept c =
+pub returns-in_ok-push-in-Some-term-clause-kept : goal.returns-in_ok-push-in-Some-term-clause-kept
+returns-in_ok-push-in-Some-term-clause-kept c = on-ok c.defined.result c.defined.ensures.kept (λ g.
     keeps_then c.args.typing.now c.begin.new.typing c.defined.new.typing c.begin.ensures.kept
-    c.in_ok-step-in-Some-term.ensures.kept
+    g)

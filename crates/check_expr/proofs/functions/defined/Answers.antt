@@ -6,6 +6,7 @@ use Rattle.check_model.specs.Bodies as models
 use Rattle.check_model.specs.Expressions as expressions
 use Rattle.check_model.specs.Plans.{BodyPlan}
 use Rattle.check_expr.proofs.Doing.{pays, unpaid}
+use Rattle.tl_base.proofs.Results.{carried}
 use Rattle.check_expr.proofs.functions.defined.Goals as goal
 
 pub returns-in-None-clause-means : goal.returns-in-None-clause-means
@@ -24,8 +25,8 @@ returns-then-not-pay-clause-means c =
     c.pay.new.self
     c.if-not-pay.ensures.short c.if-not-pay.ensures.refused)
 
-pub returns-in_ok-step-in-Some-clause-means : goal.returns-in_ok-step-in-Some-clause-means
-returns-in_ok-step-in-Some-clause-means c =
+pub returns-else-not-pay-clause-means : goal.returns-else-not-pay-clause-means
+returns-else-not-pay-clause-means c = carried _ _ c.parameters_left.result c.parameters_left.ensures.means (λ step g.
     let a = c.args in
     let m = c.in-Some.field-0 in
     let site : Site = record a.site { result = m.written } in
@@ -34,5 +35,5 @@ returns-in_ok-step-in-Some-clause-means c =
     a.at a.site) in
     rw c.in-Some.is (pays a.frames.now.items c.parameters_left.new.frames.items 1
     (models.parameters m.parameters site body) a.typing.now
-    c.parameters_left.new.typing a.budget.now c.pay.new.self c.parameters_left.new.budget c.in_ok-step-in-Some.step
-    (grind (arith, c.if-not-pay.ensures.enough)) c.if-not-pay.ensures.paid c.in_ok-step-in-Some.ensures.means)
+    c.parameters_left.new.typing a.budget.now c.pay.new.self c.parameters_left.new.budget step
+    (grind (arith, c.if-not-pay.ensures.enough)) c.if-not-pay.ensures.paid g))

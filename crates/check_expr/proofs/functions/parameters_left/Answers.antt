@@ -12,10 +12,11 @@ use Rattle.check_model.specs.Plans.{BodyPlan, refuse, laid_out}
 use Rattle.check_model.specs.Statements.{may_be}
 use Rattle.check_model.specs.Typing.{TypingState, with_variable}
 use Rattle.check_expr.proofs.Doing.{moved, chosen, pays, unpaid}
+use Rattle.tl_base.proofs.Results.{carried}
 use Rattle.check_expr.proofs.functions.parameters_left.Goals as goal
 
-pub returns-in_ok-step-in-None-clause-means : goal.returns-in_ok-step-in-None-clause-means
-returns-in_ok-step-in-None-clause-means c =
+pub returns-in-None-clause-means : goal.returns-in-None-clause-means
+returns-in-None-clause-means c = carried _ _ c.block.result c.block.ensures.means (λ step g.
     let a = c.args in
     let f = a.frame in
     let fs = a.frames.now.items in
@@ -26,8 +27,8 @@ returns-in_ok-step-in-None-clause-means c =
     f.at f.site) in
     let plan : List Parameter → BodyPlan = λ ps. models.parameters ps f.site body in
     moved fs c.block.new.frames.items (plan f.parameters) body w w c.block.new.typing left left
-    c.in_ok-step-in-None.step
-    (ap plan c.in-None.ensures) refl (c.in_ok-step-in-None.ensures.means left)
+    step
+    (ap plan c.in-None.ensures) refl (g left))
 
 pub returns-then-not-pay-clause-means : goal.returns-then-not-pay-clause-means
 returns-then-not-pay-clause-means c =
@@ -75,8 +76,8 @@ returns-then-is_function-clause-means c =
     ∙ c.if-is_function.true)
     (c.refuse.ensures.means w after fs)))
 
-pub returns-in_ok-step-in-Some-clause-means : goal.returns-in_ok-step-in-Some-clause-means
-returns-in_ok-step-in-Some-clause-means c =
+pub returns-else-is_function-clause-means : goal.returns-else-is_function-clause-means
+returns-else-is_function-clause-means c = carried _ _ c.lay_out.result c.lay_out.ensures.means (λ step g.
     let a = c.args in
     let f = a.frame in
     let p = c.in-Some.parameter in
@@ -86,7 +87,6 @@ returns-in_ok-step-in-Some-clause-means c =
     let w = a.typing.now in
     let left = a.budget.now in
     let after = c.pay.new.self in
-    let step = c.in_ok-step-in-Some.step in
     let body : BodyPlan =
     expressions.statements f.body f.site [] (λ typed found. models.made_function f.named (unwrap_or found unit) typed
     f.at f.site) in
@@ -102,4 +102,4 @@ returns-in_ok-step-in-Some-clause-means c =
     (ap (λ (v : TypingState). layouts.is_function v.stage.store.types p.of) (sym c.typing.view_is) ∙ sym
     c.is_function.ensures
     ∙ c.if-is_function.false)
-    (c.in_ok-step-in-Some.ensures.means after)))
+    (g after))))

@@ -6,10 +6,11 @@ use Rattle.check_model.specs.Plans.{BodyPlan, refuse}
 use Rattle.check_model.specs.Typing.{TypingState, form_in}
 use Rattle.check_expr.specs.Frames as waiting
 use Rattle.check_expr.proofs.Doing.{moved, chosen}
+use Rattle.tl_base.proofs.Results.{carried}
 use Rattle.check_expr.proofs.loops.bound.Goals as goal
 
-pub returns-in_ok-step-clause-means : goal.returns-in_ok-step-clause-means
-returns-in_ok-step-clause-means c = λ left.
+pub returns-in_ok-push-clause-means : goal.returns-in_ok-push-clause-means
+returns-in_ok-push-clause-means c = carried _ _ c.bounds_left.result c.bounds_left.ensures.means (λ step g left.
     let a = c.args in
     let f = a.frame in
     let m = a.made in
@@ -17,7 +18,6 @@ returns-in_ok-step-clause-means c = λ left.
     let fs2 = c.bounds_left.new.frames.items in
     let w = a.typing.now in
     let w2 = c.bounds_left.new.typing in
-    let step = c.in_ok-step.step in
     let plan : List Made → BodyPlan = λ ms. waiting.bounds_from f ms in
     chosen fs fs2 (integer_form (form_in w.stage m.of)) true (plan (f.made ++ m ∷ [])) (refuse BadOperand m.at f.site)
     w w2 left left step
@@ -25,7 +25,7 @@ returns-in_ok-step-clause-means c = λ left.
     ∙ c.if-is_integer.true)
     (moved fs fs2 (plan (f.made ++ m ∷ [])) (plan c.push.new.self) w w w2 left left step
     (ap plan (sym c.in_ok-push.ensures.ok)) refl
-    (c.in_ok-step.ensures.means left))
+    (g left)))
 
 pub returns-else-is_integer-clause-means : goal.returns-else-is_integer-clause-means
 returns-else-is_integer-clause-means c = λ left.

@@ -12,6 +12,7 @@ use Rattle.check_expr.specs.declared.frame.BodyFrame.TheVariants as frames
 use Rattle.check_expr.specs.declared.frame.DoingFrame.TheVariants as of_doing
 use Rattle.check_expr.specs.Frames as waiting
 use Rattle.check_expr.proofs.Doing.{moved, enters}
+use Rattle.tl_base.proofs.Results.{carried}
 use Rattle.check_expr.proofs.loops.bounds_left.Goals as goal
 
 pub returns-in_ok-push-in-Some-clause-means : goal.returns-in_ok-push-in-Some-clause-means
@@ -31,15 +32,14 @@ returns-in_ok-push-in-Some-clause-means c = λ left.
     (enters fs fs2 (frames.Doing (of_doing.Bound (record f { bounds = rest }))) job w left
     c.in_ok-push-in-Some.ensures.items)
 
-pub returns-in_ok-step-in-None-clause-means : goal.returns-in_ok-step-in-None-clause-means
-returns-in_ok-step-in-None-clause-means c = λ left.
+pub returns-in-None-clause-means : goal.returns-in-None-clause-means
+returns-in-None-clause-means c = carried _ _ c.conversions_left.result c.conversions_left.ensures.means (λ step g left.
     let a = c.args in
     let f = a.frame in
     let fs = a.frames.now.items in
     let fs2 = c.conversions_left.new.frames.items in
     let w = a.typing.now in
     let w2 = c.conversions_left.new.typing in
-    let step = c.in_ok-step-in-None.step in
     let of = c.meet_of-of.result in
     let rest = c.from_list.result in
     let go : List Made → BodyPlan =
@@ -53,4 +53,4 @@ returns-in_ok-step-in-None-clause-means c = λ left.
     (ap (λ (v : TypingState). models.meet_of v.stage f.made) (sym c.typing.view_is)
     ∙ ap (models.meet_of (the_view c.typing.inside).stage) (sym c.as_slice.ensures) ∙ sym c.meet_of-of.ensures)
     ∙ ap (λ (ms : List Made). all of ms []) (sym c.from_list.ensures) ∙ ap (all of rest) (sym c.new.ensures)) refl
-    (c.in_ok-step-in-None.ensures.means left))
+    (g left)))

@@ -6,10 +6,11 @@ use Rattle.check_model.specs.Statements as models
 use Rattle.check_expr.specs.declared.frame.BlockThen.TheVariants as of_block
 use Rattle.check_expr.specs.Frames as waiting
 use Rattle.check_expr.proofs.Doing.{moved}
+use Rattle.tl_base.proofs.Results.{carried}
 use Rattle.check_expr.proofs.loops.repeat_loop.Goals as goal
 
 pub returns-clause-means : goal.returns-clause-means
-returns-clause-means c = λ left.
+returns-clause-means c = carried _ _ c.block.result c.block.ensures.means (λ step g left.
     let a = c.args in
     let w = a.typing.now in
     let n = c.count.result in
@@ -18,6 +19,6 @@ returns-clause-means c = λ left.
     expressions.statements a.body site [] (λ ids last. waiting.block_then (of_block.Repeat count a.test a.at a.site)
     ids last) in
     moved a.frames.now.items c.block.new.frames.items (plan inner (length w.variables)) (plan c.in_loop.result n) w w
-    c.block.new.typing left left c.in_ok-step.step
+    c.block.new.typing left left step
     (ap (plan inner) (sym c.count.ensures) ∙ ap (λ (site : Site). plan site n) (sym c.in_loop.ensures)) refl
-    (c.in_ok-step.ensures.means left)
+    (g left))

@@ -9,17 +9,17 @@ use Rattle.check_model.specs.Plans.{BodyPlan, leaving, states}
 use Rattle.check_model.specs.Statements as models
 use Rattle.check_expr.proofs.Conditions.{as_bool}
 use Rattle.check_expr.proofs.Doing.{moved}
+use Rattle.tl_base.proofs.Results.{carried}
 use Rattle.check_expr.proofs.loops.while_block.Goals as goal
 
 pub returns-clause-means : goal.returns-clause-means
-returns-clause-means c = λ left.
+returns-clause-means c = carried _ _ c.block.result c.block.ensures.means (λ step g left.
     let a = c.args in
     let m = a.made in
     let fs = a.frames.now.items in
     let fs2 = c.block.new.frames.items in
     let w = a.typing.now in
     let w2 = c.block.new.typing in
-    let step = c.in_ok-step.step in
     let n = c.count.result in
     let plan : Site → ℕ → BodyPlan = λ site count.
     expressions.statements a.body site [] (λ ids last. leaving count (states a.at (ts.While m.id ids) last)) in
@@ -31,4 +31,4 @@ returns-clause-means c = λ left.
     (moved fs fs2 first (plan c.in_loop.result n) w w w2 left left step
     (ap (plan (models.in_loop a.site)) (sym c.count.ensures) ∙ ap (λ (site : Site). plan site n)
     (sym c.in_loop.ensures)) refl
-    (c.in_ok-step.ensures.means left))
+    (g left)))

@@ -10,11 +10,12 @@ use Rattle.check_model.specs.Typing.{TypingState}
 use Rattle.check_expr.specs.Asking.{with_method}
 use Rattle.check_expr.specs.Steps.{with_stage}
 use Rattle.check_expr.proofs.Doing.{moved}
+use Rattle.tl_base.proofs.Results.{carried}
 use Rattle.check_expr.proofs.methods.find_method.Goals as goal
 
 -- the method that stands in the struct's methods
-pub returns-in_ok-step-clause-means : goal.returns-in_ok-step-clause-means
-returns-in_ok-step-clause-means c =
+pub returns-then-is_nil-clause-means : goal.returns-then-is_nil-clause-means
+returns-then-is_nil-clause-means c = carried _ _ c.given_method.result c.given_method.ensures.means (λ step g.
     let a = c.args in
     let n = a.node in
     let fs = a.frames.now.items in
@@ -26,7 +27,6 @@ returns-in_ok-step-clause-means c =
     let left2 = c.given_method.new.budget in
     let h = c.metamethod-handler.result in
     let v = c.method-own.result in
-    let step = c.in_ok-step.step in
     let go : Value → BodyPlan = λ x. models.call_method x a.of a.object a.name a.arguments n.at n.source n.site in
     let found : Bool → Value → Value → BodyPlan = λ b x y.
     if b then models.settling a.of a.name (known.Value y) (go y) else models.asked_method x a.of a.name n.at n.site go in
@@ -37,10 +37,10 @@ returns-in_ok-step-clause-means c =
     ∙ ap (plan h) (ap (λ (u : TypingState). method_at u.stage a.of a.name) (sym c.typing.view_is) ∙ sym c.method-own.ensures)) refl
     (moved fs fs2 (found (is_nil h) h v) (found true h v) (with_stage w (with_method w.stage a.of a.name known.Asked)) w2 w3 left left2 step
     (ap (λ (b : Bool). found b h v) (sym c.is_nil.ensures.value ∙ c.if-is_nil.true)) (sym c.in_ok-begin_method.ensures.ok)
-    c.in_ok-step.ensures.means)
+    g))
 
-pub returns-in_ok-step-2-clause-means : goal.returns-in_ok-step-2-clause-means
-returns-in_ok-step-2-clause-means c =
+pub returns-else-is_nil-clause-means : goal.returns-else-is_nil-clause-means
+returns-else-is_nil-clause-means c = carried _ _ c.ask_method.result c.ask_method.ensures.means (λ step g.
     let a = c.args in
     let n = a.node in
     let fs = a.frames.now.items in
@@ -50,7 +50,6 @@ returns-in_ok-step-2-clause-means c =
     let left = a.budget.now in
     let h = c.metamethod-handler.result in
     let v = c.method-own.result in
-    let step = c.in_ok-step-2.step in
     let go : Value → BodyPlan = λ x. models.call_method x a.of a.object a.name a.arguments n.at n.source n.site in
     let found : Bool → Value → Value → BodyPlan = λ b x y.
     if b then models.settling a.of a.name (known.Value y) (go y) else models.asked_method x a.of a.name n.at n.site go in
@@ -61,4 +60,4 @@ returns-in_ok-step-2-clause-means c =
     ∙ ap (plan h) (ap (λ (u : TypingState). method_at u.stage a.of a.name) (sym c.typing.view_is) ∙ sym c.method-own.ensures)) refl
     (moved fs fs2 (found (is_nil h) h v) (found false h v) (with_stage w (with_method w.stage a.of a.name known.Asked)) w2 w2 left left step
     (ap (λ (b : Bool). found b h v) (sym c.is_nil.ensures.value ∙ c.if-is_nil.false)) (sym c.in_ok-begin_method.ensures.ok)
-    (c.in_ok-step-2.ensures.means w2 left))
+    (g w2 left)))

@@ -12,10 +12,11 @@ use Rattle.check_model.specs.Structs.{metamethod}
 use Rattle.check_model.specs.Typing.{TypingState}
 use Rattle.check_expr.proofs.Answering.{quotes_then}
 use Rattle.check_expr.proofs.Doing.{moved, chosen}
+use Rattle.tl_base.proofs.Results.{carried}
 use Rattle.check_expr.proofs.methods.missing.Goals as goal
 
 pub returns-clause-means : goal.returns-clause-means
-returns-clause-means c = λ left.
+returns-clause-means c = carried _ _ c.quotes_left.result c.quotes_left.ensures.means (λ step g left.
     let a = c.args in
     let n = a.node in
     let fs = a.frames.now.items in
@@ -25,7 +26,6 @@ returns-clause-means c = λ left.
     let h = c.metamethod-handler.result in
     let q = c.in_ok-object.object in
     let os = c.from_vec.result in
-    let step = c.in_ok-step.step in
     let plan : Value → BodyPlan = λ x. models.missing_method x a.object a.name a.arguments n.at n.site in
     let behind : List Operand → List Value → BodyPlan = λ xs vs.
     quotes_of xs n.site vs (λ given. calling h given n.at n.site (λ v. in_place v n.at n.site give)) in
@@ -41,4 +41,4 @@ returns-clause-means c = λ left.
     (ap (λ (ts : List TermId). behind (untyped ts) two) (sym c.as_slice.ensures)
     ∙ ap (λ (xs : List Operand). behind xs two) (sym c.in_ok-operands.ensures ∙ sym c.from_vec.ensures)
     ∙ ap (behind os) (sym c.in_ok-two_values.ensures)) refl
-    (c.in_ok-step.ensures.means w2 left))))
+    (g w2 left)))))

@@ -1,7 +1,8 @@
 use Rattle.check_model.specs.contracts.typing.Typing.{the_view}
 use Rattle.check_expr.proofs.Worlds.{stage_kept}
+use Rattle.tl_base.proofs.Results.{on-ok}
 use Rattle.check_expr.proofs.nodes.new_node.Goals as goal
 
 pub returns-clause-kept : goal.returns-clause-kept
-returns-clause-kept c = stage_kept c.args.typing.now (the_view c.typing.inside) _ c.typing.view_is
-    c.in_ok-id.ensures.kept
+returns-clause-kept c = on-ok c.add_node.result c.add_node.ensures.kept (λ g. stage_kept c.args.typing.now (the_view c.typing.inside) _ c.typing.view_is
+    g)

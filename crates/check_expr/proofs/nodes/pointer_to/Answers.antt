@@ -1,9 +1,10 @@
 use Rattle.check_model.specs.contracts.typing.Typing.{the_view}
 use Rattle.check_expr.proofs.Typing.{keeps_pointer}
 use Rattle.check_expr.proofs.Worlds.{stage_kept}
+use Rattle.tl_base.proofs.Results.{on-ok}
 use Rattle.check_expr.proofs.nodes.pointer_to.Goals as goal
 
 pub returns-clause-kept : goal.returns-clause-kept
-returns-clause-kept c =
+returns-clause-kept c = on-ok c.pointer_to.result c.pointer_to.ensures.ok (λ g.
     stage_kept c.args.typing.now (the_view c.typing.inside) _ c.typing.view_is
-    (rw c.in_ok-id.ensures.ok (keeps_pointer _ _))
+    (rw g (keeps_pointer _ _)))

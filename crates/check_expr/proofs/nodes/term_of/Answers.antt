@@ -1,9 +1,10 @@
 use Rattle.check_model.specs.contracts.typing.Typing.{the_view}
 use Rattle.check_expr.proofs.Becoming.{keeps_became}
 use Rattle.check_expr.proofs.Worlds.{stage_kept}
+use Rattle.tl_base.proofs.Results.{on-ok}
 use Rattle.check_expr.proofs.nodes.term_of.Goals as goal
 
 pub returns-clause-kept : goal.returns-clause-kept
-returns-clause-kept c =
+returns-clause-kept c = on-ok c.term_of.result c.term_of.ensures.ok (λ g.
     stage_kept c.args.typing.now (the_view c.typing.inside) _ c.typing.view_is
-    (rw c.in_ok-became.ensures.ok (keeps_became _ _ _))
+    (rw g (keeps_became _ _ _)))

@@ -8,6 +8,7 @@ use Rattle.check_model.specs.Statements as models
 use Rattle.check_model.specs.Typing.{TypingState}
 use Rattle.check_expr.specs.Frames as waiting
 use Rattle.check_expr.proofs.Doing.{moved, chosen, does_as}
+use Rattle.tl_base.proofs.Results.{carried}
 use Rattle.check_expr.proofs.variables.name_for.Goals as goal
 
 pub returns-in-None-clause-means : goal.returns-in-None-clause-means
@@ -39,8 +40,8 @@ returns-then-is_function-clause-means c = λ left.
     ∙ c.if-is_function.true)
     (c.refuse-then-is_function.ensures.means w left fs))
 
-pub returns-in_ok-step-in-Some-clause-means : goal.returns-in_ok-step-in-Some-clause-means
-returns-in_ok-step-in-Some-clause-means c = λ left.
+pub returns-else-is_function-clause-means : goal.returns-else-is_function-clause-means
+returns-else-is_function-clause-means c = carried _ _ c.lay_out.result c.lay_out.ensures.means (λ step g left.
     let a = c.args in
     let f = a.frame in
     let n = a.name in
@@ -48,7 +49,6 @@ returns-in_ok-step-in-Some-clause-means c = λ left.
     let fs = a.frames.now.items in
     let fs2 = c.lay_out.new.frames.items in
     let w = a.typing.now in
-    let step = c.in_ok-step-in-Some.step in
     let go : TypedName → BodyPlan = λ one. waiting.names_from f (f.named ++ one ∷ []) in
     let typed : TypedName = record { symbol = n.symbol; of = s.of } in
     moved fs fs2 (models.name_for n.of n f.at f.site go) (models.name_for (Some s.of) n f.at f.site go) w w w left left step
@@ -57,4 +57,4 @@ returns-in_ok-step-in-Some-clause-means c = λ left.
     (laid_out s.of n.place f.site (go typed)) w w left left step
     (ap (λ (v : TypingState). layouts.is_function v.stage.store.types s.of) (sym c.typing.view_is) ∙ sym c.is_function.ensures
     ∙ c.if-is_function.false)
-    (c.in_ok-step-in-Some.ensures.means left))
+    (g left)))

@@ -8,10 +8,11 @@ use Rattle.check_model.specs.Statements as models
 use Rattle.check_expr.specs.declared.frame.BodyFrame.TheVariants as frames
 use Rattle.check_expr.specs.declared.frame.DoingFrame.TheVariants as of_doing
 use Rattle.check_expr.proofs.Doing.{moved, enters}
+use Rattle.tl_base.proofs.Results.{carried}
 use Rattle.check_expr.proofs.variables.value_left.Goals as goal
 
-pub returns-in_ok-step-in-None-clause-means : goal.returns-in_ok-step-in-None-clause-means
-returns-in_ok-step-in-None-clause-means c =
+pub returns-in-None-clause-means : goal.returns-in-None-clause-means
+returns-in-None-clause-means c = carried _ _ c.declare.result c.declare.ensures.means (λ step g.
     let a = c.args in
     let f = a.frame in
     let fs = a.frames.now.items in
@@ -19,7 +20,7 @@ returns-in_ok-step-in-None-clause-means c =
     let go : List VarName → List TermId → BodyPlan = λ names all. models.declaring names all f.at f.site in
     let plan : List TermId → BodyPlan = λ ts. models.values_for (a.name ∷ f.names) ts f.site f.typed f.ids go in
     moved fs c.declare.new.frames.items (plan f.values) (go f.typed f.ids) w w c.declare.new.typing a.budget.now c.declare.new.budget
-    c.in_ok-step-in-None.step (ap plan c.in-None.ensures) refl c.in_ok-step-in-None.ensures.means
+    step (ap plan c.in-None.ensures) refl g)
 
 pub returns-in_ok-push-in-Some-clause-means : goal.returns-in_ok-push-in-Some-clause-means
 returns-in_ok-push-in-Some-clause-means c =

@@ -5,11 +5,12 @@ use Rattle.check_expr.specs.declared.frame.BodyFrame.TheVariants as frames
 use Rattle.check_expr.specs.declared.frame.MadeFrame.TheVariants as of_made
 use Rattle.check_expr.specs.Frames.{after}
 use Rattle.check_expr.proofs.Doing.{jobs, below}
+use Rattle.tl_base.proofs.Results.{carried}
 use Rattle.check_expr.proofs.machine.StepsMachine.begin.Goals as goal
 
 -- what is called is typed below the frame that waits for it
-pub returns-in_ok-step-in-Callee-clause-means : goal.returns-in_ok-step-in-Callee-clause-means
-returns-in_ok-step-in-Callee-clause-means c =
+pub returns-in_ok-push-in-Callee-clause-means : goal.returns-in_ok-push-in-Callee-clause-means
+returns-in_ok-push-in-Callee-clause-means c = carried _ _ c.expression-in-Callee.result c.expression-in-Callee.ensures.means (λ step g.
     let a = c.args in
     let m = c.in-Callee in
     let f = frames.Made (of_made.Callee m.operands m.at m.source m.site) in
@@ -17,6 +18,6 @@ returns-in_ok-step-in-Callee-clause-means c =
     rw m.is (below a.frames.now.items c.push.new.self.items c.expression-in-Callee.new.frames.items f
     (then_on q (λ r. after f r)) q
     a.world.now c.expression-in-Callee.new.typing a.budget.now c.expression-in-Callee.new.budget
-    c.in_ok-step-in-Callee.step
+    step
     (λ s later. run_then_on jobs q (λ r. after f r) s later) c.in_ok-push-in-Callee.ensures.items
-    c.in_ok-step-in-Callee.ensures.means)
+    g))
