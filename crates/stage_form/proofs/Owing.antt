@@ -97,18 +97,19 @@ module _ {L W Q A E : Type 0} (stage : Stage W Q A E) (begins : Q → W → Type
       AllOwe stage begins leaves rest fits follows keeps q0 w0 ls q w t
   owe-on keeps_on q0 w0 [] q w s t k p a = a
   owe-on keeps_on q0 w0 (l ∷ ls) q w s t k p a =
-      let o = a.0.waits in
-      (record {
-        waits = record {
-          question = o.question;
-          asked = o.asked;
-          fits_next = o.fits_next;
-          kept = keeps_on o.asked.world s.world t.world o.kept k;
-          paid = omega (arith, o.paid, p);
-        };
-        held = a.0.held;
-      },
-      owe-on keeps_on o.question o.asked.world ls q w s t k p a.1)
+      let o = a.0.waits in (
+        record {
+          waits = record {
+            question = o.question;
+            asked = o.asked;
+            fits_next = o.fits_next;
+            kept = keeps_on o.asked.world s.world t.world o.kept k;
+            paid = omega (arith, o.paid, p);
+          };
+          held = a.0.held;
+        },
+        owe-on keeps_on o.question o.asked.world ls q w s t k p a.1,
+      )
 
   -- a layer that begins
   pub begins-held : LayersHold stage begins leaves → (q : Q) (s : State W) (l : L) → begins q s.world →
