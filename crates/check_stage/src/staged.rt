@@ -370,6 +370,7 @@ impl<'a> CheckStage<'a> {
 impl<'a> Stages for CheckStage<'a> {
     ghost use Rattle.stage_library.proofs.Keeping.{keeps_itself, keeps_then};
     ghost use Rattle.check_stage.specs.Layers.{check_stage, ends_follow};
+    ghost use Rattle.check_stage.proofs.Holding.{nothing_held};
 
     type World = Typing;
 
@@ -383,7 +384,13 @@ impl<'a> Stages for CheckStage<'a> {
 
     ghost stage = { λ stages. check_stage (items_of stages.inner.tree.now) };
 
-    ghost ends_follow = { λ stages question asked now end kept paid. ends_follow end };
+    ghost begins = { λ stages question w. Unit {0} };
+
+    ghost leaves = { λ stages question w end v. Unit {0} };
+
+    ghost layers_hold = { λ stages. nothing_held (check_stage (items_of stages.inner.tree.now)) };
+
+    ghost ends_follow = { λ stages question asked now end kept paid left. ends_follow end };
 
     ghost keeps_self = { λ w. keeps_itself w.stage };
 

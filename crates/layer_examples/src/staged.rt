@@ -132,6 +132,7 @@ pub struct Examples<'a> {
 impl<'a> Stages for Examples<'a> {
     ghost use Rattle.layer_examples.specs.Kept.{keeps_world_self, keeps_world_on};
     ghost use Rattle.layer_examples.specs.Staged.{example_stage, ends_follow};
+    ghost use Rattle.layer_examples.proofs.Holding.{nothing_held};
 
     type World = World;
 
@@ -145,7 +146,13 @@ impl<'a> Stages for Examples<'a> {
 
     ghost stage = { λ stages. example_stage stages.table.now };
 
-    ghost ends_follow = { λ stages question asked now end kept paid. ends_follow end };
+    ghost begins = { λ stages question w. Unit {0} };
+
+    ghost leaves = { λ stages question w end v. Unit {0} };
+
+    ghost layers_hold = { λ stages. nothing_held (example_stage stages.table.now) };
+
+    ghost ends_follow = { λ stages question asked now end kept paid left. ends_follow end };
 
     ghost keeps_self = { keeps_world_self };
 

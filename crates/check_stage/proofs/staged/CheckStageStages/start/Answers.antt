@@ -22,7 +22,7 @@ returns-in-Stage-clause-means c = λ first later.
     (task_meaning (items_of c.args.self.now.inner.tree.now) c.in-Stage.task) c.start.ensures.means first later)
 
 pub returns-in-Stage-clause-fits : goal.returns-in-Stage-clause-fits
-returns-in-Stage-clause-fits c = λ s. c.start.ensures.fits (state s.world.stage s.left)
+returns-in-Stage-clause-fits c = λ s begins. c.start.ensures.fits (state s.world.stage s.left)
 
 pub returns-in-Check-clause-means : goal.returns-in-Check-clause-means
 returns-in-Check-clause-means c = λ first later.
@@ -30,7 +30,7 @@ returns-in-Check-clause-means c = λ first later.
     (within_same check_fitting (check_rest c.start-in-Check.result) (check c.in-Check.f) c.start-in-Check.ensures.means first later)
 
 pub returns-in-Check-clause-fits : goal.returns-in-Check-clause-fits
-returns-in-Check-clause-fits c = λ s. c.start-in-Check.ensures.fits (given_part check_fitting (at Go s)) refl
+returns-in-Check-clause-fits c = λ s begins. c.start-in-Check.ensures.fits (given_part check_fitting (at Go s)) refl
 
 pub returns-in-Body-clause-means : goal.returns-in-Body-clause-means
 returns-in-Body-clause-means c = λ first later.
@@ -38,7 +38,7 @@ returns-in-Body-clause-means c = λ first later.
     (within_same body_fitting (body_rest c.start-in-Body.result) (body c.in-Body.f) c.start-in-Body.ensures.means first later)
 
 pub returns-in-Body-clause-fits : goal.returns-in-Body-clause-fits
-returns-in-Body-clause-fits c = λ s. c.start-in-Body.ensures.fits (given_part body_fitting (at Go s)) refl
+returns-in-Body-clause-fits c = λ s begins. c.start-in-Body.ensures.fits (given_part body_fitting (at Go s)) refl
 
 pub returns-in-Layout-clause-means : goal.returns-in-Layout-clause-means
 returns-in-Layout-clause-means c = λ first later.
@@ -47,7 +47,7 @@ returns-in-Layout-clause-means c = λ first later.
     (layout (record { of = c.in-Layout.of; at = c.in-Layout.at })) c.start-in-Layout.ensures.means first later)
 
 pub returns-in-Layout-clause-fits : goal.returns-in-Layout-clause-fits
-returns-in-Layout-clause-fits c = λ s. c.start-in-Layout.ensures.fits (given_part layout_fitting (at Go s)) refl
+returns-in-Layout-clause-fits c = λ s begins. c.start-in-Layout.ensures.fits (given_part layout_fitting (at Go s)) refl
 
 -- what asks is to begin
 pub returns-in-Call-clause-means : goal.returns-in-Call-clause-means

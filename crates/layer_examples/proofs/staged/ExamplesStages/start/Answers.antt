@@ -25,10 +25,10 @@ returns-in-Add-clause-means c = λ first later.
 
 -- each layer begins with `Go`
 pub returns-in-SumUp-clause-fits : goal.returns-in-SumUp-clause-fits
-returns-in-SumUp-clause-fits c = λ s. c.start.ensures.fits (at Go s) refl
+returns-in-SumUp-clause-fits c = λ s begins. c.start.ensures.fits (at Go s) refl
 
 pub returns-in-Descend-clause-fits : goal.returns-in-Descend-clause-fits
-returns-in-Descend-clause-fits c = λ s. c.start-in-Descend.ensures.fits (at Go s) refl
+returns-in-Descend-clause-fits c = λ s begins. c.start-in-Descend.ensures.fits (at Go s) refl
 
 pub returns-in-Add-clause-fits : goal.returns-in-Add-clause-fits
-returns-in-Add-clause-fits c = λ s. c.start-in-Add.ensures.fits (at SumGo (state s.world.given s.left)) refl
+returns-in-Add-clause-fits c = λ s begins. c.start-in-Add.ensures.fits (at SumGo (state s.world.given s.left)) refl
