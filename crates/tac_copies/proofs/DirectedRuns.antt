@@ -190,6 +190,7 @@ put-both temps olds x t v u e n =
 takes-at : (d : Destination) (v : Value) (a : Activation) → (takes d v a).at ≡ a.at
 takes-at (destinations.Temp t) v a = refl
 takes-at (destinations.Area n) v a = refl
+takes-at destinations.Nothing v a = refl
 
 takes_all-at : (ds : List Destination) (vs : List Value) (a : Activation) → (takes_all ds vs a).at ≡ a.at
 takes_all-at [] vs a = refl
@@ -250,6 +251,8 @@ module _ (p q : Program) (made : HasBlocks directed_blocks p q) (r : Run) where
     takes-follows (destinations.Area m) v a other words cs ds f w =
         ih (record s { here = takes (destinations.Area m) v a; callers = cs }) other words ds
         (record { here = record { words = f.words; stands = f.stands }; others = w })
+    takes-follows destinations.Nothing v a other words cs ds f w =
+        ih (record s { here = a; callers = cs }) other words ds (record { here = f; others = w })
 
     backs : (v : Value) (c d : Caller) (cs ds : List Caller) → Waits p c d → Paired (Waits p) cs ds →
         Answered n (Goes (back v c cs s)) (Goes (back v d ds new))

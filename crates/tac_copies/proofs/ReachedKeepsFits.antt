@@ -97,10 +97,10 @@ module _ (code : Tac) where
       let p = and_parts (operand_fits code a && edge_fits code e) (edge_fits code f) h in
       let q = and_parts (operand_fits code a) (edge_fits code e) p.0 in
       and_from (operand_fits new a && edge_fits new e) (edge_fits new f)
-      (and_from (operand_fits new a) (edge_fits new e) (same-operand code code.parameters kept a ∙ q.0)
+      (and_from (operand_fits new a) (edge_fits new e) (same-operand code code.counts code.parameters kept a ∙ q.0)
       (edge-new e q.1 (on e.block (own e.block (f.block ∷ [])))))
       (edge-new f p.1 (on f.block (or_right (nat_eq e.block f.block) (has (f.block ∷ []) f.block) (own f.block []))))
-  exit-new (Return v) on h = same-part code code.parameters kept v ∙ h
+  exit-new (Return v) on h = same-part code code.counts code.parameters kept v ∙ h
   exit-new (Fail kind at) on h = h
 
   block-new : (b : Block) → ((n : ℕ) → leads_to b n ≡ true → is_reached code n ≡ true) → block_fits code b ≡ true →
@@ -108,7 +108,7 @@ module _ (code : Tac) where
   block-new b on h =
       let p = and_parts (list_all (instruction_fits code) b.instructions) (exit_fits code b.exit) h in
       and_from (list_all (instruction_fits new) b.instructions) (exit_fits new b.exit)
-      (ap (λ f. list_all f b.instructions) (fun_ext (same-instruction code code.parameters kept)) ∙ p.0) (exit-new b.exit on p.1)
+      (ap (λ f. list_all f b.instructions) (fun_ext (same-instruction code code.counts code.parameters kept)) ∙ p.0) (exit-new b.exit on p.1)
 
   passed-new : (c : ℕ) → c < up_to_last (is_reached code) (length code.blocks) → is_reached code c ≡ false →
       block_fits new (passed c) ≡ true
@@ -136,7 +136,7 @@ module _ (code : Tac) where
       (list_all area_fits code.areas) (place_fits code.place) (nat_lt code.frame (2 ^ 63)) (nat_lt 0 (length code.blocks)) w in
       from-six (list_all (block_fits new) kept) (list_all (destination_fits new) code.parameters)
       (list_all area_fits code.areas) (place_fits code.place) (nat_lt code.frame (2 ^ 63)) (nat_lt 0 (length kept))
-      (blocks-new w) (ap (λ f. list_all f code.parameters) (fun_ext (same-destination code code.parameters kept)) ∙ p.1) p.2 p.3 p.4
+      (blocks-new w) (ap (λ f. list_all f code.parameters) (fun_ext (same-destination code code.counts code.parameters kept)) ∙ p.1) p.2 p.3 p.4
       (lt-ltb 0 (length kept)
       (subst (λ n. 0 < n) (sym (count-is (is_reached code) code.blocks))
       (reached-before (is_reached code) (length code.blocks) 0 (first-reached code) (ltb-true 0 (length code.blocks) p.5))))

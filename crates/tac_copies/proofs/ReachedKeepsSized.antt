@@ -2,11 +2,12 @@
 use Rattle.std.proofs.Common.{◌≡◌, ◌≤◌, ℕ, zero, suc, ◌+◌, ◌*◌, Bool, true, false, List, [], ◌∷◌, length, take, arith}
 use Rattle.std.specs.Prelude.{if◌then◌else◌, sum_by}
 use Rattle.std.proofs.lemmas.List.Sums.{sum_by-cons}
+use Rattle.tac_form.specs.declared.tac.Edge.{Edge}
 use Rattle.tac_form.specs.declared.tac.Exit.{Exit}
 use Rattle.tac_form.specs.declared.tac.Exit.TheVariants.{Jump, Branch, Return, Fail}
 use Rattle.tac_form.specs.declared.tac.Block.{Block}
 use Rattle.tac_form.specs.declared.tac.Tac.{Tac}
-use Rattle.tac_form.specs.Weights.{block_words, code_words, entered_words, exit_words, operand_words, received, words_of}
+use Rattle.tac_form.specs.Weights.{block_words, code_words, edge_words, entered_words, exit_words, received, words_of}
 use Rattle.tac_copies.specs.Reached.{is_reached, passed, passed_where, reached_blocks, reached_code, up_to_last}
 use Rattle.tac_copies.specs.Laws.{KeepsSized}
 
@@ -23,13 +24,20 @@ more w v a c n m e f h g = omega (arith, e, f, h, g)
 least : (n : ℕ) → n ≤ n
 least n = omega arith
 
--- an exit has two words at least, as a jump has
-exit-least : (e : Exit) → 2 ≤ exit_words e
-exit-least (Jump e) = omega arith
-exit-least (Branch a e f) = some (operand_words a)
+-- an exit has two words at least, as a jump has that doesn't count
+edge-least : (e : Edge) → 2 ≤ edge_words e
+edge-least e = by e.counts
   where
-    some : (n : ℕ) → 2 ≤ n + 1 + 2 + 2
-    some n = omega arith
+    by : (b : Bool) → 2 ≤ (if b then 5 else 2)
+    by true = omega arith
+    by false = omega arith
+
+exit-least : (e : Exit) → 2 ≤ exit_words e
+exit-least (Jump e) = edge-least e
+exit-least (Branch a e f) = some (edge_words e) (edge_words f)
+  where
+    some : (n m : ℕ) → 2 ≤ 8 + 1 + n + m
+    some n m = omega arith
 exit-least (Return v) = omega arith
 exit-least (Fail kind at) = omega arith
 

@@ -38,6 +38,7 @@ kept_blocks code = reached_blocks (is_reached code) code.blocks
 takes-block : (d : Destination) (v : Value) (a : Activation) → (takes d v a).block ≡ a.block
 takes-block (destinations.Temp t) v a = refl
 takes-block (destinations.Area n) v a = refl
+takes-block destinations.Nothing v a = refl
 
 takes_all-block : (ds : List Destination) (vs : List Value) (a : Activation) → (takes_all ds vs a).block ≡ a.block
 takes_all-block [] vs a = refl
@@ -84,6 +85,7 @@ module _ (p q : Program) (made : HasBlocks kept_blocks p q) (r : Run) where
         ih (record s { here = takes (destinations.Temp t) v a; callers = cs }) ds (record { here = st; others = w })
     takes-on (destinations.Area m) v a cs ds st w =
         ih (record s { here = takes (destinations.Area m) v a; callers = cs }) ds (record { here = st; others = w })
+    takes-on destinations.Nothing v a cs ds st w = ih (record s { here = a; callers = cs }) ds (record { here = st; others = w })
 
     backs : (v : Value) (c d : Caller) (cs ds : List Caller) → Waits p c d → Paired (Waits p) cs ds →
         Answered n (Goes (back v c cs s)) (Goes (back v d ds new))

@@ -2,8 +2,6 @@
 use Rattle.std.proofs.Common.{◌≡◌, ℕ, ◌+◌, ◌≤◌, Bool, List, [], ◌∷◌, map, length, refl, arith}
 use Rattle.std.specs.List.{sum_by}
 use Rattle.std.proofs.lemmas.List.Sums.{sum_by-cons}
-use Rattle.tac_form.specs.declared.tac.Operand.{Operand}
-use Rattle.tac_form.specs.declared.tac.Operand.TheVariants.{Temp, Constant}
 use Rattle.tac_form.specs.declared.tac.Address.TheVariants.{Word, Frame}
 use Rattle.tac_form.specs.declared.tac.Spot.{Spot}
 use Rattle.tac_form.specs.declared.tac.Spot.TheVariants as spots
@@ -16,19 +14,15 @@ use Rattle.tac_form.specs.declared.tac.Exit.TheVariants.{Jump, Branch, Return, F
 use Rattle.tac_form.specs.declared.tac.Block.{Block}
 use Rattle.tac_form.specs.declared.tac.Tac.{Tac}
 use Rattle.tac_form.specs.Flow.{put}
-use Rattle.tac_form.specs.Weights.{operand_words, reached, words_of, exit_words, block_words, code_words, private_bytes}
+use Rattle.tac_form.specs.Weights.{reached, words_of, exit_words, block_words, code_words, private_bytes}
 use Rattle.tac_copies.specs.Once.{is_once}
-use Rattle.tac_copies.specs.Shortened.{named, named_spot, named_part, named_in, named_exit, own_names, shortened, shortened_block}
+use Rattle.tac_copies.specs.Shortened.{named_spot, named_part, named_in, named_exit, own_names, shortened, shortened_block}
 use Rattle.tac_copies.specs.Shortened.{shortened_code}
 use Rattle.tac_copies.specs.Laws.{KeepsSized}
 use Rattle.tac_copies.proofs.ShortenedKeepsStep.{by-step, exit-kept}
 
-operand-same : (names : ℕ → ℕ) (a : Operand) → operand_words (named names a) ≡ operand_words a
-operand-same names (Temp t) = refl
-operand-same names (Constant c) = refl
-
 spot-same : (names : ℕ → ℕ) (spot : Spot) → reached (named_spot names spot) ≡ reached spot
-spot-same names (spots.Region at (Word a)) = rw (operand-same names a)
+spot-same names (spots.Region at (Word a)) = refl
 spot-same names (spots.Region at (Frame offset)) = refl
 spot-same names (spots.Area n offset) = refl
 
@@ -37,23 +31,23 @@ parts-same names [] = refl
 parts-same names (p ∷ ps) = let e = parts-same names ps in omega (arith, e)
 
 words-same : (names : ℕ → ℕ) (i : Instruction) → words_of (named_in names i) ≡ words_of i
-words-same names (Compute d op form a b) = rw (operand-same names a, operand-same names b)
-words-same names (TestDivisor at a) = rw (operand-same names a)
-words-same names (Copy d a) = rw (operand-same names a)
+words-same names (Compute d op form a b) = refl
+words-same names (TestDivisor at a) = refl
+words-same names (Copy d a) = refl
 words-same names (Locate d offset) = refl
 words-same names (Load d form spot) = rw (spot-same names spot)
-words-same names (Store spot size a) = rw (spot-same names spot, operand-same names a)
+words-same names (Store spot size a) = rw (spot-same names spot)
 words-same names (Move to from size) = rw (spot-same names to, spot-same names from)
 words-same names (Clear n size) = refl
 words-same names (Call to at f arguments) = rw (parts-same names arguments)
-words-same names (CallValue to at sig a arguments) = rw (operand-same names a, parts-same names arguments)
+words-same names (CallValue to at sig a arguments) = rw (parts-same names arguments)
 words-same names (PutByte a) = refl
-words-same names (Write at a b) = rw (operand-same names a, operand-same names b)
-words-same names (Alloc d a) = rw (operand-same names a)
+words-same names (Write at a b) = refl
+words-same names (Alloc d a) = refl
 
 exit-same : (names : ℕ → ℕ) (e : Exit) → exit_words (named_exit names e) ≡ exit_words e
 exit-same names (Jump e) = refl
-exit-same names (Branch a e f) = rw (operand-same names a)
+exit-same names (Branch a e f) = refl
 exit-same names (Return v) = refl
 exit-same names (Fail kind at) = refl
 

@@ -85,6 +85,7 @@ waits-length p (c ∷ cs) (c' ∷ cs') h = ap suc (waits-length p cs cs' h.1)
 takes-keeps : (d : Destination) (v : Value) (a : Activation) → (takes d v a).at ≡ a.at × (takes d v a).function ≡ a.function
 takes-keeps (destinations.Temp t) v a = (refl, refl)
 takes-keeps (destinations.Area n) v a = (refl, refl)
+takes-keeps destinations.Nothing v a = (refl, refl)
 
 all-keeps : (ds : List Destination) (vs : List Value) (a : Activation) →
     ((takes_all ds vs a).at ≡ a.at) × ((takes_all ds vs a).function ≡ a.function)
@@ -101,6 +102,7 @@ accepts-same code (destinations.Temp t) (word x) = refl
 accepts-same code (destinations.Temp t) (bytes bs) = refl
 accepts-same code (destinations.Area n) (word x) = refl
 accepts-same code (destinations.Area n) (bytes bs) = refl
+accepts-same code destinations.Nothing v = refl
 
 all-accepted : (code : Tac) (ds : List Destination) (vs : List Value) → accepts_all (shortened_code code) ds vs ≡ accepts_all code ds vs
 all-accepted code [] [] = refl
@@ -344,6 +346,20 @@ module _ (p q : Program) (made : IsMade shortened_code p q) where
       };
     }
     waiting (destinations.Area n) h = record {
+      to = refl;
+      function = refl;
+      taken = λ v. record {
+        at = suc at;
+        new = new;
+        is = refl;
+        placed = record {
+          code = code;
+          is_code = is_code;
+          place = subst (λ o. AtBlock code o (suc s.here.at) s.here.temps (suc at) new) (sym is_block) (h 0);
+        };
+      };
+    }
+    waiting destinations.Nothing h = record {
       to = refl;
       function = refl;
       taken = λ v. record {

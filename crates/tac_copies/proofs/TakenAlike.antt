@@ -41,6 +41,7 @@ instead-accepts code k (d ∷ ds) (x ∷ vs) = ap₂ (λ a b. a && b) (one d x) 
     one (destinations.Temp t) (bytes bs) = refl
     one (destinations.Area n) (word m) = refl
     one (destinations.Area n) (bytes bs) = refl
+    one destinations.Nothing y = refl
 
 pub takes-alike : (code : Tac) → TakesAlike code (taken_once code)
 takes-alike code = by (shape code)
@@ -64,6 +65,7 @@ takes-alike code = by (shape code)
 accepts-same : (old new : Tac) → TakesAlike old new → (d : Destination) (v : Value) → accepts new d v ≡ accepts old d v
 accepts-same old new h (destinations.Temp t) (word x) = refl
 accepts-same old new h (destinations.Temp t) (bytes bs) = refl
+accepts-same old new h destinations.Nothing v = refl
 accepts-same old new h (destinations.Area n) (word x) = refl
 accepts-same old new h (destinations.Area n) (bytes bs) =
     ap (λ (sizes : List ℕ). nat_eq (length bs) (unwrap_or (slice_get sizes n) 0)) h.areas

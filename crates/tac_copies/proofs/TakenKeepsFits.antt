@@ -36,6 +36,7 @@ instead-fits code p v h (d ∷ ds) e =
     one : (c : Destination) → destination_fits code c ≡ true → destination_fits code (goes_instead p v c) ≡ true
     one (destinations.Temp u) g = to u (nat_eq u p) g
     one (destinations.Area n) g = g
+    one destinations.Nothing g = g
 
 once-within : (code : Tac) → IsTrue (is_within code) → (k : Takes code) → IsTrue (is_within (instead code k.p k.v k.is k.e k.bs))
 once-within code w k =
@@ -47,7 +48,7 @@ once-within code w k =
     let b = and_parts (list_all (instruction_fits code) (copy ∷ k.is)) (exit_fits code k.e) a.0 in
     let c = and_parts (instruction_fits code copy) (list_all (instruction_fits code) k.is) b.0 in
     let d = and_parts (nat_lt k.v code.temps) (operand_fits code (Temp k.p)) c.0 in
-    within-parts code (map (goes_instead k.p k.v) code.parameters) (block-with k.is k.e ∷ k.bs) (sym (ap length k.blocks)) w
+    within-parts code code.counts (map (goes_instead k.p k.v) code.parameters) (block-with k.is k.e ∷ k.bs) (sym (ap length k.blocks)) w
     (and_from (block_fits code (block-with k.is k.e)) (list_all (block_fits code) k.bs)
     (and_from (list_all (instruction_fits code) k.is) (exit_fits code k.e) c.1 b.1) a.1)
     (instead-fits code k.p k.v d.0 code.parameters (second-fits code w))

@@ -42,6 +42,7 @@ module _ (p v : ℕ) where
       (λ e. or_right (nat_eq (if nat_eq u p then v else u) v) (list_any (goes_to v) (map (goes_instead p v) ds)) (receives-v ds e))
       (or_cases (nat_eq u p) (list_any (goes_to p) ds) h)
   receives-v (destinations.Area n ∷ ds) h = receives-v ds h
+  receives-v (destinations.Nothing ∷ ds) h = receives-v ds h
 
   receives-p : (v ≡ p → ⊥) → (ds : List Destination) → list_any (goes_to p) (map (goes_instead p v) ds) ≡ false
   receives-p n [] = refl
@@ -53,6 +54,7 @@ module _ (p v : ℕ) where
       by true e = ne_eqb v p n
       by false e = e
   receives-p n (destinations.Area m ∷ ds) = receives-p n ds
+  receives-p n (destinations.Nothing ∷ ds) = receives-p n ds
 
   receives-other : (t : ℕ) → (t ≡ p → ⊥) → (t ≡ v → ⊥) → (ds : List Destination) →
       list_any (goes_to t) (map (goes_instead p v) ds) ≡ list_any (goes_to t) ds
@@ -64,6 +66,7 @@ module _ (p v : ℕ) where
       by true e = ne_eqb v t (λ z. nv (sym z)) ∙ sym (ne_eqb u t (λ z. np (sym z ∙ eqb-true u p e)))
       by false e = refl
   receives-other t np nv (destinations.Area m ∷ ds) = receives-other t np nv ds
+  receives-other t np nv (destinations.Nothing ∷ ds) = receives-other t np nv ds
 
 -- ---- what is needed is live
 

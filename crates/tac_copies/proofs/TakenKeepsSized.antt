@@ -26,6 +26,7 @@ received-same p v (d ∷ ds) =
     one : (c : Destination) → received (goes_instead p v c) ≡ received c
     one (destinations.Temp t) = refl
     one (destinations.Area n) = refl
+    one destinations.Nothing = refl
 
 -- the first block has a copy less
 first-fewer : (i : Instruction) (is : List Instruction) (e : Exit) (bs : List Block) →

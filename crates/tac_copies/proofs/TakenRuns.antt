@@ -100,6 +100,10 @@ takes-instead p v (destinations.Area m ∷ ds) (x ∷ vs) a w free h =
     let f = or_parts false (list_any (goes_to v) ds) free in
     let r = takes-instead p v ds vs (takes (destinations.Area m) x a) w f.1 h in
     record { new = r.new; is = r.is; renamed = r.renamed }
+takes-instead p v (destinations.Nothing ∷ ds) (x ∷ vs) a w free h =
+    let f = or_parts false (list_any (goes_to v) ds) free in
+    let r = takes-instead p v ds vs a w f.1 h in
+    record { new = r.new; is = r.is; renamed = r.renamed }
 
 -- ---- where a call begins
 
@@ -111,6 +115,7 @@ record Fresh (f : FnId) (a : Activation) : Type 0 where
 takes-fresh : (f : FnId) (d : Destination) (v : Value) (a : Activation) → Fresh f a → Fresh f (takes d v a)
 takes-fresh f (destinations.Temp t) v a h = record { function = h.function; block = h.block; at = h.at }
 takes-fresh f (destinations.Area n) v a h = record { function = h.function; block = h.block; at = h.at }
+takes-fresh f destinations.Nothing v a h = h
 
 takes_all-fresh : (f : FnId) (ds : List Destination) (vs : List Value) (a : Activation) → Fresh f a → Fresh f (takes_all ds vs a)
 takes_all-fresh f [] vs a h = h
@@ -386,6 +391,8 @@ module _ (p q : Program) (made : IsMade taken_once p q) (r : Run) where
     takes-follows (destinations.Area m) v a other words cs ds f w =
         ih (record s { here = takes (destinations.Area m) v a; callers = cs }) other words ds
         (record { here = record { agrees = f.agrees }; others = w })
+    takes-follows destinations.Nothing v a other words cs ds f w =
+        ih (record s { here = a; callers = cs }) other words ds (record { here = f; others = w })
 
     backs : (v : Value) (c d : Caller) (cs ds : List Caller) → Waits p c d → Paired (Waits p) cs ds →
         Answered n (Goes (back v c cs s)) (Goes (back v d ds new))

@@ -50,6 +50,7 @@ may_go parameters p v is e bs =
 abbrev pub goes_instead : (p v : ℕ) → Destination → Destination
 goes_instead p v (destinations.Temp t) = destinations.Temp (if nat_eq t p then v else t)
 goes_instead p v (destinations.Area n) = destinations.Area n
+goes_instead p v destinations.Nothing = destinations.Nothing
 
 -- by the first block, and those behind it
 abbrev pub taken_first : Tac → List Instruction → Exit → List Block → Tac

@@ -31,6 +31,7 @@ pub(crate) fn with_parameters(
         nodes: code.nodes,
         signature: copied_signature(alloc, &code.signature)?,
         place: code.place,
+        counts: code.counts,
         frame: code.frame,
         temps: code.temps,
         areas: copied_sizes(alloc, code.areas.as_slice())?,

@@ -172,6 +172,7 @@ fn goes_to(t: u64, parameter: Destination) -> bool
     match parameter {
         Destination::Temp(d) => d == t,
         Destination::Area(_) => false,
+        Destination::Nothing => false,
     }
 }
 
@@ -296,5 +297,6 @@ fn goes_instead(p: u64, v: u64, parameter: Destination) -> Destination
     match parameter {
         Destination::Temp(t) => Destination::Temp(if t == p { v } else { t }),
         Destination::Area(n) => Destination::Area(n),
+        Destination::Nothing => Destination::Nothing,
     }
 }
