@@ -40,6 +40,9 @@ pub mod TakenKeepsCounted
 pub mod TakenKeepsSized
 pub mod TakenKeepsLive
 pub mod TakenKeepsFits
+-- The same code, which counts.
+pub mod CountingRuns
+pub mod CountingKeeps
 -- What is live where blocks begin, and which code fits.
 pub mod Lives
 pub mod LiveMade

@@ -1,5 +1,6 @@
 // What code without copies keeps. Each function does nothing, and its clause is a law.
 
+ghost use Rattle.tac_form.specs.Counting.{with_counts};
 ghost use Rattle.tac_copies.specs.Directed.{directed_code};
 ghost use Rattle.tac_copies.specs.Laws.{KeepsCounted, KeepsFits, KeepsRuns, KeepsSized};
 ghost use Rattle.tac_copies.specs.Reached.{reached_code};
@@ -84,4 +85,24 @@ pub fn taking_keeps_counted()
 /// It has no more words and private bytes than before.
 pub fn taking_keeps_sized()
     ensures { KeepsSized taken_code }
+{}
+
+/// Code that counts runs as the same code that doesn't, at every count.
+pub fn counting_keeps_runs()
+    ensures { KeepsRuns with_counts }
+{}
+
+/// Machine code can be made of it as of the other: what it names is there, and the same temporaries are live where it is entered.
+pub fn counting_keeps_fits()
+    ensures { KeepsFits with_counts }
+{}
+
+/// Each way round its flow graph counts as before.
+pub fn counting_keeps_counted()
+    ensures { KeepsCounted with_counts }
+{}
+
+/// It has no more words and private bytes than the other: what takes a count is weighed whether code counts or not.
+pub fn counting_keeps_sized()
+    ensures { KeepsSized with_counts }
 {}
