@@ -1,6 +1,5 @@
 pub mod Answering
 pub mod Checking
-pub mod Holding
 pub mod Keeping
 pub mod Lines
 pub mod Outcomes

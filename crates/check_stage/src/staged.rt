@@ -370,7 +370,7 @@ impl<'a> CheckStage<'a> {
 impl<'a> Stages for CheckStage<'a> {
     ghost use Rattle.stage_library.proofs.Keeping.{keeps_itself, keeps_then};
     ghost use Rattle.check_stage.specs.Layers.{check_stage, ends_follow};
-    ghost use Rattle.check_stage.proofs.Holding.{nothing_held};
+    ghost use Rattle.stage_form.proofs.Unowed.{nothing_held};
 
     type World = Typing;
 

@@ -132,7 +132,7 @@ pub struct Examples<'a> {
 impl<'a> Stages for Examples<'a> {
     ghost use Rattle.layer_examples.specs.Kept.{keeps_world_self, keeps_world_on};
     ghost use Rattle.layer_examples.specs.Staged.{example_stage, ends_follow};
-    ghost use Rattle.layer_examples.proofs.Holding.{nothing_held};
+    ghost use Rattle.stage_form.proofs.Unowed.{nothing_held};
 
     type World = World;
 

@@ -1,3 +1,4 @@
 pub mod Reaching
 pub mod Standing
 pub mod Owing
+pub mod Unowed
