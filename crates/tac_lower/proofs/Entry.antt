@@ -12,7 +12,7 @@ use Rattle.terra_term.specs.declared.lists.TypedName.{TypedName}
 use Rattle.terra_term.specs.Stores.{Contents, Callable}
 use Rattle.terra_meaning.specs.Values.{bytes_at, is_aggregate}
 use Rattle.terra_meaning.specs.Frames.{Home, by_value, in_frame, home_at}
-use Rattle.tac_form.specs.declared.tac.Operand.TheVariants.{Temp}
+use Rattle.tac_form.specs.declared.tac.Operand.TheVariants.{Temp, Constant}
 use Rattle.tac_form.specs.declared.tac.Address.TheVariants as addresses
 use Rattle.tac_form.specs.declared.tac.Spot.TheVariants as spots
 use Rattle.tac_form.specs.declared.tac.Destination.{Destination}
@@ -107,11 +107,13 @@ module _ (types : List TypeForm) (t : ℕ) where
       by true = inl (ap (λ b. b || false) h)
       by false = inl (ap (λ b. b || false) h)
   parameter-reads at x (destinations.Area n) home scope u h = let bad : false ≡ true = h in absurd (grind (arith, bad))
+  parameter-reads at x destinations.Nothing home scope u h = let bad : false ≡ true = h in absurd (grind (arith, bad))
 
   parameter-passes : (at : Place) (x : TypedName) (to : Destination) (home : Home) (scope : Holders) (u : Used) → t < u.temps →
       Passes t (declare_at types at x (Some (given to)) home scope u).code
   parameter-passes at x (destinations.Temp d) by_value scope u lt b h = inr (other u.temps lt, h)
   parameter-passes at x (destinations.Area n) by_value scope u lt b h = inr (other u.temps lt, h)
+  parameter-passes at x destinations.Nothing by_value scope u lt b h = inr (other u.temps lt, h)
   parameter-passes at x (destinations.Temp d) (in_frame o) scope u lt b h = by (nat_eq (bytes_at types x.of) 0)
     where
       by : (c : Bool) → ReadFirst t ((if c then taken (λ c. tt {0}) (copied (Temp d) u)
@@ -125,11 +127,19 @@ module _ (types : List TypeForm) (t : ℕ) where
           else stored_part types x.of (spots.Region at (addresses.Frame o)) (an_area n) u).code ++ b)
       by true = h
       by false = inr (refl, h)
+  parameter-passes at x destinations.Nothing (in_frame o) scope u lt b h = by (nat_eq (bytes_at types x.of) 0)
+    where
+      by : (c : Bool) → ReadFirst t ((if c then taken (λ c. tt {0}) (copied (Constant 0) u)
+          else (if c then known (tt {0}) u else stored_part types x.of (spots.Region at (addresses.Frame o)) (a_word
+          (Constant 0)) u)).code ++ b)
+      by true = inr (other u.temps lt, h)
+      by false = inr (refl, h)
 
   parameter-later : (at : Place) (x : TypedName) (to : Destination) (home : Home) (scope : Holders) (u : Used) →
       u.temps ≤ (declare_at types at x (Some (given to)) home scope u).used.temps
   parameter-later at x (destinations.Temp d) by_value scope u = omega arith
   parameter-later at x (destinations.Area n) by_value scope u = omega arith
+  parameter-later at x destinations.Nothing by_value scope u = omega arith
   parameter-later at x (destinations.Temp d) (in_frame o) scope u = by (nat_eq (bytes_at types x.of) 0)
     where
       by : (c : Bool) → u.temps ≤ (if c then taken (λ c. tt {0}) (copied (Temp d) u)
@@ -141,6 +151,13 @@ module _ (types : List TypeForm) (t : ℕ) where
     where
       by : (c : Bool) → u.temps ≤ (if c then known (tt {0}) u
           else stored_part types x.of (spots.Region at (addresses.Frame o)) (an_area n) u).used.temps
+      by true = omega arith
+      by false = omega arith
+  parameter-later at x destinations.Nothing (in_frame o) scope u = by (nat_eq (bytes_at types x.of) 0)
+    where
+      by : (c : Bool) → u.temps ≤ (if c then taken (λ c. tt {0}) (copied (Constant 0) u)
+          else (if c then known (tt {0}) u else stored_part types x.of (spots.Region at (addresses.Frame o)) (a_word
+          (Constant 0)) u)).used.temps
       by true = omega arith
       by false = omega arith
 

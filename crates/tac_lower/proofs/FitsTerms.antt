@@ -37,7 +37,6 @@ use Rattle.tac_lower.proofs.Typing.{three, four, five, same-id, same-ids, types-
 use Rattle.tac_lower.proofs.Needing.{plain-boolean}
 use Rattle.tac_lower.proofs.Fitting as fits
 use Rattle.tac_lower.proofs.FitsOperations as operations_fit
-use Rattle.tac_lower.proofs.Places.{count-append}
 use Rattle.tac_lower.proofs.FitsParts as parts
 use Rattle.tac_lower.proofs.FitsParts.{pointer-plain, integer-plain}
 

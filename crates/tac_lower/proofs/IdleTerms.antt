@@ -483,6 +483,7 @@ module _ (blocks : List Block) (t : ℕ) where
   given-free (destinations.Temp d ∷ tos) h =
       let p = or_parts (nat_eq d t) (list_any (goes_to t) tos) h in (p.0, given-free tos p.1)
   given-free (destinations.Area n ∷ tos) h = (tt, given-free tos h)
+  given-free (destinations.Nothing ∷ tos) h = (tt, given-free tos h)
 
 -- a temporary that no parameter goes to isn't live where the function's code is entered
 pub entry-idle : (store : Contents) (entries : List FnId) (k : Callable) (t : ℕ) →

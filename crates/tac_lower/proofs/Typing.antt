@@ -7,7 +7,6 @@ use Rattle.std.proofs.lemmas.Bool.{leb-true, leb-false, ltb-true, and_parts, or_
 use Rattle.tl_base.specs.declared.ids.SymId.{SymId}
 use Rattle.tl_base.specs.declared.ids.TypeId.{TypeId}
 use Rattle.tl_base.specs.declared.ids.FnId.{FnId}
-use Rattle.terra_words.specs.declared.words.BinaryOperator.TheVariants as operators
 use Rattle.terra_words.specs.Words.{wrapped, flag}
 use Rattle.terra_words.specs.Runs.{word}
 use Rattle.terra_types.specs.declared.types.Integer.{Integer}

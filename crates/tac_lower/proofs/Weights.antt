@@ -1,4 +1,4 @@
--- Lowered code has at most 250 words for each typed node, with the fixed part of its function, by the heaviest weights and so by its own.
+-- Lowered code has at most 250 words for each typed node, with the fixed part of its function.
 use Rattle.std.proofs.Common.{◌≡◌, ℕ, suc, ◌+◌, ◌*◌, ◌≤◌, Bool, true, false, List, [], ◌∷◌, ◌++◌, length, map, Option, Some, None, refl, ap}
 use Rattle.std.proofs.Common.{arith}
 use Rattle.std.specs.Prelude.{nat_eq, fold, sum_by, if◌then◌else◌}
@@ -35,7 +35,7 @@ use Rattle.tac_form.specs.declared.tac.Spot.{Spot}
 use Rattle.tac_form.specs.declared.tac.Spot.TheVariants as spots
 use Rattle.tac_form.specs.declared.tac.Block.{Block}
 use Rattle.tac_form.specs.declared.tac.Tac.{Tac}
-use Rattle.tac_form.specs.Weights as weights
+use Rattle.tac_form.specs.Weights.{block_words, code_words, exit_words, words_of}
 use Rattle.tac_lower.specs.Items.{Item, does, ends, Ending, skips, tests, repeats, repeats_unless, leaves, gives, fails, count_ends}
 use Rattle.tac_lower.specs.Items.{loop_of, exit_of, Draft, empty_draft, with_item, with_items, blocks_of}
 use Rattle.tac_lower.specs.Pieces.{Used, nothing_used, with_temp, with_area, Piece, known, doing, then_piece, taken, Result, a_word}
@@ -48,7 +48,6 @@ use Rattle.tac_lower.specs.Lowering.{call_value, signature_in, operation, target
 use Rattle.tac_lower.specs.Lowering.{assigned_all, passed_over, choice, Counting, counting, is_one, either_way, runs, counted_on}
 use Rattle.tac_lower.specs.Lowering.{while_loop, piece, pieces, targets, one, all, around, ending, received, code_of, unreached, are_narrow}
 use Rattle.tac_lower.specs.Lowering.{parameter_types, lowered}
-use Rattle.tac_lower.proofs.Heaviest.{words_of, exit_words, block_words, code_words, code-most}
 
 -- sums
 
@@ -94,11 +93,11 @@ same-ending n (fails kind at) = refl
 loop-words : (is : List Item) → weigh (loop_of is) ≡ weigh is
 loop-words [] = refl
 loop-words (does i ∷ is) = ap (λ n. words_of i + n) (loop-words is)
-loop-words (ends (skips k) ∷ is) = ap (λ n. 5 + n) (loop-words is)
-loop-words (ends (tests a k) ∷ is) = ap (λ n. 19 + n) (loop-words is)
+loop-words (ends (skips k) ∷ is) = ap (λ n. 2 + n) (loop-words is)
+loop-words (ends (tests a k) ∷ is) = ap (λ n. 13 + n) (loop-words is)
 loop-words (ends (repeats k) ∷ is) = ap (λ n. 5 + n) (loop-words is)
-loop-words (ends (repeats_unless a k) ∷ is) = ap (λ n. 19 + n) (loop-words is)
-loop-words (ends leaves ∷ is) = ap (λ n. 5 + n) (loop-words is)
+loop-words (ends (repeats_unless a k) ∷ is) = ap (λ n. 16 + n) (loop-words is)
+loop-words (ends leaves ∷ is) = ap (λ n. 2 + n) (loop-words is)
 loop-words (ends (gives v) ∷ is) = ap (λ n. 10 + n) (loop-words is)
 loop-words (ends (fails kind at) ∷ is) = ap (λ n. 11 + n) (loop-words is)
 
@@ -261,19 +260,19 @@ rest-count [] = omega arith
 rest-count (v ∷ vs) = omega arith
 
 operation-words : (c : Around) (at : Place) (of : TypeId) (op : Operation) (ts : List TypeId) (vs : List Result) (u : Used) →
-    weigh (operation c at of op ts vs u).code ≤ 98 + 63 * length vs
+    weigh (operation c at of op ts vs u).code ≤ 101 + 63 * length vs
 operation-words c at of operations.Negate ts vs u = omega arith
 operation-words c at of operations.Not ts vs u = by (nat_eq of.0 boolean.0)
   where
     by : (b : Bool) → weigh (if b then compute operators.Xor whole_word (word_at vs 0) (Constant 1) u
-        else turned_over (number_of c.types of) (word_at vs 0) u).code ≤ 98 + 63 * length vs
+        else turned_over (number_of c.types of) (word_at vs 0) u).code ≤ 101 + 63 * length vs
     by true = omega arith
     by false = omega arith
 operation-words c at of (operations.Binary op) ts vs u = by (divides op)
   where
     by : (b : Bool) → weigh (then_piece (if b then doing (tt {0}) (TestDivisor at (word_at vs 1)) u else known (tt {0}) u)
         (λ t u'. compute op (form_of op (number_of c.types (type_at ts 0)) (word_at vs 1)) (word_at vs 0) (word_at vs 1) u')).code
-        ≤ 98 + 63 * length vs
+        ≤ 101 + 63 * length vs
     by true = omega arith
     by false = omega arith
 operation-words c at of operations.StepForward ts vs u = omega arith
@@ -282,7 +281,7 @@ operation-words c at of operations.Difference ts vs u = omega arith
 operation-words c at of operations.Convert ts vs u = by (nat_eq of.0 boolean.0) (is_whole (number_of c.types of).size) (word_at vs 0)
   where
     by : (b whole : Bool) (x : Operand) → weigh (if b then compute operators.NotEqual whole_word x (Constant 0) u
-        else (if whole then known (a_word x) u else cut (number_of c.types of) x u)).code ≤ 98 + 63 * length vs
+        else (if whole then known (a_word x) u else cut (number_of c.types of) x u)).code ≤ 101 + 63 * length vs
     by true whole x = omega arith
     by false true x = omega arith
     by false false (Temp t) = omega arith
@@ -292,7 +291,7 @@ operation-words c at of (operations.Extract offset) ts vs u =
 operation-words c at of (operations.Call f) ts vs u = by (is_aggregate c.types of)
   where
     by : (b : Bool) → weigh (then_piece (if b then known (destinations.Area (length u.areas)) (with_area (bytes_at c.types of) u)
-        else known (destinations.Temp u.temps) (with_temp u)) (λ to u'. call at f vs to u')).code ≤ 98 + 63 * length vs
+        else known (destinations.Temp u.temps) (with_temp u)) (λ to u'. call at f vs to u')).code ≤ 101 + 63 * length vs
     by true = let h = parts-count vs in omega (arith, h)
     by false = let h = parts-count vs in omega (arith, h)
 operation-words c at of (operations.Primitive primitives.PutByte) ts vs u = omega arith
@@ -302,7 +301,7 @@ operation-words c at of operations.CallValue ts vs u = by (is_aggregate c.types 
   where
     by : (b : Bool) → weigh (then_piece (if b then known (destinations.Area (length u.areas)) (with_area (bytes_at c.types of) u)
         else known (destinations.Temp u.temps) (with_temp u))
-        (λ to u'. call_value at (signature_in (form_at c.types (type_at ts 0))) vs to u')).code ≤ 98 + 63 * length vs
+        (λ to u'. call_value at (signature_in (form_at c.types (type_at ts 0))) vs to u')).code ≤ 101 + 63 * length vs
     by true = let h = parts-count (rest vs) in let k = rest-count vs in omega (arith, h, k)
     by false = let h = parts-count (rest vs) in let k = rest-count vs in omega (arith, h, k)
 operation-words c at of (operations.Construct offsets) ts vs u =
@@ -366,7 +365,7 @@ runs-words number (a ∷ b ∷ s ∷ vs) value u = by (is_one (word_of s)) numbe
 
 -- terms
 
-while-words : (code : List Item) (test : Operand) (body : List Item) → weigh (while_loop code test body) ≡ 29 + weigh code + weigh body
+while-words : (code : List Item) (test : Operand) (body : List Item) → weigh (while_loop code test body) ≡ 20 + weigh code + weigh body
 while-words code test body =
     let back = ends (repeats (count_ends code + suc (count_ends body))) ∷ [] in
     let inside = ends (tests test (suc (count_ends body))) ∷ (body ++ back) in
@@ -374,10 +373,10 @@ while-words code test body =
     let b = weigh-append code inside in
     let d = weigh-append body back in omega (arith, a, b, d)
 
-passed-words : (a : Operand) (is : List Item) → weigh (passed_over a is) ≡ 24 + weigh is
+passed-words : (a : Operand) (is : List Item) → weigh (passed_over a is) ≡ 15 + weigh is
 passed-words a is = let h = weigh-append is (ends (skips 0) ∷ []) in omega (arith, h)
 
-choice-words : (t : Operand) (a b : List Item) → weigh (choice t a b) ≡ 29 + weigh a + weigh b
+choice-words : (t : Operand) (a b : List Item) → weigh (choice t a b) ≡ 17 + weigh a + weigh b
 choice-words t a b =
     let last = ends (skips 0) ∷ [] in
     let h = weigh-append a (ends (skips (suc (count_ends b))) ∷ (b ++ last)) in
@@ -621,15 +620,17 @@ fold-most f n (to ∷ tos) most =
     let k = most to in omega (arith, h, k)
 
 taken-most : (f : Destination → ℕ) (tos : List Destination) (other : ℕ) → ((t : ℕ) → f (destinations.Temp t) ≤ 42) →
-    ((n : ℕ) → f (destinations.Area n) ≤ 42) → 79 + fold (λ a x. a + f x) 0 tos + other ≤ 79 + 42 * length tos + other
-taken-most f tos other temp area = let h = fold-most f 0 tos most in omega (arith, h)
+    ((n : ℕ) → f (destinations.Area n) ≤ 42) → f destinations.Nothing ≤ 42 →
+    79 + fold (λ a x. a + f x) 0 tos + other ≤ 79 + 42 * length tos + other
+taken-most f tos other temp area nothing = let h = fold-most f 0 tos most in omega (arith, h)
   where
     most : (to : Destination) → f to ≤ 42
     most (destinations.Temp t) = temp t
     most (destinations.Area n) = area n
+    most destinations.Nothing = nothing
 
 parameters-words : (tac : Tac) → code_words tac ≤ 79 + 42 * length tac.parameters + sum_by block_words tac.blocks
-parameters-words tac = taken-most _ tac.parameters (sum_by block_words tac.blocks) (λ t. omega arith) (λ n. omega arith)
+parameters-words tac = taken-most _ tac.parameters (sum_by block_words tac.blocks) (λ t. omega arith) (λ n. omega arith) (omega arith)
 
 last-words : (k : Callable) → weigh (ending k ∷ []) ≤ 11
 last-words k = by (nat_eq k.body.result.0 unit.0)
@@ -657,18 +658,11 @@ few-words store entries k =
     let i = weigh-append (D.code ++ B.code) (ending k ∷ []) in
     let j = weigh-append D.code B.code in omega (arith, a, b, d, e, f, g, h, i, j)
 
-heaviest-words : (store : Contents) (entries : List FnId) (k : Callable) →
+pub lowered-words : (store : Contents) (entries : List FnId) (k : Callable) →
     code_words (lowered store entries k) ≤ 250 * (lowered store entries k).nodes
-heaviest-words store entries k = by (are_narrow store.types (parameter_types k))
+lowered-words store entries k = by (are_narrow store.types (parameter_types k))
   where
     by : (b : Bool) → code_words (if b then code_of store entries k else unreached k)
         ≤ 250 * (if b then code_of store entries k else unreached k).nodes
     by true = few-words store entries k
     by false = omega arith
-
-pub lowered-words : (store : Contents) (entries : List FnId) (k : Callable) →
-    weights.code_words (lowered store entries k) ≤ 250 * (lowered store entries k).nodes
-lowered-words store entries k = transitive (code-most (lowered store entries k)) (heaviest-words store entries k)
-  where
-    transitive : {a b c : ℕ} → a ≤ b → b ≤ c → a ≤ c
-    transitive {a} {b} {c} h g = omega (arith, h, g)

@@ -435,6 +435,7 @@ code_of store entries k =
       nodes = (body_size k.body).nodes;
       signature = record { params = parameter_types k; result = k.body.result };
       place = k.at;
+      counts = false;
       frame = (frame_of store.types k.body).size;
       temps = r.used.temps;
       areas = r.used.areas;
@@ -449,6 +450,7 @@ unreached k = record {
   nodes = (body_size k.body).nodes;
   signature = record { params = parameter_types k; result = k.body.result };
   place = k.at;
+  counts = false;
   frame = 0;
   temps = 0;
   areas = [];

@@ -143,6 +143,7 @@ is_bool types t = bool_form (form_at types t)
 abbrev pub given : Destination → Result
 given (destinations.Temp t) = a_word (Temp t)
 given (destinations.Area n) = an_area n
+given destinations.Nothing = no_word
 
 -- Where a value of a type goes: a temporary or an area of its own.
 abbrev pub destination : List TypeForm → TypeId → Used → Piece Destination

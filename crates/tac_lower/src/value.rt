@@ -89,6 +89,7 @@ pub(crate) fn given(to: Destination) -> Value
     match to {
         Destination::Temp(t) => Value::Word(Operand::Temp(t)),
         Destination::Area(n) => Value::Area(n),
+        Destination::Nothing => NO_WORD,
     }
 }
 
