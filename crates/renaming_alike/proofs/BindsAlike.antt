@@ -20,8 +20,8 @@ use Rattle.tl_tree.specs.Scopes.{has_name, binder}
 use Rattle.tl_tree.specs.Binding.{bound, bound_from, bound_item, bound_name, name_alone, is_declared_below, is_among}
 use Rattle.tl_tree.proofs.Nameless.{bare, all_bare, declarations_same, standing_same}
 use Rattle.tl_renaming.specs.Renamed.{has_node, declares, has_prefix, new_name, is_declaration, number_of, number_found, or_found, local_number}
-use Rattle.renaming_alike.proofs.Changed.{Change}
-use Rattle.renaming_alike.proofs.LayingChanged.{changed_item, changed_items}
+use Rattle.tl_renaming.proofs.Changed.{Change}
+use Rattle.tl_renaming.proofs.LayingChanged.{changed_item, changed_items}
 use Rattle.renaming_alike.proofs.Numbering.{new_prefixed, new_injective, new_is_not_self, number_is, no_number, one_number}
 use Rattle.renaming_alike.proofs.Finding.{found_same, found_is}
 use Rattle.renaming_alike.proofs.Declared.{owners_declare}

@@ -1,6 +1,6 @@
 -- A text with its locals renamed binds alike, and its tokens stand where they stood.
-use Rattle.std.proofs.Common.{◌≡◌, ℕ, zero, suc, ◌+◌, ◌-◌, ◌≤◌, Bool, true, false, cond, List, [], ◌∷◌, ◌++◌, length, get_or, take, drop, Option}
-use Rattle.std.proofs.Common.{Some, None, Ok, Err, refl, sym, ap, ◌∙◌, subst, append-nil, append_assoc, arith, length-append}
+use Rattle.std.proofs.Common.{◌≡◌, ℕ, zero, suc, ◌+◌, ◌≤◌, Bool, true, false, cond, List, [], ◌∷◌, ◌++◌, length, get_or, Option}
+use Rattle.std.proofs.Common.{Some, None, Ok, Err, refl, sym, ap, ◌∙◌, subst, arith, length-append}
 use Rattle.std.specs.Prelude.{◌||◌, map}
 use Rattle.std.specs.List.{list_any}
 use Rattle.std.proofs.lemmas.Bool.{true≢false, false≢true, and_parts}
@@ -11,83 +11,35 @@ use Rattle.tl_lex.specs.declared.TokenKind.{TokenKind}
 use Rattle.tl_lex.specs.declared.TokenKind.TheVariants as kinds
 use Rattle.tl_lex.specs.declared.TheConstants.{LONGEST_TEXT}
 use Rattle.tl_lex.proofs.LawLemmas.{ends_once}
-use Rattle.tl_lex.proofs.NewNameLemmas.{Entry, now, substituted, substituted_at, IsName, AreNewNames, IsNewName, Matches}
+use Rattle.tl_lex.proofs.NewNameLemmas.{Entry, now, substituted, IsName, AreNewNames, IsNewName, Matches}
 use Rattle.tl_lex.proofs.NewNames.{same_answers, ascending, few_answers}
 use Rattle.tl_tree.specs.Item.{Item}
 use Rattle.tl_tree.specs.Item as kept
 use Rattle.tl_tree.specs.Nodes.{absent_item, lay}
 use Rattle.tl_tree.specs.Tree.{Tree}
 use Rattle.tl_tree.specs.Tokens.{Token, put_answer, tokens_in, tokens_of, finish_of}
-use Rattle.tl_tree.specs.Grammar.{readers_at, all_levels, Outcome}
-use Rattle.tl_tree.specs.Syntax.{syntax_of, chunk}
 use Rattle.tl_tree.specs.Laws.{IsChunk}
 use Rattle.tl_tree.specs.Refusing.{HasTree}
 use Rattle.tl_tree.specs.Texts.{Reads}
 use Rattle.tl_tree.specs.Code.{Items}
 use Rattle.tl_tree.specs.Scopes.{Found, is_name, binder}
 use Rattle.tl_tree.specs.Binding.{Alike, bound}
-use Rattle.tl_tree.proofs.Reading.{rest_of, AllGood, Leaves}
-use Rattle.tl_tree.proofs.Exact.{Meets, tree_runs}
-use Rattle.tl_tree.proofs.Levels.{meets}
-use Rattle.tl_tree.proofs.Following.{after_part}
-use Rattle.tl_tree.proofs.PartsGo.{begun, completed}
 use Rattle.tl_tree.proofs.WellFormedTrees.{well_formed_trees}
 use Rattle.tl_alike.proofs.Filling.{whole}
 use Rattle.tl_renaming.specs.Renamed.{has_node, declares, is_declaration, declarations_below, number_of, number_found, or_found, local_number}
-use Rattle.tl_renaming.specs.Renamed.{item_has_prefix, is_taken, letters, new_name, replaced, renamed_from, renamed}
+use Rattle.tl_renaming.specs.Renamed.{item_has_prefix, is_taken, letters, new_name, renamed}
 use Rattle.renaming_alike.specs.Renamed.{HaveShortNames, RenamedTextsRead, RenamedTextsAreAlike, places, RenamedTextsHaveSamePlaces}
-use Rattle.renaming_alike.proofs.Changed.{Change, Named, named, named_by, is_name as is_name_token, all_named, changed_tokens, changed}
-use Rattle.renaming_alike.proofs.KeepingTexts.{keeps_tree}
-use Rattle.renaming_alike.proofs.LayingChanged.{named_item, named_items, lay_changed, lay_names}
+use Rattle.tl_renaming.proofs.Changed.{Change, Named, named, named_by, is_name as is_name_token, all_named, changed_tokens, changed}
+use Rattle.tl_renaming.proofs.KeepingTexts.{keeps_tree}
+use Rattle.tl_renaming.proofs.LayingChanged.{named_item, named_items, lay_changed}
 use Rattle.renaming_alike.proofs.Numbering.{numbered}
 use Rattle.renaming_alike.proofs.BindsAlike.{fresh, IsRenaming, HasDeclarations, binds_alike}
 use Rattle.renaming_alike.proofs.Declared.{stands_nowhere}
 use Rattle.renaming_alike.proofs.OwnersDeclare.{owners_declare_all}
-use Rattle.renaming_alike.proofs.NewTokens.{names_of, matches_from, SameTexts, same_tokens, Rising, rising, text_for, change_of, changed_is}
-use Rattle.renaming_alike.proofs.NewTokens.{AllNow, all_now}
+use Rattle.tl_renaming.proofs.Substituting.{new_by, entries, renamed_is, all_match, names_all}
+use Rattle.tl_renaming.proofs.NewTokens.{SameTexts, same_tokens, Rising, rising, text_for, change_of, changed_is}
+use Rattle.tl_renaming.proofs.NewTokens.{AllNow, all_now}
 use Rattle.renaming_alike.proofs.Letters.{letters_free, some_letter, AllShort, letters_short, new_is_name}
-
--- ---- the names of a text, with what they give way to
-
-abbrev pub new_by : ℕ → Option ℕ → Option (List ℕ)
-new_by l None = None
-new_by l (Some k) = Some (new_name l k)
-
-abbrev pub entries : Items → ℕ → ℕ → List Item → List Entry
-entries items l n [] = []
-entries items l n (kept.Name place offset text ∷ more) = (offset, text, new_by l (local_number items n)) ∷ entries items l (n + 1) more
-entries items l n (_ ∷ more) = entries items l (n + 1) more
-
-pub renamed_is : (items : Items) (l : ℕ) (text : List ℕ) (at n : ℕ) (more : List Item)
-    → renamed_from items l text at n more ≡ substituted text at (entries items l n more)
-renamed_is items l text at n [] = refl
-renamed_is items l text at n (kept.Name place offset name ∷ more) = go (local_number items n) (λ i. renamed_is items l text i (n + 1) more)
-  where
-    go : (o : Option ℕ) → ((i : ℕ) → renamed_from items l text i (n + 1) more ≡ substituted text i (entries items l (n + 1) more))
-        → replaced o l text at offset name (λ next. renamed_from items l text next (n + 1) more)
-        ≡ substituted_at (new_by l o) text at offset (length name) (λ next. substituted text next (entries items l (n + 1) more))
-    go None ih = ih at
-    go (Some k) ih =
-        append_assoc (take (offset - at) (drop at text)) (new_name l k) (renamed_from items l text (offset + length name) (n + 1) more)
-        ∙ ap (λ (x : List ℕ). take (offset - at) (drop at text) ++ (new_name l k ++ x)) (ih (offset + length name))
-renamed_is items l text at n (kept.Numeral place x ∷ more) = renamed_is items l text at (n + 1) more
-renamed_is items l text at n (kept.Literal place x ∷ more) = renamed_is items l text at (n + 1) more
-renamed_is items l text at n (kept.Expression place x ∷ more) = renamed_is items l text at (n + 1) more
-renamed_is items l text at n (kept.Statement place x ∷ more) = renamed_is items l text at (n + 1) more
-renamed_is items l text at n (kept.TerraExpression place x ∷ more) = renamed_is items l text at (n + 1) more
-renamed_is items l text at n (kept.TerraStatement place x ∷ more) = renamed_is items l text at (n + 1) more
-renamed_is items l text at n (kept.Piece x ∷ more) = renamed_is items l text at (n + 1) more
-
-names_are : (items : Items) (l n : ℕ) (more : List Item) → names_of (entries items l n more) ≡ named_items more
-names_are items l n [] = refl
-names_are items l n (kept.Name place offset name ∷ more) = ap (λ (x : List Named). record { offset = offset; text = name } ∷ x) (names_are items l (n + 1) more)
-names_are items l n (kept.Numeral place x ∷ more) = names_are items l (n + 1) more
-names_are items l n (kept.Literal place x ∷ more) = names_are items l (n + 1) more
-names_are items l n (kept.Expression place x ∷ more) = names_are items l (n + 1) more
-names_are items l n (kept.Statement place x ∷ more) = names_are items l (n + 1) more
-names_are items l n (kept.TerraExpression place x ∷ more) = names_are items l (n + 1) more
-names_are items l n (kept.TerraStatement place x ∷ more) = names_are items l (n + 1) more
-names_are items l n (kept.Piece x ∷ more) = names_are items l (n + 1) more
 
 are_new : (items : Items) (l : ℕ) → ((n k : ℕ) → local_number items n ≡ Some k → IsName (new_name l k)) → (n : ℕ) (more : List Item)
     → AreNewNames (entries items l n more)
@@ -251,17 +203,6 @@ few_tokens (Ok t ∷ more) = go t.kind (few_tokens more)
     go kinds.Numeral h = omega (arith, h)
     go kinds.Literal h = omega (arith, h)
 
--- ---- tokens of a text that is read break no rule
-
-chunks_meet : Meets (λ ts. readers_at syntax_of all_levels chunk ts) IsChunk
-chunks_meet = meets syntax_of after_part begun completed chunk
-
-all_good : (ts : List Token) (tree : Tree) → HasTree IsChunk ts tree → AllGood ts
-all_good ts tree h =
-    let runs = tree_runs (λ us. readers_at syntax_of all_levels chunk us) IsChunk chunks_meet ts tree h in
-    let l = subst (λ (o : Outcome Tree). Leaves (rest_of o) ts) runs (chunks_meet.leaves ts) in
-    subst (λ (x : List Token). AllGood x) (sym (l.1 ∙ append-nil l.0)) l.2
-
 -- ---- places
 
 places_stay : (c : Change) (ts : List Token) → map (λ t. t.place) (changed_tokens c ts) ≡ map (λ t. t.place) ts
@@ -281,16 +222,6 @@ of_locals items P h n k e = go (number_of items n) refl e
     go : (o : Option ℕ) → number_of items n ≡ o → or_found o (number_found items (binder items (record { 0 = n }))) ≡ Some k → P k
     go (Some j) a f = h n k (a ∙ f)
     go None a f = by_found (binder items (record { 0 = n })) f
-
--- the names of a tree are those of its tokens
-names_all : (text : List ℕ) (tree : Tree) → Reads text tree → named_items (lay tree []) ≡ all_named (tokens_of text)
-names_all text tree reads = lay_names tree ∙ (keeps_tree (change_of [] []) (tokens_of text) tree reads).names
-
-pub all_match : (text : List ℕ) (tree : Tree) → Reads text tree
-    → Matches (entries (lay tree []) (letters (lay tree [])) 0 (lay tree [])) (lexed.answers_of text)
-all_match text tree reads =
-    matches_from (lexed.answers_of text) (entries (lay tree []) (letters (lay tree [])) 0 (lay tree [])) (ends_once text) (all_good (tokens_of text) tree reads)
-    (names_are (lay tree []) (letters (lay tree [])) 0 (lay tree []) ∙ names_all text tree reads)
 
 module _ (text : List ℕ) (tree : Tree) (le : length text ≤ LONGEST_TEXT) (reads : Reads text tree)
     (short : HaveShortNames (lay tree [])) where
@@ -394,10 +325,13 @@ module _ (text : List ℕ) (tree : Tree) (le : length text ≤ LONGEST_TEXT) (re
   }
 
 pub renamed_reads : RenamedTextsRead
-renamed_reads text tree le reads short = (changed (c text tree le reads short) tree, reads_so text tree le reads short)
+renamed_reads text other r le short = (
+  changed (c text r.tree le r.reads short) r.tree,
+  subst (λ (x : List ℕ). Reads x (changed (c text r.tree le r.reads short) r.tree)) (sym r.is) (reads_so text r.tree le r.reads short),
+)
 
 pub renamed_alike : RenamedTextsAreAlike
-renamed_alike text tree le reads short = alike_so text tree le reads short
+renamed_alike text other r le short = subst (λ (x : List ℕ). Alike text x) (sym r.is) (alike_so text r.tree le r.reads short)
 
 pub renamed_stands : RenamedTextsHaveSamePlaces
-renamed_stands text tree le reads short = places_so text tree le reads short
+renamed_stands text other r le short = ap places r.is ∙ places_so text r.tree le r.reads short

@@ -1,3 +1,3 @@
--- The promise: a text with its locals renamed reads, binds alike, has its tokens where they were, and is UTF-8 where the text is. A reader can
+-- The promise: what `rename` gives of a text reads, binds alike, has its tokens where they were, and is UTF-8 where the text is. A reader can
 -- stop here.
 pub mod Renamed

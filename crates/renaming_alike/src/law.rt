@@ -1,9 +1,9 @@
-// What renaming keeps. Each function does nothing, and its clause is a law.
+// What renaming keeps. Each function does nothing, and its clause is a law of what `tl_renaming::rename` gives.
 
 ghost use Rattle.renaming_alike.specs.Renamed.{RenamedTextsAreAlike, RenamedTextsAreUtf8, RenamedTextsHaveSamePlaces, RenamedTextsRead};
 
-/// A text that reads, of at most `LONGEST_TEXT` bytes and with no name of more than 248, reads with its locals renamed. That text may have
-/// more than `LONGEST_TEXT` bytes.
+/// What `rename` gives of a text of at most `LONGEST_TEXT` bytes with no name of more than 248 reads. It may have more than `LONGEST_TEXT`
+/// bytes.
 pub fn renamed_texts_read()
     ensures { RenamedTextsRead }
 {}
@@ -18,7 +18,7 @@ pub fn renamed_texts_have_same_places()
     ensures { RenamedTextsHaveSamePlaces }
 {}
 
-/// The text that any text that reads becomes is UTF-8 where that text is, however long it or its names are.
+/// What `rename` gives of any text is UTF-8 where that text is, however long it or its names are.
 pub fn renamed_texts_are_utf8()
     ensures { RenamedTextsAreUtf8 }
 {}

@@ -14,7 +14,7 @@ use Rattle.tl_tree.specs.Code.{Items, place_of}
 use Rattle.tl_tree.specs.Binding.{Alike, Bound}
 use Rattle.tl_alike.specs.Alike.{AreAlike, SameNode, SameName, SameNumeral, SameLiteral, SameItem}
 use Rattle.tl_alike.proofs.AlikeTrees.{alike_trees}
-use Rattle.tl_renaming.specs.Renamed.{renamed}
+use Rattle.tl_renaming.proofs.Utf8.{renamed_utf8}
 use Rattle.terra_term.specs.WellTyped.{is_placed}
 use Rattle.spec_sound.specs.Sound.{ArePlaced, word_of}
 use Rattle.check_stage.specs.declared.staging.Mode.{Mode}
@@ -183,14 +183,14 @@ alike_sources_answer_alike one_due words a b s stages compiles one other p q =
     one_due words b one other compiles (job-over (job_of words) a b s stages one p) q
 
 pub renamed_sources_are_due_alike : RenamedSourcesAreDueAlike
-renamed_sources_are_due_alike words bytes tree short utf8 reads names other_short other_utf8 stages due =
-    alike_sources_are_due_alike words bytes (renamed (lay tree []) bytes) two stages due
+renamed_sources_are_due_alike words bytes other r short utf8 names other_short stages due =
+    alike_sources_are_due_alike words bytes other two stages due
   where
-    two : AreAlikeSources bytes (renamed (lay tree []) bytes)
+    two : AreAlikeSources bytes other
     two = record {
       short = short;
       other_short = other_short;
       utf8 = utf8;
-      other_utf8 = other_utf8;
-      alike = renamed_alike bytes tree short reads names;
+      other_utf8 = subst (λ (x : List ℕ). IsUtf8 x) (sym r.is) (renamed_utf8 bytes r.tree r.reads utf8);
+      alike = renamed_alike bytes other r short names;
     }

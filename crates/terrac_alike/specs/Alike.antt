@@ -1,11 +1,9 @@
 -- Two sources that bind alike are due the same: what a source comes to depends on no name of a local.
 use Rattle.std.specs.Prelude.{ℕ, ◌≡◌, ◌≤◌, ◌↔◌, List, [], length, Option, Some, None}
 use Rattle.std.specs.Str.{IsUtf8}
-use Rattle.tl_tree.specs.Tree.{Tree}
 use Rattle.tl_tree.specs.Nodes.{lay}
-use Rattle.tl_tree.specs.Texts.{Reads}
 use Rattle.tl_tree.specs.Binding.{Alike}
-use Rattle.tl_renaming.specs.Renamed.{renamed}
+use Rattle.tl_renaming.specs.Call.{IsRenaming}
 use Rattle.renaming_alike.specs.Renamed.{HaveShortNames}
 use Rattle.terrac_call.specs.Words.{Job, Run, Emit, Exec, Check, Terms, Rename, Gen, job_of}
 use Rattle.terrac_call.specs.Due.{Due, longest}
@@ -43,10 +41,9 @@ AlikeSourcesAnswerAlike =
     (words : List (List ℕ)) (a b : List ℕ) → AreAlikeSources a b → StagesSource (job_of words) → CompilesNothing (job_of words)
     → (one other : Due) → IsDue (job_of words) a one → IsDue (job_of words) b other → one ≡ other
 
--- So is a source with its locals renamed, where no name has more than 248 bytes and the renamed text may be read too.
+-- So is a source and what `rename` gives of it, where no name has more than 248 bytes and that text may be read too.
 abbrev pub RenamedSourcesAreDueAlike : Type 0
 RenamedSourcesAreDueAlike =
-    (words : List (List ℕ)) (bytes : List ℕ) (tree : Tree) → length bytes ≤ longest → IsUtf8 bytes → Reads bytes tree
-    → HaveShortNames (lay tree []) → length (renamed (lay tree []) bytes) ≤ longest → IsUtf8 (renamed (lay tree []) bytes)
-    → StagesSource (job_of words) → (due : Due)
-    → IsDue (job_of words) bytes due ↔ IsDue (job_of words) (renamed (lay tree []) bytes) due
+    (words : List (List ℕ)) (bytes other : List ℕ) (renaming : IsRenaming bytes other) → length bytes ≤ longest → IsUtf8 bytes
+    → HaveShortNames (lay renaming.tree []) → length other ≤ longest → StagesSource (job_of words) → (due : Due)
+    → IsDue (job_of words) bytes due ↔ IsDue (job_of words) other due

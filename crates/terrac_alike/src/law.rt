@@ -17,7 +17,7 @@ pub fn alike_sources_answer_alike()
 }
 
 /// A source is due the same with its locals renamed, for `run`, `emit`, `check` and `terms`, where no name has more than 248 bytes and the
-/// renamed text is UTF-8 and no longer than a source may be.
+/// renamed text is no longer than a source may be.
 pub fn renamed_sources_are_due_alike()
     ensures { RenamedSourcesAreDueAlike }
 {}

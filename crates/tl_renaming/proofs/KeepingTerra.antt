@@ -19,13 +19,13 @@ use Rattle.tl_tree.specs.Forms.{Chained, chain, multiplicative, additive, compar
 use Rattle.tl_tree.specs.Forms as forms
 use Rattle.tl_tree.specs.TerraExpressions as terra
 use Rattle.tl_tree.specs.TerraStatements as statements
-use Rattle.renaming_alike.proofs.Changed.{Change, Named, is_name, named_by, changed_token, changed, names_in, Shape, tree, chained, sequence}
-use Rattle.renaming_alike.proofs.Keeping.{not_named, PartsKeep, Keeps, Fits, keeps_give, keeps_same, keeps_beside, keeps_bind, keeps_on}
-use Rattle.renaming_alike.proofs.Keeping.{keeps_when, keeps_many}
-use Rattle.renaming_alike.proofs.KeepingForms.{unnamed, name_token, as_name, keeps_sign, keeps_among, keeps_numeral, keeps_opening, keeps_named}
-use Rattle.renaming_alike.proofs.KeepingForms.{keeps_name, keeps_then_name, keeps_turns, keeps_opens, keeps_behind, keeps_listed, keeps_separated}
-use Rattle.renaming_alike.proofs.KeepingForms.{keeps_skip, keeps_semicolon, keeps_operators}
-use Rattle.renaming_alike.proofs.KeepingExpressions.{fine_suffix, literal, expression, as_operand}
+use Rattle.tl_renaming.proofs.Changed.{Change, Named, is_name, named_by, changed_token, changed, names_in, Shape, tree, chained, sequence}
+use Rattle.tl_renaming.proofs.Keeping.{not_named, PartsKeep, Keeps, Fits, keeps_give, keeps_same, keeps_beside, keeps_bind, keeps_on}
+use Rattle.tl_renaming.proofs.Keeping.{keeps_when, keeps_many}
+use Rattle.tl_renaming.proofs.KeepingForms.{unnamed, name_token, as_name, keeps_sign, keeps_among, keeps_numeral, keeps_opening, keeps_named}
+use Rattle.tl_renaming.proofs.KeepingForms.{keeps_name, keeps_then_name, keeps_turns, keeps_opens, keeps_behind, keeps_listed, keeps_separated}
+use Rattle.tl_renaming.proofs.KeepingForms.{keeps_skip, keeps_semicolon, keeps_operators}
+use Rattle.tl_renaming.proofs.KeepingExpressions.{fine_suffix, literal, expression, as_operand}
 
 no_suffix : (t : Token) → terra.is_terra_suffix t ≡ true → is_name t ≡ false
 no_suffix t h = unnamed terra.terra_suffix_symbols t refl (and_parts _ _ h).0

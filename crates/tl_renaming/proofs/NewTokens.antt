@@ -15,8 +15,8 @@ use Rattle.tl_tree.specs.declared.symbol.Symbol.TheVariants as symbols
 use Rattle.tl_tree.specs.Symbols.{spelling, number_of, words, signs, written, numeral_of, last_bytes, symbol_of, has}
 use Rattle.tl_tree.specs.Tokens.{Token, token_of, Tokens, put_answer, tokens_in}
 use Rattle.tl_tree.proofs.Reading.{AllGood}
-use Rattle.renaming_alike.proofs.Changed.{Change, Named, named, is_name, named_by, all_named, changed_token, changed_tokens}
-use Rattle.renaming_alike.proofs.Keeping.{not_named}
+use Rattle.tl_renaming.proofs.Changed.{Change, Named, named, is_name, named_by, all_named, changed_token, changed_tokens}
+use Rattle.tl_renaming.proofs.Keeping.{not_named}
 
 abbrev tokens_by : List lexed.Answer → List Token
 tokens_by answers = (tokens_in answers).tokens

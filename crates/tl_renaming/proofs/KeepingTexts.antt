@@ -8,12 +8,12 @@ use Rattle.tl_tree.specs.Grammar.{Parts, parts_at, down}
 use Rattle.tl_tree.specs.Refusing.{limits, HasTree}
 use Rattle.tl_tree.specs.Laws.{IsChunk}
 use Rattle.tl_tree.specs.Syntax.{syntax_of, chunk}
-use Rattle.renaming_alike.proofs.Changed.{Change, all_named, changed_tokens, changed, names_in, tree}
-use Rattle.renaming_alike.proofs.Keeping.{PartsKeep, Keeps}
-use Rattle.renaming_alike.proofs.KeepingExpressions.{expression, operand_of, concatenation_of, arguments_of, fields, entries}
-use Rattle.renaming_alike.proofs.KeepingStatements.{block, function_body}
-use Rattle.renaming_alike.proofs.KeepingTerra.{terra_expression, terra_operand_of, terra_arguments_of, initialisers, terra_block, terra_function_body}
-use Rattle.renaming_alike.proofs.KeepingTerra.{quoted_code}
+use Rattle.tl_renaming.proofs.Changed.{Change, all_named, changed_tokens, changed, names_in, tree}
+use Rattle.tl_renaming.proofs.Keeping.{PartsKeep, Keeps}
+use Rattle.tl_renaming.proofs.KeepingExpressions.{expression, operand_of, concatenation_of, arguments_of, fields, entries}
+use Rattle.tl_renaming.proofs.KeepingStatements.{block, function_body}
+use Rattle.tl_renaming.proofs.KeepingTerra.{terra_expression, terra_operand_of, terra_arguments_of, initialisers, terra_block, terra_function_body}
+use Rattle.tl_renaming.proofs.KeepingTerra.{quoted_code}
 
 keeps_part : (c : Change) (levels : ℕ) (parts : Parts) → PartsKeep c parts → (part : Part)
     → Keeps c levels parts (tree c) [] (syntax_of part) (syntax_of part)

@@ -13,10 +13,10 @@ use Rattle.tl_tree.specs.Tree.{Tree, Nothing, Name, Numeral, Part}
 use Rattle.tl_tree.specs.Grammar.{Grammar, give, token, bind, many, Parts, down}
 use Rattle.tl_tree.specs.Forms.{sign, opening_at, opening, listed_behind, listed, separated_behind, named, name, names, semicolon, separator}
 use Rattle.tl_tree.specs.Forms.{path_names, Chained, operand, operators, right_operator}
-use Rattle.renaming_alike.proofs.Changed.{Change, Named, is_name, named_by, changed_text, changed_token, changed, names_in, Shape, tree, chained, silent}
-use Rattle.renaming_alike.proofs.Changed as of
-use Rattle.renaming_alike.proofs.Keeping.{not_named, same_text, IsFine, PartsKeep, Keeps, Fits, keeps_give, keeps_same, keeps_bind, keeps_when}
-use Rattle.renaming_alike.proofs.Keeping.{keeps_token, keeps_many}
+use Rattle.tl_renaming.proofs.Changed.{Change, Named, is_name, named_by, changed_text, changed_token, changed, names_in, Shape, tree, chained, silent}
+use Rattle.tl_renaming.proofs.Changed as of
+use Rattle.tl_renaming.proofs.Keeping.{not_named, same_text, IsFine, PartsKeep, Keeps, Fits, keeps_give, keeps_same, keeps_bind, keeps_when}
+use Rattle.tl_renaming.proofs.Keeping.{keeps_token, keeps_many}
 
 -- ---- tokens that are no names
 

@@ -18,14 +18,14 @@ use Rattle.tl_tree.specs.Forms as forms
 use Rattle.tl_tree.specs.LuaExpressions as lua
 use Rattle.tl_tree.specs.LuaStatements as statements
 use Rattle.tl_tree.specs.LuaStatements.{looped, fresh}
-use Rattle.renaming_alike.proofs.Changed.{Change, Named, named, is_name, named_by, changed_token, changed, names_in, Shape, tree, chained, sequence}
-use Rattle.renaming_alike.proofs.Changed as of
-use Rattle.renaming_alike.proofs.Keeping.{not_named, PartsKeep, Keeps, Fits, keeps_give, keeps_same, keeps_beside, keeps_bind, keeps_on}
-use Rattle.renaming_alike.proofs.Keeping.{keeps_when, keeps_token, keeps_many}
-use Rattle.renaming_alike.proofs.KeepingForms.{unnamed, name_token, as_name, keeps_sign, keeps_opening, keeps_opening_at, keeps_name_token}
-use Rattle.renaming_alike.proofs.KeepingForms.{keeps_name, keeps_then_name, keeps_turns, keeps_opens, keeps_behind, keeps_names, keeps_path_names}
-use Rattle.renaming_alike.proofs.KeepingForms.{keeps_skip, keeps_semicolon}
-use Rattle.renaming_alike.proofs.KeepingExpressions.{same_suffix, fine_suffix, no_suffix, paren, suffix, suffixes, struct_body, expression, expressions}
+use Rattle.tl_renaming.proofs.Changed.{Change, Named, named, is_name, named_by, changed_token, changed, names_in, Shape, tree, chained, sequence}
+use Rattle.tl_renaming.proofs.Changed as of
+use Rattle.tl_renaming.proofs.Keeping.{not_named, PartsKeep, Keeps, Fits, keeps_give, keeps_same, keeps_beside, keeps_bind, keeps_on}
+use Rattle.tl_renaming.proofs.Keeping.{keeps_when, keeps_token, keeps_many}
+use Rattle.tl_renaming.proofs.KeepingForms.{unnamed, name_token, as_name, keeps_sign, keeps_opening, keeps_opening_at, keeps_name_token}
+use Rattle.tl_renaming.proofs.KeepingForms.{keeps_name, keeps_then_name, keeps_turns, keeps_opens, keeps_behind, keeps_names, keeps_path_names}
+use Rattle.tl_renaming.proofs.KeepingForms.{keeps_skip, keeps_semicolon}
+use Rattle.tl_renaming.proofs.KeepingExpressions.{same_suffix, fine_suffix, no_suffix, paren, suffix, suffixes, struct_body, expression, expressions}
 
 same_both : (ss : List Symbol) (c : Change) (m : Mode) (t : Token)
     → (among ss (changed_token c t) && lua.is_suffix m (changed_token c t)) ≡ (among ss t && lua.is_suffix m t)

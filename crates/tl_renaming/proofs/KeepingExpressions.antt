@@ -13,12 +13,12 @@ use Rattle.tl_tree.specs.Tree.{Entries, TerraFunctionBody, QuotedCode, TerraExpr
 use Rattle.tl_tree.specs.Grammar.{Grammar, give, bind, Parts}
 use Rattle.tl_tree.specs.Forms.{sign, separator, Chained, multiplicative, additive, comparisons}
 use Rattle.tl_tree.specs.LuaExpressions as lua
-use Rattle.renaming_alike.proofs.Changed.{Change, Named, named, is_name, named_by, changed_token, changed, names_in, tree, chained}
-use Rattle.renaming_alike.proofs.Keeping.{same_text, IsFine, PartsKeep, Keeps, Fits, keeps_give, keeps_same, keeps_bind, keeps_on, keeps_when}
-use Rattle.renaming_alike.proofs.Keeping.{keeps_many}
-use Rattle.renaming_alike.proofs.KeepingForms.{unnamed, as_name, keeps_sign, keeps_among, keeps_numeral, keeps_opening, keeps_opening_at}
-use Rattle.renaming_alike.proofs.KeepingForms.{keeps_then_name, keeps_opens, keeps_listed, keeps_separated, keeps_skip, keeps_separator}
-use Rattle.renaming_alike.proofs.KeepingForms.{keeps_operators, keeps_right}
+use Rattle.tl_renaming.proofs.Changed.{Change, Named, named, is_name, named_by, changed_token, changed, names_in, tree, chained}
+use Rattle.tl_renaming.proofs.Keeping.{same_text, IsFine, PartsKeep, Keeps, Fits, keeps_give, keeps_same, keeps_bind, keeps_on, keeps_when}
+use Rattle.tl_renaming.proofs.Keeping.{keeps_many}
+use Rattle.tl_renaming.proofs.KeepingForms.{unnamed, as_name, keeps_sign, keeps_among, keeps_numeral, keeps_opening, keeps_opening_at}
+use Rattle.tl_renaming.proofs.KeepingForms.{keeps_then_name, keeps_opens, keeps_listed, keeps_separated, keeps_skip, keeps_separator}
+use Rattle.tl_renaming.proofs.KeepingForms.{keeps_operators, keeps_right}
 
 -- whether a token is a suffix doesn't depend on its text
 pub same_suffix : (c : Change) (m : Mode) (t : Token) → lua.is_suffix m (changed_token c t) ≡ lua.is_suffix m t

@@ -10,8 +10,8 @@ use Rattle.tl_tree.specs.Tokens.{Token, is}
 use Rattle.tl_tree.specs.Tree.{Tree, Nothing, Part}
 use Rattle.tl_tree.specs.Grammar.{bar, Grammar, give, token, bind, when, many, begins, is_of, Parts, Opened, Turns, stop, turn, Reads}
 use Rattle.tl_tree.specs.Refusing.{limits, is_allowed}
-use Rattle.renaming_alike.proofs.Changed.{Change, Named, named, is_name, named_by, all_named, changed_text, changed_token, changed_tokens}
-use Rattle.renaming_alike.proofs.Changed.{changed, names_in, Shape, tree}
+use Rattle.tl_renaming.proofs.Changed.{Change, Named, named, is_name, named_by, all_named, changed_text, changed_token, changed_tokens}
+use Rattle.tl_renaming.proofs.Changed.{changed, names_in, Shape, tree}
 
 -- ---- tokens
 

@@ -4,15 +4,15 @@ use Rattle.std.proofs.Common.{sym, subst, arith}
 use Rattle.std.specs.Fmt.{decimal, digit_glyph, digits, digits_onto}
 use Rattle.std.specs.Str.{IsUtf8, IsAscii}
 use Rattle.std.proofs.lemmas.Str.{IsUtf8-nil, IsUtf8-append, IsUtf8-from_ascii}
-use Rattle.tl_lex.proofs.NewNameLemmas.{Entry}
 use Rattle.tl_lex.proofs.NewNameUtf8.{IsNewUtf8, AreUtf8, new_names_utf8}
 use Rattle.tl_tree.specs.Item.{Item}
 use Rattle.tl_tree.specs.Item as kept
 use Rattle.tl_tree.specs.Nodes.{lay}
 use Rattle.tl_tree.specs.Code.{Items}
-use Rattle.tl_renaming.specs.Renamed.{local_number, prefix, letters, new_name}
-use Rattle.renaming_alike.specs.Renamed.{RenamedTextsAreUtf8}
-use Rattle.renaming_alike.proofs.RenamedAlike.{new_by, entries, renamed_is, all_match}
+use Rattle.tl_tree.specs.Tree.{Tree}
+use Rattle.tl_tree.specs.Texts.{Reads}
+use Rattle.tl_renaming.specs.Renamed.{local_number, letters, new_name, renamed}
+use Rattle.tl_renaming.proofs.Substituting.{new_by, entries, renamed_is, all_match}
 
 -- ---- new names
 
@@ -65,7 +65,7 @@ are_utf8 items l n (kept.TerraExpression place x ∷ more) = are_utf8 items l (n
 are_utf8 items l n (kept.TerraStatement place x ∷ more) = are_utf8 items l (n + 1) more
 are_utf8 items l n (kept.Piece x ∷ more) = are_utf8 items l (n + 1) more
 
-pub renamed_utf8 : RenamedTextsAreUtf8
+pub renamed_utf8 : (text : List ℕ) (tree : Tree) → Reads text tree → IsUtf8 text → IsUtf8 (renamed (lay tree []) text)
 renamed_utf8 text tree reads u =
     let items = lay tree [] in
     let l = letters items in

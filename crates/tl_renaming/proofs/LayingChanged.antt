@@ -13,7 +13,7 @@ use Rattle.tl_tree.specs.Item as kept
 use Rattle.tl_tree.specs.Tree.{Tree}
 use Rattle.tl_tree.specs.Tree as t
 use Rattle.tl_tree.specs.Nodes.{Laid, added, lay, node, last, last_of, if_any}
-use Rattle.renaming_alike.proofs.Changed.{Change, Named, named, changed, names_in}
+use Rattle.tl_renaming.proofs.Changed.{Change, Named, named, changed, names_in}
 
 abbrev pub changed_item : Change → Item → Item
 changed_item c (kept.Name place offset text) = kept.Name place (c.offset offset) (c.text offset text)
