@@ -7,9 +7,13 @@ dictionary, which keeps the order of first insertion as well.
 """
 
 import random
+import sys
 from pathlib import Path
 
-import texts
+sys.dont_write_bytecode = True
+sys.path.insert(1, str(Path(__file__).resolve().parents[1]))
+import texts  # noqa: E402
+from needs import needs  # noqa: E402
 
 LARGEST = 99_999_999_999_999
 CRATE = Path(__file__).resolve().parents[2] / "crates" / "lua_tests"
@@ -560,6 +564,7 @@ def tables(rng, first):
 
 
 def main():
+    needs("lua5.1")
     rng = random.Random(19)
     rows = list(texts.rows_in(BY_HAND)) + list(arithmetic(rng)) + list(tables(rng, 7)) + texts.rows(rng, 11)
     calls = [("begin_call", str(min(count, 200))) for count in range(1, 203)]
