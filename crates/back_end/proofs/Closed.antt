@@ -90,6 +90,7 @@ module _ (p q : Program) (In : FnId → Type 0) (closed : IsClosed p In) (has : 
       takes-one : (d1 : Destination) (v1 : Value) (a1 : Activation) → (takes d1 v1 a1).function ≡ a1.function
       takes-one (Destination.Temp t) v1 a1 = refl
       takes-one (Destination.Area n) v1 a1 = refl
+      takes-one Destination.Nothing v1 a1 = refl
 
   inside-enter : (at : Place) (f : FnId) (o : Option Tac) (arguments : List Value) (top : ℕ) (callers : List Caller) (s : State) → In f →
       AllIn callers → Inside (enter at f o arguments top callers s)
@@ -127,6 +128,7 @@ module _ (p q : Program) (In : FnId → Type 0) (closed : IsClosed p In) (has : 
       takes-one : (d : Destination) → (takes d v c.waits).function ≡ c.waits.function
       takes-one (Destination.Temp t) = refl
       takes-one (Destination.Area n) = refl
+      takes-one Destination.Nothing = refl
 
   inside-give : (v : Value) (callers : List Caller) (s : State) → AllIn callers → Inside (give p v callers s)
   inside-give v [] s cs = tt

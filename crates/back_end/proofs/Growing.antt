@@ -46,7 +46,7 @@ get-either (z ∷ xs) x (suc n) y e = ⊎_elim (λ l. inl l) (λ r. inr (ap suc 
 abbrev pub Once : List FnId → Type 0
 Once fs = (n m : ℕ) (f : FnId) → slice_get fs n ≡ Some f → slice_get fs m ≡ Some f → n ≡ m
 
-among-has : (fs : List FnId) (f : FnId) → is_among f fs ≡ true → Has fs f
+pub among-has : (fs : List FnId) (f : FnId) → is_among f fs ≡ true → Has fs f
 among-has [] f e = cc
 among-has (g ∷ fs) f e = by (nat_eq f.0 g.0) refl (λ later. among-has fs f later)
   where

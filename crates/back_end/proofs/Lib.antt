@@ -13,6 +13,7 @@ pub mod Naming
 pub mod Parted
 pub mod Passing
 pub mod Placed
+pub mod Sorting
 pub mod Sounds
 pub mod WithoutCopies
 pub mod Worked

@@ -44,6 +44,7 @@ use Rattle.back_end.specs.Agrees.{Agree, SameEnd}
 use Rattle.back_end.specs.Compiled.{AreExported, AreExports, IsCompiled, IsExported, IsOutward, all_scalar, codes_of, is_result, is_scalar}
 use Rattle.back_end.specs.Compiled.{nodes_in, nodes_of, type_code}
 use Rattle.back_end.specs.Symbols.{parameters_in, result_in, start_among, symbol_of, symbols_of}
+use Rattle.back_end.specs.Laid.{AreRising, IsLaidOut}
 use Rattle.back_end.specs.Working.{AllCallWithin, AreFunctions, AreWhole, CallsWithin, Has, IsFunction, compiled_code, id_of}
 use Rattle.back_end.proofs.Compiles.{IsMade, agrees}
 use Rattle.back_end.proofs.Sounds.{are-selected, are-sound, as-many, both, code-is, parts-within}
@@ -217,7 +218,7 @@ module _ (store : Contents) (exports : List Export) (functions : List Function) 
     (types : AreTypes store.types) (typed : AreTyped store) (memory : IsMemorySize image.memory)
     (half : length (static_bytes store) ≤ image.memory / 2) (outward : AreExports store exports) (whole : AreWhole store exports functions)
     (text : IsLinkedText functions linked) (lawful : IsLawful image) (statics : image.statics ≡ static_bytes store)
-    (text_is : image.text ≡ linked.words.items) (room : 512 * linked.frame ≤ image.private)
+    (text_is : image.text ≡ linked.words.items) (room : image.private ≡ 512 * linked.frame) (rising : AreRising (map id_of functions))
     (symbols : image.exports ≡ symbols_of store (map id_of functions) linked.starts.items exports) where
   abbrev ids : List FnId
   ids = map id_of functions
@@ -243,7 +244,7 @@ module _ (store : Contents) (exports : List Export) (functions : List Function) 
     text = text;
     lawful = lawful;
     text_is = text_is;
-    room = room;
+    room = omega (arith, room);
     closed = record {
       calls = λ f code block b k to at g arguments h e i j.
           within store ids functions f code whole.calls (code-of f h ∙ e) b k block to at g arguments i j;
@@ -285,6 +286,17 @@ module _ (store : Contents) (exports : List Export) (functions : List Function) 
   all-exported (e ∷ es) o h =
       (exported e (o 0 e refl) (h 0 e refl), all-exported es (λ i x q. o (suc i) x q) (λ i x q. h (suc i) x q))
 
+  pub laid-out : IsLaidOut store ids exports image
+  laid-out = record {
+    code = functions;
+    made = whole.made;
+    ids = refl;
+    rising = rising;
+    text = text_is ∙ text.words;
+    symbols = symbols ∙ ap (λ s. symbols_of store ids s exports) text.starts;
+    private = room ∙ ap (λ n. 512 * n) text.frame;
+  }
+
   pub compiled : IsCompiled store image.memory exports image
   compiled = record {
     lawful = lawful;
@@ -294,5 +306,6 @@ module _ (store : Contents) (exports : List Export) (functions : List Function) 
     reached = whole.reached;
     short = subst (λ t. length t ≤ 250 * nodes_in store ids) (sym (text_is ∙ text.words))
         (text-short store (places_of functions) text_address functions whole.made);
+    laid_out = laid-out;
     exported = subst (AreExported store image most exports) (sym symbols) (all-exported exports outward whole.exported);
   }

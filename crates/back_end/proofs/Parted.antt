@@ -12,10 +12,13 @@ use Rattle.terra_meaning.specs.Values.{AreValues, form_at}
 use Rattle.terra_meaning.specs.Laws.{AreAlike, Reaches, itself, value, mentioned}
 use Rattle.terra_meaning.specs.Meaning.{meaning}
 use Rattle.terra_meaning.proofs.Alike.{reached-alone}
+use Rattle.elf_image.specs.Layout.{text_address}
 use Rattle.rv_link.specs.declared.function.Function.{Function}
+use Rattle.rv_link.specs.Linked.{starts_in}
 use Rattle.back_end.specs.Agrees.{Agree, SameEnd}
 use Rattle.back_end.specs.Compiled.{AreExported, AreExports, AreReached, IsCompiled, IsExported, IsReady, IsTypedPart, all_scalar, codes_of}
-use Rattle.back_end.specs.Compiled.{is_result, nodes_in, nodes_of, type_code}
+use Rattle.back_end.specs.Compiled.{AreReady, is_result, nodes_in, nodes_of, type_code}
+use Rattle.back_end.specs.Laid.{IsLaidOut}
 use Rattle.back_end.specs.Symbols.{symbol_of, symbols_of, parameters_in, result_in, start_among}
 use Rattle.back_end.specs.Working.{AreFunctions, AreWhole, IsFunction, compiled_code, id_of}
 
@@ -169,8 +172,41 @@ module _ (store : Contents) (exports : List Export) (part : Contents) (is : IsTy
       let j = h 0 e refl in
       (exported-back image most j.0 e s j.1 x.0, all-back image most es ss (λ n y at. h (suc n) y at) x.1)
 
-  pub compiled-back : (memory : ℕ) (image : Image) → IsCompiled part memory exports image → IsCompiled store memory exports image
-  compiled-back memory image c =
+  -- functions that are compiled from the part are compiled from the store
+  function-back : AreReady store exports → (x : Function) → IsReached x.id → IsFunction part x → IsFunction store x
+  function-back ready x r h = record {
+    term = h.term;
+    is = sym (same x.id r) ∙ h.is;
+    ready = ready r.0 r.1 x.id r.2 r.3;
+    tac = h.tac ∙ same-code part store h.term is.types;
+    good = h.good;
+    right = h.right;
+    homes_few = h.homes_few;
+    selected = h.selected;
+    within = h.within;
+  }
+
+  functions-back : AreReady store exports → (xs : List Function) →
+      ((n : ℕ) (f : FnId) → slice_get (map id_of xs) n ≡ Some f → IsReached f) → AreFunctions part xs → AreFunctions store xs
+  functions-back ready [] r h = tt
+  functions-back ready (x ∷ xs) r h =
+      (function-back ready x (r 0 x.id refl) h.0, functions-back ready xs (λ n f at. r (suc n) f at) h.1)
+
+  laid-back : AreReady store exports → (fs : List FnId) (image : Image) →
+      ((n : ℕ) (f : FnId) → slice_get fs n ≡ Some f → IsReached f) → IsLaidOut part fs exports image → IsLaidOut store fs exports image
+  laid-back ready fs image r l = record {
+    code = l.code;
+    made = functions-back ready l.code (λ n f at. r n f (subst (λ gs. slice_get gs n ≡ Some f) l.ids at)) l.made;
+    ids = l.ids;
+    rising = l.rising;
+    text = l.text;
+    symbols = l.symbols ∙ sym (symbols-part fs (starts_in text_address l.code) exports exported-same);
+    private = l.private;
+  }
+
+  pub compiled-back : AreReady store exports → (memory : ℕ) (image : Image) → IsCompiled part memory exports image →
+      IsCompiled store memory exports image
+  compiled-back ready memory image c =
       let reached = reached-back c.functions c.reached in
       let nodes = nodes-same c.functions reached.only in
       record {
@@ -180,5 +216,6 @@ module _ (store : Contents) (exports : List Export) (part : Contents) (is : IsTy
         functions = c.functions;
         reached = reached;
         short = subst (λ n. length image.text ≤ 250 * n) nodes c.short;
+        laid_out = laid-back ready c.functions image reached.only c.laid_out;
         exported = all-back image (length image.text) exports image.exports (λ i e at. (i, at)) c.exported;
       }

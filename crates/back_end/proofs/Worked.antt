@@ -145,7 +145,7 @@ module _ (store : Contents) (exports : List Export) where
       }
 
   -- the list is of those that are compiled, once none is behind them
-  pub ends-same : (list : List FnId) (xs : List Function) → Working store exports list xs → slice_get list (length xs) ≡ None →
+  ends-same : (list : List FnId) (xs : List Function) → Working store exports list xs → slice_get list (length xs) ≡ None →
       list ≡ map id_of xs
   ends-same list xs w e =
       w.front ∙ ap (λ r. map id_of xs ++ r) (none-is xs w.rest (subst (λ l. slice_get l (length xs) ≡ None) w.front e))

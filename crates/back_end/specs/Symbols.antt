@@ -8,7 +8,7 @@ use Rattle.terra_term.specs.declared.store.Export.{Export}
 use Rattle.terra_term.specs.declared.lists.TypedName.{TypedName}
 use Rattle.terra_term.specs.Stores.{Callable, Contents, callable_of}
 use Rattle.terra_meaning.specs.Values.{form_at}
-use Rattle.back_end.specs.Compiled.{codes_of, type_code}
+use Rattle.back_end.specs.Codes.{codes_of, type_code}
 
 -- where a function begins, by the first that has its number
 abbrev pub start_among : (ids : List FnId) → (starts : List ℕ) → FnId → ℕ

@@ -18,10 +18,13 @@ use Rattle.tac_copies.specs.Reached.{reached_code}
 use Rattle.tac_copies.specs.Taken.{taken_code}
 use Rattle.rv_select.specs.Calls.{IsSelected, KeepsWithin}
 use Rattle.rv_link.specs.declared.function.Function.{Function}
-use Rattle.back_end.specs.Compiled.{AreReached, IsReady}
+use Rattle.back_end.specs.Ready.{AreReached, IsReady}
 
 abbrev pub id_of : Function → FnId
 id_of x = x.id
+
+abbrev pub number_of : Function → ℕ
+number_of x = x.id.0
 
 abbrev pub Has : List FnId → FnId → Type 0
 Has fs f = (n : ℕ) × (slice_get fs n ≡ Some f)

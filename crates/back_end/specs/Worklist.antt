@@ -3,6 +3,7 @@ use Rattle.std.specs.Prelude.{nat_eq, Bool, if◌then◌else◌, List, [], ◌�
 use Rattle.std.specs.List.{list_any}
 use Rattle.tl_base.specs.declared.ids.FnId.{FnId}
 use Rattle.terra_term.specs.declared.store.Export.{Export}
+use Rattle.rv_link.specs.declared.function.Function.{Function}
 use Rattle.tac_form.specs.declared.tac.Instruction.{Instruction}
 use Rattle.tac_form.specs.declared.tac.Instruction.TheVariants.{Call}
 use Rattle.tac_form.specs.declared.tac.Block.{Block}
@@ -21,6 +22,11 @@ with_function fs f = if is_among f fs then fs else fs ++ f ∷ []
 abbrev pub with_exports : List FnId → List Export → List FnId
 with_exports fs [] = fs
 with_exports fs (e ∷ es) = with_exports (with_function fs e.function) es
+
+-- with those of compiled functions
+abbrev pub with_ids : List FnId → List Function → List FnId
+with_ids fs [] = fs
+with_ids fs (x ∷ xs) = with_ids (with_function fs x.id) xs
 
 -- with those that are called
 abbrev pub with_instruction : List FnId → Instruction → List FnId

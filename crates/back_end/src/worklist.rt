@@ -1,9 +1,10 @@
 // Which functions are compiled.
 
 ghost use Rattle.std.specs.Prelude.{◌≡◌, OnOk};
-ghost use Rattle.back_end.specs.Worklist.{with_blocks, with_exports, with_function, with_instruction, with_instructions};
+ghost use Rattle.back_end.specs.Worklist.{with_blocks, with_exports, with_function, with_ids, with_instruction, with_instructions};
 
 use indexmap::IndexSet;
+use rv_link::Function;
 use tac_form::{Block, Instruction};
 use terra_term::Export;
 use tl_base::{FnId, NoMemory};
@@ -22,6 +23,16 @@ pub fn add_exports(list: &mut IndexSet<FnId>, exports: &[Export]) -> Result<(), 
 {
     for export in exports {
         add_function(list, export.function)?;
+    }
+    Ok(())
+}
+
+/// Adds functions that are compiled.
+pub fn add_ids(list: &mut IndexSet<FnId>, functions: &[Function]) -> Result<(), NoMemory>
+    ensures { OnOk result (list.new.keys ≡ with_ids list.old.keys functions.now) }
+{
+    for function in functions {
+        add_function(list, function.id)?;
     }
     Ok(())
 }

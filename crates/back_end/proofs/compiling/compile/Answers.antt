@@ -78,12 +78,12 @@ returns c =
     let part = c.requires.typed.0 in
     let is = c.requires.typed.1 in
     let fs = c.in_ok-compiled.compiled.functions.items in
-    compiled-back store c.args.exports.now part is c.args.limits.memory image
+    compiled-back store c.args.exports.now part is c.requires.ready c.args.limits.memory image
     (compiled part c.args.exports.now fs c.in_ok-linked.linked image
     (subst AreTypes (sym is.types) (subst AreTypes c.types.ensures c.are_types.ensures)) is.typed memory
     (subst (λ (bytes : List ℕ). length bytes ≤ c.args.limits.memory / 2) (sym is.statics) c.requires.half)
     (outward-part store c.args.exports.now part is c.requires.exports)
     (whole-part store c.args.exports.now part is fs c.in_ok-compiled.ensures.whole) text can
-    (c.from_vec-2.ensures ∙ c.in_ok-statics.ensures ∙ sym is.statics) c.from_vec.ensures (omega arith)
+    (c.from_vec-2.ensures ∙ c.in_ok-statics.ensures ∙ sym is.statics) c.from_vec.ensures refl c.in_ok-compiled.ensures.rising
     (symbols ∙ symbols-part store c.args.exports.now part is (map id_of fs) c.in_ok-linked.linked.starts.items c.args.exports.now
     (exported-same store c.args.exports.now part is)))
