@@ -207,7 +207,7 @@ impl Activation {
         }
     }
 
-    /// What is passed goes to a temporary, or all its bytes to an area of their number.
+    /// What is passed goes to a temporary, or all its bytes to an area of their number, or it isn't kept.
     fn take(&mut self, alloc: Global, code: &Tac, to: Destination, v: &Value) -> Result<(), Stop> {
         match to {
             Destination::Temp(t) => self.set(t, v.number()),
@@ -219,6 +219,7 @@ impl Activation {
                 let bytes = v.as_bytes().to_vec(alloc)?;
                 self.set_area(n, bytes)
             }
+            Destination::Nothing => Ok(()),
         }
     }
 }

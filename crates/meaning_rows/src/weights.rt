@@ -2,20 +2,23 @@
 
 ghost use Rattle.std.specs.Prelude.{◌≤◌};
 
-use tac_form::{Address, Block, Destination, Exit, Instruction, Operand, Spot, Tac};
-use terra_words::BinaryOperator;
+use tac_form::{Address, Block, Destination, Edge, Exit, Instruction, Spot, Tac};
 
-/// What loads a constant of 64 bits, puts a register into its home, ends the run by a fault, counts a call, follows
-/// an edge, copies an area, and tests the depth.
-const LONGEST: u64 = 8;
+/// What takes an operand or a constant, works out an operator, puts a register into its home, ends the run, takes a
+/// count, follows an edge, is more of a call, copies an area, and tests the depth.
+const OPERAND: u64 = 8;
+
+const OPERATOR: u64 = 4;
 
 const PLACED: u64 = 3;
 
 const FAILED: u64 = 11;
 
-const COUNTED: u64 = 3;
+const ONE_COUNT: u64 = 3;
 
 const JUMPED: u64 = 2;
+
+const COUNTED: u64 = 3 + ONE_COUNT;
 
 const COPIED: u64 = 36;
 
@@ -48,79 +51,64 @@ fn received(to: &Destination) -> u64 {
     match to {
         Destination::Temp(_) => PLACED + PLACED,
         Destination::Area(_) => PLACED + PLACED + COPIED,
-    }
-}
-
-fn taken(a: &Operand) -> u64
-    ensures { result ≤ 8 }
-{
-    match a {
-        Operand::Temp(_) => 3,
-        Operand::Constant(c) => if *c < 2048 {
-            1
-        } else if *c < 0x8000_0000 {
-            2
-        } else {
-            LONGEST
-        },
-    }
-}
-
-fn operated(op: &BinaryOperator) -> u64
-    ensures { result ≤ 4 }
-{
-    match op {
-        BinaryOperator::ShiftLeft | BinaryOperator::ShiftRight => 4,
-        BinaryOperator::Equal | BinaryOperator::NotEqual | BinaryOperator::Less => 2,
-        BinaryOperator::LessEqual | BinaryOperator::Greater | BinaryOperator::GreaterEqual => 2,
-        _ => 3,
+        Destination::Nothing => 0,
     }
 }
 
 fn reached(spot: &Spot) -> u64 {
     match spot {
-        Spot::Region(_, Address::Word(a)) => taken(a) + 5 + FAILED,
+        Spot::Region(_, Address::Word(_)) => OPERAND + 5 + FAILED,
         Spot::Region(_, Address::Frame(_)) => 9,
         Spot::Area(_, _) => PLACED,
     }
 }
 
 fn passed(count: usize, to: &Destination) -> u64 {
-    (LONGEST + PLACED)
+    (OPERAND + PLACED)
         .saturating_mul(count as u64)
         .saturating_add(received(to))
 }
 
 fn words_of(i: &Instruction) -> u64 {
     match i {
-        Instruction::Compute(_, op, _, a, b) => taken(a) + taken(b) + operated(op) + PLACED,
-        Instruction::TestDivisor(_, a) => taken(a) + 1 + FAILED,
-        Instruction::Copy(_, a) => taken(a) + PLACED,
+        Instruction::Compute(_, _, _, _, _) => OPERAND + OPERAND + OPERATOR + PLACED,
+        Instruction::TestDivisor(_, _) => OPERAND + 1 + FAILED,
+        Instruction::Copy(_, _) => OPERAND + PLACED,
         Instruction::Locate(_, _) => 9 + PLACED,
         Instruction::Load(_, _, from) => reached(from).saturating_add(2 + PLACED),
-        Instruction::Store(to, _, a) => reached(to).saturating_add(taken(a) + 1),
+        Instruction::Store(to, _, _) => reached(to).saturating_add(OPERAND + 1),
         Instruction::Move(to, from, _) => reached(to)
             .saturating_add(reached(from))
             .saturating_add(COPIED),
         Instruction::Clear(_, _) => PLACED + 16,
         Instruction::Call(to, _, _, parts) => {
-            passed(parts.as_slice().len(), to).saturating_add(COUNTED + LONGEST + DEEP + JUMPED)
+            passed(parts.as_slice().len(), to).saturating_add(COUNTED + OPERAND + DEEP + JUMPED)
         }
-        Instruction::CallValue(to, _, _, a, parts) => passed(
+        Instruction::CallValue(to, _, _, _, parts) => passed(
             parts.as_slice().len(),
             to,
-        ).saturating_add(COUNTED + LONGEST + 18 + FAILED + taken(a) + DEEP + JUMPED),
+        ).saturating_add(COUNTED + OPERAND + 18 + FAILED + OPERAND + DEEP + JUMPED),
         Instruction::PutByte(_) => PLACED + 8,
-        Instruction::Write(_, a, b) => taken(a) + taken(b) + 8 + FAILED + 5,
-        Instruction::Alloc(_, a) => taken(a) + 18 + PLACED,
+        Instruction::Write(_, _, _) => OPERAND + OPERAND + 8 + FAILED + 5,
+        Instruction::Alloc(_, _) => OPERAND + 18 + PLACED,
+    }
+}
+
+fn edge_words(edge: Edge) -> u64
+    ensures { result ≤ 5 }
+{
+    if edge.counts {
+        JUMPED + ONE_COUNT
+    } else {
+        JUMPED
     }
 }
 
 fn exit_words(exit: &Exit) -> u64 {
     match exit {
-        Exit::Jump(_) => JUMPED,
-        Exit::Branch(a, _, _) => taken(a) + 1 + JUMPED + JUMPED,
-        Exit::Return(_) => LONGEST + JUMPED,
+        Exit::Jump(edge) => edge_words(*edge),
+        Exit::Branch(_, edge, other) => OPERAND + 1 + edge_words(*edge) + edge_words(*other),
+        Exit::Return(_) => OPERAND + JUMPED,
         Exit::Fail(_, _) => FAILED,
     }
 }
