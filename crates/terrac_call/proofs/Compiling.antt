@@ -10,10 +10,10 @@ use Rattle.elf_image.specs.Calls.{symbol_named}
 use Rattle.elf_image.specs.Written as files
 use Rattle.exotype.specs.World.{StageState}
 use Rattle.spec_sound.specs.Sound.{ArePlaced}
-use Rattle.check_stage.specs.declared.staging.End.{End}
-use Rattle.check_stage.specs.declared.staging.End.TheVariants as staged
-use Rattle.check_stage.specs.declared.staging.Mode.TheVariants.{Exports}
-use Rattle.check_stage.specs.Staging.{Ending, outcome}
+use Rattle.stage_model.specs.declared.staging.End.{End}
+use Rattle.stage_model.specs.declared.staging.End.TheVariants as staged
+use Rattle.stage_model.specs.declared.staging.Mode.TheVariants.{Exports}
+use Rattle.stage_model.specs.Staging.{Ending, outcome}
 use Rattle.stage_image.specs.declared.emitting.Made.{Made}
 use Rattle.stage_image.specs.declared.emitting.Made.TheVariants as made
 use Rattle.stage_image.specs.Emitted as emitted
@@ -186,38 +186,38 @@ module _ (limits : Limits) (w : StageState) (end : End) (printed : List ℕ) whe
 
 module _ (limits : Limits) (items : Items) (finish : Place) (n : ℕ) (ending : Ending) (printed : List ℕ)
     (comes : outcome items finish Exports n (units_of limits.budget) (bytes_of limits.memory) ≡ Some ending)
-    (told : printed ≡ ending.left.world.stage.heap.printed) where
+    (told : printed ≡ ending.left.world.typing.stage.heap.printed) where
   tree_printed : (bytes : List ℕ) → bytes ≡ printed → IsTreePrinted limits items finish bytes
   tree_printed bytes same = record { n = n; ending = ending; comes = comes; is = same ∙ told }
 
   pub emit_tree_of : (due : Due)
-      → IsMadeOrUnmade (emits.IsPrintedDue limits ending.left.world.stage ending.end printed) (λ p. p ≡ printed) noting due
+      → IsMadeOrUnmade (emits.IsPrintedDue limits ending.left.world.typing.stage ending.end printed) (λ p. p ≡ printed) noting due
       → IsMadeOrUnmade (emits.IsTreeDue limits items finish) (IsTreePrinted limits items finish) noting due
   emit_tree_of due (IsMade is) =
       IsMade (record {
         n = n;
         ending = ending;
         comes = comes;
-        is_due = subst (λ (p : List ℕ). emits.IsPrintedDue limits ending.left.world.stage ending.end p due) told is;
+        is_due = subst (λ (p : List ℕ). emits.IsPrintedDue limits ending.left.world.typing.stage ending.end p due) told is;
       })
   emit_tree_of due (IsUnmade bytes same is) = IsUnmade bytes (tree_printed bytes same) is
 
 module _ (it : Asking) (items : Items) (finish : Place) (n : ℕ) (ending : Ending) (printed : List ℕ)
     (comes : outcome items finish Exports n (units_of it.running.limits.budget) (bytes_of it.running.limits.memory) ≡ Some ending)
-    (told : printed ≡ ending.left.world.stage.heap.printed) (placed : ArePlaced items) where
-  tree_due : (due : Due) → runs.IsPrintedDue it ending.left.world.stage ending.end printed due → runs.IsTreeDue it items finish due
+    (told : printed ≡ ending.left.world.typing.stage.heap.printed) (placed : ArePlaced items) where
+  tree_due : (due : Due) → runs.IsPrintedDue it ending.left.world.typing.stage ending.end printed due → runs.IsTreeDue it items finish due
   tree_due due is = record {
     placed = placed;
     n = n;
     ending = ending;
     comes = comes;
-    is_due = subst (λ (p : List ℕ). runs.IsPrintedDue it ending.left.world.stage ending.end p due) told is;
+    is_due = subst (λ (p : List ℕ). runs.IsPrintedDue it ending.left.world.typing.stage ending.end p due) told is;
   }
 
   pub run_tree_of : (due : Due)
-      → IsMadeOrUnmade (IsDueOrCut (runs.IsPrintedDue it ending.left.world.stage ending.end printed)) (λ p. p ≡ printed) after due
+      → IsMadeOrUnmade (IsDueOrCut (runs.IsPrintedDue it ending.left.world.typing.stage ending.end printed)) (λ p. p ≡ printed) after due
       → IsMadeOrUnmade (IsDueOrCut (runs.IsTreeDue it items finish)) (IsTreePrinted it.running.limits items finish) after due
   run_tree_of due (IsMade is) =
-      IsMade (cut_into (runs.IsPrintedDue it ending.left.world.stage ending.end printed) (runs.IsTreeDue it items finish) tree_due due is)
+      IsMade (cut_into (runs.IsPrintedDue it ending.left.world.typing.stage ending.end printed) (runs.IsTreeDue it items finish) tree_due due is)
   run_tree_of due (IsUnmade bytes same is) =
       IsUnmade bytes (tree_printed it.running.limits items finish n ending printed comes told bytes same) is

@@ -3,9 +3,9 @@ use Rattle.std.proofs.Common.{◌≡◌, ◌+◌, ◌≤◌, ℕ, List, [], Opti
 use Rattle.tl_tree.specs.Code.{Items}
 use Rattle.tl_tree.specs.Nodes.{lay}
 use Rattle.tl_base.specs.declared.place.Place.{Place}
-use Rattle.check_stage.specs.declared.staging.Mode.{Mode}
-use Rattle.check_stage.specs.declared.staging.Mode.TheVariants.{Exports, CheckAll}
-use Rattle.check_stage.specs.Staging.{Ending, outcome}
+use Rattle.stage_model.specs.declared.staging.Mode.{Mode}
+use Rattle.stage_model.specs.declared.staging.Mode.TheVariants.{Exports, CheckAll}
+use Rattle.stage_model.specs.Staging.{Ending, outcome}
 use Rattle.elf_image.specs.declared.error.ImageError.{ImageError}
 use Rattle.elf_image.specs.declared.image.Image.{Image}
 use Rattle.elf_image.specs.declared.image.Symbol.{Symbol}

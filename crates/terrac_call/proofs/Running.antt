@@ -5,7 +5,7 @@ use Rattle.tl_tree.specs.Code.{Items}
 use Rattle.tl_tree.specs.Nodes.{lay}
 use Rattle.tl_tree.specs.Tree.{Tree}
 use Rattle.exotype.specs.World.{StageState}
-use Rattle.check_stage.specs.declared.staging.End.{End}
+use Rattle.stage_model.specs.declared.staging.End.{End}
 use Rattle.terrac_call.specs.declared.status.Status.TheVariants as statuses
 use Rattle.terrac_call.specs.Words.{Limits}
 use Rattle.terrac_call.specs.Due.{Due, IsReadAs, IsTree, after, noting, refused}

@@ -6,8 +6,8 @@ use Rattle.elf_image.specs.declared.image.Symbol.{Symbol}
 use Rattle.elf_image.specs.Calls.{symbol_named}
 use Rattle.rv_machine.specs.declared.stops.Stop.{Stop}
 use Rattle.rv_machine.specs.declared.stops.Stop.TheVariants as stops
-use Rattle.check_stage.specs.declared.staging.End.{End}
-use Rattle.check_stage.specs.declared.staging.End.TheVariants.{Done, Raised, Spent}
+use Rattle.stage_model.specs.declared.staging.End.{End}
+use Rattle.stage_model.specs.declared.staging.End.TheVariants.{Done, Raised, Spent}
 use Rattle.terrac_call.specs.declared.status.Status.{Status}
 use Rattle.terrac_call.specs.declared.status.Status.TheVariants as statuses
 use Rattle.terrac_call.specs.Words.{Call, Limits, Job, Run, Emit, Exec, Check, Terms, Rename, Gen}
@@ -95,7 +95,7 @@ of_end_run it w Spent due is = as_that due _ is refl
 of_run_reading : (it : runs.Asking) (reading : Reading) (due : Due) → IsReadingDue (runs.IsTreeDue it) reading due → EndsJob due
 of_run_reading it (IsRefused kind place) due is = as_that due _ is refl
 of_run_reading it (IsTree tree finish) due is =
-    as_that due _ is.is_due.is (of_end_run it is.ending.left.world.stage is.ending.end is.is_due.rest is.is_due.rest_is)
+    as_that due _ is.is_due.is (of_end_run it is.ending.left.world.typing.stage is.ending.end is.is_due.rest is.is_due.rest_is)
 
 of_end_emit : (limits : Limits) (w : StageState) (end : End) (due : Due) → emits.IsEndDue limits w end due → EndsJob due
 of_end_emit limits w Done due is = as_that due _ is.is refl
@@ -105,7 +105,7 @@ of_end_emit limits w Spent due is = as_that due _ is refl
 of_emit_reading : (limits : Limits) (reading : Reading) (due : Due) → IsReadingDue (emits.IsTreeDue limits) reading due → EndsJob due
 of_emit_reading limits (IsRefused kind place) due is = as_that due _ is refl
 of_emit_reading limits (IsTree tree finish) due is =
-    as_that due _ is.is_due.is (of_end_emit limits is.ending.left.world.stage is.ending.end is.is_due.rest is.is_due.rest_is)
+    as_that due _ is.is_due.is (of_end_emit limits is.ending.left.world.typing.stage is.ending.end is.is_due.rest is.is_due.rest_is)
 
 of_cut : (Is : Due → Type 0) → ((due : Due) → Is due → EndsJob due) → (due : Due) → IsDueOrCut Is due → EndsJob due
 of_cut Is ends due (IsWhole is) = ends due is

@@ -5,7 +5,7 @@ use Rattle.std.specs.Prelude.{◌%◌, nat_lt, if◌then◌else◌}
 use Rattle.tl_base.specs.declared.limits.Limits.{Limits}
 use Rattle.tl_base.specs.Limits.{IsLimits}
 use Rattle.terra_term.specs.Stores.{contents_of}
-use Rattle.check_stage.specs.declared.staging.End.{End}
+use Rattle.stage_model.specs.declared.staging.End.{End}
 use Rattle.stage_image.proofs.Premises.{can_compile}
 use Rattle.terrac_call.specs.Meant.{IsCallMeant, SourcesAreMeant}
 use Rattle.terrac_call.specs.Run.{IsEndDue, IsImageDue}
@@ -43,7 +43,7 @@ are_limits budget memory =
 
 pub sources_are_meant : SourcesAreMeant
 sources_are_meant it items finish due x done =
-    let w = x.ending.left.world.stage in
+    let w = x.ending.left.world.typing.stage in
     let rest = x.is_due.rest in
     let limits : Limits =
     record { budget = units_of it.running.limits.budget; memory = bytes_of it.running.limits.memory } in

@@ -3,9 +3,9 @@
 use Rattle.std.specs.Prelude.{ℕ, ◌≡◌, List, Some}
 use Rattle.tl_base.specs.declared.place.Place.{Place}
 use Rattle.tl_tree.specs.Code.{Items}
-use Rattle.check_stage.specs.declared.staging.Mode.TheVariants.{CheckAll}
-use Rattle.check_stage.specs.Staging.{Ending, outcome}
-use Rattle.check_stage.specs.Texts.{checks_text}
+use Rattle.stage_model.specs.declared.staging.Mode.TheVariants.{CheckAll}
+use Rattle.stage_model.specs.Staging.{Ending, outcome}
+use Rattle.stage_model.specs.Texts.{checks_text}
 use Rattle.terrac_call.specs.Words.{Limits}
 use Rattle.terrac_call.specs.Due.{Due, IsDueOfSource}
 use Rattle.terrac_call.specs.Staged.{bytes_of, due_of_staging}
@@ -13,7 +13,7 @@ use Rattle.terrac_call.specs.Staged.{bytes_of, due_of_staging}
 -- for what a staging comes to, with the lines of its checks
 abbrev pub due_of_ending : Ending → Due
 due_of_ending it =
-    due_of_staging it.left.world.stage.heap.printed it.end (checks_text it.left.world.stage it.lines)
+    due_of_staging it.left.world.typing.stage.heap.printed it.end (checks_text it.left.world.typing.stage it.lines)
 
 -- for a tree of these nodes, whose text ends at this place
 pub record IsTreeDue (limits : Limits) (items : Items) (finish : Place) (due : Due) : Type 0 where

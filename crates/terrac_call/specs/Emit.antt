@@ -7,10 +7,10 @@ use Rattle.elf_image.specs.declared.image.Image.{Image}
 use Rattle.elf_image.specs.Written as files
 use Rattle.terra_term.specs.Stores.{contents_of}
 use Rattle.exotype.specs.World.{StageState}
-use Rattle.check_stage.specs.declared.staging.End.{End}
-use Rattle.check_stage.specs.declared.staging.End.TheVariants.{Done}
-use Rattle.check_stage.specs.declared.staging.Mode.TheVariants.{Exports}
-use Rattle.check_stage.specs.Staging.{Ending, outcome}
+use Rattle.stage_model.specs.declared.staging.End.{End}
+use Rattle.stage_model.specs.declared.staging.End.TheVariants.{Done}
+use Rattle.stage_model.specs.declared.staging.Mode.TheVariants.{Exports}
+use Rattle.stage_model.specs.Staging.{Ending, outcome}
 use Rattle.back_end.specs.Compiled.{IsCompiled}
 use Rattle.terrac_call.specs.Words.{Limits}
 use Rattle.terrac_call.specs.Due.{Due, given, noting, IsDueOfSource}
@@ -38,7 +38,7 @@ pub record IsTreeDue (limits : Limits) (items : Items) (finish : Place) (due : D
   pub n : ℕ
   pub ending : Ending
   pub comes : outcome items finish Exports n (units_of limits.budget) (bytes_of limits.memory) ≡ Some ending
-  pub is_due : IsPrintedDue limits ending.left.world.stage ending.end ending.left.world.stage.heap.printed due
+  pub is_due : IsPrintedDue limits ending.left.world.typing.stage ending.end ending.left.world.typing.stage.heap.printed due
 
 -- for the bytes of a source
 abbrev pub IsEmitDue : Limits → List ℕ → Due → Type 0

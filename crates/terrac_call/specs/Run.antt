@@ -9,10 +9,10 @@ use Rattle.elf_image.specs.Calls.{symbol_named}
 use Rattle.terra_term.specs.Stores.{contents_of}
 use Rattle.exotype.specs.World.{StageState}
 use Rattle.spec_sound.specs.Sound.{ArePlaced}
-use Rattle.check_stage.specs.declared.staging.End.{End}
-use Rattle.check_stage.specs.declared.staging.End.TheVariants.{Done}
-use Rattle.check_stage.specs.declared.staging.Mode.TheVariants.{Exports}
-use Rattle.check_stage.specs.Staging.{Ending, outcome}
+use Rattle.stage_model.specs.declared.staging.End.{End}
+use Rattle.stage_model.specs.declared.staging.End.TheVariants.{Done}
+use Rattle.stage_model.specs.declared.staging.Mode.TheVariants.{Exports}
+use Rattle.stage_model.specs.Staging.{Ending, outcome}
 use Rattle.back_end.specs.Compiled.{IsCompiled}
 use Rattle.stage_image.specs.Emitted.{defined_count}
 use Rattle.terrac_call.specs.Words.{Call, Running}
@@ -64,7 +64,7 @@ pub record IsTreeDue (it : Asking) (items : Items) (finish : Place) (due : Due) 
   pub n : ℕ
   pub ending : Ending
   pub comes : outcome items finish Exports n (units_of it.running.limits.budget) (bytes_of it.running.limits.memory) ≡ Some ending
-  pub is_due : IsPrintedDue it ending.left.world.stage ending.end ending.left.world.stage.heap.printed due
+  pub is_due : IsPrintedDue it ending.left.world.typing.stage ending.end ending.left.world.typing.stage.heap.printed due
 
 -- for the bytes of a source
 abbrev pub IsSourceDue : Asking → List ℕ → Due → Type 0

@@ -4,10 +4,10 @@ use Rattle.tl_base.specs.declared.place.Place.{Place}
 use Rattle.tl_base.specs.declared.limits.TheConstants.Limits.{MAX_BUDGET, MEMORY_UNIT}
 use Rattle.tl_tree.specs.Code.{Items}
 use Rattle.tl_tree.specs.Nodes.{lay}
-use Rattle.check_stage.specs.declared.staging.End.{End}
-use Rattle.check_stage.specs.declared.staging.End.TheVariants.{Done, Raised, Spent}
-use Rattle.check_stage.specs.declared.staging.Mode.TheVariants.{Exports}
-use Rattle.check_stage.specs.Staging.{Ending, outcome}
+use Rattle.stage_model.specs.declared.staging.End.{End}
+use Rattle.stage_model.specs.declared.staging.End.TheVariants.{Done, Raised, Spent}
+use Rattle.stage_model.specs.declared.staging.Mode.TheVariants.{Exports}
+use Rattle.stage_model.specs.Staging.{Ending, outcome}
 use Rattle.terrac_call.specs.declared.status.Status.TheVariants as statuses
 use Rattle.terrac_call.specs.Words.{Limits}
 use Rattle.terrac_call.specs.Due.{Due, Reading, IsRefused, IsTree, IsReadAs, refused, given, after}
@@ -41,7 +41,7 @@ pub record IsTreePrinted (limits : Limits) (items : Items) (finish : Place) (pri
   pub n : ℕ
   pub ending : Ending
   pub comes : outcome items finish Exports n (units_of limits.budget) (bytes_of limits.memory) ≡ Some ending
-  pub is : printed ≡ ending.left.world.stage.heap.printed
+  pub is : printed ≡ ending.left.world.typing.stage.heap.printed
 
 -- that of a source that reads so
 abbrev pub IsReadingPrinted : Limits → Reading → List ℕ → Type 0

@@ -4,8 +4,8 @@ use Rattle.std.specs.Prelude.{ℕ, ◌≡◌, List, Some}
 use Rattle.tl_base.specs.declared.place.Place.{Place}
 use Rattle.tl_tree.specs.Code.{Items}
 use Rattle.stage_text.specs.Terms.{terms_text}
-use Rattle.check_stage.specs.declared.staging.Mode.TheVariants.{Exports}
-use Rattle.check_stage.specs.Staging.{Ending, outcome}
+use Rattle.stage_model.specs.declared.staging.Mode.TheVariants.{Exports}
+use Rattle.stage_model.specs.Staging.{Ending, outcome}
 use Rattle.terrac_call.specs.Words.{Limits}
 use Rattle.terrac_call.specs.Due.{Due, IsDueOfSource}
 use Rattle.terrac_call.specs.Staged.{bytes_of, due_of_staging}
@@ -13,8 +13,8 @@ use Rattle.terrac_call.specs.Staged.{bytes_of, due_of_staging}
 -- for what a staging comes to, with the lines of the exports and of their terms
 abbrev pub due_of_ending : Ending → Due
 due_of_ending it =
-    due_of_staging it.left.world.stage.heap.printed it.end
-    (terms_text it.left.world.stage.store it.left.world.stage.exports.list)
+    due_of_staging it.left.world.typing.stage.heap.printed it.end
+    (terms_text it.left.world.typing.stage.store it.left.world.typing.stage.exports.list)
 
 -- for a tree of these nodes, whose text ends at this place
 pub record IsTreeDue (limits : Limits) (items : Items) (finish : Place) (due : Due) : Type 0 where

@@ -11,7 +11,7 @@ use crate::lines::syntax_due;
 use crate::parsing::{Parsed, parse_source};
 use crate::staged::{bytes_of, staged_end};
 use crate::words::Limits;
-use check_stage::stage_checks;
+use stage_loop::stage_checks;
 use std::alloc::Global;
 use tl_base::{NoMemory, Sink};
 use tl_tree::Tree;

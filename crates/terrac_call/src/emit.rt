@@ -3,7 +3,7 @@
 ghost use Rattle.std.specs.Prelude.{◌≡◌, ◌≢◌, ◌⊎◌, ℕ, List, Option, IfOk, OnErr};
 ghost use Rattle.tl_tree.specs.Arena.{items_of, end_of as finish_of};
 ghost use Rattle.exotype.specs.World.{StageState};
-ghost use Rattle.check_stage.specs.declared.staging.End.{End};
+ghost use Rattle.stage_model.specs.declared.staging.End.{End};
 ghost use Rattle.elf_image.specs.Lawful.{IsLawful};
 ghost use Rattle.elf_image.specs.Written as files;
 ghost use Rattle.stage_image.specs.Emitted.{IsMade};

@@ -14,7 +14,7 @@ use crate::lines::{raised_due, spent_due};
 use crate::status::Status;
 use crate::words::Limits;
 use crate::writing::write_piece;
-use check_stage::End;
+use stage_model::End;
 use std::alloc::Global;
 use tl_base::{Bytes, Failed, Limits as StagingLimits, NoMemory, Sink};
 

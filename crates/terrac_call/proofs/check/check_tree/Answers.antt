@@ -1,9 +1,9 @@
 use Rattle.std.proofs.Common.{◌≡◌, ◌∙◌, ap, subst, Some, ℕ, List}
 use Rattle.std.proofs.lemmas.Result.{IfOk-weaker}
 use Rattle.tl_tree.specs.Arena.{items_of, end_of}
-use Rattle.check_stage.specs.declared.staging.End.{End}
-use Rattle.check_stage.specs.declared.staging.Mode.TheVariants.{CheckAll}
-use Rattle.check_stage.specs.Staging.{Ending, outcome}
+use Rattle.stage_model.specs.declared.staging.End.{End}
+use Rattle.stage_model.specs.declared.staging.Mode.TheVariants.{CheckAll}
+use Rattle.stage_model.specs.Staging.{Ending, outcome}
 use Rattle.terrac_call.specs.Due.{Due}
 use Rattle.terrac_call.specs.Staged.{due_of_staging}
 use Rattle.terrac_call.specs.Check.{IsTreeDue, due_of_ending}
@@ -19,7 +19,7 @@ returns-clause-ends g c =
     let it = c.in_ok-staged.staged in
     let are = c.in_ok-staged.ensures in
     let came : Ending = are.ending in
-    let printed = came.left.world.stage.heap.printed in
+    let printed = came.left.world.typing.stage.heap.printed in
     let comes =
     subst (λ (memory : ℕ). outcome items finish CheckAll are.n limits.budget memory ≡ Some came) c.bytes_of.ensures.is are.comes in
     let same : due_of_staging it.printed it.end it.lines ≡ due_of_ending came =

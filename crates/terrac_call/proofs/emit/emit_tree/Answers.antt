@@ -1,8 +1,8 @@
 use Rattle.std.proofs.Common.{◌≡◌, ℕ, Some, subst}
 use Rattle.tl_tree.specs.Arena.{items_of, end_of}
 use Rattle.exotype.specs.World.{StageState}
-use Rattle.check_stage.specs.declared.staging.Mode.TheVariants.{Exports}
-use Rattle.check_stage.specs.Staging.{Ending, outcome}
+use Rattle.stage_model.specs.declared.staging.Mode.TheVariants.{Exports}
+use Rattle.stage_model.specs.Staging.{Ending, outcome}
 use Rattle.stage_image.specs.Emitted.{IsMade}
 use Rattle.terrac_call.specs.Due.{noting}
 use Rattle.terrac_call.specs.Emit.{IsPrintedDue, IsTreeDue}
@@ -16,7 +16,7 @@ use Rattle.terrac_call.proofs.emit.emit_tree.Goals as goal
 pub emit_emitted-requires : goal.emit_emitted-requires
 emit_emitted-requires g c =
     let are = c.in_ok-emitted.ensures in
-    lawful_made are.ending.left.world.stage c.staging_limits.result.memory are.ending.end c.in_ok-emitted.emitted.end are.end
+    lawful_made are.ending.left.world.typing.stage c.staging_limits.result.memory are.ending.end c.in_ok-emitted.emitted.end are.end
 
 pub returns-clause-ends : goal.returns-clause-ends
 returns-clause-ends g c = λ out faults.
@@ -26,7 +26,7 @@ returns-clause-ends g c = λ out faults.
     let emitted = c.in_ok-emitted.emitted in
     let are = c.in_ok-emitted.ensures in
     let came : Ending = are.ending in
-    let w : StageState = came.left.world.stage in
+    let w : StageState = came.left.world.typing.stage in
     let given = c.staging_limits.ensures in
     let comes : outcome items finish Exports are.n (units_of limits.budget) (bytes_of limits.memory) ≡ Some came =
     subst (λ (m : ℕ). outcome items finish Exports are.n (units_of limits.budget) m ≡ Some came) given.memory
