@@ -13,7 +13,7 @@ use Rattle.tac_form.specs.declared.tac.Operand.TheVariants as operands
 use Rattle.tac_form.specs.declared.tac.Part.{Part}
 use Rattle.tac_form.specs.declared.tac.Part.TheVariants as parts
 use Rattle.tac_form.specs.declared.tac.Destination.{Destination}
-use Rattle.tac_form.specs.declared.tac.Destination.TheVariants.{Temp, Area}
+use Rattle.tac_form.specs.declared.tac.Destination.TheVariants.{Temp, Area, Nothing}
 use Rattle.tac_form.specs.declared.tac.Exit.{Exit}
 use Rattle.tac_form.specs.declared.tac.Exit.TheVariants.{Return}
 use Rattle.tac_form.specs.declared.tac.Instruction.TheVariants.{Call}
@@ -51,15 +51,15 @@ use Rattle.rv_select.proofs.Finds.{FoundFunction, held-next, stands-next}
 use Rattle.rv_select.proofs.Pairing.{before-next, plain-get}
 use Rattle.rv_select.proofs.Leaves.{exit-in-graph, exit-reads-live}
 use Rattle.rv_select.proofs.Lives.{housed, step-in-graph, write-used}
-use Rattle.rv_select.proofs.Moves.{Settles, first-small, put-away, settled}
-use Rattle.rv_select.proofs.Passes.{IsPartFirst, part_value}
+use Rattle.rv_select.proofs.Moves.{Settles, fewer-holds, first-small, near-keeps, put-away, settled}
+use Rattle.rv_select.proofs.Passes.{IsPartFirst, part-small, part_value}
 use Rattle.rv_select.proofs.Receives.{housed-fewer}
 use Rattle.rv_select.proofs.Returns.{BackIn, HeldIn, Resumes, UsedBut, back-holds, goes-back, resumes}
 use Rattle.rv_select.proofs.Stands.{AtExit, AtPlace, at-instruction, both-true, exit-within, instruction-within}
 use Rattle.rv_select.proofs.Stands.{the-function, within-parts}
 use Rattle.rv_select.proofs.Reached.{short-bytes}
 use Rattle.rv_select.proofs.Waits.{SameAbove, link-kept, restored-same, waits-keeps, waits-same, waits-within}
-use Rattle.rv_select.proofs.Ways.{Way, near-same, way-both, way-none}
+use Rattle.rv_select.proofs.Ways.{Way, low-none, near-same, way-both, way-none}
 
 -- at address 0 the run is over
 pub run-returned : (program : List (Option Instr)) (z : State) (more : ℕ) → z.pc ≡ 0 →
@@ -402,6 +402,25 @@ puts-bytes p image program most linked s a j from bs depth up over link M n W co
         let two = both-true (destination_fits W.code (Area j)) (place_fits W.place) one.0 in
         (ltb-true j (length W.code.areas) two.0, wi.areas)
 
+-- What nothing takes needs no step.
+puts-nothing : (program : List (Option Instr)) (y : Layout) (sizes : List ℕ) (U : ℕ → Type 0) (s : tac.State) (a : Activation)
+    (over depth up v : ℕ) (n : State) → Puts program y sizes U Nothing s a over depth up v a.temps a.areas n
+puts-nothing program y sizes U s a over depth up v n t same five there hold = (
+  record {
+    steps = 0;
+    after = t;
+    few = omega arith;
+    runs = (way-none program t).runs;
+    at = sym (low-none t.pc hold.pc);
+    holds = fewer-holds y (UsedBut U Nothing) U (outer s a over depth) up t (λ x u. (u, λ e. none-some x e)) hold;
+    keeps = near-keeps y up t t (near-same t);
+  },
+  tt,
+)
+  where
+    none-some : (x : ℕ) → destination_write Nothing ≡ Some x → ⊥
+    none-some x e = cc
+
 -- the value of a part that is a word
 word-part : (y : Layout) (base : ℕ) (s : tac.State) (v : Part) (k : ℕ) → value_of s v ≡ word k → part_value y base (world_of s) v ≡ k
 word-part y base s (parts.Word a) k g = let same : operand s a ≡ k = cc in part-is y base s a ∙ same
@@ -466,6 +485,21 @@ to-one : (p : Program) (image : Image) (program : List (Option Instr)) (most siz
     (restored (layout_of W.code (image a.function).homes) (base + frame_bytes y) (restored y base m)) →
     (link % 2 ≡ 0 → link < 2 ^ 64 → BackIn program y (frame_bytes y) base (s.here.base + frame) link (part_value y base (world_of s) v) own m) →
     Stepped p image program most size (own + length (call_ended (layout_of W.code (image a.function).homes) W.code.areas to)) s m (given (value_of s v) (Some W.code) (record { waits = a; to = to }) cs s)
+to-one p image program most size linked s base m y held Used frame h fits sized a Nothing cs v link own depth reads W rest back =
+    let e = link-even p image program most linked a Nothing (length cs) link (base + frame_bytes y) (s.here.base + frame)
+    (restored y base m) W in
+    let x : ℕ = part_value y base (world_of s) v in
+    let b : BackIn program y (frame_bytes y) base (s.here.base + frame) link x own m = back e.0 e.1 in (
+      [],
+      nothing-written s.out,
+      to-caller p image program most size linked s a Nothing x a.temps a.areas cs (base + frame_bytes y) (s.here.base + frame) link b.steps
+          (own + length (call_ended (layout_of W.code (image a.function).homes) W.code.areas Nothing))
+          (restored y base m) m b.after W rest sized b.way b.some
+          (more b.steps (length (call_ended (layout_of W.code (image a.function).homes) W.code.areas Nothing)) own b.few)
+          (left-back program y Used s base frame link x own (length cs) m h b depth (part-small y held Used (world_of s) base m v h reads) fits)
+          (puts-nothing program (layout_of W.code (image a.function).homes) W.code.areas (InUse (graph_of W.code) a.block a.at) s a
+          (s.here.base + frame) (length cs) (base + frame_bytes y) x b.after),
+    )
 to-one p image program most size linked s base m y held Used frame h fits sized a (Temp d) cs (parts.Word o) link own depth reads W rest back =
     let e = link-even p image program most linked a (Temp d) (length cs) link (base + frame_bytes y) (s.here.base + frame)
     (restored y base m) W in

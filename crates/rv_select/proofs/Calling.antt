@@ -17,7 +17,7 @@ use Rattle.terra_words.specs.Runs.{Value}
 use Rattle.tac_form.specs.declared.tac.Part.{Part}
 use Rattle.tac_form.specs.declared.tac.Part.TheVariants as parts
 use Rattle.tac_form.specs.declared.tac.Destination.{Destination}
-use Rattle.tac_form.specs.declared.tac.Destination.TheVariants.{Temp, Area}
+use Rattle.tac_form.specs.declared.tac.Destination.TheVariants.{Temp, Area, Nothing}
 use Rattle.tac_form.specs.declared.tac.Instruction.TheVariants.{Call}
 use Rattle.tac_form.specs.declared.tac.Block.{Block}
 use Rattle.tac_form.specs.declared.tac.Tac.{Tac}
@@ -165,6 +165,7 @@ takes-is [] vs a = refl
 takes-is (d ∷ ds) [] a = refl
 takes-is (Temp t ∷ ds) (v ∷ vs) a = takes-is ds vs (takes (Temp t) v a)
 takes-is (Area n ∷ ds) (v ∷ vs) a = takes-is ds vs (takes (Area n) v a)
+takes-is (Nothing ∷ ds) (v ∷ vs) a = takes-is ds vs a
 
 -- with the parameters' words the frame is as long as it is
 pub widen : (z : Layout) (Used : ℕ → Type 0) (w : World) (base : ℕ) (m : State) → Holds (without_words z) Used w base m →

@@ -48,6 +48,7 @@ use Rattle.rv_select.proofs.Carries.{both-read, both-true, by-test, has-left, ha
 use Rattle.rv_select.proofs.Leaves.{chosen-comes, edge-near, edge-reach, exit-in-graph, next-live, or-left, or-second, zero-or-more}
 use Rattle.rv_select.proofs.Branched.{follower-first, follower-second}
 use Rattle.rv_select.proofs.Jumps.{chosen-count, chosen-few, chosen_words}
+use Rattle.rv_select.proofs.Weights.{edge-least}
 
 -- the result of a comparison, as its branch sees it
 flag-is : (b : Bool) → not (nat_eq (flag b) 0) ≡ b
@@ -256,7 +257,7 @@ compares-within y setting held d op form a b e f at other starts others =
     compared-count y setting.near setting.short o held form.signed op a b (at + 4 * length (operands_taken y held a b)) (starts e.block) (starts f.block) in
     let few : chosen_words setting.near setting.short o ≤ 5 = chosen-few setting.near setting.short o in (
       omega (arith, n, few, sides-few y held a b),
-      omega (arith, n, few, sides-count y held a b),
+      omega (arith, n, few, sides-count y held a b, edge-least e, edge-least f),
       n ∙ sym (compared-count y setting.near setting.short o held form.signed op a b (other + 4 * length (operands_taken y held a b)) (others e.block) (others f.block)),
     )
 

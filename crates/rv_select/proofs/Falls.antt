@@ -16,7 +16,7 @@ use Rattle.tac_form.specs.declared.tac.Exit.{Exit}
 use Rattle.tac_form.specs.declared.tac.Exit.TheVariants.{Branch, Fail, Jump, Return}
 use Rattle.tac_form.specs.declared.tac.Part.{Part}
 use Rattle.tac_form.specs.declared.tac.Destination.{Destination}
-use Rattle.tac_form.specs.declared.tac.Destination.TheVariants.{Temp, Area}
+use Rattle.tac_form.specs.declared.tac.Destination.TheVariants.{Temp, Area, Nothing}
 use Rattle.tac_form.specs.declared.tac.Instruction.TheVariants.{Call}
 use Rattle.tac_form.specs.declared.tac.Block.{Block}
 use Rattle.tac_form.specs.declared.tac.Tac.{Tac}
@@ -408,6 +408,7 @@ back-falls p image words own q z s v a d cs within behind e = (taken d e, suc-le
         ≤ bytes_left p image words s
     taken (Temp t) g = sum (ended_words image a.function (p.code a.function) (Temp t)) g
     taken (Area n) g = sum (ended_words image a.function (p.code a.function) (Area n)) g
+    taken Nothing g = sum (ended_words image a.function (p.code a.function) Nothing) g
 
 pub falls-return : (p : Program) (image : Image) (program : List (Option Instr)) (most words : ℕ) (code : Tac) (block : Block) (v : Part)
     (s : tac.State) → IsPlaced p image program most code (image s.here.function) → p.code s.here.function ≡ Some code →

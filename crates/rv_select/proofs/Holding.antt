@@ -389,24 +389,24 @@ up-few d a k w =
     either-few (w.signed && (nat_eq w.bits 32 && nat_le k 31)) 3 _ _ (record { few = omega arith; straight = refl })
     (with-cut d (Shift Slli d a (count_of k)) w (cut-short d w).straight)
 
-few-more : (code : List Instr) → Fewer 3 code → Fewer 4 code
-few-more code h = let few : length code ≤ 3 = h.few in record { few = omega (arith, few); straight = h.straight }
+few-more : (n : ℕ) (code : List Instr) → n ≤ 4 → Fewer n code → Fewer 4 code
+few-more n code l h = let few : length code ≤ n = h.few in record { few = omega (arith, few, l); straight = h.straight }
 
 pub folded-few : (d a : Register) (w : Width) (op : BinaryOperator) (c : ℕ) → Fewer (operator_words op) (folded d a w op c)
-folded-few d a w Add c = sum-few d a w c
-folded-few d a w Subtract c = sum-few d a w (opposite c)
-folded-few d a w Xor c = with-cut d (by_number d a Xori c) w (cut-short d w).straight
-folded-few d a w And c = with-cut d (by_number d a Andi c) w (cut-short d w).straight
-folded-few d a w Or c = with-cut d (by_number d a Ori c) w (cut-short d w).straight
-folded-few d a w ShiftLeft c = few-more (shifted_up d a w (c % w.bits)) (up-few d a (c % w.bits) w)
+folded-few d a w Add c = few-more 3 _ (omega arith) (sum-few d a w c)
+folded-few d a w Subtract c = few-more 3 _ (omega arith) (sum-few d a w (opposite c))
+folded-few d a w Xor c = few-more 3 _ (omega arith) (with-cut d (by_number d a Xori c) w (cut-short d w).straight)
+folded-few d a w And c = few-more 3 _ (omega arith) (with-cut d (by_number d a Andi c) w (cut-short d w).straight)
+folded-few d a w Or c = few-more 3 _ (omega arith) (with-cut d (by_number d a Ori c) w (cut-short d w).straight)
+folded-few d a w ShiftLeft c = few-more 3 _ (omega arith) (up-few d a (c % w.bits) w)
 folded-few d a w ShiftRight c = shift-few d a (shift_down w.signed) (c % w.bits) w
-folded-few d a w Equal c = test-few d a c (λ r. RegisterImmediate Sltiu d r one_immediate) refl refl
-folded-few d a w NotEqual c = test-few d a c (λ r. RegisterRegister Sltu d x0 r) refl refl
+folded-few d a w Equal c = few-more 2 _ (omega arith) (test-few d a c (λ r. RegisterImmediate Sltiu d r one_immediate) refl refl)
+folded-few d a w NotEqual c = few-more 2 _ (omega arith) (test-few d a c (λ r. RegisterRegister Sltu d x0 r) refl refl)
 folded-few d a w Less c = record { few = omega arith; straight = refl }
 folded-few d a w GreaterEqual c = record { few = omega arith; straight = refl }
 folded-few d a w LessEqual c = record { few = omega arith; straight = refl }
 folded-few d a w Greater c = record { few = omega arith; straight = refl }
-folded-few d a w Multiply c = up-few d a (shift_for c) w
+folded-few d a w Multiply c = few-more 3 _ (omega arith) (up-few d a (shift_for c) w)
 folded-few d a w Divide c = record { few = omega arith; straight = refl }
 folded-few d a w Modulo c = record { few = omega arith; straight = refl }
 

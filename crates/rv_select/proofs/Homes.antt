@@ -1,8 +1,8 @@
 -- Words at homes.
 use Rattle.std.proofs.Common.{◌≡◌, ◌≢◌, ℕ, ◌+◌, ◌*◌, ◌^◌, ◌<◌, ◌≤◌, List, [], ◌∷◌, Bool, true, false, length, take, drop, refl, sym, ap}
 use Rattle.std.proofs.Common.{◌∙◌, subst, ⊎_elim, inl, inr, arith}
-use Rattle.std.specs.Prelude.{◌⊎◌, not, ◌&&◌, nat_eq, nat_lt, if◌then◌else◌, Option, Some, None, slice_get}
-use Rattle.std.proofs.lemmas.Bool.{cases_lt, eqb-true, ltb-true}
+use Rattle.std.specs.Prelude.{◌⊎◌, not, ◌&&◌, nat_eq, if◌then◌else◌, Option, Some, None, slice_get}
+use Rattle.std.proofs.lemmas.Bool.{cases_lt, eqb-true}
 use Rattle.std.proofs.lemmas.List.{length-append}
 use Rattle.rv_isa.specs.declared.instr.Instr.{Instr}
 use Rattle.rv_isa.specs.declared.instr.Instr.TheVariants.{Addiw, Load, Lui, RegisterRegister, Shift, Store}
@@ -20,7 +20,7 @@ use Rattle.rv_machine.specs.Machine.{State, GoesOn, act, at_with, value_at, load
 use Rattle.tac_form.specs.declared.tac.Operand.{Operand}
 use Rattle.tac_form.specs.declared.tac.Operand.TheVariants.{Temp, Constant}
 use Rattle.tac_form.specs.Flow.{Temps}
-use Rattle.tac_form.specs.Weights.{constant_words, kept_bytes, most_moved, operand_words}
+use Rattle.tac_form.specs.Weights.{kept_bytes, most_moved, operand_words}
 use Rattle.rv_operators.specs.Claims.{acts, then_on}
 use Rattle.rv_operators.specs.Codes.{x0, x5}
 use Rattle.rv_operators.specs.Runs.{AreStraight}
@@ -31,7 +31,7 @@ use Rattle.rv_select.specs.Numbers.{constant, half, half_added, in_both, in_halv
 use Rattle.rv_select.specs.Numbers.{short_constant, upper_half, upper_number, upper_of, x7}
 use Rattle.rv_select.specs.Shapes.{brought, first_taken, is_held, moved, put_at, put_from, put_in, put_to, taken, taken_from}
 use Rattle.rv_select.proofs.Bytes.{other-than-word, private-place, stored-length, stored-word}
-use Rattle.rv_select.proofs.Numbers.{constant-count, constant-loads, one-count, register-is, small-count}
+use Rattle.rv_select.proofs.Numbers.{constant-count, constant-loads, register-is}
 use Rattle.rv_select.proofs.Straight.{Loads, behind-both, goes-both, loads-one, low-first, low-here, low-small, register-value}
 use Rattle.rv_select.proofs.Straight.{written-elsewhere, written-there}
 use Rattle.rv_select.proofs.Words.{low-are-bytes, overwritten-bytes}
@@ -120,18 +120,8 @@ taken-count y d (Temp t) = let h : length (taken_from d (home_of y t)) ≤ 3 = h
 taken-count y d (Constant k) = constant-count d k
 
 -- by its weight
-constant-weight : (d : Register) (c : ℕ) → length (constant d c) ≤ constant_words c
-constant-weight d c = either (nat_lt c 2048) (nat_lt c (2 ^ 31)) refl refl
-  where
-    either : (short two : Bool) → nat_lt c 2048 ≡ short → nat_lt c (2 ^ 31) ≡ two →
-        length (constant d c) ≤ (if short then 1 else if two then 2 else 8)
-    either true two e g = one-count d c (ltb-true c 2048 e)
-    either false true e g = small-count d c (ltb-true c (2 ^ 31) g)
-    either false false e g = constant-count d c
-
 pub operand-count : (y : Layout) (d : Register) (a : Operand) → length (taken y d a) ≤ operand_words a
-operand-count y d (Temp t) = home-count d (home_of y t)
-operand-count y d (Constant c) = constant-weight d c
+operand-count y d a = taken-count y d a
 
 -- both parts of a test
 and-first : (a b : Bool) → (a && b) ≡ true → a ≡ true
@@ -253,12 +243,7 @@ brought-few y held d (Temp t) = either (in_five y held t)
     either false = taken-count y d (Temp t)
 
 pub brought-count : (y : Layout) (held : Option ℕ) (d : Register) (a : Operand) → length (brought y held d a) ≤ operand_words a
-brought-count y held d (Constant k) = constant-weight d k
-brought-count y held d (Temp t) = either (in_five y held t)
-  where
-    either : (b : Bool) → length (if b then moved d x5 ∷ [] else taken y d (Temp t)) ≤ operand_words (Temp t)
-    either true = omega arith
-    either false = operand-count y d (Temp t)
+brought-count y held d a = brought-few y held d a
 
 -- and else as much as for any operand
 first-least : (y : Layout) (held : Option ℕ) (a : Operand) → length (first_taken y held a) ≤ length (taken y x5 a)
@@ -271,6 +256,14 @@ first-least y held (Temp t) = either (in_five y held t)
 
 pub first-count : (y : Layout) (held : Option ℕ) (a : Operand) → length (first_taken y held a) ≤ operand_words a
 first-count y held a = omega (arith, first-least y held a, operand-count y x5 a)
+
+-- a temporary's at most as much as its home
+pub first-temp : (y : Layout) (held : Option ℕ) (t : ℕ) → length (first_taken y held (Temp t)) ≤ 3
+first-temp y held t = either (in_five y held t)
+  where
+    either : (b : Bool) → length (if b then [] else taken y x5 (Temp t)) ≤ 3
+    either true = omega arith
+    either false = home-count x5 (home_of y t)
 
 pub first-few : (y : Layout) (held : Option ℕ) (a : Operand) → length (first_taken y held a) ≤ 8
 first-few y held a = omega (arith, first-least y held a, taken-count y x5 a)

@@ -41,6 +41,7 @@ received-same h a p b q r t v o sizes last (destinations.Temp u ∷ ds) =
 received-same h a p b q r t v o sizes last (destinations.Area n ∷ ds) =
     ap (λ z. received_one (laid h a p r v) sizes last (destinations.Area n) (last + 8 * length ds) ++ z)
     (received-same h a p b q r t v o sizes last ds)
+received-same h a p b q r t v o sizes last (destinations.Nothing ∷ ds) = received-same h a p b q r t v o sizes last ds
 
 passed-same : (h : List (Option Home)) (a p b q : ℕ) (r t : List Reads) (v o : Extent) (held : Option ℕ) (i : ℕ)
     (ps : List Part) → passed (laid h a p r v) held i ps ≡ passed (laid h b q t o) held i ps
@@ -69,6 +70,10 @@ instruction-same h a p b q r t v o sizes places at held (Call (destinations.Temp
 instruction-same h a p b q r t v o sizes places at held (Call (destinations.Area n) place f arguments) =
     ap (λ z. begun-with (place_number place) z ++
     (call_jump (at + 4 * length (begun-with (place_number place) z)) (places f) ++ call_ended (laid h a p r v) sizes (destinations.Area n)))
+    (passed-same h a p b q r t v o held 0 arguments)
+instruction-same h a p b q r t v o sizes places at held (Call destinations.Nothing place f arguments) =
+    ap (λ z. begun-with (place_number place) z ++
+    (call_jump (at + 4 * length (begun-with (place_number place) z)) (places f) ++ call_ended (laid h a p r v) sizes destinations.Nothing))
     (passed-same h a p b q r t v o held 0 arguments)
 instruction-same h a p b q r t v o sizes places at held (Compute d op form x y) = refl
 instruction-same h a p b q r t v o sizes places at held (TestDivisor place x) = refl

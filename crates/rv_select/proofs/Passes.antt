@@ -253,7 +253,7 @@ unfolding low
 pc-three p a b c x y z e g h = omega arith
 
 -- a part's word is below 2 ^ 64
-part-small : (y : Layout) (held : Option ℕ) (Used : ℕ → Type 0) (w : World) (base : ℕ) (m : State) (p : Part) → Holds y Used w base m →
+pub part-small : (y : Layout) (held : Option ℕ) (Used : ℕ → Type 0) (w : World) (base : ℕ) (m : State) (p : Part) → Holds y Used w base m →
     IsPartFirst y held Used p → part_value y base w p < 2 ^ 64
 part-small y held Used w base m (parts.Word a) h r = first-small held Used y w base m a h r
 part-small y held Used w base m (parts.Area n) h r =

@@ -26,7 +26,7 @@ use Rattle.rv_select.proofs.Words.{drop-bytes, number-bytes, take-bytes}
 use Rattle.rv_select.proofs.Straight.{Loads, behind-both, loads-five, low-below, written-elsewhere}
 use Rattle.rv_select.proofs.Numbers.{constant-loads, small-count}
 use Rattle.rv_select.proofs.Ways.{Way, scratch-near, stands-back, stands-front, step-way, straight-way, way-both}
-use Rattle.rv_select.proofs.Homes.{first-count, region-small, take-first}
+use Rattle.rv_select.proofs.Homes.{first-temp, region-small, take-first}
 use Rattle.rv_select.proofs.Faults.{small-load}
 use Rattle.rv_select.proofs.Areas.{saved}
 use Rattle.rv_select.proofs.Calm.{Calm, Wrote, calm-both, calm-comes, held-not, near-calm, then-wrote, write-act, wrote}
@@ -157,7 +157,7 @@ byte-loads y held Used w base m (Constant c) f p h r =
     (c % 256, constant-loads x5 m (c % 256) (λ e. omega (arith, e)) (λ e. omega (arith, e)) (omega arith), omega arith)
 
 pub byte-count : (y : Layout) (held : Option ℕ) (a : Operand) → length (byte_taken y held a) ≤ 3
-byte-count y held (Temp t) = first-count y held (Temp t)
+byte-count y held (Temp t) = first-temp y held t
 byte-count y held (Constant c) = let few : length (constant x5 (c % 256)) ≤ 2 = small-count x5 (c % 256) (omega arith) in omega (arith, few)
 
 -- the state after a byte, and a way before it

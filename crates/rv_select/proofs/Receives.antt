@@ -12,7 +12,7 @@ use Rattle.terra_memory.specs.Numbers.{number_of}
 use Rattle.terra_memory.specs.Region.{Contents}
 use Rattle.terra_words.specs.Runs.{Value, word, bytes}
 use Rattle.tac_form.specs.declared.tac.Destination.{Destination}
-use Rattle.tac_form.specs.declared.tac.Destination.TheVariants.{Temp, Area}
+use Rattle.tac_form.specs.declared.tac.Destination.TheVariants.{Temp, Area, Nothing}
 use Rattle.tac_form.specs.declared.tac.Tac.{Tac}
 use Rattle.tac_form.specs.Flow.{Activation, Temps, accepts, accepts_all, area_size, put, takes, takes_all}
 use Rattle.tac_form.specs.Fits.{Fits, area_fits, block_fits, destination_fits, goes_to, place_fits}
@@ -183,6 +183,7 @@ takes-other : (ds : List Destination) (vs : List Value) (a : Activation) (t : �
 takes-other [] vs a t h = refl
 takes-other (d ∷ ds) [] a t h = refl
 takes-other (Area n ∷ ds) (v ∷ vs) a t h = takes-other ds vs (takes (Area n) v a) t h
+takes-other (Nothing ∷ ds) (v ∷ vs) a t h = takes-other ds vs a t h
 takes-other (Temp d ∷ ds) (v ∷ vs) a t h =
     let two = neither (nat_eq d t) (list_any (goes_to t) ds) h in
     takes-other ds vs (takes (Temp d) v a) t two.1
@@ -272,6 +273,9 @@ receives program y code U Used Fin base last first depth region (Area n ∷ ds) 
       pc = pc-both m.pc t.pc more.after.pc (length A) (length C) one.at more.pc ∙ ap (λ n. low (m.pc + 4 * n)) (sym (length-append A C));
       there = more.there;
     }
+receives program y code U Used Fin base last first depth region (Nothing ∷ ds) (v ∷ vs) a rest m there p h sub in-r own begin goes fin whole small are accepts words within room =
+    receives program y code U Used Fin base last first depth region ds vs a rest m there p h sub in-r own.1 begin (λ s g. goes s g)
+    (λ s u. fin s u) whole small are accepts words.1 within (omega (arith, room))
 receives program y code U Used Fin base last first depth region (Temp d ∷ ds) (bytes bs ∷ vs) a rest m there p h sub in-r own begin goes fin whole small are accepts words within room = cc
 receives program y code U Used Fin base last first depth region (Temp d ∷ ds) (word x ∷ vs) a rest m there p h sub in-r own begin goes fin whole small are accepts words within room =
     ⊎_elim
@@ -377,6 +381,7 @@ received-same homes reads extent a b p q last sizes (Temp d ∷ ds) =
 received-same homes reads extent a b p q last sizes (Area n ∷ ds) =
     ap (λ z. received_one (with_homes homes) sizes last (Area n) (last + 8 * length ds) ++ z)
     (received-same homes reads extent a b p q last sizes ds)
+received-same homes reads extent a b p q last sizes (Nothing ∷ ds) = received-same homes reads extent a b p q last sizes ds
 
 -- a home before the parameters' words is one without them
 before-home : (y : Layout) (o : Option (Option Home)) → is_before (words_offset y) o ≡ true → IsHome y (or_first o) →

@@ -30,14 +30,14 @@ cut-count d a b w op h =
     (one-count d a b (word_operation op) (in_parts d a b w op) parts) parts
 
 pub operator-count : (d a b : Register) (w : Width) (op : BinaryOperator) → length (code_of d a b w op) ≤ operator_words op
-operator-count d a b w Add = cut-count d a b w Add (omega arith)
-operator-count d a b w Subtract = cut-count d a b w Subtract (omega arith)
-operator-count d a b w Multiply = cut-count d a b w Multiply (omega arith)
-operator-count d a b w Divide = cut-count d a b w Divide (omega arith)
-operator-count d a b w Modulo = cut-count d a b w Modulo (omega arith)
-operator-count d a b w Xor = cut-count d a b w Xor (omega arith)
-operator-count d a b w And = cut-count d a b w And (omega arith)
-operator-count d a b w Or = cut-count d a b w Or (omega arith)
+operator-count d a b w Add = omega (arith, cut-count d a b w Add (omega arith))
+operator-count d a b w Subtract = omega (arith, cut-count d a b w Subtract (omega arith))
+operator-count d a b w Multiply = omega (arith, cut-count d a b w Multiply (omega arith))
+operator-count d a b w Divide = omega (arith, cut-count d a b w Divide (omega arith))
+operator-count d a b w Modulo = omega (arith, cut-count d a b w Modulo (omega arith))
+operator-count d a b w Xor = omega (arith, cut-count d a b w Xor (omega arith))
+operator-count d a b w And = omega (arith, cut-count d a b w And (omega arith))
+operator-count d a b w Or = omega (arith, cut-count d a b w Or (omega arith))
 operator-count d a b w ShiftLeft = (code-short d a b w ShiftLeft).short
 operator-count d a b w ShiftRight = (code-short d a b w ShiftRight).short
 operator-count d a b w Equal = omega arith

@@ -1,7 +1,7 @@
 -- The code of an instruction keeps within its weight.
-use Rattle.std.proofs.Common.{◌≡◌, ℕ, ◌+◌, ◌*◌, ◌/◌, ◌^◌, ◌≤◌, Bool, true, false, List, [], ◌∷◌, ◌++◌, length, Option, refl, sym, ap, ◌∙◌}
+use Rattle.std.proofs.Common.{◌≡◌, ℕ, ◌+◌, ◌*◌, ◌/◌, ◌≤◌, Bool, true, false, List, [], ◌∷◌, ◌++◌, length, Option, refl, sym, ap, ◌∙◌}
 use Rattle.std.proofs.Common.{arith}
-use Rattle.std.specs.Prelude.{if◌then◌else◌, nat_lt}
+use Rattle.std.specs.Prelude.{if◌then◌else◌}
 use Rattle.std.proofs.lemmas.Bool.{leb-true}
 use Rattle.std.proofs.lemmas.List.{length-append}
 use Rattle.tl_base.specs.declared.place.Place.{Place}
@@ -14,13 +14,14 @@ use Rattle.terra_words.specs.declared.words.BinaryOperator.{BinaryOperator}
 use Rattle.rv_isa.specs.declared.operand.Register.{Register}
 use Rattle.tac_form.specs.declared.tac.Number.{Number}
 use Rattle.tac_form.specs.declared.tac.Operand.{Operand}
-use Rattle.tac_form.specs.declared.tac.Operand.TheVariants.{Temp, Constant}
 use Rattle.tac_form.specs.declared.tac.Address.TheVariants.{Word, Frame}
 use Rattle.tac_form.specs.declared.tac.Spot.TheVariants as spots
 use Rattle.tac_form.specs.declared.tac.Instruction.TheVariants.{Alloc, Call, CallValue, Clear, Compute, Copy, Load, Locate, Move, PutByte}
 use Rattle.tac_form.specs.declared.tac.Instruction.TheVariants.{Store, TestDivisor, Write}
 use Rattle.tac_form.specs.declared.tac.Exit.TheVariants.{Branch, Fail, Jump, Return}
+use Rattle.tac_form.specs.declared.tac.Edge.{Edge}
 use Rattle.tac_form.specs.Flow.{bytes_of, width_of}
+use Rattle.tac_form.specs.Weights as weights
 use Rattle.tac_form.specs.Weights.{operand_words, operator_words, words_of}
 use Rattle.rv_operators.specs.Codes.{code_of, x0, x5, x6, zero_immediate}
 use Rattle.rv_select.specs.Places.{Layout, area_offset, home_of, in_register}
@@ -119,15 +120,6 @@ second-count y held d op form a =
     (both (code_of (result_in y d) (read_in y x5 a) (five_or_six y a) (width_of form) op) (put_behind y d) (operator_words op) 3
     (operator-count (result_in y d) (read_in y x5 a) (five_or_six y a) (width_of form) op) (behind-few y d))
 
-operand-some : (b : Operand) → 1 ≤ operand_words b
-operand-some (Temp t) = omega arith
-operand-some (Constant c) = either (nat_lt c 2048) (nat_lt c (2 ^ 31))
-  where
-    either : (short two : Bool) → 1 ≤ (if short then 1 else if two then 2 else 8)
-    either true two = omega arith
-    either false true = omega arith
-    either false false = omega arith
-
 pub within : ShapesKeepWithin
 within y held (Compute d op form a b) h =
     either (is_turned held op b) (operated y held d op (width_of form) b a)
@@ -136,7 +128,7 @@ within y held (Compute d op form a b) h =
     (operated-count y held d op form b a))
     (either (is_five y held b) (operated_second y held d op (width_of form) a) (operated y held d op (width_of form) a b)
     (more (1 + operand_words a + (operator_words op + 3)) (words_of (Compute d op form a b)) (operated_second y held d op (width_of form) a)
-    (omega (arith, operand-some b))
+    (omega arith)
     (second-count y held d op form a))
     (more (operand_words a + (operand_words b + operator_words op + 3)) (words_of (Compute d op form a b)) _ (omega arith)
     (operated-count y held d op form a b)))
@@ -215,17 +207,24 @@ branch-count y near short o held a at first second =
     length-append (first_read y held a) (chosen near short o Ne (read_in y x5 a) x0 at first second)
     ∙ ap (λ n. length (first_read y held a) + n) (chosen-count near short o Ne (read_in y x5 a) x0 at first second)
 
+pub edge-least : (e : Edge) → 2 ≤ weights.edge_words e
+edge-least e = either e.counts
+  where
+    either : (b : Bool) → 2 ≤ (if b then 5 else 2)
+    either true = omega arith
+    either false = omega arith
+
 pub exits-within : ExitsKeepWithin
 exits-within y setting held (Jump e) at other starts others h =
     let b : Bool = falls setting.next e in
     let n : length (exit_shape y setting held at starts (Jump e)) ≡ edge_words b setting.short = edge-count b setting.short at (starts e.block) in (
-      omega (arith, n, edge-few b setting.short),
+      omega (arith, n, edge-few b setting.short, edge-least e),
       n ∙ sym (edge-count b setting.short other (others e.block)),
     )
 exits-within y setting held (Branch a e f) at other starts others h =
     let o : Follows = follower setting.next e.block f.block in
     let n = branch-count y setting.near setting.short o held a (at + 4 * length (first_read y held a)) (starts e.block) (starts f.block) in (
-      omega (arith, n, chosen-few setting.near setting.short o, read-count y held a),
+      omega (arith, n, chosen-few setting.near setting.short o, read-count y held a, edge-least e, edge-least f),
       n ∙ sym (branch-count y setting.near setting.short o held a (other + 4 * length (first_read y held a)) (others e.block) (others f.block)),
     )
 exits-within y setting held (Return v) at other starts others h = cc

@@ -12,7 +12,7 @@ use Rattle.rv_isa.specs.declared.operation.StoreOp.TheVariants.{Sd}
 use Rattle.tl_base.specs.declared.ids.FnId.{FnId}
 use Rattle.tl_base.specs.declared.place.Place.{Place}
 use Rattle.tac_form.specs.declared.tac.Destination.{Destination}
-use Rattle.tac_form.specs.declared.tac.Destination.TheVariants.{Area, Temp}
+use Rattle.tac_form.specs.declared.tac.Destination.TheVariants.{Area, Nothing, Temp}
 use Rattle.tac_form.specs.declared.tac.Instruction.TheVariants.{Call}
 use Rattle.tac_form.specs.Fits.{area_fits}
 use Rattle.tac_form.specs.Weights.{words_of}
@@ -23,8 +23,8 @@ use Rattle.rv_select.specs.Places.{Layout}
 use Rattle.rv_select.specs.Shapes.{far_part, framed, limit_found, place_number, x2, x7, x8, x11}
 use Rattle.rv_select.specs.Entering.{arguments_stored, entered, frame_taken, frames_given, left, link_put_back, link_saved, region_given}
 use Rattle.rv_select.specs.Entering.{region_taken, stack_tested, x1, most_arguments, place_given, pointer_down, pointer_up, put_back}
-use Rattle.rv_select.specs.Entering.{received, received_one, is_received, receiving, result_put, result_words, saved, size_in, stack_branch}
-use Rattle.rv_select.specs.Entering.{stored_below}
+use Rattle.rv_select.specs.Entering.{parameter_words, received, received_one, is_received, receiving, result_put, result_words, saved, size_in}
+use Rattle.rv_select.specs.Entering.{stack_branch, stored_below}
 use Rattle.rv_select.specs.Calls.{call_begun, call_ended, called, call_jump, depth_tested, jump_unless_last, one_more, part_given}
 use Rattle.rv_select.specs.Calls.{passed, part_passed}
 use Rattle.rv_select.specs.Frames.{CallsKeepWithin, FramesKeepWithin, ParametersKeepWithin}
@@ -118,30 +118,34 @@ result-count : (y : Layout) (sizes : List ℕ) (to : Destination) → list_all a
     length (result_put y sizes to) ≤ result_words to
 result-count y sizes (Temp d) h = put-few y d
 result-count y sizes (Area n) h = to-count y n 0 (size_in sizes n) (size-small sizes n h)
+result-count y sizes Nothing h = omega arith
 
 call-weight : (to : Destination) (place : Place) (f : FnId) (arguments : List Part) (n : ℕ) →
     n ≤ 8 + (5 + (11 * length arguments + 1)) + (2 + (2 + result_words to)) → n ≤ words_of (Call to place f arguments)
 call-weight (Temp d) place f arguments n h = omega (arith, h)
 call-weight (Area k) place f arguments n h = omega (arith, h)
+call-weight Nothing place f arguments n h = omega (arith, h)
 
 received-count : (y : Layout) (sizes : List ℕ) (last : ℕ) (d : Destination) (at : ℕ) → list_all area_fits sizes ≡ true →
-    length (received_one y sizes last d at) ≤ 3 + result_words d
-received-count y sizes last d at h = either (is_received y last d)
+    length (received_one y sizes last d at) ≤ parameter_words d
+received-count y sizes last d at h = some d
   where
     A : List Instr
     A = framed (λ r far. Load Ld x5 r far) at
 
-    B : List Instr
-    B = result_put y sizes d
+    either : (b : Bool) (e : Destination) → length (if b then A ++ result_put y sizes e else []) ≤ 3 + result_words e
+    either true e = both A (result_put y sizes e) 3 (result_words e) (framed-count (λ r far. Load Ld x5 r far) at) (result-count y sizes e h)
+    either false e = omega arith
 
-    either : (b : Bool) → length (if b then A ++ B else []) ≤ 3 + result_words d
-    either true = both A B 3 (result_words d) (framed-count (λ r far. Load Ld x5 r far) at) (result-count y sizes d h)
-    either false = omega arith
+    some : (e : Destination) → length (received_one y sizes last e at) ≤ parameter_words e
+    some (Temp t) = either (is_received y last (Temp t)) (Temp t)
+    some (Area n) = either true (Area n)
+    some Nothing = omega arith
 
 pub parameters-within : ParametersKeepWithin
 parameters-within y sizes last [] h = omega arith
 parameters-within y sizes last (d ∷ ds) h =
-    both (received_one y sizes last d (last + 8 * length ds)) (received y sizes last ds) (3 + result_words d) (receiving ds)
+    both (received_one y sizes last d (last + 8 * length ds)) (received y sizes last ds) (parameter_words d) (receiving ds)
     (received-count y sizes last d (last + 8 * length ds) h) (parameters-within y sizes last ds h)
 
 pub calls-within : CallsKeepWithin

@@ -8,7 +8,7 @@ use Rattle.std.proofs.lemmas.List.{length-set}
 use Rattle.reg_alloc.specs.declared.assignment.Home.{Home}
 use Rattle.reg_alloc.specs.declared.assignment.Home.TheVariants.{Register, Slot}
 use Rattle.tac_form.specs.declared.tac.Destination.{Destination}
-use Rattle.tac_form.specs.declared.tac.Destination.TheVariants.{Temp, Area}
+use Rattle.tac_form.specs.declared.tac.Destination.TheVariants.{Temp, Area, Nothing}
 use Rattle.tac_form.specs.Fits.{goes_to}
 use Rattle.rv_select.specs.Asked.{home_in, if_small, slot_instead, with_word, with_words}
 
@@ -36,6 +36,7 @@ words-length first (Temp t ∷ ds) given =
     let x : Option Home = slot_instead (first + length ds) (home_in (slice_get given t)) in
     words-length first ds (set given t x) ∙ length-set given t x
 words-length first (Area n ∷ ds) given = words-length first ds given
+words-length first (Nothing ∷ ds) given = words-length first ds given
 
 -- A temporary that takes one of these parameters has its word in place of a slot.
 record OneWord (k : ℕ) (given next : List (Option Home)) (u t : ℕ) : Type 0 where
@@ -101,6 +102,10 @@ words-either first (Area n ∷ ds) given t =
     ⊎_elim (λ e. inl e)
     (λ w. inr (record { slot = w.slot; behind = w.behind; had = w.had; has = w.has; takes = inr w.takes }))
     (words-either first ds given t)
+words-either first (Nothing ∷ ds) given t =
+    ⊎_elim (λ e. inl e)
+    (λ w. inr (record { slot = w.slot; behind = w.behind; had = w.had; has = w.has; takes = inr w.takes }))
+    (words-either first ds given t)
 words-either first (Temp u ∷ ds) given t =
     let next : List (Option Home) = with_word (Temp u) (first + length ds) given in
     ⊎_elim
@@ -124,6 +129,7 @@ words-untaken : (first : ℕ) (ds : List Destination) (given : List (Option Home
     slice_get (with_words first ds given) t ≡ slice_get given t
 words-untaken first [] given t h = refl
 words-untaken first (Area n ∷ ds) given t h = words-untaken first ds given t h
+words-untaken first (Nothing ∷ ds) given t h = words-untaken first ds given t h
 words-untaken first (Temp u ∷ ds) given t h =
     let two = neither (nat_eq u t) (list_any (goes_to t) ds) h in
     let x : Option Home = slot_instead (first + length ds) (home_in (slice_get given u)) in
@@ -140,6 +146,7 @@ abbrev pub IsOwn : (homes : List (Option Home)) → (first : ℕ) → Destinatio
 IsOwn homes first (Temp t) ds =
     (s : ℕ) → slice_get homes t ≡ Some (Some (Slot s)) → first ≤ s → list_any (goes_to t) ds ≡ false → s ≡ first + length ds
 IsOwn homes first (Area n) ds = Unit {0}
+IsOwn homes first Nothing ds = Unit {0}
 
 abbrev pub AreOwn : (homes : List (Option Home)) → (first : ℕ) → List Destination → Type 0
 AreOwn homes first [] = Unit {0}
@@ -148,6 +155,7 @@ AreOwn homes first (d ∷ ds) = IsOwn homes first d ds × AreOwn homes first ds
 words-own : (first : ℕ) (ds : List Destination) (given : List (Option Home)) → AreOwn (with_words first ds given) first ds
 words-own first [] given = tt
 words-own first (Area n ∷ ds) given = (tt, words-own first ds given)
+words-own first (Nothing ∷ ds) given = (tt, words-own first ds given)
 words-own first (Temp t ∷ ds) given =
     let k : ℕ = first + length ds in
     let x : Option Home = slot_instead k (home_in (slice_get given t)) in (
@@ -170,6 +178,7 @@ either-second false b e = e
 below-own : (first : ℕ) (ds : List Destination) (given : List (Option Home)) → AreBelow given first ds → AreOwn given first ds
 below-own first [] given h = tt
 below-own first (Area n ∷ ds) given h = (tt, below-own first ds given h)
+below-own first (Nothing ∷ ds) given h = (tt, below-own first ds given h)
 below-own first (Temp t ∷ ds) given h = (
   λ s e l none. absurd (apart s l (h t s (either-first (nat_eq t t) (list_any (goes_to t) ds) (eq-eqb t t refl)) e)),
   below-own first ds given (λ u s g e. h u s (either-second (nat_eq t u) (list_any (goes_to u) ds) g) e),

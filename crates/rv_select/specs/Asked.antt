@@ -166,6 +166,7 @@ slot_instead k h = h
 abbrev pub with_word : Destination → (k : ℕ) → (given : List (Option Home)) → List (Option Home)
 with_word (destinations.Temp t) k given = slice_set given t (slot_instead k (home_in (slice_get given t)))
 with_word (destinations.Area n) k given = given
+with_word destinations.Nothing k given = given
 
 abbrev pub with_words : (first : ℕ) → List Destination → (given : List (Option Home)) → List (Option Home)
 with_words first [] given = given

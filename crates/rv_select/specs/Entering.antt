@@ -15,7 +15,7 @@ use Rattle.terra_words.specs.declared.words.FaultKind.TheVariants.{StackFull}
 use Rattle.reg_alloc.specs.declared.assignment.Home.{Home}
 use Rattle.reg_alloc.specs.declared.assignment.Home.TheVariants as homes
 use Rattle.tac_form.specs.declared.tac.Destination.{Destination}
-use Rattle.tac_form.specs.declared.tac.Destination.TheVariants.{Temp, Area}
+use Rattle.tac_form.specs.declared.tac.Destination.TheVariants.{Temp, Area, Nothing}
 use Rattle.tac_form.specs.declared.tac.Tac.{Tac}
 use Rattle.tac_form.specs.Weights.{kept_bytes, most_moved}
 use Rattle.rv_operators.specs.Codes.{x0, x5, zero_immediate}
@@ -97,26 +97,33 @@ entered y bytes frame = region_taken frame ++ frame_taken y bytes
 abbrev pub words_offset : Layout → ℕ
 words_offset y = kept_bytes + 8 * length y.homes + most_moved * y.areas
 
--- a word in x5, or the bytes that lie at the address in x5, where a parameter or a result is taken
+-- a word in x5, or the bytes that lie at the address in x5, where a parameter or a result is taken, or nothing
 abbrev pub size_in : List ℕ → ℕ → ℕ
 size_in sizes n = unwrap_or (slice_get sizes n) 0
 
 abbrev pub result_put : Layout → (sizes : List ℕ) → Destination → List Instr
 result_put y sizes (Temp t) = put_at y t
 result_put y sizes (Area n) = to_area y n 0 (size_in sizes n)
+result_put y sizes Nothing = []
 
 -- the most words of that: a word takes three, and the bytes of an area as many as a copy of 128 bytes
 abbrev pub result_words : Destination → ℕ
 result_words (Temp t) = 3
 result_words (Area n) = 39
+result_words Nothing = 0
 
--- the most words that take parameters
+-- the most words that take a parameter, with its word, and those that take all
+abbrev pub parameter_words : Destination → ℕ
+parameter_words (Temp t) = 3 + result_words (Temp t)
+parameter_words (Area n) = 3 + result_words (Area n)
+parameter_words Nothing = 0
+
 abbrev pub receiving : List Destination → ℕ
 receiving [] = 0
-receiving (d ∷ ds) = 3 + result_words d + receiving ds
+receiving (d ∷ ds) = parameter_words d + receiving ds
 
 -- Whether a parameter is taken from its word: into an area, or to a home that lies before all these words. Where its temporary's home
--- is one of them the word is there already, and where it has none nothing asks for it.
+-- is one of them the word is there already, and where it has none, or the parameter has no temporary, nothing asks for it.
 abbrev pub is_before : (last : ℕ) → Option (Option Home) → Bool
 is_before last (Some (Some (homes.Register x))) = true
 is_before last (Some (Some (homes.Slot k))) = nat_lt (slot_offset k) last
@@ -125,6 +132,7 @@ is_before last _ = false
 abbrev pub is_received : Layout → (last : ℕ) → Destination → Bool
 is_received y last (Temp t) = is_before last (slice_get y.homes t)
 is_received y last (Area n) = true
+is_received y last Nothing = false
 
 -- a parameter from its word, which lies at an offset of the frame: that of an area is an address
 abbrev pub received_one : Layout → (sizes : List ℕ) → (last : ℕ) → Destination → (at : ℕ) → List Instr

@@ -473,6 +473,7 @@ fn is_received(homes: &[Option<Home>], last: u64, parameter: Destination) -> Res
     match parameter {
         Destination::Temp(temp) => is_before(homes, last, temp),
         Destination::Area(_) => Ok(true),
+        Destination::Nothing => Ok(false),
     }
 }
 
@@ -518,6 +519,7 @@ pub(crate) fn push_result_put(
     match to {
         Destination::Temp(temp) => push_put(code, homes, temp),
         Destination::Area(area) => push_to_area(code, homes, area, 0, size_of(sizes, area)?),
+        Destination::Nothing => Ok(()),
     }
 }
 

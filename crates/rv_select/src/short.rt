@@ -2,16 +2,17 @@
 
 ghost use Rattle.std.specs.Prelude.{◌≡◌, ◌*◌, ◌+◌, ◌-◌, ◌^◌, ◌≤◌, length, sum_by};
 ghost use Rattle.rv_select.specs.Places.{is_near, is_short};
-ghost use Rattle.tac_form.specs.Weights.{block_words, constant_words, exit_words, operand_words, operator_words, reached, received};
-ghost use Rattle.tac_form.specs.Weights.{words_of};
+ghost use Rattle.tac_form.specs.Weights.{block_words, edge_words, exit_words, reached, received, words_of};
 
-use tac_form::{Address, Block, Destination, Exit, Instruction, Operand, Spot, Tac};
-use terra_words::BinaryOperator;
+use tac_form::{Address, Block, Destination, Edge, Exit, Instruction, Spot, Tac};
 
 /// The words of code that is no longer near, and no longer short.
 const NEAR: u64 = 1000;
 
 const SHORT: u64 = 1 << 17;
+
+/// The words of an operand.
+const OPERAND: u64 = 8;
 
 /// Whether a function's code has, by its weight, fewer words than 1,000.
 #[tactic(auto, unfolding(crate::specs::Places::is_near))]
@@ -79,34 +80,28 @@ fn less_instruction(most: u64, instruction: &Instruction) -> u64
     ensures { result ≡ most - words_of instruction.now }
 {
     match instruction {
-        Instruction::Compute(_, op, _, a, b) => {
-            most.saturating_sub(operand_words(*a) + operand_words(*b) + operator_words(*op) + 3)
-        }
-        Instruction::TestDivisor(_, a) => most.saturating_sub(operand_words(*a) + 1 + 11),
-        Instruction::Copy(_, a) => most.saturating_sub(operand_words(*a) + 3),
+        Instruction::Compute(_, _, _, _, _) => most.saturating_sub(OPERAND + OPERAND + 4 + 3),
+        Instruction::TestDivisor(_, _) => most.saturating_sub(OPERAND + 1 + 11),
+        Instruction::Copy(_, _) => most.saturating_sub(OPERAND + 3),
         Instruction::Locate(_, _) => most.saturating_sub(12),
         Instruction::Load(_, _, spot) => most.saturating_sub(reached(*spot) + 2 + 3),
-        Instruction::Store(spot, _, a) => {
-            most.saturating_sub(reached(*spot) + operand_words(*a) + 1)
-        }
+        Instruction::Store(spot, _, _) => most.saturating_sub(reached(*spot) + OPERAND + 1),
         Instruction::Move(to, from, _) => {
             most.saturating_sub(reached(*to) + reached(*from) + 36)
         }
         Instruction::Clear(_, _) => most.saturating_sub(19),
         Instruction::Call(to, _, _, arguments) => {
-            less_call(most, 17, arguments.as_slice().len() as u64, received(*to))
+            less_call(most, 20, arguments.as_slice().len() as u64, received(*to))
         }
-        Instruction::CallValue(to, _, _, a, arguments) => less_call(
+        Instruction::CallValue(to, _, _, _, arguments) => less_call(
             most,
-            40 + operand_words(*a) + 6,
+            43 + OPERAND + 6,
             arguments.as_slice().len() as u64,
             received(*to),
         ),
         Instruction::PutByte(_) => most.saturating_sub(11),
-        Instruction::Write(_, a, b) => {
-            most.saturating_sub(operand_words(*a) + operand_words(*b) + 8 + 11 + 5)
-        }
-        Instruction::Alloc(_, a) => most.saturating_sub(operand_words(*a) + 18 + 3),
+        Instruction::Write(_, _, _) => most.saturating_sub(OPERAND + OPERAND + 8 + 11 + 5),
+        Instruction::Alloc(_, _) => most.saturating_sub(OPERAND + 18 + 3),
     }
 }
 
@@ -127,11 +122,18 @@ fn exit_words(exit: &Exit) -> u64
     ensures { result ≡ exit_words exit.now }
 {
     match exit {
-        Exit::Jump(_) => 2,
-        Exit::Branch(a, _, _) => operand_words(*a) + 1 + 2 + 2,
+        Exit::Jump(edge) => edge_words(*edge),
+        Exit::Branch(_, first, second) => OPERAND + 1 + edge_words(*first) + edge_words(*second),
         Exit::Return(_) => 10,
         Exit::Fail(_, _) => 11,
     }
+}
+
+fn edge_words(edge: Edge) -> u64
+    ensures words { result ≡ edge_words edge }
+    ensures few { result ≤ 5 }
+{
+    if edge.counts { 5 } else { 2 }
 }
 
 fn received(to: Destination) -> u64
@@ -141,6 +143,7 @@ fn received(to: Destination) -> u64
     match to {
         Destination::Temp(_) => 6,
         Destination::Area(_) => 42,
+        Destination::Nothing => 0,
     }
 }
 
@@ -149,47 +152,8 @@ fn reached(spot: Spot) -> u64
     ensures few { result ≤ 24 }
 {
     match spot {
-        Spot::Region(_, Address::Word(a)) => operand_words(a) + 5 + 11,
+        Spot::Region(_, Address::Word(_)) => OPERAND + 5 + 11,
         Spot::Region(_, Address::Frame(_)) => 9,
         Spot::Area(_, _) => 3,
-    }
-}
-
-fn operand_words(a: Operand) -> u64
-    ensures words { result ≡ operand_words a }
-    ensures few { result ≤ 8 }
-{
-    match a {
-        Operand::Temp(_) => 3,
-        Operand::Constant(c) => constant_words(c),
-    }
-}
-
-fn constant_words(c: u64) -> u64
-    ensures words { result ≡ constant_words c }
-    ensures few { result ≤ 8 }
-{
-    if c < 2048 {
-        1
-    } else if c < 1 << 31 {
-        2
-    } else {
-        8
-    }
-}
-
-fn operator_words(op: BinaryOperator) -> u64
-    ensures words { result ≡ operator_words op }
-    ensures few { result ≤ 4 }
-{
-    match op {
-        BinaryOperator::ShiftLeft | BinaryOperator::ShiftRight => 4,
-        BinaryOperator::Equal
-        | BinaryOperator::NotEqual
-        | BinaryOperator::Less
-        | BinaryOperator::LessEqual
-        | BinaryOperator::Greater
-        | BinaryOperator::GreaterEqual => 2,
-        _ => 3,
     }
 }

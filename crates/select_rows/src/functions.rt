@@ -109,6 +109,7 @@ fn function(
             result: TypeId(0),
         },
         place: HERE,
+        counts: false,
         frame: 0,
         temps,
         areas: SizeList::from_vec(Vec::new(alloc)),
