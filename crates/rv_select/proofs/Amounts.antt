@@ -84,6 +84,9 @@ all-few a b c e r h g = omega (arith, h, g)
 pub zero-first : (k : ℕ) → 0 + k + 1 ≡ k + 1
 zero-first k = omega arith
 
+pub words-within : (h a q n : ℕ) → n ≡ q → 8 * n ≤ 8 * 11 + 8 * h + 128 * a + 8 * q
+words-within h a q n e = omega (arith, e)
+
 pub args-room : (base h a q n : ℕ) → 8 * 11 + 8 * h + 128 * a + 8 * q ≤ base → n ≡ q → 8 * n ≤ base
 args-room base h a q n g e = omega (arith, g, e)
 

@@ -39,13 +39,14 @@ pub record InFunction (z : Layout) (base bottom placed depth link : ℕ) (m n : 
   pub kept : (r : ℕ) → 18 ≤ r → r < 28 → m.registers r < 2 ^ 64 →
       (if uses z r then private_word n (bottom + kept_offset r) else n.registers r) ≡ m.registers r
   pub above : (at k : ℕ) → base ≤ at → take k (drop at n.private) ≡ take k (drop at m.private)
+  pub below : (at k : ℕ) → at + k ≤ bottom → take k (drop at n.private) ≡ take k (drop at m.private)
 
 pub enters-call : (program : List (Option Instr)) (y : Layout) (held : Option ℕ) (z : Layout)
     (base bytes frame placed target most to link : ℕ) (w : World) (at : Place) (ps : List Part) (rest : List Instr) (m : State)
     (b : Begun program y held base w at ps rest m) (j : JumpedTo program target b.after)
     (e : Enters program z (base - bytes) (placed - frame) most to j.after) → 88 ≤ bytes → bytes ≤ base →
-    low (b.after.pc + 8) ≡ link → link < 2 ^ 64 → InFunction z base (base - bytes) (placed - frame) (suc w.depth) link m e.after
-enters-call program y held z base bytes frame placed target most to link w at ps rest m b j e least room link-is small = record {
+    8 * length ps ≤ bytes → low (b.after.pc + 8) ≡ link → link < 2 ^ 64 → InFunction z base (base - bytes) (placed - frame) (suc w.depth) link m e.after
+enters-call program y held z base bytes frame placed target most to link w at ps rest m b j e least room passed link-is small = record {
   pointer = e.pointer;
   eight = e.placed;
   three = others 3 (λ q. omega (arith, q)) (λ q. omega (arith, q)) (λ q. omega (arith, q)) (λ q. omega (arith, q)) (λ q. omega (arith, q))
@@ -68,8 +69,12 @@ enters-call program y held z base bytes frame placed target most to link w at ps
       (λ u. sym (e.others r (λ q. omega (arith, q, lo)) (λ q. omega (arith, q, lo)) (λ q. omega (arith, q, lo)) (λ q. omega (arith, q, lo))
       (λ q. omega (arith, q, lo)) ∙ before r lo hi)));
   above = λ a k o. e.above a k (higher base bytes a least room o) ∙ (ap (λ q. take k (drop a q)) j.private ∙ b.above a k o);
+  below = λ a k o. e.below a k o ∙ (ap (λ q. take k (drop a q)) j.private ∙ b.below a k (lower base bytes (8 * length ps) (a + k) passed o));
 }
   where
+    lower : (base bytes n a : ℕ) → n ≤ bytes → a ≤ base - bytes → a ≤ base - n
+    lower base bytes n a h o = omega (arith, h, o)
+
     higher : (base bytes a : ℕ) → 88 ≤ bytes → bytes ≤ base → base ≤ a → base - bytes + 88 ≤ a
     higher base bytes a h k o = omega (arith, h, k, o)
 
@@ -90,9 +95,9 @@ pub same-after : (z : Layout) (base bottom placed depth link : ℕ) (m n q : Sta
 same-after z base bottom placed depth link m n q f k below = record {
   registers = λ r lo hi few.
       sym (if-is (uses z r) (m.registers r) (private_word q (bottom + kept_offset r)) (q.registers r)
-      (λ u. sym (ap number_of (k.outside (bottom + kept_offset r) 8 (omega arith) (inl (omega (arith, lo, hi)))) ∙ used r lo hi few u))
+      (λ u. sym (ap number_of (k.outside (bottom + kept_offset r) 8 (inl (omega (arith, lo, hi)))) ∙ used r lo hi few u))
       (λ u. sym (k.registers r (lasting r lo hi) u ∙ unused r lo hi few u)));
-  private = λ at c o. k.outside at c (omega (arith, o, below)) (inr (omega (arith, o, below))) ∙ f.above at c o;
+  private = λ at c o. k.outside at c (inr (omega (arith, o, below))) ∙ f.above at c o;
   long = k.long ∙ f.long;
 }
   where
@@ -105,7 +110,7 @@ same-after z base bottom placed depth link m n q f k below = record {
 pub link-after : (z : Layout) (base bottom placed depth link : ℕ) (m n q : State) → InFunction z base bottom placed depth link m n →
     Keeps (without_words z) bottom n q → link_in z bottom q ≡ link
 link-after z base bottom placed depth link m n q f k =
-    link-same z bottom n q (ap number_of (k.outside bottom 8 (omega arith) (inl (omega arith)))) k.link ∙ f.link_is
+    link-same z bottom n q (ap number_of (k.outside bottom 8 (inl (omega arith)))) k.link ∙ f.link_is
 
 -- the parts' words, as the function finds them, and the areas that they point to
 pub has-words : (y : Layout) (base : ℕ) (s : tac.State) (bottom last top i : ℕ) (ds : List Destination) (ps : List Part) (n : State) →

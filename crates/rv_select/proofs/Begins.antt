@@ -63,7 +63,7 @@ record Laid (program : List (Option Instr)) (count i base : ℕ) (rest : List In
   steps : ℕ
   way : Way program steps m after
   few : steps ≤ length (arguments_stored count i)
-  beneath : Beneath (base - 8 * i) m after
+  beneath : Beneath (base - 8 * (i + count)) (base - 8 * i) m after
   words : (k : ℕ) → i ≤ k → k < i + count → m.registers (10 + k) < 2 ^ 64 → private_word after (base - 8 * (k + 1)) ≡ m.registers (10 + k)
   pc : after.pc ≡ low (m.pc + 4 * length (arguments_stored count i))
   there : Stands program after.pc rest
@@ -76,7 +76,7 @@ lays program zero i base rest m there p eight two within small region room = rec
   steps = 0;
   way = way-none program m;
   few = omega arith;
-  beneath = near-beneath (base - 8 * i) m m (near-same m);
+  beneath = near-beneath (base - 8 * (i + 0)) (base - 8 * i) m m (near-same m);
   words = λ k l u few. absurd (omega (arith, l, u));
   pc = pc-none m.pc p;
   there = there;
@@ -95,7 +95,7 @@ lays program (suc n) i base rest m there p eight two within small region room =
     (omega arith) (omega (arith, room)) small within region in
     let u : State = s.after in
     let pc-u : u.pc < 2 ^ 64 = subst (λ z. z < 2 ^ 64) (sym s.behind) (low-below (m.pc + 4 * length B)) in
-    let one : Beneath (base - 8 * i) m u = subst (λ z. Beneath z m u) end (saves-beneath B at v m s inside) in
+    let one : Beneath at (base - 8 * i) m u = subst (λ z. Beneath at z m u) end (saves-beneath B at v m s inside) in
     let all : Stands program m.pc (B ++ (C ++ rest)) = subst (λ z. Stands program m.pc z) (append_assoc B C rest) there in
     let after-u : Stands program u.pc (C ++ rest) = subst (λ z. Stands program z (C ++ rest)) (sym s.behind)
     (stands-back program m.pc B (C ++ rest) p all) in
@@ -113,12 +113,16 @@ lays program (suc n) i base rest m there p eight two within small region room =
       way = way-both program (length B) more.steps m u more.after
           (straight-way program B m u (stands-front program m.pc B (C ++ rest) all) s.straight s.goes) more.way;
       few = omega (arith, more.few, length-append B C);
-      beneath = beneath-both (base - 8 * i) (base - 8 * (i + 1)) m u more.after (omega arith) one more.beneath;
+      beneath = subst (λ z. Beneath (base - 8 * z) (base - 8 * i) m more.after) (all-left n)
+          (beneath-both (base - 8 * (i + 1 + n)) at (base - 8 * i) at m u more.after (omega arith) (omega arith) one more.beneath);
       words = λ k l h few. word more.after k u (λ j a b c. s.keeps j a b c) l h few first more.words (cases_eq k i);
       pc = pc-two m.pc u.pc more.after.pc (length B) (length C) s.behind more.pc ∙ ap (λ q. low (m.pc + 4 * q)) (sym (length-append B C));
       there = more.there;
     }
   where
+    all-left : (k : ℕ) → i + 1 + k ≡ i + suc k
+    all-left k = omega arith
+
     word : (z : State) (k : ℕ) (u : State) → ((j : ℕ) → j ≢ 5 → j ≢ 6 → j ≢ 7 → u.registers j ≡ m.registers j) → i ≤ k → k < i + suc n →
         m.registers (10 + k) < 2 ^ 64 →
         (m.registers (10 + i) < 2 ^ 64 → private_word z (base - 8 * (i + 1)) ≡ m.registers (10 + i)) →
@@ -202,6 +206,7 @@ record AtEntry (program : List (Option Instr)) (code : Tac) (place count : ℕ) 
   region : after.region ≡ m.region
   long : length after.private ≡ length m.private
   bytes : AreBytes m.private → AreBytes after.private
+  below : (at k : ℕ) → at + k ≤ length m.private - 8 * count → take k (drop at after.private) ≡ take k (drop at m.private)
   words : (k : ℕ) → k < count → m.registers (10 + k) < 2 ^ 64 → private_word after (length m.private - 8 * (k + 1)) ≡ m.registers (10 + k)
 
 comes-in : (program : List (Option Instr)) (code : Tac) (m : State) → Stands program m.pc (begun code) → m.pc < 2 ^ 64 →
@@ -245,6 +250,7 @@ comes-in program code m there p eight place two four small region room =
       region = c.region ∙ l.beneath.region;
       long = ap length c.private ∙ l.beneath.long;
       bytes = λ b. subst AreBytes (sym c.private) (l.beneath.bytes b);
+      below = λ a k o. ap (λ z. take k (drop a z)) c.private ∙ l.beneath.under a k (omega (arith, o));
       words = λ k u few.
           let reg : t.registers (10 + k) ≡ m.registers (10 + k) = same (10 + k) (λ z. omega (arith, z)) in
           ap (λ z. number_of (take 8 (drop (length m.private - 8 * (k + 1)) z))) c.private
@@ -441,6 +447,7 @@ module _ (p : Program) (image : Image) (program : List (Option Instr)) (most n :
     above = λ a k o. en.above a k
         (higher (length m.private) (frame_bytes (layout_of code (image f).homes)) a
         (bytes-least (length (asked_homes code (image f).homes)) (length code.areas) (length code.parameters)) fit.0 o);
+    below = en.below;
   }
     where
       no-link : b.after.registers 1 ≡ 0

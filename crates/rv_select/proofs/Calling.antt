@@ -44,7 +44,7 @@ use Rattle.rv_select.specs.Waiting.{held_in, place_in, plain_in, restored}
 use Rattle.rv_select.proofs.Amounts.{all-few, args-room, bytes-least, chain, deep-is, entry-facts, far, few-deep, frame-fits, goes, head-in}
 use Rattle.rv_select.proofs.Amounts.{least, less-frame, link-facts, link-low, link-word, nearer, not-le, not-lt, shallow-is, shorter}
 use Rattle.rv_select.proofs.Amounts.{some-steps, stack-less, stack-more, steps-few, still-below, top-is, word-high, word-near, word-of}
-use Rattle.rv_select.proofs.Amounts.{words-under, zero-first}
+use Rattle.rv_select.proofs.Amounts.{words-under, words-within, zero-first}
 use Rattle.rv_select.proofs.Asking.{instruction-homes}
 use Rattle.rv_select.proofs.Arrivals.{InFunction, areas-lie, begin-holds, enters-call, has-words, link-after, room-next, same-after}
 use Rattle.rv_select.proofs.Callings.{Begun, JumpedTo, begins, jumps-to, too-deep}
@@ -583,6 +583,7 @@ callee-step p image program most size linked s base m x block to place f argumen
         (call_jump (place_in p image x.code (image s.here.function) s.here.block s.here.at + 4 * length
         (begun_in image x.code s.here place arguments)) (entries_of p image f) ++ call_ended
         (layout_of x.code (image s.here.function).homes) x.code.areas to) m b jump en before.least room.0
+        (words-within (length (asked_homes callee (image f).homes)) (length callee.areas) (length callee.parameters) (length arguments) count)
         (link-pc (place_in p image x.code (image s.here.function) s.here.block s.here.at + 4 * length
         (begun_in image x.code s.here place arguments)) b.after.pc here
         (link-low (place_in p image x.code (image s.here.function) s.here.block s.here.at + 4 * length

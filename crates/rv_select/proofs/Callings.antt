@@ -79,6 +79,7 @@ pub record Begun (program : List (Option Instr)) (y : Layout) (held : Option ℕ
   pub long : length after.private ≡ length m.private
   pub bytes : AreBytes m.private → AreBytes after.private
   pub above : (at k : ℕ) → base ≤ at → take k (drop at after.private) ≡ take k (drop at m.private)
+  pub below : (at k : ℕ) → at + k ≤ base - 8 * length ps → take k (drop at after.private) ≡ take k (drop at m.private)
   pub words : (k : ℕ) (p : Part) → slice_get ps k ≡ Some p → private_word after (base - 8 * (k + 1)) ≡ part_value y base w p
   pub there : Stands program after.pc rest
 
@@ -189,6 +190,7 @@ module _ (program : List (Option Instr)) (y : Layout) (held : Option ℕ) (Used 
         long = pp.beneath.long ∙ ap length calm-3.private;
         bytes = λ b. pp.beneath.bytes (subst AreBytes (sym calm-3.private) b);
         above = λ a k o. pp.beneath.above a k (omega (arith, o)) ∙ ap (λ z. take k (drop a z)) calm-3.private;
+        below = λ a k o. pp.beneath.under a k (omega (arith, o)) ∙ ap (λ z. take k (drop a z)) calm-3.private;
         words = λ k o e. ap (λ n. private_word t4 (base - 8 * n)) (none-before k) ∙ pp.words k o e;
         there = pp.there.1;
       }

@@ -112,7 +112,7 @@ calm-keeps y base m n c = record {
   registers = λ r l u. c.keeps r (lasting-held r l);
   link = c.keeps 1 refl;
   long = ap length c.private;
-  outside = λ at k b o. ap (λ z. take k (drop at z)) c.private;
+  outside = λ at k o. ap (λ z. take k (drop at z)) c.private;
 }
 
 -- In so many steps the run comes from one state to another, and writes bytes to the output.

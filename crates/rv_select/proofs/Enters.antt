@@ -302,6 +302,7 @@ pub record Taken (program : List (Option Instr)) (y : Layout) (bytes base : ℕ)
   pub long : length after.private ≡ length m.private
   pub bytes_are : AreBytes m.private → AreBytes after.private
   pub above : (at n : ℕ) → base + 88 ≤ at → take n (drop at after.private) ≡ take n (drop at m.private)
+  pub below : (at n : ℕ) → at + n ≤ base → take n (drop at after.private) ≡ take n (drop at m.private)
   pub link : y.extent.calls ≡ true → private_word after base ≡ low (m.registers 1)
   pub kept : (r : ℕ) → 18 ≤ r → r < 28 → uses y r ≡ true → private_word after (base + kept_offset r) ≡ low (m.registers r)
   pub pc : after.pc ≡ low (m.pc + 4 * length (frame_taken y bytes))
@@ -395,6 +396,8 @@ takes-frame program y bytes top rest m p two-is least room within most region th
       bytes_are = λ b. sv.is.bytes (s1.is.bytes (subst AreBytes (sym l.private) b));
       above = λ at n h.
           sv.is.outside at n (inr (omega (arith, h))) ∙ (s1.is.outside at n (inr (omega (arith, h))) ∙ ap (λ z. take n (drop at z)) l.private);
+      below = λ at n h.
+          sv.is.outside at n (inl (omega (arith, h))) ∙ (s1.is.outside at n (inl h) ∙ ap (λ z. take n (drop at z)) l.private);
       link = λ calls.
           ap number_of (sv.is.outside base 8 (inl (omega arith)))
           ∙ (s1.word calls ∙ ap low (same 1 (λ z. omega (arith, z)) (λ z. omega (arith, z)) (λ z. omega (arith, z))));

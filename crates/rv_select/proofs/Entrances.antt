@@ -46,6 +46,7 @@ both-entered program y bytes frame top placed size at m h p t =
       long = t.long ∙ ap length p.private;
       bytes = λ b. t.bytes_are (subst AreBytes (sym p.private) b);
       above = λ a n o. t.above a n o ∙ ap (λ z. take n (drop a z)) p.private;
+      below = λ a n o. t.below a n o ∙ ap (λ z. take n (drop a z)) p.private;
       link = λ calls. t.link calls ∙ ap low (p.keeps 1 (λ z. omega (arith, z)) (λ z. omega (arith, z)) (λ z. omega (arith, z)) (λ z. omega (arith, z)));
       kept = λ r lo hi used. t.kept r lo hi used
           ∙ ap low (p.keeps r (λ z. omega (arith, z, lo)) (λ z. omega (arith, z, lo)) (λ z. omega (arith, z, lo)) (λ z. omega (arith, z, lo)));
@@ -95,6 +96,7 @@ calls-begun code homes held block step program w base at ps m right p f fits the
       long = b.long;
       bytes = b.bytes;
       above = b.above;
+      below = b.below;
       words = b.words;
     }
 

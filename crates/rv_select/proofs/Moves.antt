@@ -100,7 +100,7 @@ near-keeps y base m n s = record {
   registers = λ r l u. s.keeps r (lasts-not r 5 l refl) (lasts-not r 6 l refl) (lasts-not r 7 l refl);
   link = s.keeps 1 (λ z. omega (arith, z)) (λ z. omega (arith, z)) (λ z. omega (arith, z));
   long = ap length s.private;
-  outside = λ at k b o. ap (λ z. take k (drop at z)) s.private;
+  outside = λ at k o. ap (λ z. take k (drop at z)) s.private;
 }
 
 pub keeps-both : (y : Layout) (base : ℕ) (m n r : State) → Keeps y base m n → Keeps y base n r → Keeps y base m r
@@ -108,7 +108,7 @@ keeps-both y base m n r h k = record {
   registers = λ x l u. k.registers x l u ∙ h.registers x l u;
   link = k.link ∙ h.link;
   long = k.long ∙ h.long;
-  outside = λ at c b o. k.outside at c b o ∙ h.outside at c b o;
+  outside = λ at c o. k.outside at c o ∙ h.outside at c o;
 }
 
 -- a register that is a home is one that the function uses
@@ -121,7 +121,7 @@ put-keeps y base v code m h p i = record {
   registers = λ r l u. p.keeps r (lasts-not r 5 l refl) (lasts-not r 6 l refl) (lasts-not r 7 l refl) (used-register y h r i u);
   link = p.keeps 1 (λ z. omega (arith, z)) (λ z. omega (arith, z)) (λ z. omega (arith, z)) (λ e. let g : IsHome y (homes.Register 1) = subst (IsHome y) e i in omega (arith, g.0));
   long = p.memory.long;
-  outside = λ at n b o.
+  outside = λ at n o.
       let inside = home-inside y h i in
       p.memory.outside at n (⊎_elim (λ l. inl (omega (arith, l, inside.0))) (λ l. inr (omega (arith, l, inside.1))) o);
 }

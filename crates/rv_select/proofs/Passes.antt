@@ -1,6 +1,6 @@
 -- Words that are stored below the frame: what is passed to a call.
 use Rattle.std.proofs.Common.{◌≡◌, ◌≢◌, ℕ, zero, suc, ◌+◌, ◌-◌, ◌*◌, ◌%◌, ◌^◌, ◌<◌, ◌≤◌, Bool, true, false, List, [], ◌∷◌, ◌++◌, length}
-use Rattle.std.proofs.Common.{take, drop, append_assoc, Option, Some, None, refl, sym, ap, ◌∙◌, subst, ⊎_elim, inr, arith}
+use Rattle.std.proofs.Common.{take, drop, append_assoc, Option, Some, None, refl, sym, ap, ◌∙◌, subst, ⊎_elim, inl, inr, arith}
 use Rattle.std.specs.Prelude.{if◌then◌else◌, nat_le, slice_get}
 use Rattle.std.proofs.lemmas.Bool.{cases_lt, le-leb, lt-leb}
 use Rattle.std.proofs.lemmas.List.{length-append}
@@ -109,38 +109,42 @@ below-saves r n base v m some other is p e least room small within region =
           straight = straight-both (far_part f) (Store Sd x7 r (lower_of f) ∷ []) b.straight refl;
         }
 
--- Two states differ in x5 to x7, and in private memory below an offset.
-pub record Beneath (below : ℕ) (m n : State) : Type 0 where
+-- Two states differ in x5 to x7, and in private memory from one offset to another.
+pub record Beneath (from below : ℕ) (m n : State) : Type 0 where
   pub keeps : (r : ℕ) → r ≢ 5 → r ≢ 6 → r ≢ 7 → n.registers r ≡ m.registers r
   pub region : n.region ≡ m.region
   pub long : length n.private ≡ length m.private
   pub bytes : AreBytes m.private → AreBytes n.private
   pub above : (at k : ℕ) → below ≤ at → take k (drop at n.private) ≡ take k (drop at m.private)
+  pub under : (at k : ℕ) → at + k ≤ from → take k (drop at n.private) ≡ take k (drop at m.private)
 
-pub near-beneath : (below : ℕ) (m n : State) → Near m n → Beneath below m n
-near-beneath below m n h = record {
+pub near-beneath : (from below : ℕ) (m n : State) → Near m n → Beneath from below m n
+near-beneath from below m n h = record {
   keeps = h.keeps;
   region = h.region;
   long = ap length h.private;
   bytes = λ b. subst AreBytes (sym h.private) b;
   above = λ at k l. ap (λ z. take k (drop at z)) h.private;
+  under = λ at k l. ap (λ z. take k (drop at z)) h.private;
 }
 
-pub beneath-both : (first second : ℕ) (m n r : State) → second ≤ first → Beneath first m n → Beneath second n r → Beneath first m r
-beneath-both first second m n r l h k = record {
+pub beneath-both : (low from first second : ℕ) (m n r : State) → second ≤ first → low ≤ from → Beneath from first m n → Beneath low second n r →
+    Beneath low first m r
+beneath-both low from first second m n r l g h k = record {
   keeps = λ x five six seven. k.keeps x five six seven ∙ h.keeps x five six seven;
   region = k.region ∙ h.region;
   long = k.long ∙ h.long;
   bytes = λ b. k.bytes (h.bytes b);
   above = λ at c o. k.above at c (omega (arith, l, o)) ∙ h.above at c o;
+  under = λ at c o. k.under at c o ∙ h.under at c (omega (arith, g, o));
 }
 
-beneath-home : (y : Layout) (base : ℕ) (m n : State) (h : Home) → IsHome y h → Beneath base m n → word_at base n h ≡ word_at base m h
-beneath-home y base m n (homes.Register x) i s = s.keeps x (λ e. omega (arith, e, i.0)) (λ e. omega (arith, e, i.0)) (λ e. omega (arith, e, i.0))
-beneath-home y base m n (homes.Slot k) i s = ap number_of (s.above (base + slot_offset k) 8 (omega arith))
+beneath-home : (y : Layout) (from base : ℕ) (m n : State) (h : Home) → IsHome y h → Beneath from base m n → word_at base n h ≡ word_at base m h
+beneath-home y from base m n (homes.Register x) i s = s.keeps x (λ e. omega (arith, e, i.0)) (λ e. omega (arith, e, i.0)) (λ e. omega (arith, e, i.0))
+beneath-home y from base m n (homes.Slot k) i s = ap number_of (s.above (base + slot_offset k) 8 (omega arith))
 
-pub beneath-holds : (y : Layout) (Used : ℕ → Type 0) (w : World) (base : ℕ) (m n : State) → Holds y Used w base m → Housed y Used → Beneath base m n → n.pc < 2 ^ 64 → Holds y Used w base n
-beneath-holds y Used w base m n p h s small = record {
+pub beneath-holds : (y : Layout) (Used : ℕ → Type 0) (w : World) (from base : ℕ) (m n : State) → Holds y Used w base m → Housed y Used → Beneath from base m n → n.pc < 2 ^ 64 → Holds y Used w base n
+beneath-holds y Used w from base m n p h s small = record {
   frame = record {
     pointer = s.keeps 2 (λ e. omega (arith, e)) (λ e. omega (arith, e)) (λ e. omega (arith, e)) ∙ p.frame.pointer;
     within = subst (λ z. base + frame_bytes y ≤ z) (sym s.long) p.frame.within;
@@ -148,7 +152,7 @@ beneath-holds y Used w base m n p h s small = record {
     bytes = s.bytes p.frame.bytes;
   };
   pc = small;
-  values = λ t u k. beneath-home y base m n (home_of y t) (h.homes t u k) s ∙ p.values t u k;
+  values = λ t u k. beneath-home y from base m n (home_of y t) (h.homes t u k) s ∙ p.values t u k;
   words = p.words;
   areas = λ k l. s.above (base + area_offset y k) (length (w.areas k)) (omega arith) ∙ p.areas k l;
   short = p.short;
@@ -164,13 +168,14 @@ beneath-holds y Used w base m n p h s small = record {
   depth = s.keeps 28 (λ e. omega (arith, e)) (λ e. omega (arith, e)) (λ e. omega (arith, e)) ∙ p.depth;
 }
 
-pub saves-beneath : (code : List Instr) (at v : ℕ) (m : State) (s : Saves code m at (low_bytes 8 v)) → at + 8 ≤ length m.private → Beneath (at + 8) m s.after
+pub saves-beneath : (code : List Instr) (at v : ℕ) (m : State) (s : Saves code m at (low_bytes 8 v)) → at + 8 ≤ length m.private → Beneath at (at + 8) m s.after
 saves-beneath code at v m s room = record {
   keeps = s.keeps;
   region = s.region;
   long = ap length s.private ∙ stored-length m.private at v room;
   bytes = λ b. subst AreBytes (sym s.private) (overwritten-bytes m.private (low_bytes 8 v) at b (low-are-bytes 8 v));
   above = λ q k l. ap (λ z. take k (drop q z)) s.private ∙ other-than-word m.private at v q k (omega arith) (inr l);
+  under = λ q k l. ap (λ z. take k (drop q z)) s.private ∙ other-than-word m.private at v q k (omega arith) (inl l);
 }
 
 pub take-part : (y : Layout) (d : Register) (Used : ℕ → Type 0) (w : World) (base : ℕ) (m : State) (p : Part) →
@@ -223,13 +228,14 @@ below-count r n = either (nat_le n 2048)
     either true = omega arith
     either false = omega arith
 
-pub beneath-more : (first second : ℕ) (m n : State) → first ≤ second → Beneath first m n → Beneath second m n
-beneath-more first second m n l h = record {
+pub beneath-more : (from first second : ℕ) (m n : State) → first ≤ second → Beneath from first m n → Beneath from second m n
+beneath-more from first second m n l h = record {
   keeps = h.keeps;
   region = h.region;
   long = h.long;
   bytes = h.bytes;
   above = λ at k o. h.above at k (omega (arith, l, o));
+  under = h.under;
 }
 
 -- Parts were passed: from one on, their words lie below the frame.
@@ -239,7 +245,7 @@ pub record PassedParts (y : Layout) (held : Option ℕ) (base i : ℕ) (ps : Lis
   pub steps : ℕ
   pub way : Way program steps m after
   pub few : steps ≤ length (passed y held i ps)
-  pub beneath : Beneath (base - 8 * i) m after
+  pub beneath : Beneath (base - 8 * (i + length ps)) (base - 8 * i) m after
   pub words : (k : ℕ) (p : Part) → slice_get ps k ≡ Some p → private_word after (base - 8 * (i + k + 1)) ≡ part_value y base w p
   pub pc : after.pc ≡ low (m.pc + 4 * length (passed y held i ps))
   pub there : Stands program after.pc rest
@@ -274,7 +280,7 @@ passes y held Used w base program i [] rest m there f p h reads room = record {
   steps = 0;
   way = way-none program m;
   few = omega arith;
-  beneath = near-beneath (base - 8 * i) m m (near-same m);
+  beneath = near-beneath (base - 8 * (i + 0)) (base - 8 * i) m m (near-same m);
   words = λ k q e. cc;
   pc = pc-none m.pc p.pc;
   there = there;
@@ -299,9 +305,10 @@ passes y held Used w base program i (q ∷ ps) rest m there f p h reads room =
     (omega (arith, ht.frame.within, ht.frame.private)) within (region-small y Used w base t ht) in
     let u : State = s.after in
     let pc-u : u.pc < 2 ^ 64 = subst (λ z. z < 2 ^ 64) (sym s.behind) (low-below (t.pc + 4 * length B)) in
-    let one : Beneath (base - 8 * i) t u = subst (λ z. Beneath z t u) end (saves-beneath B at v t s inside) in
-    let two : Beneath (base - 8 * i) m u = beneath-both (base - 8 * i) (base - 8 * i) m t u (omega arith) (near-beneath (base - 8 * i) m t near) one in
-    let hu : Holds y Used w base u = beneath-holds y Used w base m u p h (beneath-more (base - 8 * i) base m u (omega arith) two) pc-u in
+    let one : Beneath at (base - 8 * i) t u = subst (λ z. Beneath at z t u) end (saves-beneath B at v t s inside) in
+    let two : Beneath at (base - 8 * i) m u =
+    beneath-both at at (base - 8 * i) (base - 8 * i) m t u (omega arith) (omega arith) (near-beneath at (base - 8 * i) m t near) one in
+    let hu : Holds y Used w base u = beneath-holds y Used w at base m u p h (beneath-more at (base - 8 * i) base m u (omega arith) two) pc-u in
     let all : Stands program m.pc (A ++ (B ++ (C ++ rest))) =
     subst (λ z. Stands program m.pc z) (append_assoc A (B ++ C) rest ∙ ap (λ z. A ++ z) (append_assoc B C rest)) there in
     let after-t : Stands program t.pc (B ++ (C ++ rest)) = subst (λ z. Stands program z (B ++ (C ++ rest))) (sym l.behind) (stands-back program m.pc A (B ++ (C ++ rest)) p.pc all) in
@@ -320,13 +327,17 @@ passes y held Used w base program i (q ∷ ps) rest m there f p h reads room =
       steps = length A + length B + more.steps;
       way = way;
       few = omega (arith, more.few, length-append A (B ++ C), length-append B C);
-      beneath = beneath-both (base - 8 * i) (base - 8 * (i + 1)) m u more.after (omega arith) two more.beneath;
+      beneath = subst (λ z. Beneath (base - 8 * z) (base - 8 * i) m more.after) (all-parts (length ps))
+          (beneath-both (base - 8 * (i + 1 + length ps)) at (base - 8 * i) at m u more.after (omega arith) (omega arith) two more.beneath);
       words = λ k o e. word more.after k o e first more.words;
       pc = pc-three m.pc t.pc u.pc more.after.pc (length A) (length B) (length C) l.behind s.behind more.pc
           ∙ ap (λ n. low (m.pc + 4 * n)) (sym (length-append A (B ++ C) ∙ ap (λ n. length A + n) (length-append B C)));
       there = more.there;
     }
   where
+    all-parts : (n : ℕ) → i + 1 + n ≡ i + suc n
+    all-parts n = omega arith
+
     word : (z : State) (k : ℕ) (o : Part) → slice_get (q ∷ ps) k ≡ Some o → private_word z (base - 8 * (i + 1)) ≡ part_value y base w q →
         ((k : ℕ) (o : Part) → slice_get ps k ≡ Some o → private_word z (base - 8 * (i + 1 + k + 1)) ≡ part_value y base w o) → private_word z (base - 8 * (i + k + 1)) ≡ part_value y base w o
     word z zero o e first more =

@@ -72,13 +72,10 @@ word-keeps y base last (bytes bs) a m n k l h = record {
   address_is = h.address_is;
   high = h.high;
   within = subst (λ z. h.offset + length bs ≤ z) (sym k.long) h.within;
-  bytes_are = k.outside h.offset (length bs) (low-of h.offset h.high) (inr (high-of h.offset h.high)) ∙ h.bytes_are;
+  bytes_are = k.outside h.offset (length bs) (inr (high-of h.offset h.high)) ∙ h.bytes_are;
   are_bytes = h.are_bytes;
 }
   where
-    low-of : (s : ℕ) → base + last ≤ s → base ≤ s
-    low-of s e = omega (arith, e)
-
     high-of : (s : ℕ) → base + last ≤ s → base + frame_bytes y ≤ s
     high-of s e = omega (arith, e, l)
 
@@ -87,7 +84,7 @@ words-keep y base last [] vs m n k l h = tt
 words-keep y base last (d ∷ ds) [] m n k l h = tt
 words-keep y base last (d ∷ ds) (v ∷ vs) m n k l h =
     let same : private_word n (base + (last + 8 * length ds)) ≡ private_word m (base + (last + 8 * length ds)) =
-    ap number_of (k.outside (base + (last + 8 * length ds)) 8 (omega arith) (inr (omega (arith, l)))) in
+    ap number_of (k.outside (base + (last + 8 * length ds)) 8 (inr (omega (arith, l)))) in
     (subst (λ z. IsWordOf n (base + last) v z) (sym same) (word-keeps y base last v _ m n k l h.0), words-keep y base last ds vs m n k l h.1)
 
 pub housed-fewer : (y : Layout) (U V : ℕ → Type 0) → ((t : ℕ) → V t → U t) → Housed y U → Housed y V
@@ -137,7 +134,7 @@ word-value y base last at v m n (Some None) k l out own some e = cc
 word-value y base last at v m n (Some (Some (homes.Register x))) k l out own some e = cc
 word-value y base last at v m n (Some (Some (homes.Slot s))) k l out own some e =
     ap (λ z. private_word n (base + z)) (own s refl (not-before last s (Some (Some (homes.Slot s))) out refl))
-    ∙ (ap number_of (k.outside (base + at) 8 (omega arith) (inr (omega (arith, l)))) ∙ e)
+    ∙ (ap number_of (k.outside (base + at) 8 (inr (omega (arith, l)))) ∙ e)
 
 with-stayed : (program : List (Option Instr)) (y : Layout) (Fin : ℕ → Type 0) (w : World) (base last at d : ℕ) (code rest : List Instr) (m : State) →
     is_before last (slice_get y.homes d) ≡ false → ((s : ℕ) → slice_get y.homes d ≡ Some (Some (homes.Slot s)) → last ≤ slot_offset s → slot_offset s ≡ at) →

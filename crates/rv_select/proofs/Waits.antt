@@ -108,9 +108,9 @@ pub keeps-above : (y : Layout) (base : ℕ) (m n : State) → Keeps y base m n �
 keeps-above y base m n k = record {
   registers = λ r l u small.
       if-same (uses y r) (private_word n (base + kept_offset r)) (n.registers r) (private_word m (base + kept_offset r)) (m.registers r)
-      (λ e. ap number_of (k.outside (base + kept_offset r) 8 (omega arith) (inl (omega (arith, l, u)))))
+      (λ e. ap number_of (k.outside (base + kept_offset r) 8 (inl (omega (arith, l, u)))))
       (λ e h. k.registers r (lasting r l u) e) small;
-  private = λ at c o. k.outside at c (omega (arith, o)) (inr o);
+  private = λ at c o. k.outside at c (inr o);
   long = k.long;
 }
 
@@ -150,7 +150,7 @@ pub waits-keeps : (p : Program) (image : Image) (program : List (Option Instr)) 
     Waits p image most size cs (link_in y base n) (base + frame_bytes y) placed (restored y base n)
 waits-keeps p image program most size y cs base placed m n linked k w =
     let word : link_in y base n ≡ link_in y base m =
-    link-same y base m n (ap number_of (k.outside base 8 (omega arith) (inl (omega arith)))) k.link in
+    link-same y base m n (ap number_of (k.outside base 8 (inl (omega arith)))) k.link in
     subst (λ x. Waits p image most size cs x (base + frame_bytes y) placed (restored y base n)) (sym word)
     (waits-same p image program most size cs (link_in y base m) (base + frame_bytes y) placed (restored y base m) (restored y base n)
     linked (keeps-above y base m n k) w)

@@ -56,7 +56,7 @@ ArePassed y held Used (p ∷ ps) = IsPartFirst y held Used p × ArePassed y None
 -- The machine enters a function, in at most so many steps, whose frame in private memory begins at `base` then, and that in the region
 -- at `under`. The return address,
 -- where the function makes calls, and the caller's words of the registers that it uses are kept in the frame, and all that lies above them
--- is as it was.
+-- or below the frame is as it was.
 pub record Enters (program : List (Option Instr)) (y : Layout) (base under most target : ℕ) (m : State) : Type 0 where
   pub steps : ℕ
   pub after : State
@@ -71,6 +71,7 @@ pub record Enters (program : List (Option Instr)) (y : Layout) (base under most 
   pub long : length after.private ≡ length m.private
   pub bytes : AreBytes m.private → AreBytes after.private
   pub above : (at n : ℕ) → base + 88 ≤ at → take n (drop at after.private) ≡ take n (drop at m.private)
+  pub below : (at n : ℕ) → at + n ≤ base → take n (drop at after.private) ≡ take n (drop at m.private)
   pub link : y.extent.calls ≡ true → private_word after base ≡ low (m.registers 1)
   pub kept : (r : ℕ) → 18 ≤ r → r < 28 → uses y r ≡ true → private_word after (base + kept_offset r) ≡ low (m.registers r)
 
@@ -105,7 +106,7 @@ FunctionsAreEntered =
     Enters program y (top - bytes) (placed - frame) (length (entered y bytes frame)) (low (m.pc + 4 * length (entered y bytes frame))) m)
 
 -- A call has come to its jump: the words of all that it passes lie below the frame, the first uppermost, one more call waits, and
--- x11 is the place of the call. The caller's frame and all above it are as they were.
+-- x11 is the place of the call. The caller's frame and all above it are as they were, and so is all below these words.
 pub record Calls (program : List (Option Instr)) (y : Layout) (held : Option ℕ) (base : ℕ) (w : World) (at : Place) (ps : List Part)
     (m : State) : Type 0 where
   pub steps : ℕ
@@ -120,6 +121,7 @@ pub record Calls (program : List (Option Instr)) (y : Layout) (held : Option ℕ
   pub long : length after.private ≡ length m.private
   pub bytes : AreBytes m.private → AreBytes after.private
   pub above : (at k : ℕ) → base ≤ at → take k (drop at after.private) ≡ take k (drop at m.private)
+  pub below : (at k : ℕ) → at + k ≤ base - 8 * length ps → take k (drop at after.private) ≡ take k (drop at m.private)
   pub words : (k : ℕ) (p : Part) → slice_get ps k ≡ Some p → private_word after (base - 8 * (k + 1)) ≡ part_value y base w p
 
 -- A call where 511 calls wait already ends the run by a fault at its place, before it passes anything, and any other comes to its

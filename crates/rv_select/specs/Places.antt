@@ -210,7 +210,7 @@ pub record Housed (y : Layout) (Used : ℕ → Type 0) : Type 0 where
   pub apart : (t u : ℕ) → Used t → Used u → HasHome y t → HasHome y u → home_of y t ≡ home_of y u → t ≡ u
 
 -- What callers rest on. The registers that no instruction uses as scratch are the same, those apart that the function keeps for
--- its caller; and so are x1, the words that it keeps, and all that lies behind its frame.
+-- its caller; and so are x1, the words that it keeps, and all that lies behind or below its frame.
 abbrev pub is_lasting : ℕ → Bool
 is_lasting r = nat_eq r 2 || nat_le 18 r && nat_le r 27
 
@@ -218,7 +218,7 @@ pub record Keeps (y : Layout) (base : ℕ) (m after : State) : Type 0 where
   pub registers : (r : ℕ) → IsTrue (is_lasting r) → uses y r ≡ false → after.registers r ≡ m.registers r
   pub link : after.registers 1 ≡ m.registers 1
   pub long : length after.private ≡ length m.private
-  pub outside : (at n : ℕ) → base ≤ at → (at + n ≤ base + kept_bytes) ⊎ (base + frame_bytes y ≤ at) →
+  pub outside : (at n : ℕ) → (at + n ≤ base + kept_bytes) ⊎ (base + frame_bytes y ≤ at) →
       take n (drop at after.private) ≡ take n (drop at m.private)
 
 -- The last instruction's word is held: its temporary's home is a register, or x5 has the word.
