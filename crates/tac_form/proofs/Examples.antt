@@ -1,7 +1,8 @@
 -- Three-address code with its runs, computed. First a loop:
 --
 --     terra sum(n : int) : int var t = 0 for i = 0, n do t = t + i end return t end
-use Rattle.std.specs.Prelude.{◌≡◌, refl, ℕ, true, false, List, [], ◌∷◌, Some}
+use Rattle.std.specs.Prelude.{◌≡◌, refl, ℕ, zero, suc, true, false, IsTrue, nat_eq, if◌then◌else◌, List, [], ◌∷◌, Some}
+use Rattle.std.proofs.Common.{arith}
 use Rattle.tl_base.specs.declared.place.Place.{Place}
 use Rattle.terra_memory.specs.Numbers.{number_of, low_bytes}
 use Rattle.terra_memory.specs.Region.{range_of}
@@ -10,7 +11,7 @@ use Rattle.tac_form.specs.declared.tac.Number.{Number}
 use Rattle.terra_words.specs.declared.words.BinaryOperator.TheVariants.{Add, Divide, Less}
 use Rattle.terra_words.specs.declared.words.FaultKind.TheVariants.{DivZero, StackFull, CallDepth}
 use Rattle.terra_words.specs.Words.{wrapped, applied}
-use Rattle.terra_words.specs.Runs.{word, Returned, Fault, Stuck, Over, More, put_bytes}
+use Rattle.terra_words.specs.Runs.{word, bytes, Returned, Fault, Stuck, Over, More, put_bytes}
 use Rattle.tac_form.specs.declared.tac.Operand.TheVariants.{Temp, Constant}
 use Rattle.tac_form.specs.declared.tac.Part.TheVariants as parts
 use Rattle.tac_form.specs.declared.tac.Destination.TheVariants as destinations
@@ -23,7 +24,9 @@ use Rattle.tac_form.specs.declared.tac.Exit.TheVariants.{Jump, Branch, Return}
 use Rattle.tac_form.specs.declared.tac.Tac.{Tac}
 use Rattle.tac_form.specs.Flow.{Program, Moved, Stops, steps, begun}
 use Rattle.tac_form.specs.Weights.{code_words}
-use Rattle.tac_form.specs.Fits.{Counted, is_within}
+use Rattle.tac_form.specs.Fits.{Counted, Fits, is_within, receives}
+use Rattle.tac_form.specs.Graph.{graph_of}
+use Rattle.tac_form.specs.Live.{read_within}
 
 abbrev int : Number
 int = record { signed = true; size = Four }
@@ -37,6 +40,7 @@ sum = record {
   nodes = 15;
   signature = record { params = record { 0 = 2 } ∷ []; result = record { 0 = 2 } };
   place = record { line = 1; word = 1 };
+  counts = false;
   frame = 0;
   temps = 6;
   areas = [];
@@ -69,7 +73,7 @@ pub needs_more : after_steps 9 100 ≡ Stops (More [])
 unfolding wrapped applied
 needs_more = refl
 
-pub words : code_words sum ≡ 160
+pub words : code_words sum ≡ 228
 words = refl
 
 pub counted : Counted sum
@@ -88,6 +92,7 @@ block frame instructions = record {
   nodes = 1;
   signature = record { params = []; result = record { 0 = 2 } };
   place = record { line = 1; word = 1 };
+  counts = false;
   frame = frame;
   temps = 3;
   areas = 16 ∷ [];
@@ -136,3 +141,55 @@ fills_the_stack = refl
 pub is_too_deep : ran 600 (block 0 (Call (destinations.Temp 0) here (record { 0 = 0 }) [] ∷ [])) ≡ Stops (Over
     (Fault CallDepth here) [])
 is_too_deep = refl
+
+-- What nothing reads is taken and not kept, a word and bytes alike:
+--
+--     terra h(n : int) : int return 3 end
+abbrev three : Tac
+three = record {
+  nodes = 2;
+  signature = record { params = record { 0 = 2 } ∷ []; result = record { 0 = 2 } };
+  place = record { line = 1; word = 1 };
+  counts = false;
+  frame = 0;
+  temps = 0;
+  areas = [];
+  parameters = destinations.Nothing ∷ [];
+  blocks = record { instructions = []; exit = Return (parts.Word (Constant 3)) } ∷ [];
+}
+
+-- the first function calls h with seven, takes no result, and gives five
+abbrev calls_three : Tac
+calls_three =
+    block 0 (Call destinations.Nothing here (record { 0 = 1 }) (parts.Word (Constant 7) ∷ []) ∷ Copy 0 (Constant 5) ∷ [])
+
+abbrev both : Program
+both = record { code = λ f. if nat_eq f.0 0 then Some calls_three else Some three; entries = [] }
+
+pub drops_a_word : steps both 9 (begun both [] 1024 0 (record { 0 = 1 }) (word 7 ∷ [])) ≡ gives 3
+drops_a_word = refl
+
+pub drops_bytes : steps both 9 (begun both [] 1024 0 (record { 0 = 1 }) (bytes (7 ∷ []) ∷ [])) ≡ gives 3
+drops_bytes = refl
+
+pub drops_a_result : steps both 9 (begun both [] 1024 1 (record { 0 = 0 }) []) ≡ gives 5
+drops_a_result = refl
+
+-- a parameter counts, though it goes to nothing
+pub wants_one : steps both 9 (begun both [] 1024 0 (record { 0 = 1 }) []) ≡ Stops (Over Stuck [])
+wants_one = refl
+
+pub no_words : code_words three ≡ 89
+no_words = refl
+
+pub may_drop : Fits three
+may_drop = record {
+  within = refl;
+  short = omega arith;
+  few = omega arith;
+  begins = λ t. (λ live. dead live.0 t live.1, λ received. absurd (cc received));
+}
+  where
+    dead : (k t : ℕ) → IsTrue (read_within (graph_of three) k 0 0 t) → IsTrue (receives three t)
+    dead zero t h = h
+    dead (suc k) t h = h

@@ -5,7 +5,6 @@ use Rattle.std.specs.List.{list_all, list_any}
 use Rattle.tl_base.specs.declared.limits.TheConstants.{MAX_COMPILED_NODES}
 use Rattle.tac_form.specs.declared.tac.Operand.{Operand}
 use Rattle.tac_form.specs.declared.tac.Operand.TheVariants.{Temp, Constant}
-use Rattle.tac_form.specs.declared.tac.Address.{Address}
 use Rattle.tac_form.specs.declared.tac.Address.TheVariants.{Word, Frame}
 use Rattle.tac_form.specs.declared.tac.Spot.{Spot}
 use Rattle.tac_form.specs.declared.tac.Spot.TheVariants as spots
@@ -58,6 +57,7 @@ part_fits code (parts.Area n) = area_there code n
 abbrev pub destination_fits : Tac → Destination → Bool
 destination_fits code (destinations.Temp t) = nat_lt t code.temps
 destination_fits code (destinations.Area n) = area_there code n
+destination_fits code destinations.Nothing = true
 
 -- an access of so many bytes at a spot lies wholly in the frame, or in the area, where it is one of these
 abbrev pub spot_fits : Tac → ℕ → Spot → Bool
@@ -118,13 +118,15 @@ most_nodes = MAX_COMPILED_NODES
 abbrev pub goes_to : ℕ → Destination → Bool
 goes_to t (destinations.Temp d) = nat_eq d t
 goes_to t (destinations.Area n) = false
+goes_to t destinations.Nothing = false
 
 abbrev pub receives : Tac → ℕ → Bool
 receives code t = list_any (goes_to t) code.parameters
 
 -- Code of which machine code may be made. It has no more words and private bytes than the most typed nodes may take, so
 -- that an offset of private memory and the distance of a jump are numbers of 32 bits. The temporaries that are live where
--- it is entered are those where its parameters go, so what the others hold then doesn't matter.
+-- it is entered are those where its parameters go, so what the others hold then doesn't matter; a parameter that nothing
+-- reads goes to nothing.
 pub record Fits (code : Tac) : Type 0 where
   pub within : IsTrue (is_within code)
   pub short : code_words code ≤ 250 * most_nodes

@@ -143,15 +143,17 @@ values_of s (p ∷ ps) = value_of s p ∷ values_of s ps
 abbrev pub takes : Destination → Value → Activation → Activation
 takes (destinations.Temp t) v a = record a { temps = put a.temps t (number v) }
 takes (destinations.Area n) v a = record a { areas = put a.areas n (bytes_in v) }
+takes destinations.Nothing v a = a
 
 abbrev pub takes_all : List Destination → List Value → Activation → Activation
 takes_all (d ∷ ds) (v ∷ vs) a = takes_all ds vs (takes d v a)
 takes_all _ _ a = a
 
--- a word goes to a temporary, and the bytes of an area to an area of their number
+-- a word goes to a temporary, the bytes of an area to an area of their number, and either to nothing
 abbrev pub accepts : Tac → Destination → Value → Bool
 accepts code (destinations.Temp t) (word x) = true
 accepts code (destinations.Area n) (bytes bs) = nat_eq (length bs) (area_size code n)
+accepts code destinations.Nothing v = true
 accepts code _ _ = false
 
 abbrev pub accepts_all : Tac → List Destination → List Value → Bool

@@ -60,6 +60,7 @@ instruction_reads (Alloc d a) = operand_reads a
 abbrev pub destination_write : Destination → Option ℕ
 destination_write (destinations.Temp t) = Some t
 destination_write (destinations.Area n) = None
+destination_write destinations.Nothing = None
 
 -- what it writes
 abbrev pub instruction_write : Instruction → Option ℕ

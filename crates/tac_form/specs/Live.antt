@@ -1,6 +1,6 @@
 -- Where a temporary is in use. A place is a block and a number of steps in it: before the step of that number, or,
 -- behind the last, before the block's exit.
-use Rattle.std.specs.Prelude.{ℕ, zero, suc, ◌+◌, Bool, true, false, not, ◌&&◌, ◌||◌, nat_eq, IsTrue, List, Option, Some, None, slice_get}
+use Rattle.std.specs.Prelude.{ℕ, zero, suc, Bool, false, not, ◌&&◌, ◌||◌, nat_eq, IsTrue, List, Option, Some, None, slice_get}
 use Rattle.std.specs.Prelude.{◌⊎◌}
 use Rattle.std.specs.List.{list_any}
 use Rattle.tac_form.specs.declared.graph.Step.{Step}

@@ -1,11 +1,8 @@
 -- How many words of machine code and private bytes three-address code may take.
-use Rattle.std.specs.Prelude.{ℕ, ◌+◌, ◌*◌, ◌^◌, ◌≤◌, nat_lt, if◌then◌else◌, List, length, sum_by}
+use Rattle.std.specs.Prelude.{ℕ, ◌+◌, ◌*◌, ◌≤◌, if◌then◌else◌, List, length, sum_by}
 use Rattle.tl_base.specs.declared.limits.TheConstants.{MAX_VALUE_BYTES}
 use Rattle.terra_words.specs.declared.words.BinaryOperator.{BinaryOperator}
-use Rattle.terra_words.specs.declared.words.BinaryOperator.TheVariants.{ShiftLeft, ShiftRight, Equal, NotEqual, Less, LessEqual, Greater}
-use Rattle.terra_words.specs.declared.words.BinaryOperator.TheVariants.{GreaterEqual}
 use Rattle.tac_form.specs.declared.tac.Operand.{Operand}
-use Rattle.tac_form.specs.declared.tac.Operand.TheVariants.{Temp, Constant}
 use Rattle.tac_form.specs.declared.tac.Destination.{Destination}
 use Rattle.tac_form.specs.declared.tac.Destination.TheVariants as destinations
 use Rattle.tac_form.specs.declared.tac.Spot.{Spot}
@@ -21,34 +18,23 @@ use Rattle.tac_form.specs.declared.tac.Block.{Block}
 use Rattle.tac_form.specs.declared.tac.Part.{Part}
 use Rattle.tac_form.specs.declared.tac.Tac.{Tac}
 
--- the words that load a constant: one below 2,048, two below 2 ^ 31, and at most eight any other of 64 bits
+-- the most words that load a constant of 64 bits
 abbrev pub longest_constant : ℕ
 longest_constant = 8
 
-abbrev pub constant_words : ℕ → ℕ
-constant_words c = if nat_lt c 2048 then 1 else if nat_lt c (2 ^ 31) then 2 else longest_constant
-
--- those that take an operand into a scratch register: a temporary may lie in a slot, which takes three
+-- Those that take an operand into a scratch register. A temporary in a slot takes three and a small constant one or
+-- two, but each operand weighs as the longest constant: then code weighs no more where a constant stands for a temporary.
 abbrev pub operand_words : Operand → ℕ
-operand_words (Temp t) = 3
-operand_words (Constant c) = constant_words c
+operand_words a = longest_constant
 
 -- those that put a scratch register into a home
 abbrev placed : ℕ
 placed = 3
 
--- An operator on two scratch registers. Its result is cut to the form in at most two words, but for a comparison's. A shift's count is
--- cut before it.
+-- An operator on two scratch registers. Its result is cut to the form in at most two words, and a shift's count before
+-- it in one. Each operator weighs as a shift, so that one may stand for another.
 abbrev pub operator_words : BinaryOperator → ℕ
-operator_words ShiftLeft = 4
-operator_words ShiftRight = 4
-operator_words Equal = 2
-operator_words NotEqual = 2
-operator_words Less = 2
-operator_words LessEqual = 2
-operator_words Greater = 2
-operator_words GreaterEqual = 2
-operator_words _ = 3
+operator_words op = 4
 
 -- those that end the run by a fault: the kind, the place, and the call to the machine
 abbrev failed : ℕ
@@ -58,9 +44,14 @@ failed = 11
 abbrev jumped : ℕ
 jumped = 2
 
--- those of a call that count it before its jump and no more behind that, and take its result
+-- where code counts, those that take a count, and break where none is left
+abbrev one_count : ℕ
+one_count = 3
+
+-- Those of a call that count it as one that waits before its jump and no more behind that, and take its result. Those
+-- that take its count are weighed here too, and not with what is received: so they have room wherever the result goes.
 abbrev counted : ℕ
-counted = 3
+counted = 3 + one_count
 
 -- those that reach a spot, with the test of its bounds
 abbrev pub reached : Spot → ℕ
@@ -76,10 +67,11 @@ deep = 6
 abbrev copied : ℕ
 copied = 36
 
--- results and parameters that are words, or the address of an area that is copied
+-- results and parameters that are words, or the address of an area that is copied, or that nothing reads
 abbrev pub received : Destination → ℕ
 received (destinations.Temp t) = placed + placed
 received (destinations.Area n) = placed + placed + copied
+received destinations.Nothing = 0
 
 -- what is passed, at most as many for each part
 abbrev passed : List Part → ℕ
@@ -101,8 +93,8 @@ words_of (PutByte a) = placed + 8
 words_of (Write at a b) = operand_words a + operand_words b + 8 + failed + 5
 words_of (Alloc d a) = operand_words a + 18 + placed
 
-abbrev edge_words : Edge → ℕ
-edge_words e = jumped
+abbrev pub edge_words : Edge → ℕ
+edge_words e = if e.counts then jumped + one_count else jumped
 
 abbrev pub exit_words : Exit → ℕ
 exit_words (Jump e) = edge_words e

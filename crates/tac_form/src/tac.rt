@@ -52,6 +52,8 @@ pub enum Part {
 pub enum Destination {
     Temp(u64),
     Area(u64),
+    /// It is taken, whatever it is, and not kept: nothing reads it.
+    Nothing,
 }
 
 /// Arguments in order.
@@ -138,6 +140,9 @@ pub struct Tac {
     pub nodes: u64,
     pub signature: Signature,
     pub place: Place,
+    /// Whether its machine code keeps the counts that are left in x9, and breaks where none is left. It is no part of
+    /// what the code does.
+    pub counts: bool,
     /// The bytes of the call's frame in the region.
     pub frame: u64,
     pub temps: u64,
