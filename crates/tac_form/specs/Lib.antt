@@ -7,3 +7,5 @@ pub mod Live
 pub mod Weights
 -- Which code machine code may be made of.
 pub mod Fits
+-- The same code, which counts.
+pub mod Counting
