@@ -12,11 +12,11 @@ use Rattle.tac_form.specs.declared.graph.FlowBlock.{FlowBlock}
 use Rattle.tac_form.specs.Live.{has, is_written, before_exit, at_step, at_place, read_within, IsLive, InUse, step_writes, written_in, is_just_written}
 use Rattle.reg_alloc.specs.declared.spans.Span.{Span}
 use Rattle.reg_alloc.specs.Intervals.{places_in, IsPlace, place_number, IsUsedAt}
-use Rattle.reg_alloc.specs.Flows.{group_at, leads, in_block, AreGrouped}
-use Rattle.reg_alloc.specs.Reach.{AreLive}
+use Rattle.tac_live.specs.Flows.{group_at, leads, in_block, AreGrouped}
+use Rattle.tac_live.specs.Reach.{AreLive}
 use Rattle.reg_alloc.specs.Noted.{noted_at, all_noted, steps_noted, all_noted_at, live_noted, Covers, ArePlacesTo, ArePlaces, AreSpans}
 use Rattle.reg_alloc.specs.Noted.{HasUsesOf, HasUses, HasLive, HasSpans, IsOrdered, AreIntervals}
-use Rattle.reg_alloc.proofs.Ways.{any-pick, any-from, live-here, before-live, nothing-there}
+use Rattle.tac_live.proofs.Ways.{any-pick, any-from, live-here, before-live, nothing-there}
 use Rattle.reg_alloc.proofs.Noting.{IsNoted, Goes, then-goes, stays, AreUses, all-goes, all-covers, steps-goes, steps-covers, at-goes, at-covers}
 use Rattle.reg_alloc.proofs.Noting.{all-at-goes, all-at-covers, none-noted, or-here, or-there}
 

@@ -15,7 +15,7 @@ use Rattle.reg_alloc.specs.Homes.{are_below}
 use Rattle.reg_alloc.specs.Intervals.{IsPlace, place_number, IsCrowded, HasSlot}
 use Rattle.reg_alloc.specs.Noted.{Covers, AreIntervals}
 use Rattle.reg_alloc.specs.Scans.{AreHomes}
-use Rattle.reg_alloc.proofs.Ways.{live-here}
+use Rattle.tac_live.proofs.Ways.{live-here}
 use Rattle.reg_alloc.proofs.Whole.{used-below}
 
 -- a place of a block, and in place of one behind its exit that before it

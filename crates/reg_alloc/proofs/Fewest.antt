@@ -67,6 +67,7 @@ parts-below code (p ∷ ps) h =
 destination-below : (code : Tac) (d : Destination) → destination_fits code d ≡ true → write_below code.temps (destination_write d) ≡ true
 destination-below code (destinations.Temp t) h = h
 destination-below code (destinations.Area n) h = refl
+destination-below code destinations.Nothing h = refl
 
 step : (code : Tac) (i : Instruction) → instruction_fits code i ≡ true → step_below code.temps (step_of i) ≡ true
 step code (Compute d op form a b) h =

@@ -1,14 +1,8 @@
-pub mod Marking
-pub mod Joins
-pub mod Ways
-pub mod Rounds
 pub mod Taking
 pub mod Places
 pub mod Whole
 pub mod Fewest
 pub mod Noting
-pub mod Grouping
-pub mod Reaching
 pub mod Ordering
 pub mod Covering
 pub mod Turns

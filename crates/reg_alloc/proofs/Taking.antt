@@ -8,7 +8,7 @@ use Rattle.std.proofs.lemmas.Bool.{cases_eq, cases_lt, and_parts, leb-true, ltb-
 use Rattle.reg_alloc.specs.declared.assignment.Home.{Home}
 use Rattle.reg_alloc.specs.declared.assignment.Home.TheVariants.{Register, Slot}
 use Rattle.reg_alloc.specs.Right.{is_some_home, has_home}
-use Rattle.reg_alloc.specs.Sets.{at}
+use Rattle.tac_live.specs.Sets.{at}
 use Rattle.reg_alloc.specs.Homes.{home_number, TakesNumber, TakesIf, IsRightSet, IsTaken}
 
 some-if : (b : Bool) (m n : ℕ) → cond b (Some m) None ≡ Some n → (b ≡ true) × (m ≡ n)

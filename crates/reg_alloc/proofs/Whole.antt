@@ -15,10 +15,11 @@ use Rattle.tac_form.specs.Graph.{graph_of}
 use Rattle.tac_form.specs.Live.{has, is_written, before_exit, at_step, at_place, read_within, IsLive, step_writes, written_in}
 use Rattle.tac_form.specs.Live.{is_just_written, InUse}
 use Rattle.reg_alloc.specs.Right.{is_some_home, IsRight}
-use Rattle.reg_alloc.specs.Sets.{in_table, before_steps, before_from, IsLiveTable}
+use Rattle.tac_live.specs.Rows.{in_rows, AreLiveRows}
+use Rattle.tac_live.specs.Sets.{before_steps, before_from}
 use Rattle.reg_alloc.specs.Homes.{AreRightBelow, just_written, used_from, IsBlockRight, AreBlocksRight, all_below, write_below, step_below}
 use Rattle.reg_alloc.specs.Homes.{steps_below, block_below, are_below}
-use Rattle.reg_alloc.proofs.Ways.{before-live, live-before}
+use Rattle.tac_live.proofs.Ways.{before-live, live-before}
 
 -- tests of all, at one
 all-at : {X : Type 0} (p : X → Bool) (xs : List X) (i : ℕ) (x : X) → list_all p xs ≡ true → slice_get xs i ≡ Some x → p x ≡ true
@@ -164,42 +165,42 @@ not-right code homes a r =
     let o = one-used (length homes) (graph_of code) a in
     false≢true (sym (ap (is_some_home (length homes)) (slice_get_past homes o.2 o.3)) ∙ r.homes_are o.0 o.1 o.2 o.4)
 
--- what is in use, by the table
-pub live-from : (graph : List FlowBlock) (n : ℕ) (table : List (List Bool)) → IsLiveTable graph n table → (b : ℕ) (block : FlowBlock) → slice_get graph b ≡ Some block →
-    (i t : ℕ) → t < n → before_from block i (λ c. in_table table c t) t ≡ true → IsLive graph b i t
-live-from graph n table live b block g i t l h =
-    before-live graph b t block (λ c. in_table table c t) g (λ c k. (live c t l).0 k) (drop i block.steps) i refl h
+-- what is in use, by the rows
+pub live-from : (graph : List FlowBlock) (n : ℕ) (rows : List (List ℕ)) → AreLiveRows graph n rows → (b : ℕ) (block : FlowBlock) → slice_get graph b ≡ Some block →
+    (i t : ℕ) → t < n → before_from block i (λ c. in_rows rows c t) t ≡ true → IsLive graph b i t
+live-from graph n rows live b block g i t l h =
+    before-live graph b t block (λ c. in_rows rows c t) g (λ c k. (live.exact c t l).0 k) (drop i block.steps) i refl h
 
-from-live : (graph : List FlowBlock) (n : ℕ) (table : List (List Bool)) → IsLiveTable graph n table → (b : ℕ) (block : FlowBlock) → slice_get graph b ≡ Some block →
-    (i t : ℕ) → t < n → IsLive graph b i t → before_from block i (λ c. in_table table c t) t ≡ true
-from-live graph n table live b block g i t l h =
-    live-before graph t (λ c. in_table table c t)
-    (λ c other e k. (live c t l).1 (live-from graph n table live c other e 0 t l k)) h.0 b i h.1 block g
+from-live : (graph : List FlowBlock) (n : ℕ) (rows : List (List ℕ)) → AreLiveRows graph n rows → (b : ℕ) (block : FlowBlock) → slice_get graph b ≡ Some block →
+    (i t : ℕ) → t < n → IsLive graph b i t → before_from block i (λ c. in_rows rows c t) t ≡ true
+from-live graph n rows live b block g i t l h =
+    live-before graph t (λ c. in_rows rows c t)
+    (λ c other e k. (live.exact c t l).1 (live-from graph n rows live c other e 0 t l k)) h.0 b i h.1 block g
 
 written-is : (graph : List FlowBlock) (b : ℕ) (block : FlowBlock) → slice_get graph b ≡ Some block → (i t : ℕ) → is_just_written graph b i t ≡ just_written block.steps i t
 written-is graph b block g zero t = refl
 written-is graph b block g (suc i) t = ap (λ o. written_in o i t) g
 
-used-from : (graph : List FlowBlock) (n : ℕ) (table : List (List Bool)) → IsLiveTable graph n table → (b : ℕ) (block : FlowBlock) → slice_get graph b ≡ Some block →
-    (i t : ℕ) → t < n → used_from table block i t ≡ true → InUse graph b i t
-used-from graph n table live b block g i t l h =
+used-from : (graph : List FlowBlock) (n : ℕ) (rows : List (List ℕ)) → AreLiveRows graph n rows → (b : ℕ) (block : FlowBlock) → slice_get graph b ≡ Some block →
+    (i t : ℕ) → t < n → used_from rows block i t ≡ true → InUse graph b i t
+used-from graph n rows live b block g i t l h =
     ⊎_elim
     (λ w. inr (written-is graph b block g i t ∙ w))
-    (λ f. inl (live-from graph n table live b block g i t l f))
-    (or_cases (just_written block.steps i t) (before_from block i (λ c. in_table table c t) t) h)
+    (λ f. inl (live-from graph n rows live b block g i t l f))
+    (or_cases (just_written block.steps i t) (before_from block i (λ c. in_rows rows c t) t) h)
 
-pub from-used : (graph : List FlowBlock) (n : ℕ) (table : List (List Bool)) → IsLiveTable graph n table → (b : ℕ) (block : FlowBlock) → slice_get graph b ≡ Some block →
-    (i t : ℕ) → t < n → InUse graph b i t → used_from table block i t ≡ true
-from-used graph n table live b block g i t l u =
+pub from-used : (graph : List FlowBlock) (n : ℕ) (rows : List (List ℕ)) → AreLiveRows graph n rows → (b : ℕ) (block : FlowBlock) → slice_get graph b ≡ Some block →
+    (i t : ℕ) → t < n → InUse graph b i t → used_from rows block i t ≡ true
+from-used graph n rows live b block g i t l u =
     ⊎_elim
-    (λ f. or_right (just_written block.steps i t) _ (from-live graph n table live b block g i t l f))
+    (λ f. or_right (just_written block.steps i t) _ (from-live graph n rows live b block g i t l f))
     (λ w. or_left (just_written block.steps i t) _ (sym (written-is graph b block g i t) ∙ w))
     u
 
 -- behind a block's exit nothing is in use but what is so before it
-right-anywhere : (homes : List (Option Home)) (table : List (List Bool)) (block : FlowBlock) → IsBlockRight homes table block →
-    (i : ℕ) → AreRightBelow homes (length homes) (λ t. used_from table block i t)
-right-anywhere homes table block r i =
+right-anywhere : (homes : List (Option Home)) (rows : List (List ℕ)) (block : FlowBlock) → IsBlockRight homes rows block →
+    (i : ℕ) → AreRightBelow homes (length homes) (λ t. used_from rows block i t)
+right-anywhere homes rows block r i =
     ⊎_elim
     (λ past. let last = r (length block.steps) (omega arith) in record {
       homes_are = λ t l h. last.homes_are t l (moved i t past h);
@@ -208,31 +209,31 @@ right-anywhere homes table block r i =
     (λ within. r i within)
     (cases_lt (length block.steps) i)
   where
-    moved : (i t : ℕ) → length block.steps < i → used_from table block i t ≡ true → used_from table block (length block.steps) t ≡ true
+    moved : (i t : ℕ) → length block.steps < i → used_from rows block i t ≡ true → used_from rows block (length block.steps) t ≡ true
     moved zero t p h = absurd (omega arith)
     moved (suc i) t p h =
         let e : slice_get block.steps i ≡ None = slice_get_past block.steps i (omega arith) in
         let d : drop (suc i) block.steps ≡ drop (length block.steps) block.steps =
         drop_all (suc i) block.steps (omega arith) ∙ sym (drop_all (length block.steps) block.steps (omega arith)) in
-        let h' : before_from block (suc i) (λ c. in_table table c t) t ≡ true = sym (ap (λ o. step_writes o t || before_from block (suc i) (λ c. in_table table c t) t) e) ∙ h in
+        let h' : before_from block (suc i) (λ c. in_rows rows c t) t ≡ true = sym (ap (λ o. step_writes o t || before_from block (suc i) (λ c. in_rows rows c t) t) e) ∙ h in
         or_right (just_written block.steps (length block.steps) t) _
-        (sym (ap (λ ss. before_steps ss (before_exit block (λ c. in_table table c t) t) t) d) ∙ h')
+        (sym (ap (λ ss. before_steps ss (before_exit block (λ c. in_rows rows c t) t) t) d) ∙ h')
 
-pub blocks-right : (code : Tac) (homes : List (Option Home)) (table : List (List Bool)) → are_below (length homes) (graph_of code) ≡ true →
-    IsLiveTable (graph_of code) (length homes) table → AreBlocksRight homes table (graph_of code) (length (graph_of code)) → IsRight code homes
-blocks-right code homes table a live all = record {
+pub blocks-right : (code : Tac) (homes : List (Option Home)) (rows : List (List ℕ)) → are_below (length homes) (graph_of code) ≡ true →
+    AreLiveRows (graph_of code) (length homes) rows → AreBlocksRight homes rows (graph_of code) (length (graph_of code)) → IsRight code homes
+blocks-right code homes rows a live all = record {
   homes_are = λ b i t u.
       let p = in-block b i t u in
       let l = used-below (length homes) (graph_of code) b i t a u in
-      (right-anywhere homes table p.0 (all b p.0 (slice_get_within (graph_of code) b p.0 p.1) p.1) i).homes_are t l
-      (from-used (graph_of code) (length homes) table live b p.0 p.1 i t l u);
+      (right-anywhere homes rows p.0 (all b p.0 (slice_get_within (graph_of code) b p.0 p.1) p.1) i).homes_are t l
+      (from-used (graph_of code) (length homes) rows live b p.0 p.1 i t l u);
   apart = λ b i t v u w ne.
       let p = in-block b i t u in
       let l = used-below (length homes) (graph_of code) b i t a u in
       let k = used-below (length homes) (graph_of code) b i v a w in
-      (right-anywhere homes table p.0 (all b p.0 (slice_get_within (graph_of code) b p.0 p.1) p.1) i).apart t v l k
-      (from-used (graph_of code) (length homes) table live b p.0 p.1 i t l u)
-      (from-used (graph_of code) (length homes) table live b p.0 p.1 i v k w) ne;
+      (right-anywhere homes rows p.0 (all b p.0 (slice_get_within (graph_of code) b p.0 p.1) p.1) i).apart t v l k
+      (from-used (graph_of code) (length homes) rows live b p.0 p.1 i t l u)
+      (from-used (graph_of code) (length homes) rows live b p.0 p.1 i v k w) ne;
 }
   where
     in-block : (b i t : ℕ) → InUse (graph_of code) b i t → (block : FlowBlock) × (slice_get (graph_of code) b ≡ Some block)
@@ -250,30 +251,30 @@ blocks-right code homes table a live all = record {
         found (Some block) g v = (block, g)
         found None g v = absurd (⊎_elim (λ r. no-read g r.0 r.1) (λ w. no-write g i w) v)
 
-pub right-blocks : (code : Tac) (homes : List (Option Home)) (table : List (List Bool)) →
-    IsLiveTable (graph_of code) (length homes) table → IsRight code homes → AreBlocksRight homes table (graph_of code) (length (graph_of code))
-right-blocks code homes table live r b block l g i h = record {
-  homes_are = λ t k u. r.homes_are b i t (used-from (graph_of code) (length homes) table live b block g i t k u);
-  apart = λ t v k m u w. r.apart b i t v (used-from (graph_of code) (length homes) table live b block g i t k u) (used-from (graph_of code) (length homes) table live b block g i v m w);
+pub right-blocks : (code : Tac) (homes : List (Option Home)) (rows : List (List ℕ)) →
+    AreLiveRows (graph_of code) (length homes) rows → IsRight code homes → AreBlocksRight homes rows (graph_of code) (length (graph_of code))
+right-blocks code homes rows live r b block l g i h = record {
+  homes_are = λ t k u. r.homes_are b i t (used-from (graph_of code) (length homes) rows live b block g i t k u);
+  apart = λ t v k m u w. r.apart b i t v (used-from (graph_of code) (length homes) rows live b block g i t k u) (used-from (graph_of code) (length homes) rows live b block g i v m w);
 }
 
--- what the blocks say, if the graph is that of the code and the table has what is live
-pub check-ends : (code : Tac) (homes given : List (Option Home)) (first second third : List FlowBlock) (table row : List (List Bool)) (right : Bool) →
-    given ≡ homes → first ≡ graph_of code → second ≡ graph_of code → third ≡ graph_of code → row ≡ table →
-    are_below (length given) first ≡ true → IsLiveTable second (length given) table → ((right ≡ true) ↔ AreBlocksRight given row third (length third)) →
+-- what the blocks say, if the graph is that of the code and the rows have what is live
+pub check-ends : (code : Tac) (homes given : List (Option Home)) (first second third : List FlowBlock) (rows row : List (List ℕ)) (right : Bool) →
+    given ≡ homes → first ≡ graph_of code → second ≡ graph_of code → third ≡ graph_of code → row ≡ rows →
+    are_below (length given) first ≡ true → AreLiveRows second (length given) rows → ((right ≡ true) ↔ AreBlocksRight given row third (length third)) →
     ((right ≡ true) ↔ IsRight code homes)
-check-ends code homes given first second third table row right eh e1 e2 e3 et a live answer =
+check-ends code homes given first second third rows row right eh e1 e2 e3 et a live answer =
     let a' : are_below (length homes) (graph_of code) ≡ true =
     ap (λ h. are_below (length h) (graph_of code)) (sym eh) ∙ (ap (λ g. are_below (length given) g) (sym e1) ∙ a) in
-    let live' : IsLiveTable (graph_of code) (length homes) table =
-    subst (λ h. IsLiveTable (graph_of code) (length h) table) eh (subst (λ g. IsLiveTable g (length given) table) e2 live) in
-    let to : AreBlocksRight given row third (length third) → AreBlocksRight homes table (graph_of code) (length (graph_of code)) =
-    λ r. subst (λ h. AreBlocksRight h table (graph_of code) (length (graph_of code))) eh
+    let live' : AreLiveRows (graph_of code) (length homes) rows =
+    subst (λ h. AreLiveRows (graph_of code) (length h) rows) eh (subst (λ g. AreLiveRows g (length given) rows) e2 live) in
+    let to : AreBlocksRight given row third (length third) → AreBlocksRight homes rows (graph_of code) (length (graph_of code)) =
+    λ r. subst (λ h. AreBlocksRight h rows (graph_of code) (length (graph_of code))) eh
     (subst (λ t. AreBlocksRight given t (graph_of code) (length (graph_of code))) et (subst (λ g. AreBlocksRight given row g (length g)) e3 r)) in
-    let from : AreBlocksRight homes table (graph_of code) (length (graph_of code)) → AreBlocksRight given row third (length third) =
+    let from : AreBlocksRight homes rows (graph_of code) (length (graph_of code)) → AreBlocksRight given row third (length third) =
     λ r. subst (λ g. AreBlocksRight given row g (length g)) (sym e3)
-    (subst (λ t. AreBlocksRight given t (graph_of code) (length (graph_of code))) (sym et) (subst (λ h. AreBlocksRight h table (graph_of code) (length (graph_of code))) (sym eh) r)) in
-    (λ y. blocks-right code homes table a' live' (to (answer.0 y)), λ r. answer.1 (from (right-blocks code homes table live' r)))
+    (subst (λ t. AreBlocksRight given t (graph_of code) (length (graph_of code))) (sym et) (subst (λ h. AreBlocksRight h rows (graph_of code) (length (graph_of code))) (sym eh) r)) in
+    (λ y. blocks-right code homes rows a' live' (to (answer.0 y)), λ r. answer.1 (from (right-blocks code homes rows live' r)))
 
 pub check-fails : (code : Tac) (homes given : List (Option Home)) (first : List FlowBlock) → given ≡ homes → first ≡ graph_of code →
     are_below (length given) first ≡ false → IsRight code homes → ⊥

@@ -8,7 +8,8 @@ use Rattle.tac_form.specs.declared.graph.Step.{Step}
 use Rattle.tac_form.specs.declared.graph.FlowBlock.{FlowBlock}
 use Rattle.tac_form.specs.Live.{step_writes}
 use Rattle.reg_alloc.specs.Right.{has_home}
-use Rattle.reg_alloc.specs.Sets.{at, in_table, before_from}
+use Rattle.tac_live.specs.Rows.{in_rows}
+use Rattle.tac_live.specs.Sets.{at, before_from}
 
 -- the number of a home among all: the slots, and behind them the registers
 abbrev pub home_number : (slots : ℕ) → Option Home → Option ℕ
@@ -38,17 +39,17 @@ abbrev pub just_written : List Step → ℕ → ℕ → Bool
 just_written steps zero t = false
 just_written steps (suc i) t = step_writes (slice_get steps i) t
 
-abbrev pub used_from : List (List Bool) → FlowBlock → ℕ → ℕ → Bool
-used_from table block i t = just_written block.steps i t || before_from block i (λ c. in_table table c t) t
+abbrev pub used_from : List (List ℕ) → FlowBlock → ℕ → ℕ → Bool
+used_from rows block i t = just_written block.steps i t || before_from block i (λ c. in_rows rows c t) t
 
-abbrev pub IsBlockRight : List (Option Home) → List (List Bool) → FlowBlock → Type 0
-IsBlockRight homes table block =
-    (i : ℕ) → i ≤ length block.steps → AreRightBelow homes (length homes) (λ t. used_from table block i t)
+abbrev pub IsBlockRight : List (Option Home) → List (List ℕ) → FlowBlock → Type 0
+IsBlockRight homes rows block =
+    (i : ℕ) → i ≤ length block.steps → AreRightBelow homes (length homes) (λ t. used_from rows block i t)
 
 -- the first blocks are right
-abbrev pub AreBlocksRight : List (Option Home) → List (List Bool) → List FlowBlock → ℕ → Type 0
-AreBlocksRight homes table graph below =
-    (c : ℕ) (block : FlowBlock) → c < below → slice_get graph c ≡ Some block → IsBlockRight homes table block
+abbrev pub AreBlocksRight : List (Option Home) → List (List ℕ) → List FlowBlock → ℕ → Type 0
+AreBlocksRight homes rows graph below =
+    (c : ℕ) (block : FlowBlock) → c < below → slice_get graph c ≡ Some block → IsBlockRight homes rows block
 
 -- the homes of the temporaries below a number are right and taken, and no others are
 pub record IsTaken (homes : List (Option Home)) (set : List Bool) (below : ℕ) (taken : List Bool) : Type 0 where

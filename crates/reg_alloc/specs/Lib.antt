@@ -3,9 +3,6 @@ pub mod Right
 -- The intervals of temporaries.
 pub mod Intervals
 -- Views of the code, which private contracts cite.
-pub mod Sets
 pub mod Homes
-pub mod Flows
-pub mod Reach
 pub mod Noted
 pub mod Scans

@@ -8,11 +8,9 @@ ghost use Rattle.reg_alloc.specs.Homes.{home_number, Takes, TakesIf, IsRightSet,
 ghost use Rattle.reg_alloc.specs.Homes.{step_below, steps_below, block_below, are_below};
 
 use crate::assignment::{Assignment, Home};
-use crate::live::{live_at_begins, live_at_exit};
-use crate::marks::TempSet;
-use crate::uses::flow_graph;
 use std::alloc::Global;
-use tac_form::{FlowBlock, Step, Tac};
+use tac_form::{FlowBlock, Step, Tac, TempList};
+use tac_live::{TempSet, flow_graph, live_at_begins, live_at_exit};
 use tl_base::NoMemory;
 
 /// The first of the registers that calls keep and that hold temporaries, the last, and how many they are.
@@ -82,11 +80,11 @@ fn is_right_block(
     alloc: Global,
     homes: &[Option<Home>],
     block: &FlowBlock,
-    table: &[TempSet],
+    rows: &[TempList],
 ) -> Result<bool, NoMemory>
-    ensures { IfOk result (λ right. (right ≡ true) ↔ IsBlockRight homes.now table.now block.now) }
+    ensures { IfOk result (λ right. (right ≡ true) ↔ IsBlockRight homes.now rows.now block.now) }
 {
-    let mut live = live_at_exit(alloc, block, table, homes.len())?;
+    let mut live = live_at_exit(alloc, block, rows, homes.len())?;
     let steps = block.steps.as_slice();
     let mut at = steps.len();
     while at > 0 {
@@ -104,12 +102,12 @@ fn are_right_blocks(
     alloc: Global,
     homes: &[Option<Home>],
     graph: &[FlowBlock],
-    table: &[TempSet],
+    rows: &[TempList],
 ) -> Result<bool, NoMemory>
-    ensures { IfOk result (λ right. (right ≡ true) ↔ AreBlocksRight homes.now table.now graph.now (length graph.now)) }
+    ensures { IfOk result (λ right. (right ≡ true) ↔ AreBlocksRight homes.now rows.now graph.now (length graph.now)) }
 {
     for block in graph {
-        if !is_right_block(alloc, homes, block, table)? {
+        if !is_right_block(alloc, homes, block, rows)? {
             return Ok(false);
         }
     }
@@ -167,9 +165,8 @@ pub fn is_graph_below(graph: &[FlowBlock], count: usize) -> bool
 /// Whether an assignment is right for code: exactly where each temporary that is ever in use has a register from x18
 /// to x27 or a slot, and no two that are in use at one place share it.
 ///
-/// It takes time in the order of places by homes for the places themselves, and of rounds by blocks by homes before,
-/// with as many rounds as loops hold one another and two more for code whose uncounted edges lead forward; memory of
-/// blocks by homes.
+/// It takes time in the order of places by homes, and memory of the order of the code, of the homes, and of what is live where
+/// blocks begin.
 pub fn check_assignment(alloc: Global, tac: &Tac, assignment: &Assignment) -> Result<bool, NoMemory>
     ensures { IfOk result (λ right. IsTrue right ↔ IsRight tac.now assignment.now) }
 {
@@ -178,6 +175,6 @@ pub fn check_assignment(alloc: Global, tac: &Tac, assignment: &Assignment) -> Re
     if !is_graph_below(&graph, homes.len()) {
         return Ok(false);
     }
-    let table = live_at_begins(alloc, &graph, homes.len())?;
-    are_right_blocks(alloc, homes, &graph, &table)
+    let rows = live_at_begins(alloc, &graph, homes.len())?;
+    are_right_blocks(alloc, homes, &graph, &rows)
 }

@@ -14,9 +14,9 @@ use crate::assignment::{Assignment, Home};
 use crate::check::{FIRST, KEPT, is_graph_below};
 use crate::intervals::find_intervals;
 use crate::spans::Span;
-use crate::uses::flow_graph;
 use std::alloc::Global;
 use tac_form::{FlowBlock, Tac};
+use tac_live::flow_graph;
 use tl_base::NoMemory;
 
 /// Numbers of temporaries from here on leave no room for a list of homes.

@@ -2,16 +2,15 @@
 // live, and before the exits that lead to these. A temporary is in use first and last at one of these places.
 
 ghost use Rattle.std.specs.Prelude.{◌≡◌, [], ◌+◌, ◌<◌, ◌≤◌, ◌^◌, length, slice_get, slice_index_or, replicate, IfOk, OnOk};
-ghost use Rattle.reg_alloc.specs.Flows.{AreFlows};
+ghost use Rattle.tac_live.specs.Flows.{AreFlows};
 ghost use Rattle.reg_alloc.specs.Noted.{widened, noted, all_noted, write_noted, step_noted, steps_noted, noted_at, all_noted_at, live_noted, span_at};
 ghost use Rattle.reg_alloc.specs.Noted.{ArePlaces, HasUses, HasSpans};
 
-use crate::flow::{Flow, flow_of};
-use crate::groups::no_marks;
 use crate::numbers::Places;
-use crate::reach::live_blocks;
 use std::alloc::Global;
 use tac_form::{FlowBlock, Step};
+use tac_live::groups::no_marks;
+use tac_live::{Flow, flow_of, live_blocks};
 use tl_base::{List, NoMemory};
 
 /// From which place to which a temporary is in use, by their numbers in the order of the code.

@@ -63,6 +63,7 @@ pub fn code_of(alloc: Global, words: &[&str]) -> Result<Tac, NoMemory> {
         nodes: 1,
         signature: signature(alloc),
         place: HERE,
+        counts: false,
         frame: 0,
         temps: 2,
         areas: SizeList::from_vec(Vec::new(alloc)),

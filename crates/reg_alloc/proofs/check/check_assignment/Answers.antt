@@ -19,7 +19,7 @@ returns c =
     let graph = c.deref-3.result.now in
     let row = c.deref-4.result.now in
     ok-along (λ b. (b ≡ true) ↔ AreBlocksRight homes row graph (length graph)) (λ b. (b ≡ true) ↔ IsRight c.args.tac.now c.args.assignment.now) c.are_right_blocks.result
-    (λ b answer. check-ends c.args.tac.now c.args.assignment.now homes c.deref.result.now c.deref-2.result.now graph c.in_ok-table.table.items row b
+    (λ b answer. check-ends c.args.tac.now c.args.assignment.now homes c.deref.result.now c.deref-2.result.now graph c.in_ok-rows.rows.items row b
     c.as_slice-homes.ensures (c.deref.ensures.value ∙ c.in_ok-graph.ensures) (c.deref-2.ensures.value ∙ c.in_ok-graph.ensures)
-    (c.deref-3.ensures.value ∙ c.in_ok-graph.ensures) c.deref-4.ensures.value (sym c.is_graph_below.ensures ∙ c.if-not-is_graph_below.false) c.in_ok-table.ensures.live answer)
+    (c.deref-3.ensures.value ∙ c.in_ok-graph.ensures) c.deref-4.ensures.value (sym c.is_graph_below.ensures ∙ c.if-not-is_graph_below.false) c.in_ok-rows.ensures answer)
     c.are_right_blocks.ensures

@@ -1,8 +1,8 @@
 use Rattle.std.proofs.Common.{◌≡◌, ◌+◌, [], length, sym, ap, ◌∙◌, subst, arith}
 use Rattle.std.proofs.lemmas.List.{get_or_default}
-use Rattle.reg_alloc.specs.Flows.{group_at, AreBelow}
+use Rattle.tac_live.specs.Flows.{group_at, AreBelow}
 use Rattle.reg_alloc.specs.Noted.{live_noted, HasLive}
-use Rattle.reg_alloc.proofs.Reaching.{flow-of}
+use Rattle.tac_live.proofs.Reaching.{flow-of}
 use Rattle.reg_alloc.proofs.Covering.{live-turn, live-ends}
 use Rattle.reg_alloc.proofs.spans.note_temps.Goals as goal
 

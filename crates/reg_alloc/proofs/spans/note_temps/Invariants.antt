@@ -1,5 +1,5 @@
 use Rattle.std.proofs.Common.{◌+◌, length}
-use Rattle.reg_alloc.specs.Flows.{AreBelow}
+use Rattle.tac_live.specs.Flows.{AreBelow}
 use Rattle.reg_alloc.specs.Noted.{HasLive}
 use Rattle.reg_alloc.proofs.spans.note_temps.Given as goal
 

@@ -1,8 +1,0 @@
-use Rattle.std.proofs.Common.{◌≡◌, drop}
-use Rattle.reg_alloc.specs.Flows.{all_exposed}
-use Rattle.reg_alloc.proofs.flow.expose_all.Given as goal
-
--- with those that are left, all are exposed
-abbrev pub invariant-loop-t : goal.invariant-loop-t
-invariant-loop-t l =
-    all_exposed (drop l.t-index l.temps) l.b l.turn l.marks l.groups.items ≡ all_exposed l.temps l.b l.turn l.marks l.initial.groups.items

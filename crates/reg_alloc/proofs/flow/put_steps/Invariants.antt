@@ -1,7 +1,0 @@
-use Rattle.std.proofs.Common.{◌≡◌, drop}
-use Rattle.reg_alloc.specs.Flows.{steps_put}
-use Rattle.reg_alloc.proofs.flow.put_steps.Given as goal
-
--- with the steps that are left, it is put in for all
-abbrev pub invariant-loop-step : goal.invariant-loop-step
-invariant-loop-step l = steps_put (drop l.step-index l.steps) l.b l.groups.items ≡ steps_put l.steps l.b l.initial.groups.items

@@ -1,5 +1,0 @@
-use Rattle.reg_alloc.specs.Flows.{writes, AreGroupedTo}
-use Rattle.reg_alloc.proofs.flow.writers.Given as goal
-
-abbrev pub invariant-loop-b : goal.invariant-loop-b
-invariant-loop-b l = AreGroupedTo l.graph l.count l.b writes l.groups.items

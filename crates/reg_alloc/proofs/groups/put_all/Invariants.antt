@@ -1,7 +1,0 @@
-use Rattle.std.proofs.Common.{◌≡◌, drop}
-use Rattle.reg_alloc.specs.Flows.{all_put}
-use Rattle.reg_alloc.proofs.groups.put_all.Given as goal
-
--- with those that are left, it is in all groups
-abbrev pub invariant-loop-k : goal.invariant-loop-k
-invariant-loop-k l = all_put (drop l.k-index l.ks) l.x l.groups.items ≡ all_put l.ks l.x l.initial.groups.items

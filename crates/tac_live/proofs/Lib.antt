@@ -1,0 +1,6 @@
+pub mod Marking
+pub mod Joins
+pub mod Ways
+pub mod Grouping
+pub mod Reaching
+pub mod Rising
