@@ -67,11 +67,13 @@ picked-drop row fs j l = by-place row fs j l
         ap (λ v. picked (drop j (r ∷ rs)) v) (drop-none j [] refl)
         ∙ (no-flags (drop j (r ∷ rs)) ∙ sym (ap (λ v. picked (drop (j + 1) (r ∷ rs)) v) (drop-none (j + 1) [] refl) ∙ no-flags (drop (j + 1) (r ∷ rs))))
     by-place (r ∷ rs) (f ∷ fs) zero l = refl
-    by-place (r ∷ rs) (f ∷ fs) (suc j) l = by-place rs fs j (omega arith)
+    by-place (r ∷ rs) (f ∷ fs) (suc j) l =
+        let m : suc j + 1 ≡ suc (j + 1) = omega arith in
+        by-place rs fs j (omega arith) ∙ ap (λ n. picked_if (at fs j) (get_or rs j 0) (picked (drop n (r ∷ rs)) (drop n (f ∷ fs)))) (sym m)
 
 pub picked-turn : (row : List ℕ) (fs : List Bool) (j : ℕ) (old new whole : List ℕ) → j < length row → old ++ picked (drop j row) (drop j fs) ≡ whole →
     (at fs j ≡ true → new ≡ old ++ get_or row j 0 ∷ []) → (at fs j ≡ false → new ≡ old) → new ++ picked (drop (j + 1) row) (drop (j + 1) fs) ≡ whole
-picked-turn row fs j old new whole l e yes no = by-flag (at fs j) refl
+picked-turn row fs j old new whole l e taken left = by-flag (at fs j) refl
   where
     rest : List ℕ
     rest = picked (drop (j + 1) row) (drop (j + 1) fs)
@@ -82,10 +84,10 @@ picked-turn row fs j old new whole l e yes no = by-flag (at fs j) refl
 
     by-flag : (f : Bool) → at fs j ≡ f → new ++ rest ≡ whole
     by-flag true f =
-        ap (λ v. v ++ rest) (yes f) ∙ (push-append old (get_or row j 0) rest
+        ap (λ v. v ++ rest) (taken f) ∙ (push-append old (get_or row j 0) rest
         ∙ (ap (λ v. old ++ v) (sym (picked-drop row fs j l ∙ ap (λ b. picked_if b (get_or row j 0) rest) f)) ∙ e))
     by-flag false f =
-        ap (λ v. v ++ rest) (no f)
+        ap (λ v. v ++ rest) (left f)
         ∙ (ap (λ v. old ++ v) (sym (picked-drop row fs j l ∙ ap (λ b. picked_if b (get_or row j 0) rest) f)) ∙ e)
 
 pub picked-ends : (row : List ℕ) (fs : List Bool) (j : ℕ) (made : List ℕ) → length row ≤ j → made ++ picked (drop j row) (drop j fs) ≡ picked row fs → made ≡ picked row fs

@@ -39,10 +39,12 @@ join-columns rows flags c old new row made fs er ef em e = record {
 
 -- the blocks behind an exit, one after the other
 pub exit-none : (xs ys : List Bool) (block : FlowBlock) (rows : List (List ℕ)) (flags : List (List Bool)) → IsSet xs (length xs) (λ t. false) →
-    ys ≡ marked block.reads xs → IsSet ys (length xs) (λ t. has block.reads t || list_any (λ c. in_columns rows flags c t) (take 0 block.next))
+    ys ≡ marked block.reads xs → IsSet ys (length ys) (λ t. has block.reads t || list_any (λ c. in_columns rows flags c t) (take 0 block.next))
 exit-none xs ys block rows flags f e = record {
-  long = ap length e ∙ marked-long block.reads xs;
-  holds = λ t h. ap (λ v. at v t) e ∙ (marked-at block.reads xs t h ∙ ap (λ b. has block.reads t || b) (f.holds t h));
+  long = refl;
+  holds = λ t h.
+      let l : t < length xs = omega (arith, ap length e, marked-long block.reads xs) in
+      ap (λ v. at v t) e ∙ (marked-at block.reads xs t l ∙ ap (λ b. has block.reads t || b) (f.holds t l));
 }
 
 pub exit-turn : (count i c : ℕ) (xs ys : List Bool) (reads next : List ℕ) (rows : List (List ℕ)) (flags : List (List Bool)) → i < length next → get_or next i 0 ≡ c →

@@ -11,7 +11,7 @@ loop-next-init c =
 pub loop-next-preserved : goal.loop-next-preserved
 loop-next-preserved c =
     let i = c.loop-next.next-index in
-    exit-turn (length c.args.set.now) i (get_or c.as_slice-next-items.result.now i 0) c.loop-next.set c.join_block.new.set c.args.block.now.reads c.args.block.now.next
+    exit-turn (length c.mark_all.new.set) i (get_or c.as_slice-next-items.result.now i 0) c.loop-next.set c.join_block.new.set c.args.block.now.reads c.args.block.now.next
     c.args.rows.now c.args.flags.now
     (subst (λ v. i < length v) c.as_slice-next-items.ensures c.loop-next-test.true)
     (ap (λ v. get_or v i 0) (sym c.as_slice-next-items.ensures)) c.loop-next.invariant c.in_ok-join_block.ensures
