@@ -91,10 +91,7 @@ fn take(
                 Ok(refused_at(RefusalKind::RecursiveNeedsType, reached, function.place))
             }
             FunctionState::Refused(_, refusal) => Ok(Step::Return(CheckEnd::Refused(refusal))),
-            FunctionState::Typed(_, _) => {
-                let step = past(world, queue, place, reached.function)?;
-                Ok(step)
-            }
+            FunctionState::Typed(_, _) => past(world, queue, place, reached.function),
             FunctionState::Defined(_) => {
                 let f = reached.function;
                 frames.push(CheckFrame {
@@ -160,8 +157,7 @@ impl Machine for CheckSteps {
         job: CheckJob,
     ) -> Result<CheckStep, NoMemory> {
         let CheckJob::Take(queue, place) = job;
-        let step = take(frames, world, queue, place)?;
-        Ok(step)
+        take(frames, world, queue, place)
     }
 
     fn go_on(
@@ -179,10 +175,7 @@ impl Machine for CheckSteps {
         } = frame;
         match end {
             CheckEnd::Refused(refusal) => Ok(Step::Return(CheckEnd::Refused(refusal))),
-            CheckEnd::Done => {
-                let step = past(world, queue, place, function)?;
-                Ok(step)
-            }
+            CheckEnd::Done => past(world, queue, place, function),
         }
     }
 

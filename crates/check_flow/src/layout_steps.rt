@@ -125,10 +125,7 @@ fn parts_left(
             frames.push(LayoutFrame::Part(of, value, rest, entries, at))?;
             Ok(Step::Stop(LayoutQuestion::LayoutOf(entry.of, at)))
         }
-        None => {
-            let step = settle(world, of, value, entries)?;
-            Ok(step)
-        }
+        None => settle(world, of, value, entries),
     }
 }
 
@@ -145,8 +142,7 @@ fn settle(
     ensures kept { OnOk result (KeepsLayouts world.old world.new) }
 {
     if world.store.types().is_unsettled(of) {
-        let step = settle_now(world, of, value, entries)?;
-        Ok(step)
+        settle_now(world, of, value, entries)
     } else {
         Ok(finish(world, of, value))
     }
@@ -196,8 +192,7 @@ fn by_entries(
         None => Ok(keep(world, of, RefusalKind::BadEntries)),
         Some(entries) => {
             let rest = Rest::copy(world.store.allocator(), entries.as_slice())?;
-            let step = parts_left(frames, world, of, value, rest, entries, at)?;
-            Ok(step)
+            parts_left(frames, world, of, value, rest, entries, at)
         }
     }
 }
@@ -218,10 +213,7 @@ fn lay_out_struct(
         Known::Value(_) => Ok(Step::Return(CheckAnswer::Done)),
         Known::Refused(kind) => Ok(Step::Return(CheckAnswer::NoLayout(kind))),
         Known::Asked => Ok(Step::Return(CheckAnswer::NoLayout(RefusalKind::Incomplete))),
-        Known::Unasked => {
-            let step = ask_entries(frames, world, of, at)?;
-            Ok(step)
-        }
+        Known::Unasked => ask_entries(frames, world, of, at),
     }
 }
 
@@ -243,11 +235,9 @@ fn ask_entries(
     let own = own_entries(world, of);
     begin_entries(world, of)?;
     if handler.is_nil() {
-        let step = by_entries(frames, world, of, own, at)?;
-        Ok(step)
+        by_entries(frames, world, of, own, at)
     } else {
-        let step = ask_lua(frames, world, handler, of, at)?;
-        Ok(step)
+        ask_lua(frames, world, handler, of, at)
     }
 }
 
@@ -282,10 +272,7 @@ fn by_answer(
     ensures kept { OnOk result (KeepsLayouts world.old world.new) }
 {
     match answer {
-        CheckAnswer::Values(values) => {
-            let step = by_entries(frames, world, of, first(values.as_slice()), at)?;
-            Ok(step)
-        }
+        CheckAnswer::Values(values) => by_entries(frames, world, of, first(values.as_slice()), at),
         _ => Ok(keep(world, of, RefusalKind::CallbackRaised)),
     }
 }
@@ -389,10 +376,7 @@ impl Machine for LayoutSteps {
         task: LayoutTask,
     ) -> Result<LayoutStep, NoMemory> {
         match kind_of(world, task.of) {
-            Kind::Struct => {
-                let step = lay_out_struct(frames, world, task.of, task.at)?;
-                Ok(step)
-            }
+            Kind::Struct => lay_out_struct(frames, world, task.of, task.at),
             Kind::Array(elements) => {
                 frames.push(LayoutFrame::Elements(task.of))?;
                 Ok(Step::Stop(LayoutQuestion::LayoutOf(elements, task.at)))
@@ -420,16 +404,10 @@ impl Machine for LayoutSteps {
         answer: CheckAnswer,
     ) -> Result<LayoutStep, NoMemory> {
         match frame {
-            LayoutFrame::Asked(of, at) => {
-                let step = by_answer(frames, world, of, answer, at)?;
-                Ok(step)
-            }
+            LayoutFrame::Asked(of, at) => by_answer(frames, world, of, answer, at),
             LayoutFrame::Part(of, value, rest, entries, at) => match answer {
                 CheckAnswer::NoLayout(kind) => Ok(keep(world, of, kind)),
-                _ => {
-                    let step = parts_left(frames, world, of, value, rest, entries, at)?;
-                    Ok(step)
-                }
+                _ => parts_left(frames, world, of, value, rest, entries, at),
             },
             LayoutFrame::Elements(of) => match answer {
                 CheckAnswer::NoLayout(kind) => Ok(Step::Return(CheckAnswer::NoLayout(kind))),

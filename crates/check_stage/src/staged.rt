@@ -130,8 +130,7 @@ fn resume_asking(
     ensures kept { OnOk result (KeepsChecking typing.old typing.new) }
     ensures paid { OnOk result (budget.new ≤ budget.old) }
 {
-    let turn = asking.resume(&mut typing.world, budget, answer)?;
-    Ok(turn)
+    asking.resume(&mut typing.world, budget, answer)
 }
 
 // ---- bodies, checks and layouts

@@ -90,8 +90,7 @@ pub fn stage(
     let slots = resolve(alloc, tree)?;
     let typing = open(alloc, memory)?;
     let stages = CheckStage::new(&*tree, &slots);
-    let outcome = stage_from(alloc, &stages, typing, units, mode, tree.finish())?;
-    Ok(outcome)
+    stage_from(alloc, &stages, typing, units, mode, tree.finish())
 }
 
 /// Stages a source that begins so.
@@ -169,14 +168,8 @@ fn behind_chunk(
         return Ok(chunk);
     }
     match mode {
-        Mode::Exports => {
-            let it = run(alloc, stages, Job::Export(place), typing, budget)?;
-            Ok(it)
-        }
-        Mode::CheckAll => {
-            let it = check_all(alloc, stages, typing, budget, lines)?;
-            Ok(it)
-        }
+        Mode::Exports => run(alloc, stages, Job::Export(place), typing, budget),
+        Mode::CheckAll => check_all(alloc, stages, typing, budget, lines),
     }
 }
 

@@ -40,8 +40,7 @@ pub fn stage_checks(
     ensures { IfOk result (λ it. AreChecks (items_of tree.now) (finish_of tree.now) units memory it) }
 {
     let outcome = stage(alloc, tree, units, memory, Mode::CheckAll)?;
-    let checks = checks_of(outcome)?;
-    Ok(checks)
+    checks_of(outcome)
 }
 
 /// Stages a source as [`stage`] does, makes its exports, and writes a line for each export with the lines of the exported terms. They are
@@ -56,8 +55,7 @@ pub fn stage_terms(
     ensures { IfOk result (λ it. AreTerms (items_of tree.now) (finish_of tree.now) units memory it) }
 {
     let outcome = stage(alloc, tree, units, memory, Mode::Exports)?;
-    let terms = terms_of(outcome)?;
-    Ok(terms)
+    terms_of(outcome)
 }
 
 /// What is written of an outcome with checks.
@@ -95,8 +93,7 @@ fn terms_of(outcome: Outcome) -> Result<Written, NoMemory>
 fn export_lines(world: &World) -> Result<Bytes, NoMemory>
     ensures { IfOk result (λ text. text ≡ terms_text world.now.store world.now.exports.list) }
 {
-    let lines = terms_text(&world.store, world.exports.as_slice())?;
-    Ok(lines)
+    terms_text(&world.store, world.exports.as_slice())
 }
 
 /// The lines of checks.

@@ -47,51 +47,34 @@ fn with_value<'a>(
 {
     match frame {
         ValueFrame::Found(place) => Ok(Step::Return(End::Found(value, place))),
-        ValueFrame::Member(at, then) => {
-            let step = member_named(frames, world, budget, at, then, value)?;
-            Ok(step)
-        }
-        ValueFrame::Splice(place) => {
-            let step = splice(world, budget, value, place)?;
-            Ok(step)
-        }
+        ValueFrame::Member(at, then) => member_named(frames, world, budget, at, then, value),
+        ValueFrame::Splice(place) => splice(world, budget, value, place),
         ValueFrame::Symbols(node, frame) => {
-            let step = variable_named(tree, frames, world, budget, node, frame, value)?;
-            Ok(step)
+            variable_named(tree, frames, world, budget, node, frame, value)
         }
         ValueFrame::VarType(node, of, symbols, frame) => {
-            let step = variable_typed(
+            variable_typed(
                 tree, frames, world, budget, node, of, symbols, frame, value,
-            )?;
-            Ok(step)
+            )
         }
         ValueFrame::ForName(first, limit, stride, frame) => {
-            let step = for_named(frames, world, budget, first, limit, stride, frame, value)?;
-            Ok(step)
+            for_named(frames, world, budget, first, limit, stride, frame, value)
         }
         ValueFrame::Spliced(node, frame) => {
-            let step = with_symbols(tree, frames, world, budget, node, frame, value)?;
-            Ok(step)
+            with_symbols(tree, frames, world, budget, node, frame, value)
         }
         ValueFrame::ParameterType(node, of, frame) => {
-            let step = parameter_typed(tree, frames, world, budget, node, of, frame, value)?;
-            Ok(step)
+            parameter_typed(tree, frames, world, budget, node, of, frame, value)
         }
         ValueFrame::Result(of, definition, drawn) => {
-            let step = result_typed(tree, frames, world, budget, of, definition, drawn, value)?;
-            Ok(step)
+            result_typed(tree, frames, world, budget, of, definition, drawn, value)
         }
         ValueFrame::Declared(of, target, place) => {
-            let step = with_declared(tree, world, budget, value, of, target, place)?;
-            Ok(step)
+            with_declared(tree, world, budget, value, of, target, place)
         }
-        ValueFrame::Path(frame) => {
-            let step = names(tree, frames, world, budget, frame, value)?;
-            Ok(step)
-        }
+        ValueFrame::Path(frame) => names(tree, frames, world, budget, frame, value),
         ValueFrame::EntryType(node, of, frame) => {
-            let step = with_entry(tree, frames, world, budget, node, of, frame, value)?;
-            Ok(step)
+            with_entry(tree, frames, world, budget, node, of, frame, value)
         }
     }
 }
@@ -113,10 +96,7 @@ fn member_named<'a>(
 {
     let reached = text_in(world, budget, value, at)?;
     match reached {
-        Reached::Value(text) => {
-            let step = with_member(frames, world, then, text)?;
-            Ok(step)
-        }
+        Reached::Value(text) => with_member(frames, world, then, text),
         Reached::Left(step) => Ok(step),
     }
 }
@@ -140,10 +120,7 @@ fn variable_named<'a>(
     let at = place(tree, typing_at(tree, node).name);
     let reached = symbols_of(world, budget, value, at)?;
     match reached {
-        Reached::Value(symbols) => {
-            let step = variable_type(tree, frames, world, node, Some(symbols), frame)?;
-            Ok(step)
-        }
+        Reached::Value(symbols) => variable_type(tree, frames, world, node, Some(symbols), frame),
         Reached::Left(step) => Ok(step),
     }
 }
@@ -170,8 +147,7 @@ fn variable_typed<'a>(
     match reached {
         Reached::Value(of) => {
             let frame = with_wanted(tree, node, symbols, Some(of), frame)?;
-            let step = variables(tree, frames, world, budget, frame)?;
-            Ok(step)
+            variables(tree, frames, world, budget, frame)
         }
         Reached::Left(step) => Ok(step),
     }
@@ -201,8 +177,7 @@ fn for_named<'a>(
                 symbol: Some(symbol),
                 ..frame
             };
-            let step = bounds(frames, world, first, limit, stride, frame)?;
-            Ok(step)
+            bounds(frames, world, first, limit, stride, frame)
         }
         Reached::Left(step) => Ok(step),
     }
@@ -229,8 +204,7 @@ fn parameter_typed<'a>(
     match reached {
         Reached::Value(of) => {
             let at = place(tree, typing_at(tree, node).name);
-            let step = with_parameter(tree, frames, world, budget, of, at, frame)?;
-            Ok(step)
+            with_parameter(tree, frames, world, budget, of, at, frame)
         }
         Reached::Left(step) => Ok(step),
     }
@@ -265,8 +239,7 @@ fn with_parameter<'a>(
         rest,
         drawn,
     };
-    let step = parameters(tree, frames, world, budget, frame)?;
-    Ok(step)
+    parameters(tree, frames, world, budget, frame)
 }
 
 /// Goes on with the result type of a function.
@@ -289,8 +262,7 @@ fn result_typed<'a>(
     let reached = as_type(world, budget, value, place(tree, of))?;
     match reached {
         Reached::Value(of) => {
-            let step = with_result(tree, frames, world, budget, &definition, drawn, Some(of))?;
-            Ok(step)
+            with_result(tree, frames, world, budget, &definition, drawn, Some(of))
         }
         Reached::Left(step) => Ok(step),
     }
@@ -314,8 +286,7 @@ pub fn after_value<'a>(
     match end {
         End::Answered(values) => {
             let value = first(values.as_slice());
-            let step = with_value(tree, frames, world, budget, frame, value)?;
-            Ok(step)
+            with_value(tree, frames, world, budget, frame, value)
         }
         end => Ok(Step::Return(end)),
     }

@@ -79,8 +79,7 @@ fn new_function(world: &mut World, of: Option<TypeId>, at: Place) -> Result<FnId
     ensures ok { OnOk result (world.new ≡ with_function world.old at of) }
     ensures kept { OnOk result (KeepsStage world.old world.new) }
 {
-    let function = world.store.declare(of, at)?;
-    Ok(function)
+    world.store.declare(of, at)
 }
 
 /// Whether a function isn't defined.
@@ -127,10 +126,7 @@ fn target_function(world: &mut World, target: Target, at: Place) -> Result<FnId,
 {
     match standing(world, target) {
         Some(function) => Ok(function),
-        None => {
-            let function = stored_function(world, target, at)?;
-            Ok(function)
-        }
+        None => stored_function(world, target, at),
     }
 }
 
@@ -172,8 +168,7 @@ pub fn define_target<'a>(
         env,
         anonymous: false,
     };
-    let step = define(tree, frames, world, budget, definition, of)?;
-    Ok(step)
+    define(tree, frames, world, budget, definition, of)
 }
 
 /// Defines a local function, which its body sees.
@@ -201,8 +196,7 @@ pub fn define_local<'a>(
         env,
         anonymous: false,
     };
-    let step = define(tree, frames, world, budget, definition, None)?;
-    Ok(step)
+    define(tree, frames, world, budget, definition, None)
 }
 
 /// Defines a function that is given as a value.
@@ -229,8 +223,7 @@ pub fn define_anonymous<'a>(
         env,
         anonymous: true,
     };
-    let step = define(tree, frames, world, budget, definition, None)?;
-    Ok(step)
+    define(tree, frames, world, budget, definition, None)
 }
 
 /// Specialises a function, and defines it; a method of a struct has an implicit first parameter.
@@ -259,8 +252,7 @@ fn define<'a>(
         rest,
         drawn,
     };
-    let step = parameters(tree, frames, world, budget, frame)?;
-    Ok(step)
+    parameters(tree, frames, world, budget, frame)
 }
 
 /// The implicit first parameter of a method.
@@ -274,8 +266,7 @@ fn self_parameter(world: &mut World, of: Option<TypeId>, at: Place) -> Result<Li
         Some(of) => {
             let pointer = world.pointer_to(of)?;
             let first = draw(world, pointer, at)?;
-            let drawn = single(alloc, first)?;
-            Ok(drawn)
+            single(alloc, first)
         }
     }
 }
@@ -292,8 +283,7 @@ fn parameter_list(world: &World, drawn: &[Drawn]) -> Result<ParameterList, NoMem
             place: parameter.place,
         })?;
     }
-    let list = ParameterList::from_vec(list)?;
-    Ok(list)
+    ParameterList::from_vec(list)
 }
 
 /// Gives a function its term, if it has none yet.
@@ -313,14 +303,8 @@ pub fn finish(
 {
     let at = definition.place;
     match past_limits(size_of(world, &drawn, &body)) {
-        Some(fault) => {
-            let step = raise(world, budget, at, fault)?;
-            Ok(step)
-        }
-        None => {
-            let step = take_term_once(world, budget, definition, drawn, of, body)?;
-            Ok(step)
-        }
+        Some(fault) => raise(world, budget, at, fault),
+        None => take_term_once(world, budget, definition, drawn, of, body),
     }
 }
 
@@ -352,11 +336,9 @@ fn take_term_once(
     ensures kept { OnOk result (KeepsStage world.old world.new) }
 {
     if is_undefined(world, definition.function) {
-        let step = take_term(world, definition, drawn, of, body)?;
-        Ok(step)
+        take_term(world, definition, drawn, of, body)
     } else {
-        let step = raise(world, budget, definition.place, Fault::AlreadyDefined)?;
-        Ok(step)
+        raise(world, budget, definition.place, Fault::AlreadyDefined)
     }
 }
 
@@ -435,8 +417,7 @@ pub fn declare_local<'a>(
 {
     let cell = world.heap.next_cell();
     declare(world, env, Value::Nil)?;
-    let step = declare_target(frames, Target::Cell(cell), of, at, env)?;
-    Ok(step)
+    declare_target(frames, Target::Cell(cell), of, at, env)
 }
 
 /// Whether a type is one of functions.
@@ -483,10 +464,7 @@ pub fn with_declared(
     let reached = as_type(world, budget, value, at_type)?;
     match reached {
         Reached::Left(step) => Ok(step),
-        Reached::Value(of) => {
-            let step = declare_typed(world, budget, of, at_type, target, at)?;
-            Ok(step)
-        }
+        Reached::Value(of) => declare_typed(world, budget, of, at_type, target, at),
     }
 }
 
@@ -508,11 +486,9 @@ fn declare_typed(
     ensures kept { OnOk result (KeepsStage world.old world.new) }
 {
     if is_function_type(world, of) {
-        let step = store_declared(world, of, target, at)?;
-        Ok(step)
+        store_declared(world, of, target, at)
     } else {
-        let step = raise(world, budget, at_type, Fault::NotAType)?;
-        Ok(step)
+        raise(world, budget, at_type, Fault::NotAType)
     }
 }
 

@@ -65,39 +65,19 @@ pub fn node<'a>(
     ensures kept { OnOk result (KeepsStage world.old world.new) }
 {
     match tree.node(node) {
-        Node::Name(place, _, name) => {
-            let step = use_of(slots, frames, world, node, name, *place, env)?;
-            Ok(step)
-        }
+        Node::Name(place, _, name) => use_of(slots, frames, world, node, name, *place, env),
         Node::Numeral(place, digits) => {
             let number = Expression::Number(numeral(digits), numeral_type(digits));
-            let step = make(world, *place, number)?;
-            Ok(step)
+            make(world, *place, number)
         }
-        Node::Literal(place, written) => {
-            let step = written_text(world, budget, written, *place)?;
-            Ok(step)
-        }
+        Node::Literal(place, written) => written_text(world, budget, written, *place),
         Node::TerraExpression(place, expression) => {
-            let step = specialise(tree, frames, world, expression, *place, env)?;
-            Ok(step)
+            specialise(tree, frames, world, expression, *place, env)
         }
-        Node::Expression(_, _) => {
-            let step = nothing(tree, world, node)?;
-            Ok(step)
-        }
-        Node::Statement(_, _) => {
-            let step = nothing(tree, world, node)?;
-            Ok(step)
-        }
-        Node::TerraStatement(_, _) => {
-            let step = nothing(tree, world, node)?;
-            Ok(step)
-        }
-        Node::Piece(_) => {
-            let step = nothing(tree, world, node)?;
-            Ok(step)
-        }
+        Node::Expression(_, _) => nothing(tree, world, node),
+        Node::Statement(_, _) => nothing(tree, world, node),
+        Node::TerraStatement(_, _) => nothing(tree, world, node),
+        Node::Piece(_) => nothing(tree, world, node),
     }
 }
 
@@ -108,8 +88,7 @@ fn nothing(tree: &Tree<'_>, world: &mut World, node: NodeId) -> Result<SpecStep,
         world.old left step world.new left) }
     ensures kept { OnOk result (KeepsStage world.old world.new) }
 {
-    let step = make(world, place(tree, node), Expression::Nil)?;
-    Ok(step)
+    make(world, place(tree, node), Expression::Nil)
 }
 
 /// The use of a name: the value of its cell at this moment, or what stands under it in the globals.
@@ -177,18 +156,9 @@ fn specialise<'a>(
     ensures kept { OnOk result (KeepsStage world.old world.new) }
 {
     match expression {
-        TerraExpression::Nil => {
-            let step = make(world, place, Expression::Nil)?;
-            Ok(step)
-        }
-        TerraExpression::False => {
-            let step = make(world, place, Expression::Truth(false))?;
-            Ok(step)
-        }
-        TerraExpression::True => {
-            let step = make(world, place, Expression::Truth(true))?;
-            Ok(step)
-        }
+        TerraExpression::Nil => make(world, place, Expression::Nil),
+        TerraExpression::False => make(world, place, Expression::Truth(false)),
+        TerraExpression::True => make(world, place, Expression::Truth(true)),
         TerraExpression::Binary(op, left, right) => {
             frames.push(SpecFrame::Term(TermFrame::Left(*op, *right, place, env)))?;
             Ok(Step::Enter(Job::Expression(*left, env)))
@@ -254,13 +224,11 @@ pub fn select<'a>(
 {
     match end {
         End::Found(value, at) => {
-            let step = select_from(tree, frames, world, budget, value, at, name, place, env)?;
-            Ok(step)
+            select_from(tree, frames, world, budget, value, at, name, place, env)
         }
         End::Made(object) => {
             let then = MemberThen::Select(object, place);
-            let step = member(tree, frames, world, name, env, then)?;
-            Ok(step)
+            member(tree, frames, world, name, env, then)
         }
         end => Ok(Step::Return(end)),
     }
@@ -286,13 +254,9 @@ fn select_from<'a>(
     match value {
         Value::Table(table) => {
             let then = MemberThen::Table(table, place);
-            let step = member(tree, frames, world, name, env, then)?;
-            Ok(step)
+            member(tree, frames, world, name, env, then)
         }
-        _ => {
-            let step = select_one(tree, frames, world, budget, value, at, name, place, env)?;
-            Ok(step)
-        }
+        _ => select_one(tree, frames, world, budget, value, at, name, place, env),
     }
 }
 
@@ -318,8 +282,7 @@ fn select_one<'a>(
     match reached {
         Reached::Value(object) => {
             let then = MemberThen::Select(object, place);
-            let step = member(tree, frames, world, name, env, then)?;
-            Ok(step)
+            member(tree, frames, world, name, env, then)
         }
         Reached::Left(step) => Ok(step),
     }
@@ -344,13 +307,11 @@ pub fn constructed<'a>(
     match end {
         End::Found(value, _) => {
             let reached = type_from(world, budget, value, frame.at)?;
-            let step = construct_reached(tree, frames, world, reached, frame)?;
-            Ok(step)
+            construct_reached(tree, frames, world, reached, frame)
         }
         End::Made(term) => {
             let reached = type_of_term(world, budget, term, frame.at)?;
-            let step = construct_reached(tree, frames, world, reached, frame)?;
-            Ok(step)
+            construct_reached(tree, frames, world, reached, frame)
         }
         end => Ok(Step::Return(end)),
     }
@@ -373,10 +334,7 @@ fn construct_reached<'a>(
     ensures kept { OnOk result (KeepsStage world.old world.new) }
 {
     match reached {
-        Reached::Value(of) => {
-            let step = construct(tree, frames, world, of, frame)?;
-            Ok(step)
-        }
+        Reached::Value(of) => construct(tree, frames, world, of, frame),
         Reached::Left(step) => Ok(step),
     }
 }
@@ -405,8 +363,7 @@ fn construct<'a>(
         return Ok(step);
     }
     let then = TermsThen::Positional(of, place);
-    let step = terms(frames, world, frame.initials, env, List::new(alloc), then)?;
-    Ok(step)
+    terms(frames, world, frame.initials, env, List::new(alloc), then)
 }
 
 /// Specialises the named initialisers that are left.
@@ -425,10 +382,7 @@ pub fn initials<'a>(
     ensures kept { OnOk result (KeepsStage world.old world.new) }
 {
     match nodes.split_first() {
-        None => {
-            let step = make_named(world, made, names, terms)?;
-            Ok(step)
-        }
+        None => make_named(world, made, names, terms),
         Some((first, rest)) => {
             let frame = InitialFrame {
                 name: *first,
@@ -437,8 +391,7 @@ pub fn initials<'a>(
                 terms,
                 made,
             };
-            let step = named_initial(frames, initial_at(tree, *first), frame)?;
-            Ok(step)
+            named_initial(frames, initial_at(tree, *first), frame)
         }
     }
 }
@@ -486,8 +439,7 @@ fn make_named(
     let names = FieldList::from_list(names)?;
     let terms = TermList::from_list(terms)?;
     let values = Initialiser::Named(names, terms);
-    let step = make(world, made.place, Expression::New(made.of, values))?;
-    Ok(step)
+    make(world, made.place, Expression::New(made.of, values))
 }
 
 /// Goes on with the term of a named initialiser.
@@ -514,6 +466,5 @@ pub fn with_initial<'a>(
     naming(world, text)?;
     names.push(text)?;
     terms.push(term)?;
-    let step = initials(tree, frames, world, made, rest, names, terms)?;
-    Ok(step)
+    initials(tree, frames, world, made, rest, names, terms)
 }

@@ -78,22 +78,12 @@ fn value<'a>(
     ensures kept { OnOk result (KeepsStage world.old world.new) }
 {
     match expression {
-        LuaExpression::Terra(body) => {
-            let step = define_anonymous(tree, frames, world, budget, *body, at, env)?;
-            Ok(step)
-        }
+        LuaExpression::Terra(body) => define_anonymous(tree, frames, world, budget, *body, at, env),
         LuaExpression::Struct(entries) => {
-            let step = anonymous_struct(tree, frames, world, entries.as_slice(), at, env)?;
-            Ok(step)
+            anonymous_struct(tree, frames, world, entries.as_slice(), at, env)
         }
-        LuaExpression::Quote(node) => {
-            let step = quote(tree, frames, world, budget, *node, at, env)?;
-            Ok(step)
-        }
-        LuaExpression::Backtick(node) => {
-            let step = backtick(frames, *node, at, env)?;
-            Ok(step)
-        }
+        LuaExpression::Quote(node) => quote(tree, frames, world, budget, *node, at, env),
+        LuaExpression::Backtick(node) => backtick(frames, *node, at, env),
         _ => Ok(Step::Return(End::Gave(Value::Nil))),
     }
 }
@@ -119,30 +109,24 @@ fn definition<'a>(
     match statement {
         LuaStatement::Terra(path, body) => {
             let then = TargetThen::Terra(*body, node);
-            let step = target(tree, slots, frames, world, budget, *path, then, at, env)?;
-            Ok(step)
+            target(tree, slots, frames, world, budget, *path, then, at, env)
         }
         LuaStatement::DeclareTerra(path, of) => {
             let then = TargetThen::Declare(*of);
-            let step = target(tree, slots, frames, world, budget, *path, then, at, env)?;
-            Ok(step)
+            target(tree, slots, frames, world, budget, *path, then, at, env)
         }
         LuaStatement::LocalTerra(word, _, body) => {
-            let step = define_local(tree, frames, world, budget, *body, *word, env)?;
-            Ok(step)
+            define_local(tree, frames, world, budget, *body, *word, env)
         }
         LuaStatement::LocalDeclareTerra(word, _, of) => {
-            let step = declare_local(frames, world, *of, *word, env)?;
-            Ok(step)
+            declare_local(frames, world, *of, *word, env)
         }
         LuaStatement::Struct(path, entries) => {
             let then = TargetThen::Struct(entries.as_slice());
-            let step = target(tree, slots, frames, world, budget, *path, then, at, env)?;
-            Ok(step)
+            target(tree, slots, frames, world, budget, *path, then, at, env)
         }
         LuaStatement::LocalStruct(word, _, entries) => {
-            let step = local_struct(tree, frames, world, entries.as_slice(), *word, env)?;
-            Ok(step)
+            local_struct(tree, frames, world, entries.as_slice(), *word, env)
         }
         _ => Ok(Step::Return(End::Gave(Value::Nil))),
     }
@@ -168,70 +152,45 @@ fn with_term<'a>(
             Ok(Step::Enter(Job::Expression(right, env)))
         }
         TermFrame::Right(op, left, place) => {
-            let step = make(world, place, Expression::Binary(operator(op), left, term))?;
-            Ok(step)
+            make(world, place, Expression::Binary(operator(op), left, term))
         }
-        TermFrame::Unary(op, place) => {
-            let step = make(world, place, Expression::Unary(unary(op), term))?;
-            Ok(step)
-        }
+        TermFrame::Unary(op, place) => make(world, place, Expression::Unary(unary(op), term)),
         TermFrame::Paren => Ok(Step::Return(End::Made(term))),
         TermFrame::Object(key, place, env) => {
             frames.push(SpecFrame::Term(TermFrame::Key(term, place)))?;
             Ok(Step::Enter(Job::Expression(key, env)))
         }
-        TermFrame::Key(object, place) => {
-            let step = make(world, place, Expression::Index(object, term))?;
-            Ok(step)
-        }
+        TermFrame::Key(object, place) => make(world, place, Expression::Index(object, term)),
         TermFrame::Callee(arguments, place, env) => {
             let none = List::new(world.heap.allocator());
             let then = TermsThen::Call(term, place);
-            let step = terms(frames, world, arguments, env, none, then)?;
-            Ok(step)
+            terms(frames, world, arguments, env, none, then)
         }
         TermFrame::Method(name, arguments, place, env) => {
             let then = MemberThen::Method(term, arguments, place, env);
-            let step = member(tree, frames, world, name, env, then)?;
-            Ok(step)
+            member(tree, frames, world, name, env, then)
         }
-        TermFrame::Initial(frame) => {
-            let step = with_initial(tree, frames, world, frame, term)?;
-            Ok(step)
-        }
-        TermFrame::Backtick(place) => {
-            let step = quote_term(world, budget, place, term)?;
-            Ok(step)
-        }
-        TermFrame::Quoted(statements, place) => {
-            let step = quote_let(world, budget, statements, place, term)?;
-            Ok(step)
-        }
+        TermFrame::Initial(frame) => with_initial(tree, frames, world, frame, term),
+        TermFrame::Backtick(place) => quote_term(world, budget, place, term),
+        TermFrame::Quoted(statements, place) => quote_let(world, budget, statements, place, term),
         TermFrame::Bound(limit, stride, before, frame) => {
             let mut before = before;
             before.push(term)?;
-            let step = more_bounds(tree, frames, world, budget, limit, stride, before, frame)?;
-            Ok(step)
+            more_bounds(tree, frames, world, budget, limit, stride, before, frame)
         }
-        TermFrame::Perform(place) => {
-            let step = join(world, place, Statement::Perform(term))?;
-            Ok(step)
-        }
+        TermFrame::Perform(place) => join(world, place, Statement::Perform(term)),
         TermFrame::While(block, place, env) => {
             let then = BlockThen::While(term, place);
-            let step = entered(tree, frames, world, budget, block, block, env, then)?;
-            Ok(step)
+            entered(tree, frames, world, budget, block, block, env, then)
         }
         TermFrame::Repeat(statements, place) => {
             let list = TermList::from_list(statements)?;
-            let step = join(world, place, Statement::Repeat(list, term))?;
-            Ok(step)
+            join(world, place, Statement::Repeat(list, term))
         }
         TermFrame::Arm(block, frame) => {
             let env = frame.env;
             let then = BlockThen::Arm(term, frame);
-            let step = entered(tree, frames, world, budget, block, block, env, then)?;
-            Ok(step)
+            entered(tree, frames, world, budget, block, block, env, then)
         }
     }
 }
@@ -252,14 +211,8 @@ fn after_term<'a>(
     ensures kept { OnOk result (KeepsStage world.old world.new) }
 {
     match end {
-        End::Made(term) => {
-            let step = with_term(tree, frames, world, budget, frame, term)?;
-            Ok(step)
-        }
-        End::Found(value, at) => {
-            let step = after_found(tree, frames, world, budget, frame, value, at)?;
-            Ok(step)
-        }
+        End::Made(term) => with_term(tree, frames, world, budget, frame, term),
+        End::Found(value, at) => after_found(tree, frames, world, budget, frame, value, at),
         end => Ok(Step::Return(end)),
     }
 }
@@ -282,10 +235,7 @@ fn after_found<'a>(
 {
     let reached = one(world, budget, value, at)?;
     match reached {
-        Reached::Value(term) => {
-            let step = with_term(tree, frames, world, budget, frame, term)?;
-            Ok(step)
-        }
+        Reached::Value(term) => with_term(tree, frames, world, budget, frame, term),
         Reached::Left(step) => Ok(step),
     }
 }
@@ -306,14 +256,8 @@ fn after_terms<'a>(
     ensures kept { OnOk result (KeepsStage world.old world.new) }
 {
     match end {
-        End::Made(term) => {
-            let step = after_made(frames, world, frame, term)?;
-            Ok(step)
-        }
-        End::Found(value, at) => {
-            let step = after_listed(frames, world, budget, frame, value, at)?;
-            Ok(step)
-        }
+        End::Made(term) => after_made(frames, world, frame, term),
+        End::Found(value, at) => after_listed(frames, world, budget, frame, value, at),
         end => Ok(Step::Return(end)),
     }
 }
@@ -339,8 +283,7 @@ fn after_made<'a>(
         then,
     } = frame;
     all.push(term)?;
-    let step = terms(frames, world, rest, env, all, then)?;
-    Ok(step)
+    terms(frames, world, rest, env, all, then)
 }
 
 /// Goes on with a list behind the terms that a value in a list position becomes.
@@ -367,10 +310,7 @@ fn after_listed<'a>(
     } = frame;
     let reached = listed(world, budget, value, at, before)?;
     match reached {
-        Reached::Value(all) => {
-            let step = terms(frames, world, rest, env, all, then)?;
-            Ok(step)
-        }
+        Reached::Value(all) => terms(frames, world, rest, env, all, then),
         Reached::Left(step) => Ok(step),
     }
 }
@@ -400,8 +340,7 @@ fn after_statement<'a>(
                 then,
             } = frame;
             all.push_all(more.as_slice())?;
-            let step = statements(tree, frames, world, budget, rest, env, all, then)?;
-            Ok(step)
+            statements(tree, frames, world, budget, rest, env, all, then)
         }
         end => Ok(Step::Return(end)),
     }
@@ -420,10 +359,7 @@ fn after_emitted(
     ensures kept { OnOk result (KeepsStage world.old world.new) }
 {
     match end {
-        End::Answered(values) => {
-            let step = splice_all(world, budget, values.as_slice(), at)?;
-            Ok(step)
-        }
+        End::Answered(values) => splice_all(world, budget, values.as_slice(), at),
         end => Ok(Step::Return(end)),
     }
 }
@@ -442,18 +378,9 @@ fn next<'a>(
     ensures kept { OnOk result (KeepsStage world.old world.new) }
 {
     match frame {
-        NextFrame::Var(frame) => {
-            let step = variables(tree, frames, world, budget, frame)?;
-            Ok(step)
-        }
-        NextFrame::Parameters(frame) => {
-            let step = parameters(tree, frames, world, budget, frame)?;
-            Ok(step)
-        }
-        NextFrame::Entries(frame) => {
-            let step = more_entries(tree, frames, frame)?;
-            Ok(step)
-        }
+        NextFrame::Var(frame) => variables(tree, frames, world, budget, frame),
+        NextFrame::Parameters(frame) => parameters(tree, frames, world, budget, frame),
+        NextFrame::Entries(frame) => more_entries(tree, frames, frame),
         NextFrame::Initials(frame) => {
             let InitialFrame {
                 rest,
@@ -462,8 +389,7 @@ fn next<'a>(
                 made,
                 ..
             } = frame;
-            let step = initials(tree, frames, world, made, rest, names, terms)?;
-            Ok(step)
+            initials(tree, frames, world, made, rest, names, terms)
         }
     }
 }
@@ -507,14 +433,12 @@ impl<'a> Machine for Steps<'a> {
         let SpecJob { node, env } = task;
         match self.tree.node(node) {
             Node::Expression(place, expression) => {
-                let step = value(self.tree, frames, world, budget, expression, *place, env)?;
-                Ok(step)
+                value(self.tree, frames, world, budget, expression, *place, env)
             }
             Node::Statement(place, statement) => {
-                let step = definition(
+                definition(
                     self.tree, self.slots, frames, world, budget, statement, node, *place, env,
-                )?;
-                Ok(step)
+                )
             }
             _ => Ok(Step::Return(End::Gave(Value::Nil))),
         }
@@ -528,14 +452,8 @@ impl<'a> Machine for Steps<'a> {
         job: Job,
     ) -> Result<SpecStep, NoMemory> {
         match job {
-            Job::Expression(id, env) => {
-                let step = node(self.tree, self.slots, frames, world, budget, id, env)?;
-                Ok(step)
-            }
-            Job::Statement(id, env) => {
-                let step = statement(self.tree, frames, world, budget, id, env)?;
-                Ok(step)
-            }
+            Job::Expression(id, env) => node(self.tree, self.slots, frames, world, budget, id, env),
+            Job::Statement(id, env) => statement(self.tree, frames, world, budget, id, env),
         }
     }
 
@@ -548,38 +466,20 @@ impl<'a> Machine for Steps<'a> {
         end: End,
     ) -> Result<SpecStep, NoMemory> {
         match frame {
-            SpecFrame::Term(frame) => {
-                let step = after_term(self.tree, frames, world, budget, frame, end)?;
-                Ok(step)
-            }
-            SpecFrame::Terms(frame) => {
-                let step = after_terms(frames, world, budget, frame, end)?;
-                Ok(step)
-            }
+            SpecFrame::Term(frame) => after_term(self.tree, frames, world, budget, frame, end),
+            SpecFrame::Terms(frame) => after_terms(frames, world, budget, frame, end),
             SpecFrame::Block(frame) => {
-                let step = after_statement(self.tree, frames, world, budget, frame, end)?;
-                Ok(step)
+                after_statement(self.tree, frames, world, budget, frame, end)
             }
             SpecFrame::Select(name, place, env) => {
-                let step = select(self.tree, frames, world, budget, end, name, place, env)?;
-                Ok(step)
+                select(self.tree, frames, world, budget, end, name, place, env)
             }
             SpecFrame::Construct(frame) => {
-                let step = constructed(self.tree, frames, world, budget, &frame, end)?;
-                Ok(step)
+                constructed(self.tree, frames, world, budget, &frame, end)
             }
-            SpecFrame::Value(frame) => {
-                let step = after_value(self.tree, frames, world, budget, frame, end)?;
-                Ok(step)
-            }
-            SpecFrame::Emitted(place) => {
-                let step = after_emitted(world, budget, place, end)?;
-                Ok(step)
-            }
-            SpecFrame::Next(frame) => {
-                let step = next(self.tree, frames, world, budget, frame)?;
-                Ok(step)
-            }
+            SpecFrame::Value(frame) => after_value(self.tree, frames, world, budget, frame, end),
+            SpecFrame::Emitted(place) => after_emitted(world, budget, place, end),
+            SpecFrame::Next(frame) => next(self.tree, frames, world, budget, frame),
         }
     }
 

@@ -18,8 +18,7 @@ pub fn new_term(world: &mut World, term: Term) -> Result<TermId, NoMemory>
     ensures ok { OnOk result (world.new ≡ with_term world.old term) }
     ensures kept { OnOk result (KeepsStage world.old world.new) }
 {
-    let id = world.store.new_term(term)?;
-    Ok(id)
+    world.store.new_term(term)
 }
 
 /// Adds a symbol, with its type where one is known.
@@ -28,8 +27,7 @@ pub fn new_symbol(world: &mut World, of: Option<TypeId>) -> Result<SymId, NoMemo
     ensures ok { OnOk result (world.new ≡ with_symbol world.old of) }
     ensures kept { OnOk result (KeepsStage world.old world.new) }
 {
-    let id = world.store.new_symbol(of)?;
-    Ok(id)
+    world.store.new_symbol(of)
 }
 
 /// Adds an environment within another one, for what its owner declares.
@@ -38,6 +36,5 @@ pub fn new_env(world: &mut World, owner: NodeId, outer: EnvId) -> Result<EnvId, 
     ensures ok { OnOk result (world.new ≡ with_heap world.old (with_env world.old.heap owner (Some outer))) }
     ensures kept { OnOk result (KeepsStage world.old world.new) }
 {
-    let id = world.heap.new_env(owner, Some(outer))?;
-    Ok(id)
+    world.heap.new_env(owner, Some(outer))
 }

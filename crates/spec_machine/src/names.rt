@@ -105,8 +105,7 @@ pub fn member<'a>(
         }
         None => {
             let text = text(world, name(tree, node).as_bytes())?;
-            let step = with_member(frames, world, then, text)?;
-            Ok(step)
+            with_member(frames, world, then, text)
         }
     }
 }
@@ -130,14 +129,12 @@ pub fn with_member<'a>(
         }
         MemberThen::Select(object, place) => {
             naming(world, text)?;
-            let step = make(world, place, Expression::Select(object, text))?;
-            Ok(step)
+            make(world, place, Expression::Select(object, text))
         }
         MemberThen::Method(object, arguments, place, env) => {
             let none = List::new(world.heap.allocator());
             let then = TermsThen::Method(object, text, place);
-            let step = terms(frames, world, arguments, env, none, then)?;
-            Ok(step)
+            terms(frames, world, arguments, env, none, then)
         }
     }
 }
@@ -157,8 +154,7 @@ pub fn symbols_of(
         Value::Symbol(symbol) => { Ok(Reached::Value(single(world.heap.allocator(), symbol)?)) }
         Value::Table(table) => {
             let values = values_in(&world.heap, table)?;
-            let reached = symbols_in(world, budget, values.as_slice(), at)?;
-            Ok(reached)
+            symbols_in(world, budget, values.as_slice(), at)
         }
         _ => {
             let step = raise(world, budget, at, Fault::InTerraCode(value.kind()))?;

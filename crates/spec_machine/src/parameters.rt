@@ -51,16 +51,14 @@ pub fn parameters<'a>(
                 drawn,
                 ..
             } = frame;
-            let step = with_parameters(tree, frames, world, budget, &definition, drawn)?;
-            Ok(step)
+            with_parameters(tree, frames, world, budget, &definition, drawn)
         }
         Some((first, rest)) => {
             if !budget.pay(1) {
                 return Ok(Step::Spent);
             }
             let frame = ParameterFrame { rest, ..frame };
-            let step = parameter(tree, frames, *first, frame)?;
-            Ok(step)
+            parameter(tree, frames, *first, frame)
         }
     }
 }
@@ -86,10 +84,7 @@ fn parameter<'a>(
             frames.push(SpecFrame::Value(ValueFrame::Spliced(node, frame)))?;
             Ok(Step::Stop(SpecQuestion::Eval(code, env)))
         }
-        None => {
-            let step = named_parameter(frames, node, typing_at(tree, node).of, frame)?;
-            Ok(step)
-        }
+        None => named_parameter(frames, node, typing_at(tree, node).of, frame),
     }
 }
 
@@ -141,10 +136,7 @@ pub fn with_symbols<'a>(
     let reached = symbols_of(world, budget, value, at)?;
     match reached {
         Reached::Left(step) => Ok(step),
-        Reached::Value(symbols) => {
-            let step = with_spliced(tree, frames, world, budget, symbols, at, frame)?;
-            Ok(step)
-        }
+        Reached::Value(symbols) => with_spliced(tree, frames, world, budget, symbols, at, frame),
     }
 }
 
@@ -179,8 +171,7 @@ fn with_spliced<'a>(
                 rest,
                 drawn,
             };
-            let step = parameters(tree, frames, world, budget, frame)?;
-            Ok(step)
+            parameters(tree, frames, world, budget, frame)
         }
     }
 }
@@ -278,10 +269,7 @@ fn with_parameters<'a>(
             frames.push(SpecFrame::Value(value))?;
             Ok(Step::Stop(SpecQuestion::Eval(of, definition.env)))
         }
-        None => {
-            let step = with_result(tree, frames, world, budget, definition, drawn, None)?;
-            Ok(step)
-        }
+        None => with_result(tree, frames, world, budget, definition, drawn, None),
     }
 }
 
@@ -302,15 +290,11 @@ pub fn with_result<'a>(
     ensures kept { OnOk result (KeepsStage world.old world.new) }
 {
     match declared_type(world, definition) {
-        None => {
-            let step = body(tree, frames, world, budget, definition, drawn, written)?;
-            Ok(step)
-        }
+        None => body(tree, frames, world, budget, definition, drawn, written),
         Some(declared) => {
-            let step = with_declaration(
+            with_declaration(
                 tree, frames, world, budget, definition, drawn, written, declared,
-            )?;
-            Ok(step)
+            )
         }
     }
 }
@@ -334,14 +318,10 @@ fn with_declaration<'a>(
     ensures kept { OnOk result (KeepsStage world.old world.new) }
 {
     match agreed(world, declared, drawn.as_slice(), written) {
-        Some(of) => {
-            let step = body(tree, frames, world, budget, definition, drawn, Some(of))?;
-            Ok(step)
-        }
+        Some(of) => body(tree, frames, world, budget, definition, drawn, Some(of)),
         None => {
             let fault = Fault::DiffersFromDeclaration;
-            let step = raise(world, budget, definition.place, fault)?;
-            Ok(step)
+            raise(world, budget, definition.place, fault)
         }
     }
 }
@@ -444,8 +424,7 @@ fn body<'a>(
     let none = List::new(world.heap.allocator());
     let nodes = block_statements(tree, terra_parts(tree, definition.body).block);
     let then = BlockThen::Body(*definition, drawn, of);
-    let step = statements(tree, frames, world, budget, nodes, inner, none, then)?;
-    Ok(step)
+    statements(tree, frames, world, budget, nodes, inner, none, then)
 }
 
 /// Declares the names of parameters.

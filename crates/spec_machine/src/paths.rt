@@ -60,8 +60,7 @@ pub fn target<'a>(
         place: at,
         env,
     };
-    let step = targeted(tree, slots, frames, world, budget, frame)?;
-    Ok(step)
+    targeted(tree, slots, frames, world, budget, frame)
 }
 
 /// Finds the target of the names of a path.
@@ -85,19 +84,14 @@ fn targeted<'a>(
     match frame.rest.split_first() {
         None => match frame.method {
             None => Ok(Step::Return(End::Gave(Value::Nil))),
-            Some(first) => {
-                let step = only_name(tree, slots, frames, world, budget, first, &frame)?;
-                Ok(step)
-            }
+            Some(first) => only_name(tree, slots, frames, world, budget, first, &frame),
         },
         Some((first, rest)) => {
             if is_last(rest, frame.method) {
-                let step = only_name(tree, slots, frames, world, budget, *first, &frame)?;
-                Ok(step)
+                only_name(tree, slots, frames, world, budget, *first, &frame)
             } else {
                 let frame = PathFrame { rest, ..frame };
-                let step = first_name(tree, slots, frames, world, budget, *first, frame)?;
-                Ok(step)
+                first_name(tree, slots, frames, world, budget, *first, frame)
             }
         }
     }
@@ -134,14 +128,12 @@ fn only_name<'a>(
     match slots.path(node) {
         Some((depth, position)) => {
             let cell = local_cell(&world.heap, frame.env, depth, position);
-            let step = at_target(tree, frames, world, budget, Target::Cell(cell), None, frame)?;
-            Ok(step)
+            at_target(tree, frames, world, budget, Target::Cell(cell), None, frame)
         }
         None => {
             let text = text(world, name(tree, node).as_bytes())?;
             let target = Target::Key(GLOBALS, text);
-            let step = at_target(tree, frames, world, budget, target, None, frame)?;
-            Ok(step)
+            at_target(tree, frames, world, budget, target, None, frame)
         }
     }
 }
@@ -168,13 +160,9 @@ fn first_name<'a>(
     match slots.path(node) {
         Some((depth, position)) => {
             let object = local(&world.heap, frame.env, depth, position);
-            let step = names(tree, frames, world, budget, frame, object)?;
-            Ok(step)
+            names(tree, frames, world, budget, frame, object)
         }
-        None => {
-            let step = next_object(tree, frames, world, node, Value::Table(GLOBALS), frame)?;
-            Ok(step)
-        }
+        None => next_object(tree, frames, world, node, Value::Table(GLOBALS), frame),
     }
 }
 
@@ -198,22 +186,16 @@ pub fn names<'a>(
         None => match frame.method {
             None => {
                 let nowhere = Place { line: 0, word: 0 };
-                let step = raise(world, budget, nowhere, Fault::Index(object.kind()))?;
-                Ok(step)
+                raise(world, budget, nowhere, Fault::Index(object.kind()))
             }
-            Some(last) => {
-                let step = method_key(tree, frames, world, budget, last, object, &frame)?;
-                Ok(step)
-            }
+            Some(last) => method_key(tree, frames, world, budget, last, object, &frame),
         },
         Some((next, rest)) => {
             if is_last(rest, frame.method) {
-                let step = key(tree, frames, world, budget, *next, object, &frame)?;
-                Ok(step)
+                key(tree, frames, world, budget, *next, object, &frame)
             } else {
                 let frame = PathFrame { rest, ..frame };
-                let step = next_object(tree, frames, world, *next, object, frame)?;
-                Ok(step)
+                next_object(tree, frames, world, *next, object, frame)
             }
         }
     }
@@ -262,13 +244,11 @@ fn key<'a>(
     match object {
         Value::Table(table) => {
             let target = Target::Key(table, text);
-            let step = at_target(tree, frames, world, budget, target, None, frame)?;
-            Ok(step)
+            at_target(tree, frames, world, budget, target, None, frame)
         }
         _ => {
             let fault = Fault::Index(object.kind());
-            let step = raise(world, budget, place(tree, node), fault)?;
-            Ok(step)
+            raise(world, budget, place(tree, node), fault)
         }
     }
 }
@@ -293,14 +273,10 @@ fn method_key<'a>(
 {
     let text = text(world, name(tree, node).as_bytes())?;
     match object {
-        Value::TerraType(of) => {
-            let step = struct_key(tree, frames, world, budget, node, of, text, frame)?;
-            Ok(step)
-        }
+        Value::TerraType(of) => struct_key(tree, frames, world, budget, node, of, text, frame),
         _ => {
             let fault = Fault::Index(object.kind());
-            let step = raise(world, budget, place(tree, node), fault)?;
-            Ok(step)
+            raise(world, budget, place(tree, node), fault)
         }
     }
 }
@@ -326,12 +302,10 @@ fn struct_key<'a>(
     if world.is_struct(of) {
         let methods = world.struct_tables(of).methods;
         let target = Target::Key(methods, text);
-        let step = at_target(tree, frames, world, budget, target, Some(of), frame)?;
-        Ok(step)
+        at_target(tree, frames, world, budget, target, Some(of), frame)
     } else {
         let fault = Fault::Index(Kind::TerraType);
-        let step = raise(world, budget, place(tree, node), fault)?;
-        Ok(step)
+        raise(world, budget, place(tree, node), fault)
     }
 }
 
@@ -353,16 +327,9 @@ fn at_target<'a>(
     let (at, env) = (frame.place, frame.env);
     match frame.then {
         TargetThen::Terra(body, node) => {
-            let step = define_target(tree, frames, world, budget, target, of, body, node, at, env)?;
-            Ok(step)
+            define_target(tree, frames, world, budget, target, of, body, node, at, env)
         }
-        TargetThen::Declare(node) => {
-            let step = declare_target(frames, target, node, at, env)?;
-            Ok(step)
-        }
-        TargetThen::Struct(entries) => {
-            let step = struct_target(tree, frames, world, target, entries, at, env)?;
-            Ok(step)
-        }
+        TargetThen::Declare(node) => declare_target(frames, target, node, at, env),
+        TargetThen::Struct(entries) => struct_target(tree, frames, world, target, entries, at, env),
     }
 }

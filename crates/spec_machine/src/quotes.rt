@@ -109,8 +109,7 @@ pub fn quote<'a>(
 {
     let parts = quoted_parts(tree, node);
     let then = BlockThen::Quoted(parts.value, place);
-    let step = entered(tree, frames, world, budget, node, parts.block, env, then)?;
-    Ok(step)
+    entered(tree, frames, world, budget, node, parts.block, env, then)
 }
 
 /// Goes on behind the statements of a quote.
@@ -133,10 +132,7 @@ pub fn quoted<'a>(
             frames.push(SpecFrame::Term(TermFrame::Quoted(statements, place)))?;
             Ok(Step::Enter(Job::Expression(node, env)))
         }
-        None => {
-            let step = quote_statements(world, budget, statements, place)?;
-            Ok(step)
-        }
+        None => quote_statements(world, budget, statements, place),
     }
 }
 
@@ -155,14 +151,10 @@ fn quote_statements(
 {
     let size = terms_size(world, statements.as_slice());
     match past_limits(size) {
-        Some(fault) => {
-            let step = raise(world, budget, place, fault)?;
-            Ok(step)
-        }
+        Some(fault) => raise(world, budget, place, fault),
         None => {
             let list = TermList::from_list(statements)?;
-            let step = give_quote(world, Quote::Statements(list))?;
-            Ok(step)
+            give_quote(world, Quote::Statements(list))
         }
     }
 }
@@ -180,14 +172,8 @@ pub fn quote_term(
 {
     let size = world.term_size(term);
     match past_limits(size) {
-        Some(fault) => {
-            let step = raise(world, budget, place, fault)?;
-            Ok(step)
-        }
-        None => {
-            let step = give_quote(world, Quote::Expression(term))?;
-            Ok(step)
-        }
+        Some(fault) => raise(world, budget, place, fault),
+        None => give_quote(world, Quote::Expression(term)),
     }
 }
 
@@ -208,8 +194,7 @@ pub fn quote_let(
     let made = world
         .store
         .new_term(Term::Expression(place, Expression::Let(list, term)))?;
-    let step = quote_term(world, budget, place, made)?;
-    Ok(step)
+    quote_term(world, budget, place, made)
 }
 
 /// Makes a quote, which is the end.

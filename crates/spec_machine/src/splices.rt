@@ -80,10 +80,7 @@ fn quoted(
             terms.push_all(statements.as_slice())?;
             Ok(Reached::Value(terms))
         }
-        None => {
-            let reached = performed(world, budget, Value::Quote(quote), at, terms)?;
-            Ok(reached)
-        }
+        None => performed(world, budget, Value::Quote(quote), at, terms),
     }
 }
 
@@ -100,14 +97,8 @@ fn item(
     ensures kept { OnOk result (KeepsStage world.old world.new) }
 {
     match value {
-        Value::Quote(quote) => {
-            let reached = quoted(world, budget, quote, at, terms)?;
-            Ok(reached)
-        }
-        _ => {
-            let reached = performed(world, budget, value, at, terms)?;
-            Ok(reached)
-        }
+        Value::Quote(quote) => quoted(world, budget, quote, at, terms),
+        _ => performed(world, budget, value, at, terms),
     }
 }
 
@@ -149,13 +140,9 @@ pub fn spliced(
     match value {
         Value::Table(table) => {
             let values = values_in(&world.heap, table)?;
-            let reached = each_item(world, budget, values.as_slice(), at, terms)?;
-            Ok(reached)
+            each_item(world, budget, values.as_slice(), at, terms)
         }
-        _ => {
-            let reached = item(world, budget, value, at, terms)?;
-            Ok(reached)
-        }
+        _ => item(world, budget, value, at, terms),
     }
 }
 

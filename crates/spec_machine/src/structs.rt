@@ -58,8 +58,7 @@ pub fn struct_target<'a>(
         env,
         anonymous: false,
     };
-    let step = more_entries(tree, frames, frame)?;
-    Ok(step)
+    more_entries(tree, frames, frame)
 }
 
 /// Makes a local struct, which the types of its entries see.
@@ -86,8 +85,7 @@ pub fn local_struct<'a>(
         env,
         anonymous: false,
     };
-    let step = more_entries(tree, frames, frame)?;
-    Ok(step)
+    more_entries(tree, frames, frame)
 }
 
 /// Makes a struct that is given as a value.
@@ -113,8 +111,7 @@ pub fn anonymous_struct<'a>(
         env,
         anonymous: true,
     };
-    let step = more_entries(tree, frames, frame)?;
-    Ok(step)
+    more_entries(tree, frames, frame)
 }
 
 /// Goes on with the entries that are left: evaluates the type of the next one.
@@ -132,8 +129,7 @@ pub fn more_entries<'a>(
         None => Ok(Step::Return(End::Gave(made(&frame)))),
         Some((first, rest)) => {
             let frame = EntryFrame { rest, ..frame };
-            let step = entry_type(frames, *first, typing_at(tree, *first).of, frame)?;
-            Ok(step)
+            entry_type(frames, *first, typing_at(tree, *first).of, frame)
         }
     }
 }
@@ -210,10 +206,7 @@ pub fn with_entry<'a>(
     let reached = as_type(world, budget, value, place(tree, of))?;
     match reached {
         Reached::Left(step) => Ok(step),
-        Reached::Value(of) => {
-            let step = typed_entry(tree, frames, world, node, of, frame)?;
-            Ok(step)
-        }
+        Reached::Value(of) => typed_entry(tree, frames, world, node, of, frame),
     }
 }
 
@@ -238,8 +231,7 @@ fn typed_entry<'a>(
     let bytes = name(tree, typing_at(tree, node).name).as_bytes();
     put_entry(world, entries, frame.number, bytes, of)?;
     let next = next_entry(frame)?;
-    let step = more_entries(tree, frames, next)?;
-    Ok(step)
+    more_entries(tree, frames, next)
 }
 
 /// Puts an entry under its number.

@@ -63,8 +63,7 @@ pub fn one(
         return Ok(Reached::Left(Step::Spent));
     }
     let became = world.term_of(value, at)?;
-    let reached = became_term(world, budget, became, at)?;
-    Ok(reached)
+    became_term(world, budget, became, at)
 }
 
 /// The bytes of a literal become a static's address.
@@ -79,8 +78,7 @@ pub fn literal(
     ensures kept { OnOk result (KeepsStage world.old world.new) }
 {
     let became = world.term_of_text(bytes, at)?;
-    let reached = became_term(world, budget, became, at)?;
-    Ok(reached)
+    became_term(world, budget, became, at)
 }
 
 /// Goes on with a term, or raises why there is none.
@@ -163,13 +161,9 @@ pub fn listed(
     match value {
         Value::Table(table) => {
             let values = values_in(&world.heap, table)?;
-            let reached = each_one(world, budget, values.as_slice(), at, terms)?;
-            Ok(reached)
+            each_one(world, budget, values.as_slice(), at, terms)
         }
-        _ => {
-            let reached = one_more(world, budget, value, at, terms)?;
-            Ok(reached)
-        }
+        _ => one_more(world, budget, value, at, terms),
     }
 }
 

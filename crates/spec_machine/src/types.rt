@@ -47,8 +47,7 @@ fn type_there(
     if is_type(world.store.types(), of) {
         Ok(Reached::Value(of))
     } else {
-        let reached = no_type(world, budget, at)?;
-        Ok(reached)
+        no_type(world, budget, at)
     }
 }
 
@@ -64,19 +63,12 @@ pub fn as_type(
     ensures kept { OnOk result (KeepsStage world.old world.new) }
 {
     match value {
-        Value::TerraType(of) => {
-            let reached = type_there(world, budget, of, at)?;
-            Ok(reached)
-        }
+        Value::TerraType(of) => type_there(world, budget, of, at),
         Value::Table(table) => {
             let values = values_in(&world.heap, table)?;
-            let reached = type_in(world, budget, values.as_slice(), at)?;
-            Ok(reached)
+            type_in(world, budget, values.as_slice(), at)
         }
-        _ => {
-            let reached = no_type(world, budget, at)?;
-            Ok(reached)
-        }
+        _ => no_type(world, budget, at),
     }
 }
 
@@ -92,14 +84,8 @@ fn type_in(
     ensures kept { OnOk result (KeepsStage world.old world.new) }
 {
     match type_among(values) {
-        Some(of) => {
-            let reached = type_there(world, budget, of, at)?;
-            Ok(reached)
-        }
-        None => {
-            let reached = no_type(world, budget, at)?;
-            Ok(reached)
-        }
+        Some(of) => type_there(world, budget, of, at),
+        None => no_type(world, budget, at),
     }
 }
 
@@ -152,10 +138,7 @@ pub fn type_of_term(
 {
     match type_at(world, term) {
         Some(of) => Ok(Reached::Value(of)),
-        None => {
-            let reached = no_type(world, budget, at)?;
-            Ok(reached)
-        }
+        None => no_type(world, budget, at),
     }
 }
 
@@ -171,14 +154,8 @@ pub fn type_from(
     ensures kept { OnOk result (KeepsStage world.old world.new) }
 {
     match value {
-        Value::Quote(quote) => {
-            let reached = quoted_type(world, budget, quote, at)?;
-            Ok(reached)
-        }
-        _ => {
-            let reached = as_type(world, budget, value, at)?;
-            Ok(reached)
-        }
+        Value::Quote(quote) => quoted_type(world, budget, quote, at),
+        _ => as_type(world, budget, value, at),
     }
 }
 
@@ -214,9 +191,6 @@ fn quoted_type(
             }
             Ok(Reached::Value(of))
         }
-        None => {
-            let reached = no_type(world, budget, at)?;
-            Ok(reached)
-        }
+        None => no_type(world, budget, at),
     }
 }

@@ -11,20 +11,21 @@ use Rattle.check_stage.specs.declared.jobs.JobEnd.{JobEnd}
 use Rattle.check_stage.specs.Asking.{asking_rest}
 use Rattle.check_stage.specs.Layers.{JobGiven, asking_fitting}
 use Rattle.check_stage.proofs.Showing.{asking_same}
+use Rattle.tl_base.proofs.Results.{carried}
 use Rattle.check_stage.proofs.staged.resume_asking.Goals as goal
 
 pub returns-clause-goes_on : goal.returns-clause-goes_on
-returns-clause-goes_on c =
+returns-clause-goes_on c = carried _ _ c.resume.result c.resume.ensures (λ turn g.
     let a = c.args in
     let first = given a.answer (the_view c.typing.inside) a.budget.now in
     let old = asking_rest a.asking.now in
     let rest = asking_rest c.resume.new.self in
-    let turn = c.in_ok-turn.ensures in
+    let turn = g in
     subst
     (λ (t : Turn Job JobEnd). OnAsk t (λ _. (next : JobGiven) (later : List JobGiven) →
     within asking_fitting old (given a.answer a.typing.now a.budget.now) (next ∷ later) ≡ within asking_fitting rest next later))
-    (asking_same c.in_ok-turn.turn)
+    (asking_same turn)
     (subst
-    (λ (w : TypingState). OnAsk (turn_within asking_fitting c.in_ok-turn.turn) (λ _. (next : JobGiven) (later : List JobGiven) →
+    (λ (w : TypingState). OnAsk (turn_within asking_fitting turn) (λ _. (next : JobGiven) (later : List JobGiven) →
     within asking_fitting old (given a.answer w a.budget.now) (next ∷ later) ≡ within asking_fitting rest next later))
-    c.typing.view_is (goes_on asking_fitting old rest first c.in_ok-turn.turn _ turn.turn turn.goes_on))
+    c.typing.view_is (goes_on asking_fitting old rest first turn _ turn.turn turn.goes_on)))

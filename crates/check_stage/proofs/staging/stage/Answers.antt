@@ -4,12 +4,13 @@ use Rattle.tl_base.specs.Layer.{state}
 use Rattle.tl_tree.specs.Arena.{items_of, end_of as finish_of}
 use Rattle.check_model.specs.Typing.{TypingState}
 use Rattle.check_stage.specs.Staging.{outcome_from}
+use Rattle.tl_base.proofs.Results.{carried}
 use Rattle.check_stage.proofs.staging.stage.Goals as goal
 
 pub returns-clause-means : goal.returns-clause-means
-returns-clause-means c =
+returns-clause-means c = carried _ _ c.stage_from.result c.stage_from.ensures.means (λ outcome g.
     let a = c.args in
-    let came = c.in_ok-outcome.ensures.means in
+    let came = g in
     let n = came.0 in
     let typing = c.in_ok-typing.typing.value in
     let items = items_of a.tree.now in (
@@ -19,4 +20,4 @@ returns-clause-means c =
           ∙ ap (λ (p : Place). outcome_from (items_of c.new-stages.result.inner.tree.now) p a.mode n (state typing a.units))
           (sym c.finish.ensures)
           ∙ came.1,
-    )
+    ))

@@ -1,5 +1,6 @@
 use Rattle.tl_base.specs.Layer.{state}
 use Rattle.check_stage.specs.Staging.{ending}
+use Rattle.tl_base.proofs.Results.{carried}
 use Rattle.check_stage.proofs.texts.stage_terms.Goals as goal
 
 pub returns : goal.returns
@@ -8,10 +9,10 @@ returns c =
     let means = c.in_ok-outcome.ensures.means in
     let written = c.in_ok-terms.ensures in
     record {
-      n = means.0;
-      ending = ending out.end out.checks.items (state out.typing.value out.left);
-      comes = means.1;
-      printed = written.printed;
-      end = written.end;
-      lines = written.lines;
+      n = carried _ _ c.terms_of.result c.terms_of.ensures (λ terms g. means.0);
+      ending = carried _ _ c.terms_of.result c.terms_of.ensures (λ terms g. ending out.end out.checks.items (state out.typing.value out.left));
+      comes = carried _ _ c.terms_of.result c.terms_of.ensures (λ terms g. means.1);
+      printed = carried _ _ c.terms_of.result c.terms_of.ensures (λ terms g. written.printed);
+      end = carried _ _ c.terms_of.result c.terms_of.ensures (λ terms g. written.end);
+      lines = carried _ _ c.terms_of.result c.terms_of.ensures (λ terms g. written.lines);
     }

@@ -10,17 +10,18 @@ use Rattle.spec_machine.specs.Kept.{keeps_itself}
 use Rattle.spec_machine.specs.Frames as waiting
 use Rattle.spec_machine.proofs.Doing.{returns as returned, moved}
 use Rattle.spec_machine.proofs.Placing as placing
+use Rattle.tl_base.proofs.Results.{carried}
 use Rattle.spec_machine.proofs.answered.after_value.Goals as goal
 
-pub returns-in_ok-step-in-Answered-clause-means : goal.returns-in_ok-step-in-Answered-clause-means
-returns-in_ok-step-in-Answered-clause-means c =
+pub returns-in-Answered-clause-means : goal.returns-in-Answered-clause-means
+returns-in-Answered-clause-means c = carried _ _ c.with_value.result c.with_value.ensures.means (λ step g.
     let a = c.args in
     let items = items_of a.tree.now in
     let go : Value → SpecPlan = λ v. waiting.with_value items a.frame v in
     moved items a.frames.now.items c.with_value.new.frames.items (waiting.on_answer a.end (λ vs. go (first_value vs))) (go c.first-value.result)
-    a.world.now a.world.now c.with_value.new.world a.budget.now c.with_value.new.budget c.in_ok-step-in-Answered.step
+    a.world.now a.world.now c.with_value.new.world a.budget.now c.with_value.new.budget step
     (ap (λ (r : End). waiting.on_answer r (λ vs. go (first_value vs))) c.in-Answered.is
-    ∙ ap go (sym (c.first-value.ensures ∙ ap first_value c.as_slice.ensures))) refl c.in_ok-step-in-Answered.ensures.means
+    ∙ ap go (sym (c.first-value.ensures ∙ ap first_value c.as_slice.ensures))) refl g)
 
 pub returns-in_default : goal.returns-in_default
 returns-in_default c =

@@ -6,10 +6,11 @@ use Rattle.spec_model.specs.Plans.{SpecPlan}
 use Rattle.spec_model.specs.Names as naming
 use Rattle.spec_machine.specs.Frames as waiting
 use Rattle.spec_machine.proofs.Doing.{comes, leaves}
+use Rattle.tl_base.proofs.Results.{carried}
 use Rattle.spec_machine.proofs.answered.for_named.Goals as goal
 
-pub returns-in_ok-step-in-Value-clause-means : goal.returns-in_ok-step-in-Value-clause-means
-returns-in_ok-step-in-Value-clause-means c = λ items.
+pub returns-in-Value-clause-means : goal.returns-in-Value-clause-means
+returns-in-Value-clause-means c = carried _ _ c.bounds.result c.bounds.ensures.means (λ step g items.
     let a = c.args in
     let fs = a.frames.now.items in
     let w = a.world.now in
@@ -19,8 +20,8 @@ returns-in_ok-step-in-Value-clause-means c = λ items.
     let w2 = c.symbol_of.new.world in
     let left2 = c.symbol_of.new.budget in
     comes {X = SymId} items fs fs2 plan go c.in_ok-reached.reached c.in-Value.symbol
-    w c.symbol_of.new.world w2 a.budget.now c.symbol_of.new.budget left2 c.in_ok-step-in-Value.step c.in-Value.is c.in_ok-reached.ensures.means
-    (c.in_ok-step-in-Value.ensures.means items w2 left2)
+    w c.symbol_of.new.world w2 a.budget.now c.symbol_of.new.budget left2 step c.in-Value.is c.in_ok-reached.ensures.means
+    (g items w2 left2))
 
 pub returns-in-Left-clause-means : goal.returns-in-Left-clause-means
 returns-in-Left-clause-means c = λ items.

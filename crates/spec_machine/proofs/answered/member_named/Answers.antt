@@ -5,10 +5,11 @@ use Rattle.spec_model.specs.Names as naming
 use Rattle.spec_machine.specs.Kept.{keeps_then}
 use Rattle.spec_machine.specs.Frames as waiting
 use Rattle.spec_machine.proofs.Doing.{comes, leaves}
+use Rattle.tl_base.proofs.Results.{carried, on-ok}
 use Rattle.spec_machine.proofs.answered.member_named.Goals as goal
 
-pub returns-in_ok-step-in-Value-clause-means : goal.returns-in_ok-step-in-Value-clause-means
-returns-in_ok-step-in-Value-clause-means c = λ items.
+pub returns-in-Value-clause-means : goal.returns-in-Value-clause-means
+returns-in-Value-clause-means c = carried _ _ c.with_member.result c.with_member.ensures.means (λ step g items.
     let a = c.args in
     let fs = a.frames.now.items in
     let w = a.world.now in
@@ -18,8 +19,8 @@ returns-in_ok-step-in-Value-clause-means c = λ items.
     let w2 = c.with_member.new.world in
     let left2 = c.text_in.new.budget in
     comes {X = TextId} items fs fs2 plan go c.in_ok-reached.reached c.in-Value.text
-    w c.text_in.new.world w2 a.budget.now c.text_in.new.budget left2 c.in_ok-step-in-Value.step c.in-Value.is c.in_ok-reached.ensures.means
-    (c.in_ok-step-in-Value.ensures.means items left2)
+    w c.text_in.new.world w2 a.budget.now c.text_in.new.budget left2 step c.in-Value.is c.in_ok-reached.ensures.means
+    (g items left2))
 
 pub returns-in-Left-clause-means : goal.returns-in-Left-clause-means
 returns-in-Left-clause-means c = λ items.
@@ -31,6 +32,6 @@ returns-in-Left-clause-means c = λ items.
     leaves {X = TextId} items fs plan go c.in_ok-reached.reached c.in-Left.step
     w c.text_in.new.world a.budget.now c.text_in.new.budget c.in-Left.is c.in_ok-reached.ensures.means
 
-pub returns-in_ok-step-in-Value-clause-kept : goal.returns-in_ok-step-in-Value-clause-kept
-returns-in_ok-step-in-Value-clause-kept c =
-    keeps_then c.args.world.now c.text_in.new.world c.with_member.new.world c.in_ok-reached.ensures.kept c.in_ok-step-in-Value.ensures.kept
+pub returns-in-Value-clause-kept : goal.returns-in-Value-clause-kept
+returns-in-Value-clause-kept c = on-ok c.with_member.result c.with_member.ensures.kept (λ g.
+    keeps_then c.args.world.now c.text_in.new.world c.with_member.new.world c.in_ok-reached.ensures.kept g)

@@ -8,10 +8,11 @@ use Rattle.spec_model.specs.Types as types
 use Rattle.spec_machine.specs.Kept.{keeps_then}
 use Rattle.spec_machine.specs.Frames as waiting
 use Rattle.spec_machine.proofs.Doing.{moved, comes, leaves}
+use Rattle.tl_base.proofs.Results.{carried, on-ok}
 use Rattle.spec_machine.proofs.answered.result_typed.Goals as goal
 
-pub returns-in_ok-step-in-Value-clause-means : goal.returns-in_ok-step-in-Value-clause-means
-returns-in_ok-step-in-Value-clause-means c =
+pub returns-in-Value-clause-means : goal.returns-in-Value-clause-means
+returns-in-Value-clause-means c = carried _ _ c.with_result.result c.with_result.ensures.means (λ step g.
     let a = c.args in
     let items = items_of a.tree.now in
     let fs = a.frames.now.items in
@@ -21,11 +22,11 @@ returns-in_ok-step-in-Value-clause-means c =
     let fs2 = c.with_result.new.frames.items in
     let w2 = c.with_result.new.world in
     let left2 = c.with_result.new.budget in
-    moved items fs fs2 (plan (place_at items a.of) (go (place_at items a.of))) (plan (c.place.result) (go (c.place.result))) w w w2 a.budget.now left2 c.in_ok-step-in-Value.step
+    moved items fs fs2 (plan (place_at items a.of) (go (place_at items a.of))) (plan (c.place.result) (go (c.place.result))) w w w2 a.budget.now left2 step
     (ap (λ (p : Place). plan p (go p)) (sym c.place.ensures)) refl
     (comes {X = TypeId} items fs fs2 (plan (c.place.result)) (go (c.place.result)) c.in_ok-reached.reached c.in-Value.of
-    w c.as_type.new.world w2 a.budget.now c.as_type.new.budget left2 c.in_ok-step-in-Value.step c.in-Value.is c.in_ok-reached.ensures.means
-    (c.in_ok-step-in-Value.ensures.means))
+    w c.as_type.new.world w2 a.budget.now c.as_type.new.budget left2 step c.in-Value.is c.in_ok-reached.ensures.means
+    (g)))
 
 pub returns-in-Left-clause-means : goal.returns-in-Left-clause-means
 returns-in-Left-clause-means c =
@@ -40,6 +41,6 @@ returns-in-Left-clause-means c =
     (leaves {X = TypeId} items fs (plan (c.place.result)) (go (c.place.result)) c.in_ok-reached.reached c.in-Left.step
     w c.as_type.new.world a.budget.now c.as_type.new.budget c.in-Left.is c.in_ok-reached.ensures.means)
 
-pub returns-in_ok-step-in-Value-clause-kept : goal.returns-in_ok-step-in-Value-clause-kept
-returns-in_ok-step-in-Value-clause-kept c =
-    keeps_then c.args.world.now c.as_type.new.world c.with_result.new.world c.in_ok-reached.ensures.kept c.in_ok-step-in-Value.ensures.kept
+pub returns-in-Value-clause-kept : goal.returns-in-Value-clause-kept
+returns-in-Value-clause-kept c = on-ok c.with_result.result c.with_result.ensures.kept (λ g.
+    keeps_then c.args.world.now c.as_type.new.world c.with_result.new.world c.in_ok-reached.ensures.kept g)

@@ -11,10 +11,11 @@ use Rattle.spec_model.specs.Types as types
 use Rattle.spec_machine.specs.Kept.{keeps_then}
 use Rattle.spec_machine.specs.Frames as waiting
 use Rattle.spec_machine.proofs.Doing.{moved, comes, leaves}
+use Rattle.tl_base.proofs.Results.{carried, on-ok}
 use Rattle.spec_machine.proofs.answered.variable_named.Goals as goal
 
-pub returns-in_ok-step-in-Value-clause-means : goal.returns-in_ok-step-in-Value-clause-means
-returns-in_ok-step-in-Value-clause-means c =
+pub returns-in-Value-clause-means : goal.returns-in-Value-clause-means
+returns-in-Value-clause-means c = carried _ _ c.variable_type.result c.variable_type.ensures.means (λ step g.
     let a = c.args in
     let items = items_of a.tree.now in
     let fs = a.frames.now.items in
@@ -24,11 +25,11 @@ returns-in_ok-step-in-Value-clause-means c =
     let fs2 = c.variable_type.new.frames.items in
     let w2 = c.variable_type.new.world in
     let left2 = c.symbols_of.new.budget in
-    moved items fs fs2 (plan (place_at items (typing_at items a.node).name) (go (place_at items (typing_at items a.node).name))) (plan (c.place-at.result) (go (c.place-at.result))) w w w2 a.budget.now left2 c.in_ok-step-in-Value.step
+    moved items fs fs2 (plan (place_at items (typing_at items a.node).name) (go (place_at items (typing_at items a.node).name))) (plan (c.place-at.result) (go (c.place-at.result))) w w w2 a.budget.now left2 step
     (ap (λ (p : Place). plan p (go p)) (ap (λ (n : NodeId). place_at items n) (sym c.typing_at.ensures.name) ∙ sym c.place-at.ensures)) refl
     (comes {X = List SymId} items fs fs2 (plan (c.place-at.result)) (go (c.place-at.result)) c.in_ok-reached.reached c.in-Value.symbols
-    w c.symbols_of.new.world w2 a.budget.now c.symbols_of.new.budget left2 c.in_ok-step-in-Value.step c.in-Value.is c.in_ok-reached.ensures.means
-    (c.in_ok-step-in-Value.ensures.means left2))
+    w c.symbols_of.new.world w2 a.budget.now c.symbols_of.new.budget left2 step c.in-Value.is c.in_ok-reached.ensures.means
+    (g left2)))
 
 pub returns-in-Left-clause-means : goal.returns-in-Left-clause-means
 returns-in-Left-clause-means c =
@@ -43,6 +44,6 @@ returns-in-Left-clause-means c =
     (leaves {X = List SymId} items fs (plan (c.place-at.result)) (go (c.place-at.result)) c.in_ok-reached.reached c.in-Left.step
     w c.symbols_of.new.world a.budget.now c.symbols_of.new.budget c.in-Left.is c.in_ok-reached.ensures.means)
 
-pub returns-in_ok-step-in-Value-clause-kept : goal.returns-in_ok-step-in-Value-clause-kept
-returns-in_ok-step-in-Value-clause-kept c =
-    keeps_then c.args.world.now c.symbols_of.new.world c.variable_type.new.world c.in_ok-reached.ensures.kept c.in_ok-step-in-Value.ensures.kept
+pub returns-in-Value-clause-kept : goal.returns-in-Value-clause-kept
+returns-in-Value-clause-kept c = on-ok c.variable_type.result c.variable_type.ensures.kept (λ g.
+    keeps_then c.args.world.now c.symbols_of.new.world c.variable_type.new.world c.in_ok-reached.ensures.kept g)

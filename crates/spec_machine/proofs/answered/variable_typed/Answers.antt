@@ -14,10 +14,11 @@ use Rattle.spec_model.specs.Statements as statements
 use Rattle.spec_machine.specs.Kept.{keeps_then}
 use Rattle.spec_machine.specs.Frames as waiting
 use Rattle.spec_machine.proofs.Doing.{moved, comes, leaves}
+use Rattle.tl_base.proofs.Results.{carried, on-ok}
 use Rattle.spec_machine.proofs.answered.variable_typed.Goals as goal
 
-pub returns-in_ok-step-in-Value-clause-means : goal.returns-in_ok-step-in-Value-clause-means
-returns-in_ok-step-in-Value-clause-means c =
+pub returns-in_ok-frame-in-Value-clause-means : goal.returns-in_ok-frame-in-Value-clause-means
+returns-in_ok-frame-in-Value-clause-means c = carried _ _ c.variables.result c.variables.ensures.means (λ step g.
     let a = c.args in
     let items = items_of a.tree.now in
     let fs = a.frames.now.items in
@@ -27,10 +28,10 @@ returns-in_ok-step-in-Value-clause-means c =
     let fs2 = c.variables.new.frames.items in
     let w2 = c.variables.new.world in
     let left2 = c.variables.new.budget in
-    moved items fs fs2 (plan (place_at items a.of) (go (place_at items a.of))) (plan (c.place.result) (go (c.place.result))) w w w2 a.budget.now left2 c.in_ok-step-in-Value.step
+    moved items fs fs2 (plan (place_at items a.of) (go (place_at items a.of))) (plan (c.place.result) (go (c.place.result))) w w w2 a.budget.now left2 step
     (ap (λ (p : Place). plan p (go p)) (sym c.place.ensures)) refl
     (comes {X = TypeId} items fs fs2 (plan (c.place.result)) (go (c.place.result)) c.in_ok-reached.reached c.in-Value.of
-    w c.as_type.new.world w2 a.budget.now c.as_type.new.budget left2 c.in_ok-step-in-Value.step c.in-Value.is c.in_ok-reached.ensures.means
+    w c.as_type.new.world w2 a.budget.now c.as_type.new.budget left2 step c.in-Value.is c.in_ok-reached.ensures.means
     (let f = c.in_ok-frame-in-Value.frame in
     let ws = a.frame.wanted ++ waiting.wanted_of items a.node a.symbols (Some c.in-Value.of) in
     let u = c.as_type.new.world in
@@ -38,13 +39,13 @@ returns-in_ok-step-in-Value-clause-means c =
     let all : List NodeId → List NodeId → Place → EnvId → List Wanted → SpecPlan = λ ns vs at env ws. statements.wanted items ns env ws
     (λ all. statements.values_if_any vs env (λ ts. statements.drawn all env [] (λ names. plans.join at (s.Var names ts)))) in
     moved items fs fs2 (all a.frame.rest.now a.frame.values.now a.frame.place a.frame.env ws) (all f.rest.now f.values.now f.place f.env f.wanted)
-    u u w2 left left2 c.in_ok-step-in-Value.step
+    u u w2 left left2 step
     (sym (ap (λ (ns : List NodeId). all ns f.values.now f.place f.env f.wanted) c.in_ok-frame-in-Value.ensures.rest
     ∙ ap (λ (vs : List NodeId). all a.frame.rest.now vs f.place f.env f.wanted) c.in_ok-frame-in-Value.ensures.values
     ∙ ap (λ (p : Place). all a.frame.rest.now a.frame.values.now p f.env f.wanted) c.in_ok-frame-in-Value.ensures.place
     ∙ ap (λ (v : EnvId). all a.frame.rest.now a.frame.values.now a.frame.place v f.wanted) c.in_ok-frame-in-Value.ensures.env
     ∙ ap (λ (l : List Wanted). all a.frame.rest.now a.frame.values.now a.frame.place a.frame.env l) c.in_ok-frame-in-Value.ensures.wanted)) refl
-    c.in_ok-step-in-Value.ensures.means))
+    g)))
 
 pub returns-in-Left-clause-means : goal.returns-in-Left-clause-means
 returns-in-Left-clause-means c =
@@ -59,6 +60,6 @@ returns-in-Left-clause-means c =
     (leaves {X = TypeId} items fs (plan (c.place.result)) (go (c.place.result)) c.in_ok-reached.reached c.in-Left.step
     w c.as_type.new.world a.budget.now c.as_type.new.budget c.in-Left.is c.in_ok-reached.ensures.means)
 
-pub returns-in_ok-step-in-Value-clause-kept : goal.returns-in_ok-step-in-Value-clause-kept
-returns-in_ok-step-in-Value-clause-kept c =
-    keeps_then c.args.world.now c.as_type.new.world c.variables.new.world c.in_ok-reached.ensures.kept c.in_ok-step-in-Value.ensures.kept
+pub returns-in_ok-frame-in-Value-clause-kept : goal.returns-in_ok-frame-in-Value-clause-kept
+returns-in_ok-frame-in-Value-clause-kept c = on-ok c.variables.result c.variables.ensures.kept (λ g.
+    keeps_then c.args.world.now c.as_type.new.world c.variables.new.world c.in_ok-reached.ensures.kept g)

@@ -9,6 +9,7 @@ use Rattle.spec_machine.specs.Kept.{keeps_then}
 use Rattle.spec_machine.specs.Frames as waiting
 use Rattle.spec_machine.proofs.Doing.{moved, pays, gets}
 use Rattle.spec_machine.proofs.Paying.{unpaid_step}
+use Rattle.tl_base.proofs.Results.{carried, on-ok}
 use Rattle.spec_machine.proofs.definitions.define.Goals as goal
 
 pub returns-then-not-pay-clause-means : goal.returns-then-not-pay-clause-means
@@ -21,7 +22,7 @@ returns-then-not-pay-clause-means c =
     c.if-not-pay.ensures.short c.if-not-pay.ensures.refused
 
 pub returns-clause-means : goal.returns-clause-means
-returns-clause-means c =
+returns-clause-means c = carried _ _ c.parameters.result c.parameters.ensures.means (λ step g.
     let a = c.args in
     let d = a.definition in
     let items = items_of a.tree.now in
@@ -33,13 +34,13 @@ returns-clause-means c =
     let v = c.self_parameter.new.world in
     let left = c.pay.new.self in
     pays items fs fs2 1 (definitions.self a.of d.place (go ns)) a.world.now c.parameters.new.world a.budget.now left
-    c.parameters.new.budget c.in_ok-step.step (grind (arith, c.if-not-pay.ensures.enough)) c.if-not-pay.ensures.paid
+    c.parameters.new.budget step (grind (arith, c.if-not-pay.ensures.enough)) c.if-not-pay.ensures.paid
     (gets {X = List Drawn} items fs fs2 (λ k. definitions.self a.of d.place k) (go ns) drawn
-    a.world.now v c.parameters.new.world left c.parameters.new.budget c.in_ok-step.step c.in_ok-drawn.ensures.means
+    a.world.now v c.parameters.new.world left c.parameters.new.budget step c.in_ok-drawn.ensures.means
     (moved items fs fs2 (go ns drawn) (go c.terra_parts.result.parameters.now drawn) v v c.parameters.new.world left
-    c.parameters.new.budget c.in_ok-step.step (ap (λ (l : List NodeId). go l drawn) (sym c.terra_parts.ensures.parameters)) refl
-    c.in_ok-step.ensures.means))
+    c.parameters.new.budget step (ap (λ (l : List NodeId). go l drawn) (sym c.terra_parts.ensures.parameters)) refl
+    g)))
 
 pub returns-clause-kept : goal.returns-clause-kept
-returns-clause-kept c =
-    keeps_then c.args.world.now c.self_parameter.new.world c.parameters.new.world c.in_ok-drawn.ensures.kept c.in_ok-step.ensures.kept
+returns-clause-kept c = on-ok c.parameters.result c.parameters.ensures.kept (λ g.
+    keeps_then c.args.world.now c.self_parameter.new.world c.parameters.new.world c.in_ok-drawn.ensures.kept g)

@@ -10,19 +10,20 @@ use Rattle.spec_model.specs.Definitions as definitions
 use Rattle.spec_machine.specs.Kept.{keeps_then}
 use Rattle.spec_machine.proofs.Doing.{moved}
 use Rattle.spec_model.specs.Making.{next_function, with_function}
+use Rattle.tl_base.proofs.Results.{carried, on-ok}
 use Rattle.spec_machine.proofs.definitions.define_anonymous.Goals as goal
 
 pub returns-clause-means : goal.returns-clause-means
-returns-clause-means c =
+returns-clause-means c = carried _ _ c.define.result c.define.ensures.means (λ step g.
     let a = c.args in
     let items = items_of a.tree.now in
     let w = a.world.now in
     let go : FnId → SpecPlan = λ x.
     definitions.define items x (terra_parts_at items a.body) a.body None a.at a.env (Give (ends.Gave (values.TerraFunction x))) in
     moved items a.frames.now.items c.define.new.frames.items (go (next_function w)) (go c.in_ok-function.function)
-    (with_function w a.at None) c.new_function.new.world c.define.new.world a.budget.now c.define.new.budget c.in_ok-step.step
-    (ap go (sym c.in_ok-function.ensures.id)) (sym c.in_ok-function.ensures.ok) c.in_ok-step.ensures.means
+    (with_function w a.at None) c.new_function.new.world c.define.new.world a.budget.now c.define.new.budget step
+    (ap go (sym c.in_ok-function.ensures.id)) (sym c.in_ok-function.ensures.ok) g)
 
 pub returns-clause-kept : goal.returns-clause-kept
-returns-clause-kept c =
-    keeps_then c.args.world.now c.new_function.new.world c.define.new.world c.in_ok-function.ensures.kept c.in_ok-step.ensures.kept
+returns-clause-kept c = on-ok c.define.result c.define.ensures.kept (λ g.
+    keeps_then c.args.world.now c.new_function.new.world c.define.new.world c.in_ok-function.ensures.kept g)

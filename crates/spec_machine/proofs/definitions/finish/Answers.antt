@@ -13,10 +13,11 @@ use Rattle.spec_machine.specs.Limits.{fault_of}
 use Rattle.spec_machine.specs.Frames as waiting
 use Rattle.spec_machine.proofs.Doing.{moved}
 use Rattle.spec_machine.proofs.Limiting.{past_limits, within_limits}
+use Rattle.tl_base.proofs.Results.{carried}
 use Rattle.spec_machine.proofs.definitions.finish.Goals as goal
 
-pub returns-in_ok-step-in-Some-clause-means : goal.returns-in_ok-step-in-Some-clause-means
-returns-in_ok-step-in-Some-clause-means c = λ items fs.
+pub returns-in-Some-clause-means : goal.returns-in-Some-clause-means
+returns-in-Some-clause-means c = carried _ _ c.raise.result c.raise.ensures.means (λ step g items fs.
     let a = c.args in
     let w = a.world.now in
     let d = a.definition.now in
@@ -29,11 +30,11 @@ returns-in_ok-step-in-Some-clause-means c = λ items fs.
     (λ t. Read (λ v. Write (making.with_defined v d.function d.place t) (waiting.defined d)))
     else plans.raise d.place faults.AlreadyDefined in
     moved items fs fs (quotes.limited size d.place rest) (plans.raise d.place fault) w w c.raise.new.world
-    left c.raise.new.budget c.in_ok-step-in-Some.step
-    (past_limits size d.place rest fault is) refl (c.in_ok-step-in-Some.ensures.means items fs)
+    left c.raise.new.budget step
+    (past_limits size d.place rest fault is) refl (g items fs))
 
-pub returns-in_ok-step-in-None-clause-means : goal.returns-in_ok-step-in-None-clause-means
-returns-in_ok-step-in-None-clause-means c = λ items fs.
+pub returns-in-None-clause-means : goal.returns-in-None-clause-means
+returns-in-None-clause-means c = carried _ _ c.take_term_once.result c.take_term_once.ensures.means (λ step g items fs.
     let a = c.args in
     let w = a.world.now in
     let d = a.definition.now in
@@ -45,5 +46,5 @@ returns-in_ok-step-in-None-clause-means c = λ items fs.
     (λ t. Read (λ v. Write (making.with_defined v d.function d.place t) (waiting.defined d)))
     else plans.raise d.place faults.AlreadyDefined in
     moved items fs fs (quotes.limited size d.place rest) rest w w c.take_term_once.new.world
-    left c.take_term_once.new.budget c.in_ok-step-in-None.step
-    (within_limits size d.place rest is) refl (c.in_ok-step-in-None.ensures.means items fs)
+    left c.take_term_once.new.budget step
+    (within_limits size d.place rest is) refl (g items fs))

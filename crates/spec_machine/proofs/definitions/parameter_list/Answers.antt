@@ -2,6 +2,7 @@ use Rattle.std.proofs.Common.{◌+◌, ◌-◌, List, ◌++◌, drop, sym, ap, �
 use Rattle.terra_term.specs.declared.lists.Parameter.{Parameter}
 use Rattle.spec_model.specs.Definitions as definitions
 use Rattle.spec_machine.proofs.Defining as defining
+use Rattle.tl_base.proofs.Results.{carried}
 use Rattle.spec_machine.proofs.definitions.parameter_list.Goals as goal
 
 pub parameters-preserved : goal.parameters-preserved
@@ -13,7 +14,7 @@ parameters-preserved c =
     ∙ defining.listed_next ds i _ l.list.items c.parameters-test.true ∙ l.invariant
 
 pub returns : goal.returns
-returns c =
+returns c = carried _ _ c.from_vec.result c.from_vec.ensures (λ list g.
     let ds = c.args.drawn.now in
     let l = c.parameters in
-    c.in_ok-list.ensures ∙ sym (defining.listed_end ds l.parameter-index l.list.items c.parameters-test.false) ∙ l.invariant
+    g ∙ sym (defining.listed_end ds l.parameter-index l.list.items c.parameters-test.false) ∙ l.invariant)

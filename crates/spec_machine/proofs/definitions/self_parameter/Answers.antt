@@ -11,6 +11,7 @@ use Rattle.spec_machine.specs.Kept.{keeps_then}
 use Rattle.spec_machine.proofs.Made.{named}
 use Rattle.spec_machine.proofs.Keeping.{kept_as}
 use Rattle.spec_machine.proofs.Typing.{keeps_pointer}
+use Rattle.tl_base.proofs.Results.{carried}
 use Rattle.spec_machine.proofs.definitions.self_parameter.Goals as goal
 
 pub returns-in-None-clause-means : goal.returns-in-None-clause-means
@@ -20,8 +21,8 @@ returns-in-None-clause-means c =
     ap (λ (o : Option TypeId). run f (definitions.self o a.at go) (state a.world.now left) later) c.in-None.is
     ∙ ap (λ (ds : List Drawn). run f (go ds) (state a.world.now left) later) (sym c.new.ensures)
 
-pub returns-in_ok-drawn-in-Some-clause-means : goal.returns-in_ok-drawn-in-Some-clause-means
-returns-in_ok-drawn-in-Some-clause-means c =
+pub returns-in_ok-first-in-Some-clause-means : goal.returns-in_ok-first-in-Some-clause-means
+returns-in_ok-first-in-Some-clause-means c = carried _ _ c.single.result c.single.ensures (λ drawn g.
     let a = c.args in
     let w = a.world.now in
     let of = c.in-Some.of in
@@ -38,10 +39,10 @@ returns-in_ok-drawn-in-Some-clause-means c =
     ap (λ (o : Option TypeId). run f (definitions.self o a.at go) (state w left) later) c.in-Some.is
     ∙ ap (λ (u : StageState). run f (go (drawn v p ∷ [])) (state u left) later) (sym made)
     ∙ ap (λ (ds : List Drawn). run f (go ds) (state c.draw.new.world left) later)
-    (sym (c.in_ok-drawn-in-Some.ensures ∙ ap (λ (d : Drawn). d ∷ []) first_is))
+    (sym (g ∙ ap (λ (d : Drawn). d ∷ []) first_is)))
 
-pub returns-in_ok-drawn-in-Some-clause-kept : goal.returns-in_ok-drawn-in-Some-clause-kept
-returns-in_ok-drawn-in-Some-clause-kept c =
+pub returns-in_ok-first-in-Some-clause-kept : goal.returns-in_ok-first-in-Some-clause-kept
+returns-in_ok-first-in-Some-clause-kept c = carried _ _ c.single.result c.single.ensures (λ drawn g.
     let w = c.args.world.now in
     keeps_then w c.pointer_to.new.self c.draw.new.world
-    (kept_as w c.pointer_to.new.self (with_pointer w c.in-Some.of) c.in_ok-pointer-in-Some.ensures.ok (keeps_pointer w c.in-Some.of)) c.in_ok-first-in-Some.ensures.kept
+    (kept_as w c.pointer_to.new.self (with_pointer w c.in-Some.of) c.in_ok-pointer-in-Some.ensures.ok (keeps_pointer w c.in-Some.of)) c.in_ok-first-in-Some.ensures.kept)

@@ -14,6 +14,7 @@ use Rattle.spec_model.specs.Definitions as definitions
 use Rattle.spec_machine.specs.Kept.{keeps_then}
 use Rattle.spec_machine.proofs.Doing.{moved, comes, leaves}
 use Rattle.std.specs.Prelude.{if◌then◌else◌}
+use Rattle.tl_base.proofs.Results.{carried, on-ok}
 use Rattle.spec_machine.proofs.definitions.with_declared.Goals as goal
 
 pub returns-in-Left-clause-means : goal.returns-in-Left-clause-means
@@ -30,8 +31,8 @@ returns-in-Left-clause-means c = λ fs.
     (leaves {X = TypeId} items fs (λ k. types.as_type a.value c.place-at_type.result k) go c.in_ok-reached.reached c.in-Left.step
     a.world.now c.as_type.new.world a.budget.now c.as_type.new.budget c.in-Left.is c.in_ok-reached.ensures.means)
 
-pub returns-in_ok-step-in-Value-clause-means : goal.returns-in_ok-step-in-Value-clause-means
-returns-in_ok-step-in-Value-clause-means c = λ fs.
+pub returns-in-Value-clause-means : goal.returns-in-Value-clause-means
+returns-in-Value-clause-means c = carried _ _ c.declare_typed.result c.declare_typed.ensures.means (λ step g fs.
     let a = c.args in
     let items = items_of a.tree.now in
     let w2 = c.declare_typed.new.world in
@@ -41,12 +42,12 @@ returns-in_ok-step-in-Value-clause-means c = λ fs.
     then definitions.new_function a.at (Some of) (λ f. definitions.storing a.target (values.TerraFunction f) definitions.over)
     else plans.raise p faults.NotAType) in
     moved items fs fs (types.as_type a.value (place_at items a.node) (go (place_at items a.node))) (types.as_type a.value c.place-at_type.result (go c.place-at_type.result))
-    a.world.now a.world.now w2 a.budget.now left2 c.in_ok-step-in-Value.step
+    a.world.now a.world.now w2 a.budget.now left2 step
     (ap (λ (p : Place). types.as_type a.value p (go p)) (sym c.place-at_type.ensures)) refl
     (comes {X = TypeId} items fs fs (λ k. types.as_type a.value c.place-at_type.result k) (go c.place-at_type.result) c.in_ok-reached.reached c.in-Value.of
-    a.world.now c.as_type.new.world w2 a.budget.now c.as_type.new.budget left2 c.in_ok-step-in-Value.step c.in-Value.is c.in_ok-reached.ensures.means
-    (c.in_ok-step-in-Value.ensures.means items fs))
+    a.world.now c.as_type.new.world w2 a.budget.now c.as_type.new.budget left2 step c.in-Value.is c.in_ok-reached.ensures.means
+    (g items fs)))
 
-pub returns-in_ok-step-in-Value-clause-kept : goal.returns-in_ok-step-in-Value-clause-kept
-returns-in_ok-step-in-Value-clause-kept c =
-    keeps_then c.args.world.now c.as_type.new.world c.declare_typed.new.world c.in_ok-reached.ensures.kept c.in_ok-step-in-Value.ensures.kept
+pub returns-in-Value-clause-kept : goal.returns-in-Value-clause-kept
+returns-in-Value-clause-kept c = on-ok c.declare_typed.result c.declare_typed.ensures.kept (λ g.
+    keeps_then c.args.world.now c.as_type.new.world c.declare_typed.new.world c.in_ok-reached.ensures.kept g)

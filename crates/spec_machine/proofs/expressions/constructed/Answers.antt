@@ -9,27 +9,28 @@ use Rattle.spec_model.specs.Expressions as expressions
 use Rattle.spec_machine.specs.Kept.{keeps_itself, keeps_then}
 use Rattle.spec_machine.proofs.Doing.{returns as returned, moved}
 use Rattle.spec_machine.proofs.Placing as placing
+use Rattle.tl_base.proofs.Results.{carried, on-ok}
 use Rattle.spec_machine.proofs.expressions.constructed.Goals as goal
 
-pub returns-in_ok-step-in-Found-clause-means : goal.returns-in_ok-step-in-Found-clause-means
-returns-in_ok-step-in-Found-clause-means c =
+pub returns-in_ok-reached-in-Found-clause-means : goal.returns-in_ok-reached-in-Found-clause-means
+returns-in_ok-reached-in-Found-clause-means c = carried _ _ c.construct_reached.result c.construct_reached.ensures.means (λ step g.
     let a = c.args in
-    rw c.in-Found.is (c.in_ok-step-in-Found.ensures.means (λ k. expressions.type_from c.in-Found.value a.frame.now.at k) a.world.now a.budget.now c.type_from.new.budget
-    c.in_ok-reached-in-Found.ensures.means)
+    rw c.in-Found.is (g (λ k. expressions.type_from c.in-Found.value a.frame.now.at k) a.world.now a.budget.now c.type_from.new.budget
+    c.in_ok-reached-in-Found.ensures.means))
 
-pub returns-in_ok-step-in-Found-clause-kept : goal.returns-in_ok-step-in-Found-clause-kept
-returns-in_ok-step-in-Found-clause-kept c =
-    keeps_then c.args.world.now c.type_from.new.world c.construct_reached.new.world c.in_ok-reached-in-Found.ensures.kept c.in_ok-step-in-Found.ensures.kept
+pub returns-in_ok-reached-in-Found-clause-kept : goal.returns-in_ok-reached-in-Found-clause-kept
+returns-in_ok-reached-in-Found-clause-kept c = on-ok c.construct_reached.result c.construct_reached.ensures.kept (λ g.
+    keeps_then c.args.world.now c.type_from.new.world c.construct_reached.new.world c.in_ok-reached-in-Found.ensures.kept g)
 
-pub returns-in_ok-step-in-Made-clause-means : goal.returns-in_ok-step-in-Made-clause-means
-returns-in_ok-step-in-Made-clause-means c =
+pub returns-in_ok-reached-in-Made-clause-means : goal.returns-in_ok-reached-in-Made-clause-means
+returns-in_ok-reached-in-Made-clause-means c = carried _ _ c.construct_reached-in-Made.result c.construct_reached-in-Made.ensures.means (λ step g.
     let a = c.args in
-    rw c.in-Made.is (c.in_ok-step-in-Made.ensures.means (λ k. Read (λ w. expressions.or_no_type (making.type_at w c.in-Made.term) a.frame.now.at k))
-    a.world.now a.budget.now c.type_of_term.new.budget c.in_ok-reached-in-Made.ensures.means)
+    rw c.in-Made.is (g (λ k. Read (λ w. expressions.or_no_type (making.type_at w c.in-Made.term) a.frame.now.at k))
+    a.world.now a.budget.now c.type_of_term.new.budget c.in_ok-reached-in-Made.ensures.means))
 
-pub returns-in_ok-step-in-Made-clause-kept : goal.returns-in_ok-step-in-Made-clause-kept
-returns-in_ok-step-in-Made-clause-kept c =
-    keeps_then c.args.world.now c.type_of_term.new.world c.construct_reached-in-Made.new.world c.in_ok-reached-in-Made.ensures.kept c.in_ok-step-in-Made.ensures.kept
+pub returns-in_ok-reached-in-Made-clause-kept : goal.returns-in_ok-reached-in-Made-clause-kept
+returns-in_ok-reached-in-Made-clause-kept c = on-ok c.construct_reached-in-Made.result c.construct_reached-in-Made.ensures.kept (λ g.
+    keeps_then c.args.world.now c.type_of_term.new.world c.construct_reached-in-Made.new.world c.in_ok-reached-in-Made.ensures.kept g)
 
 pub returns-in_default : goal.returns-in_default
 returns-in_default c =

@@ -6,12 +6,13 @@ use Rattle.terra_term.specs.declared.term.Initialiser.TheVariants as initialiser
 use Rattle.spec_model.specs.Plans as plans
 use Rattle.spec_model.specs.Plans.{SpecPlan}
 use Rattle.spec_machine.proofs.Entering.{does_as}
+use Rattle.tl_base.proofs.Results.{carried}
 use Rattle.spec_machine.proofs.expressions.make_named.Goals as goal
 
 pub returns-clause-means : goal.returns-clause-means
-returns-clause-means c = λ items left fs.
+returns-clause-means c = carried _ _ c.make.result c.make.ensures.means (λ step g items left fs.
     let a = c.args in
     let plan : List TextId → List TermId → SpecPlan = λ xs ts. plans.make a.made.place (e.New a.made.of (initialisers.Named xs ts)) in
-    does_as items fs (plan a.names a.terms) (plan c.in_ok-names.names c.in_ok-terms.terms) a.world.now c.make.new.world left left c.in_ok-step.step
+    does_as items fs (plan a.names a.terms) (plan c.in_ok-names.names c.in_ok-terms.terms) a.world.now c.make.new.world left left step
     (sym (ap (λ (xs : List TextId). plan xs c.in_ok-terms.terms) c.in_ok-names.ensures
-    ∙ ap (plan a.names) c.in_ok-terms.ensures)) (c.in_ok-step.ensures.means items left)
+    ∙ ap (plan a.names) c.in_ok-terms.ensures)) (g items left))

@@ -6,10 +6,11 @@ use Rattle.spec_model.specs.Expressions as expressions
 use Rattle.spec_machine.specs.Kept.{keeps_itself}
 use Rattle.spec_machine.proofs.Doing.{returns as returned, moved}
 use Rattle.spec_machine.proofs.Placing as placing
+use Rattle.tl_base.proofs.Results.{carried}
 use Rattle.spec_machine.proofs.expressions.select.Goals as goal
 
-pub returns-in_ok-step-in-Made-clause-means : goal.returns-in_ok-step-in-Made-clause-means
-returns-in_ok-step-in-Made-clause-means c = rw c.in-Made.is (c.in_ok-step-in-Made.ensures.means c.args.budget.now)
+pub returns-in-Made-clause-means : goal.returns-in-Made-clause-means
+returns-in-Made-clause-means c = carried _ _ c.member.result c.member.ensures.means (λ step g. rw c.in-Made.is (g c.args.budget.now))
 
 pub returns-in_default : goal.returns-in_default
 returns-in_default c =

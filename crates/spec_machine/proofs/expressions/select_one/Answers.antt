@@ -6,10 +6,11 @@ use Rattle.spec_model.specs.Plans.{SpecPlan}
 use Rattle.spec_model.specs.Expressions as expressions
 use Rattle.spec_machine.specs.Kept.{keeps_then}
 use Rattle.spec_machine.proofs.Doing.{comes, leaves}
+use Rattle.tl_base.proofs.Results.{carried, on-ok}
 use Rattle.spec_machine.proofs.expressions.select_one.Goals as goal
 
-pub returns-in_ok-step-in-Value-clause-means : goal.returns-in_ok-step-in-Value-clause-means
-returns-in_ok-step-in-Value-clause-means c =
+pub returns-in-Value-clause-means : goal.returns-in-Value-clause-means
+returns-in-Value-clause-means c = carried _ _ c.member.result c.member.ensures.means (λ step g.
     let a = c.args in
     let items = items_of a.tree.now in
     let fs = a.frames.now.items in
@@ -20,8 +21,8 @@ returns-in_ok-step-in-Value-clause-means c =
     let w2 = c.member.new.world in
     let left2 = c.one.new.budget in
     comes {X = TermId} items fs fs2 plan go c.in_ok-reached.reached c.in-Value.object
-    w c.one.new.world w2 a.budget.now c.one.new.budget left2 c.in_ok-step-in-Value.step c.in-Value.is c.in_ok-reached.ensures.means
-    (c.in_ok-step-in-Value.ensures.means left2)
+    w c.one.new.world w2 a.budget.now c.one.new.budget left2 step c.in-Value.is c.in_ok-reached.ensures.means
+    (g left2))
 
 pub returns-in-Left-clause-means : goal.returns-in-Left-clause-means
 returns-in-Left-clause-means c =
@@ -34,6 +35,6 @@ returns-in-Left-clause-means c =
     leaves {X = TermId} items fs plan go c.in_ok-reached.reached c.in-Left.step
     w c.one.new.world a.budget.now c.one.new.budget c.in-Left.is c.in_ok-reached.ensures.means
 
-pub returns-in_ok-step-in-Value-clause-kept : goal.returns-in_ok-step-in-Value-clause-kept
-returns-in_ok-step-in-Value-clause-kept c =
-    keeps_then c.args.world.now c.one.new.world c.member.new.world c.in_ok-reached.ensures.kept c.in_ok-step-in-Value.ensures.kept
+pub returns-in-Value-clause-kept : goal.returns-in-Value-clause-kept
+returns-in-Value-clause-kept c = on-ok c.member.result c.member.ensures.kept (λ g.
+    keeps_then c.args.world.now c.one.new.world c.member.new.world c.in_ok-reached.ensures.kept g)

@@ -18,31 +18,32 @@ use Rattle.spec_machine.specs.declared.frame.TermFrame.TheVariants as of_term
 use Rattle.spec_machine.specs.declared.frame.ValueFrame.TheVariants as of_value
 use Rattle.spec_machine.proofs.Doing.{enters, moved}
 use Rattle.spec_machine.proofs.Asking.{asks_value}
+use Rattle.tl_base.proofs.Results.{carried}
 use Rattle.spec_machine.proofs.expressions.specialise.Goals as goal
 
-pub returns-in_ok-step-in-Nil-clause-means : goal.returns-in_ok-step-in-Nil-clause-means
-returns-in_ok-step-in-Nil-clause-means c = λ left.
+pub returns-in-Nil-clause-means : goal.returns-in-Nil-clause-means
+returns-in-Nil-clause-means c = carried _ _ c.make.result c.make.ensures.means (λ step g left.
     let a = c.args in
     let items = items_of a.tree.now in
     let fs = a.frames.now.items in
     let w = a.world.now in
-    rw c.in-Nil.is (c.in_ok-step-in-Nil.ensures.means items left fs)
+    rw c.in-Nil.is (g items left fs))
 
-pub returns-in_ok-step-in-False-clause-means : goal.returns-in_ok-step-in-False-clause-means
-returns-in_ok-step-in-False-clause-means c = λ left.
+pub returns-in-False-clause-means : goal.returns-in-False-clause-means
+returns-in-False-clause-means c = carried _ _ c.make-in-False.result c.make-in-False.ensures.means (λ step g left.
     let a = c.args in
     let items = items_of a.tree.now in
     let fs = a.frames.now.items in
     let w = a.world.now in
-    rw c.in-False.is (c.in_ok-step-in-False.ensures.means items left fs)
+    rw c.in-False.is (g items left fs))
 
-pub returns-in_ok-step-in-True-clause-means : goal.returns-in_ok-step-in-True-clause-means
-returns-in_ok-step-in-True-clause-means c = λ left.
+pub returns-in-True-clause-means : goal.returns-in-True-clause-means
+returns-in-True-clause-means c = carried _ _ c.make-in-True.result c.make-in-True.ensures.means (λ step g left.
     let a = c.args in
     let items = items_of a.tree.now in
     let fs = a.frames.now.items in
     let w = a.world.now in
-    rw c.in-True.is (c.in_ok-step-in-True.ensures.means items left fs)
+    rw c.in-True.is (g items left fs))
 
 pub returns-in_ok-push-in-Binary : goal.returns-in_ok-push-in-Binary
 returns-in_ok-push-in-Binary c =

@@ -9,15 +9,16 @@ use Rattle.spec_machine.specs.Kept.{keeps_itself}
 use Rattle.spec_machine.specs.Frames as waiting
 use Rattle.spec_machine.proofs.Doing.{returns as returned, moved}
 use Rattle.spec_machine.proofs.Placing as placing
+use Rattle.tl_base.proofs.Results.{carried}
 use Rattle.spec_machine.proofs.machine.after_emitted.Goals as goal
 
-pub returns-in_ok-step-in-Answered-clause-means : goal.returns-in_ok-step-in-Answered-clause-means
-returns-in_ok-step-in-Answered-clause-means c = λ items fs.
+pub returns-in-Answered-clause-means : goal.returns-in-Answered-clause-means
+returns-in-Answered-clause-means c = carried _ _ c.splice_all.result c.splice_all.ensures.means (λ step g items fs.
     let a = c.args in
     let go : List Value → SpecPlan = λ vs. statements.each_spliced vs a.at [] statements.joined in
     moved items fs fs (waiting.on_answer a.end go) (go c.as_slice.result.now) a.world.now a.world.now c.splice_all.new.world
-    a.budget.now c.splice_all.new.budget c.in_ok-step-in-Answered.step
-    (ap (λ (r : End). waiting.on_answer r go) c.in-Answered.is ∙ ap go (sym c.as_slice.ensures)) refl (c.in_ok-step-in-Answered.ensures.means items fs)
+    a.budget.now c.splice_all.new.budget step
+    (ap (λ (r : End). waiting.on_answer r go) c.in-Answered.is ∙ ap go (sym c.as_slice.ensures)) refl (g items fs))
 
 pub returns-in_default : goal.returns-in_default
 returns-in_default c =

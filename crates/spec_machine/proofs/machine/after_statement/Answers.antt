@@ -10,20 +10,21 @@ use Rattle.spec_machine.specs.Kept.{keeps_itself}
 use Rattle.spec_machine.specs.Frames as waiting
 use Rattle.spec_machine.proofs.Doing.{returns as returned, moved}
 use Rattle.spec_machine.proofs.Placing as placing
+use Rattle.tl_base.proofs.Results.{carried}
 use Rattle.spec_machine.proofs.machine.after_statement.Goals as goal
 
-pub returns-in_ok-step-in-Joined-clause-means : goal.returns-in_ok-step-in-Joined-clause-means
-returns-in_ok-step-in-Joined-clause-means c =
+pub returns-in_ok-push_all-in-Joined-clause-means : goal.returns-in_ok-push_all-in-Joined-clause-means
+returns-in_ok-push_all-in-Joined-clause-means c = carried _ _ c.statements.result c.statements.ensures.means (λ step g.
     let a = c.args in
     let f = a.frame in
     let items = items_of a.tree.now in
     let fs = a.frames.now.items in
     let go : List TermId → SpecPlan = λ ts. waiting.block_plan items f.rest.now f.env ts f.then in
     moved items fs c.statements.new.frames.items (plans.as_statements a.end f.terms go) (go c.push_all.new.self) a.world.now a.world.now c.statements.new.world
-    a.budget.now c.statements.new.budget c.in_ok-step-in-Joined.step
+    a.budget.now c.statements.new.budget step
     (ap (λ (r : End). plans.as_statements r f.terms go) c.in-Joined.is
     ∙ ap go (sym (c.in_ok-push_all-in-Joined.ensures.ok ∙ ap (λ (us : List TermId). f.terms ++ us) c.as_slice.ensures))) refl
-    c.in_ok-step-in-Joined.ensures.means
+    g)
 
 pub returns-in_default : goal.returns-in_default
 returns-in_default c =

@@ -7,6 +7,7 @@ use Rattle.spec_machine.specs.Kept.{keeps_itself}
 use Rattle.spec_machine.specs.Frames as waiting
 use Rattle.spec_machine.proofs.Doing.{returns as returned, moved}
 use Rattle.spec_machine.proofs.Placing as placing
+use Rattle.tl_base.proofs.Results.{carried}
 use Rattle.spec_machine.proofs.machine.after_term.Goals as goal
 
 pub returns-in_default : goal.returns-in_default
@@ -24,8 +25,8 @@ returns-in_default c =
       kept = keeps_itself a.world.now;
     }
 
-pub returns-in_ok-step-in-Made-clause-means : goal.returns-in_ok-step-in-Made-clause-means
-returns-in_ok-step-in-Made-clause-means c = rw c.in-Made.is c.in_ok-step-in-Made.ensures.means
+pub returns-in-Made-clause-means : goal.returns-in-Made-clause-means
+returns-in-Made-clause-means c = carried _ _ c.with_term.result c.with_term.ensures.means (λ step g. rw c.in-Made.is g)
 
-pub returns-in_ok-step-in-Found-clause-means : goal.returns-in_ok-step-in-Found-clause-means
-returns-in_ok-step-in-Found-clause-means c = rw c.in-Found.is c.in_ok-step-in-Found.ensures.means
+pub returns-in-Found-clause-means : goal.returns-in-Found-clause-means
+returns-in-Found-clause-means c = carried _ _ c.after_found.result c.after_found.ensures.means (λ step g. rw c.in-Found.is g)

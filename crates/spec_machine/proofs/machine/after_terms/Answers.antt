@@ -8,13 +8,14 @@ use Rattle.spec_machine.specs.Kept.{keeps_itself}
 use Rattle.spec_machine.specs.Frames as waiting
 use Rattle.spec_machine.proofs.Doing.{returns as returned, moved}
 use Rattle.spec_machine.proofs.Placing as placing
+use Rattle.tl_base.proofs.Results.{carried}
 use Rattle.spec_machine.proofs.machine.after_terms.Goals as goal
 
-pub returns-in_ok-step-in-Found-clause-means : goal.returns-in_ok-step-in-Found-clause-means
-returns-in_ok-step-in-Found-clause-means c = λ items. rw c.in-Found.is (c.in_ok-step-in-Found.ensures.means items)
+pub returns-in-Found-clause-means : goal.returns-in-Found-clause-means
+returns-in-Found-clause-means c = carried _ _ c.after_listed.result c.after_listed.ensures.means (λ step g items. rw c.in-Found.is (g items))
 
-pub returns-in_ok-step-in-Made-clause-means : goal.returns-in_ok-step-in-Made-clause-means
-returns-in_ok-step-in-Made-clause-means c = λ items. rw c.in-Made.is (c.in_ok-step-in-Made.ensures.means items c.args.budget.now)
+pub returns-in-Made-clause-means : goal.returns-in-Made-clause-means
+returns-in-Made-clause-means c = carried _ _ c.after_made.result c.after_made.ensures.means (λ step g items. rw c.in-Made.is (g items c.args.budget.now))
 
 pub returns-in_default : goal.returns-in_default
 returns-in_default c =

@@ -14,10 +14,11 @@ use Rattle.spec_machine.specs.Frames as waiting
 use Rattle.spec_machine.proofs.Doing.{returns as returned, moved}
 use Rattle.spec_machine.proofs.Placing as placing
 use Rattle.tl_tree.specs.declared.node.Statement.{Statement as LuaStatement}
+use Rattle.tl_base.proofs.Results.{carried}
 use Rattle.spec_machine.proofs.machine.definition.Goals as goal
 
-pub returns-in_ok-step-in-Terra-clause-means : goal.returns-in_ok-step-in-Terra-clause-means
-returns-in_ok-step-in-Terra-clause-means c =
+pub returns-in-Terra-clause-means : goal.returns-in-Terra-clause-means
+returns-in-Terra-clause-means c = carried _ _ c.target.result c.target.ensures.means (λ step g.
     let a = c.args in
     let x = a.statement.now in
     let items = items_of a.tree.now in
@@ -27,11 +28,11 @@ returns-in_ok-step-in-Terra-clause-means c =
     let plan : LuaStatement → SpecPlan = λ y. meaning.definition_plan items y a.node a.at a.env in
     moved items fs c.target.new.frames.items (plan x)
     (definitions.target items c.in-Terra.path a.env (λ t struct. waiting.with_target items (of_target.Terra c.in-Terra.body a.node) a.at a.env t struct))
-    w w c.target.new.world left c.target.new.budget c.in_ok-step-in-Terra.step
-    (ap plan c.in-Terra.is) refl c.in_ok-step-in-Terra.ensures.means
+    w w c.target.new.world left c.target.new.budget step
+    (ap plan c.in-Terra.is) refl g)
 
-pub returns-in_ok-step-in-DeclareTerra-clause-means : goal.returns-in_ok-step-in-DeclareTerra-clause-means
-returns-in_ok-step-in-DeclareTerra-clause-means c =
+pub returns-in-DeclareTerra-clause-means : goal.returns-in-DeclareTerra-clause-means
+returns-in-DeclareTerra-clause-means c = carried _ _ c.target-in-DeclareTerra.result c.target-in-DeclareTerra.ensures.means (λ step g.
     let a = c.args in
     let x = a.statement.now in
     let items = items_of a.tree.now in
@@ -41,11 +42,11 @@ returns-in_ok-step-in-DeclareTerra-clause-means c =
     let plan : LuaStatement → SpecPlan = λ y. meaning.definition_plan items y a.node a.at a.env in
     moved items fs c.target-in-DeclareTerra.new.frames.items (plan x)
     (definitions.target items c.in-DeclareTerra.path a.env (λ t struct. waiting.with_target items (of_target.Declare c.in-DeclareTerra.of) a.at a.env t struct))
-    w w c.target-in-DeclareTerra.new.world left c.target-in-DeclareTerra.new.budget c.in_ok-step-in-DeclareTerra.step
-    (ap plan c.in-DeclareTerra.is) refl c.in_ok-step-in-DeclareTerra.ensures.means
+    w w c.target-in-DeclareTerra.new.world left c.target-in-DeclareTerra.new.budget step
+    (ap plan c.in-DeclareTerra.is) refl g)
 
-pub returns-in_ok-step-in-LocalDeclareTerra-clause-means : goal.returns-in_ok-step-in-LocalDeclareTerra-clause-means
-returns-in_ok-step-in-LocalDeclareTerra-clause-means c =
+pub returns-in-LocalDeclareTerra-clause-means : goal.returns-in-LocalDeclareTerra-clause-means
+returns-in-LocalDeclareTerra-clause-means c = carried _ _ c.declare_local.result c.declare_local.ensures.means (λ step g.
     let a = c.args in
     let x = a.statement.now in
     let items = items_of a.tree.now in
@@ -54,11 +55,11 @@ returns-in_ok-step-in-LocalDeclareTerra-clause-means c =
     let left = a.budget.now in
     let plan : LuaStatement → SpecPlan = λ y. meaning.definition_plan items y a.node a.at a.env in
     moved items fs c.declare_local.new.frames.items (plan x) (definitions.local_declare_plan items c.in-LocalDeclareTerra.of c.in-LocalDeclareTerra.word a.env)
-    w w c.declare_local.new.world left left c.in_ok-step-in-LocalDeclareTerra.step (ap plan c.in-LocalDeclareTerra.is) refl
-    (c.in_ok-step-in-LocalDeclareTerra.ensures.means items left)
+    w w c.declare_local.new.world left left step (ap plan c.in-LocalDeclareTerra.is) refl
+    (g items left))
 
-pub returns-in_ok-step-in-Struct-clause-means : goal.returns-in_ok-step-in-Struct-clause-means
-returns-in_ok-step-in-Struct-clause-means c =
+pub returns-in-Struct-clause-means : goal.returns-in-Struct-clause-means
+returns-in-Struct-clause-means c = carried _ _ c.target-in-Struct.result c.target-in-Struct.ensures.means (λ step g.
     let a = c.args in
     let x = a.statement.now in
     let items = items_of a.tree.now in
@@ -69,11 +70,11 @@ returns-in_ok-step-in-Struct-clause-means c =
     let m = c.in-Struct in
     let go : List NodeId → SpecPlan = λ ns. structs.struct_plan items m.path ns a.at a.env in
     moved items fs c.target-in-Struct.new.frames.items (plan x) (go c.as_slice.result.now)
-    w w c.target-in-Struct.new.world left c.target-in-Struct.new.budget c.in_ok-step-in-Struct.step
-    (ap plan m.is ∙ ap go (sym c.as_slice.ensures)) refl c.in_ok-step-in-Struct.ensures.means
+    w w c.target-in-Struct.new.world left c.target-in-Struct.new.budget step
+    (ap plan m.is ∙ ap go (sym c.as_slice.ensures)) refl g)
 
-pub returns-in_ok-step-in-LocalStruct-clause-means : goal.returns-in_ok-step-in-LocalStruct-clause-means
-returns-in_ok-step-in-LocalStruct-clause-means c =
+pub returns-in-LocalStruct-clause-means : goal.returns-in-LocalStruct-clause-means
+returns-in-LocalStruct-clause-means c = carried _ _ c.local_struct.result c.local_struct.ensures.means (λ step g.
     let a = c.args in
     let x = a.statement.now in
     let items = items_of a.tree.now in
@@ -84,8 +85,8 @@ returns-in_ok-step-in-LocalStruct-clause-means c =
     let m = c.in-LocalStruct in
     let go : List NodeId → SpecPlan = λ ns. structs.local_struct_plan items ns m.word a.env in
     moved items fs c.local_struct.new.frames.items (plan x) (go c.as_slice-in-LocalStruct.result.now)
-    w w c.local_struct.new.world left left c.in_ok-step-in-LocalStruct.step
-    (ap plan m.is ∙ ap go (sym c.as_slice-in-LocalStruct.ensures)) refl (c.in_ok-step-in-LocalStruct.ensures.means left)
+    w w c.local_struct.new.world left left step
+    (ap plan m.is ∙ ap go (sym c.as_slice-in-LocalStruct.ensures)) refl (g left))
 
 pub returns-in_default : goal.returns-in_default
 returns-in_default c =

@@ -13,10 +13,11 @@ use Rattle.spec_machine.specs.Kept.{keeps_itself}
 use Rattle.spec_machine.proofs.Doing.{returns as returned, moved}
 use Rattle.spec_machine.proofs.Placing as placing
 use Rattle.tl_tree.specs.declared.node.Expression.{Expression as LuaExpression}
+use Rattle.tl_base.proofs.Results.{carried}
 use Rattle.spec_machine.proofs.machine.value.Goals as goal
 
-pub returns-in_ok-step-in-Struct-clause-means : goal.returns-in_ok-step-in-Struct-clause-means
-returns-in_ok-step-in-Struct-clause-means c =
+pub returns-in-Struct-clause-means : goal.returns-in-Struct-clause-means
+returns-in-Struct-clause-means c = carried _ _ c.anonymous_struct.result c.anonymous_struct.ensures.means (λ step g.
     let a = c.args in
     let x = a.expression.now in
     let items = items_of a.tree.now in
@@ -25,11 +26,11 @@ returns-in_ok-step-in-Struct-clause-means c =
     let plan : LuaExpression → SpecPlan = λ y. meaning.value_plan items y a.at a.env in
     let go : List NodeId → SpecPlan = λ ns. structs.anonymous_struct_plan items ns a.at a.env in
     moved items fs c.anonymous_struct.new.frames.items (plan x) (go c.as_slice.result.now) w w c.anonymous_struct.new.world
-    a.budget.now a.budget.now c.in_ok-step-in-Struct.step (ap plan c.in-Struct.is ∙ ap go (sym c.as_slice.ensures)) refl
-    (c.in_ok-step-in-Struct.ensures.means a.budget.now)
+    a.budget.now a.budget.now step (ap plan c.in-Struct.is ∙ ap go (sym c.as_slice.ensures)) refl
+    (g a.budget.now))
 
-pub returns-in_ok-step-in-Backtick : goal.returns-in_ok-step-in-Backtick
-returns-in_ok-step-in-Backtick c =
+pub returns-in-Backtick : goal.returns-in-Backtick
+returns-in-Backtick c =
     let a = c.args in
     let x = a.expression.now in
     let items = items_of a.tree.now in
@@ -37,11 +38,11 @@ returns-in_ok-step-in-Backtick c =
     let w = a.world.now in
     let plan : LuaExpression → SpecPlan = λ y. meaning.value_plan items y a.at a.env in
     record {
-      means =
+      means = carried _ _ c.backtick.result c.backtick.ensures.means (λ step g.
           moved items fs c.backtick.new.frames.items (plan x) (quotes.backtick_plan c.in-Backtick.node a.at a.env) w w w
-          a.budget.now a.budget.now c.in_ok-step-in-Backtick.step (ap plan c.in-Backtick.is) refl
-          (c.in_ok-step-in-Backtick.ensures.means items w a.budget.now);
-      kept = keeps_itself w;
+          a.budget.now a.budget.now step (ap plan c.in-Backtick.is) refl
+          (g items w a.budget.now));
+      kept = carried _ _ c.backtick.result c.backtick.ensures.means (λ step g. keeps_itself w);
     }
 
 pub returns-in_default : goal.returns-in_default

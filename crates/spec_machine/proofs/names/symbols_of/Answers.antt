@@ -11,19 +11,20 @@ use Rattle.spec_machine.specs.declared.reached.Reached.TheVariants.{Left}
 use Rattle.spec_machine.proofs.Otherwise.{no_symbols}
 use Rattle.spec_machine.proofs.Quoted.{reads_values}
 use Rattle.spec_machine.proofs.Reaching.{comes_past, comes_left, passes_same}
+use Rattle.tl_base.proofs.Results.{carried}
 use Rattle.spec_machine.proofs.names.symbols_of.Goals as goal
 
-pub returns-in_ok-reached-in-Table-clause-means : goal.returns-in_ok-reached-in-Table-clause-means
-returns-in_ok-reached-in-Table-clause-means c =
+pub returns-in_ok-values-in-Table-clause-means : goal.returns-in_ok-values-in-Table-clause-means
+returns-in_ok-values-in-Table-clause-means c = carried _ _ c.symbols_in.result c.symbols_in.ensures.means (λ reached g.
     let a = c.args in
     let t = c.in-Table.table in
     let vs = c.as_slice.result.now in
     let is = c.as_slice.ensures ∙ c.in_ok-values-in-Table.ensures
     ∙ ap (λ (w : StageState). values_in (table_at w.heap t)) c.world-in-Table.view_is in
-    rw c.in-Table.is (comes_past (λ go. symbols_of (Table t) a.at go) (λ go. symbols_in vs a.at [] go) c.in_ok-reached-in-Table.reached
+    rw c.in-Table.is (comes_past (λ go. symbols_of (Table t) a.at go) (λ go. symbols_in vs a.at [] go) reached
     a.world.now a.world.now c.symbols_in.new.world a.budget.now a.budget.now c.symbols_in.new.budget
     (reads_values (λ us go. symbols_in us a.at [] go) a.world.now a.budget.now t vs is)
-    c.in_ok-reached-in-Table.ensures.means)
+    g))
 
 pub returns-in_ok-step-in_default-clause-means : goal.returns-in_ok-step-in_default-clause-means
 returns-in_ok-step-in_default-clause-means c =

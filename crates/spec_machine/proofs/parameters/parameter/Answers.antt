@@ -11,6 +11,7 @@ use Rattle.spec_machine.specs.declared.frame.ValueFrame.TheVariants as of_value
 use Rattle.spec_machine.specs.Frames as waiting
 use Rattle.spec_machine.proofs.Doing.{moved}
 use Rattle.spec_machine.proofs.Asking.{asks_value}
+use Rattle.tl_base.proofs.Results.{carried}
 use Rattle.spec_machine.proofs.parameters.parameter.Goals as goal
 
 pub returns-in_ok-push-in-Some : goal.returns-in_ok-push-in-Some
@@ -30,17 +31,17 @@ returns-in_ok-push-in-Some c =
           c.in_ok-push-in-Some.ensures.items);
     }
 
-pub returns-in_ok-step-in-None : goal.returns-in_ok-step-in-None
-returns-in_ok-step-in-None c =
+pub returns-in-None : goal.returns-in-None
+returns-in-None c =
     let a = c.args in
     let f = a.frame in
     let items = items_of a.tree.now in
     let go : List Drawn → SpecPlan = λ more. waiting.parameters_from items f.definition f.rest.now more in
     let p : Option NodeId → SpecPlan = λ o. definitions.parameter items (typing_at items a.node) o f.definition.env f.drawn go in
     record {
-      means = λ w left.
+      means = carried _ _ c.named_parameter.result c.named_parameter.ensures.means (λ step g w left.
           moved items a.frames.now.items c.named_parameter.new.frames.items (p (escaped_at items (typing_at items a.node).name)) (p None) w w w left left
-          c.in_ok-step-in-None.step
+          step
           (ap (λ (n : NodeId). p (escaped_at items n)) (sym c.typing_at.ensures.name) ∙ ap p (sym c.escaped.ensures ∙ c.in-None.is)) refl
-          (c.in_ok-step-in-None.ensures.means items w left (sym c.typing_at-in-None.ensures.of));
+          (g items w left (sym c.typing_at-in-None.ensures.of)));
     }

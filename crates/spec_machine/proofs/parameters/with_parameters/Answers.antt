@@ -11,6 +11,7 @@ use Rattle.spec_machine.specs.declared.frame.ValueFrame.TheVariants as of_value
 use Rattle.spec_machine.specs.Frames as waiting
 use Rattle.spec_machine.proofs.Doing.{moved}
 use Rattle.spec_machine.proofs.Asking.{asks_value}
+use Rattle.tl_base.proofs.Results.{carried}
 use Rattle.spec_machine.proofs.parameters.with_parameters.Goals as goal
 
 pub returns-in_ok-push-in-Some : goal.returns-in_ok-push-in-Some
@@ -30,12 +31,12 @@ returns-in_ok-push-in-Some c =
       kept = keeps_itself a.world.now;
     }
 
-pub returns-in_ok-step-in-None-clause-means : goal.returns-in_ok-step-in-None-clause-means
-returns-in_ok-step-in-None-clause-means c =
+pub returns-in-None-clause-means : goal.returns-in-None-clause-means
+returns-in-None-clause-means c = carried _ _ c.with_result.result c.with_result.ensures.means (λ step g.
     let a = c.args in
     let d = a.definition.now in
     let items = items_of a.tree.now in
     let plan : Option NodeId → SpecPlan = λ o. types.type_if_any items o d.env (λ written. waiting.with_result items d a.drawn written) in
     moved items a.frames.now.items c.with_result.new.frames.items (plan (terra_parts_at items d.body).result) (plan None)
-    a.world.now a.world.now c.with_result.new.world a.budget.now c.with_result.new.budget c.in_ok-step-in-None.step
-    (ap plan (sym c.terra_parts.ensures.of ∙ c.in-None.is)) refl c.in_ok-step-in-None.ensures.means
+    a.world.now a.world.now c.with_result.new.world a.budget.now c.with_result.new.budget step
+    (ap plan (sym c.terra_parts.ensures.of ∙ c.in-None.is)) refl g)

@@ -15,10 +15,11 @@ use Rattle.spec_machine.specs.Frames as waiting
 use Rattle.spec_machine.proofs.Doing.{moved}
 use Rattle.spec_machine.proofs.Placing as placing
 use Rattle.lua_model.specs.Fields.{globals}
+use Rattle.tl_base.proofs.Results.{carried}
 use Rattle.spec_machine.proofs.paths.first_name.Goals as goal
 
-pub returns-in_ok-step-in-Some-clause-means : goal.returns-in_ok-step-in-Some-clause-means
-returns-in_ok-step-in-Some-clause-means c =
+pub returns-in-Some-clause-means : goal.returns-in-Some-clause-means
+returns-in-Some-clause-means c = carried _ _ c.names.result c.names.ensures.means (λ step g.
     let a = c.args in
     let f = a.frame in
     let items = items_of a.tree.now in
@@ -32,15 +33,15 @@ returns-in_ok-step-in-Some-clause-means c =
     let p : Some (depth, position) ≡ placing.path_of b = c.in-Some.ensures ∙ ap placing.path_of (c.requires a.node) in
     moved items a.frames.now.items c.names.new.frames.items (expressions.named_value b name at f.env go)
     (Read (λ u. go (local_value u.heap f.env depth position))) w w c.names.new.world a.budget.now c.names.new.budget
-    c.in_ok-step-in-Some.step (placing.local_is b depth position name at f.env go p) refl
+    step (placing.local_is b depth position name at f.env go p) refl
     (moved items a.frames.now.items c.names.new.frames.items (go (local_value w.heap f.env depth position))
     (go c.local-object.result)
-    w w c.names.new.world a.budget.now c.names.new.budget c.in_ok-step-in-Some.step
+    w w c.names.new.world a.budget.now c.names.new.budget step
     (ap go (sym (c.local-object.ensures ∙ ap (λ (x : StageState). local_value x.heap f.env depth position)
-    c.world.view_is))) refl c.in_ok-step-in-Some.ensures.means)
+    c.world.view_is))) refl g))
 
-pub returns-in_ok-step-in-None-clause-means : goal.returns-in_ok-step-in-None-clause-means
-returns-in_ok-step-in-None-clause-means c =
+pub returns-in-None-clause-means : goal.returns-in-None-clause-means
+returns-in-None-clause-means c = carried _ _ c.next_object.result c.next_object.ensures.means (λ step g.
     let a = c.args in
     let f = a.frame in
     let items = items_of a.tree.now in
@@ -52,5 +53,5 @@ returns-in_ok-step-in-None-clause-means c =
     let p : None ≡ placing.path_of b = c.in-None.ensures ∙ ap placing.path_of (c.requires a.node) in
     moved items a.frames.now.items c.next_object.new.frames.items (expressions.named_value b name at f.env go)
     (plans.index (values.Table globals) name at go) w w c.next_object.new.world a.budget.now a.budget.now
-    c.in_ok-step-in-None.step (placing.global_is b name at f.env go p) refl
-    (c.in_ok-step-in-None.ensures.means a.budget.now)
+    step (placing.global_is b name at f.env go p) refl
+    (g a.budget.now))

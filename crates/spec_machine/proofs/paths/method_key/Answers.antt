@@ -14,10 +14,11 @@ use Rattle.spec_machine.specs.Frames as waiting
 use Rattle.spec_machine.proofs.Doing.{moved, gets}
 use Rattle.spec_machine.proofs.Placing as placing
 use Rattle.lua_value.specs.Values.{kind_of}
+use Rattle.tl_base.proofs.Results.{carried, on-ok}
 use Rattle.spec_machine.proofs.paths.method_key.Goals as goal
 
-pub returns-in_ok-step-in-TerraType-clause-means : goal.returns-in_ok-step-in-TerraType-clause-means
-returns-in_ok-step-in-TerraType-clause-means c =
+pub returns-in-TerraType-clause-means : goal.returns-in-TerraType-clause-means
+returns-in-TerraType-clause-means c = carried _ _ c.struct_key.result c.struct_key.ensures.means (λ step g.
     let a = c.args in
     let f = a.frame.now in
     let items = items_of a.tree.now in
@@ -32,7 +33,6 @@ returns-in_ok-step-in-TerraType-clause-means c =
     let at = place_at items a.node in
     let go : definitions.Go = waiting.path_end items f in
     let plan : Value → TextId → SpecPlan = λ v t. definitions.method_key t v at go in
-    let step = c.in_ok-step-in-TerraType.step in
     moved items fs fs2 (plans.with_text_of (name_at items a.node) (plan a.object))
     (plans.with_text_of bytes (plan a.object)) w w w2 a.budget.now left2 step
     (ap (λ (bs : List ℕ). plans.with_text_of bs (plan a.object)) (sym (c.as_bytes.ensures.value ∙ c.name.ensures))) refl
@@ -40,10 +40,10 @@ returns-in_ok-step-in-TerraType-clause-means c =
     step c.in_ok-text.ensures.means
     (moved items fs fs2 (plan a.object text) (plan (values.TerraType c.in-TerraType.of) text) u u w2 a.budget.now
     left2 step
-    (ap (λ (v : Value). plan v text) c.in-TerraType.is) refl c.in_ok-step-in-TerraType.ensures.means))
+    (ap (λ (v : Value). plan v text) c.in-TerraType.is) refl g)))
 
-pub returns-in_ok-step-in_default-clause-means : goal.returns-in_ok-step-in_default-clause-means
-returns-in_ok-step-in_default-clause-means c =
+pub returns-in_default-clause-means : goal.returns-in_default-clause-means
+returns-in_default-clause-means c = carried _ _ c.raise.result c.raise.ensures.means (λ step g.
     let a = c.args in
     let f = a.frame.now in
     let items = items_of a.tree.now in
@@ -58,7 +58,6 @@ returns-in_ok-step-in_default-clause-means c =
     let go : definitions.Go = waiting.path_end items f in
     let plan : Value → TextId → SpecPlan = λ v t. definitions.method_key t v at go in
     let refused : Place → _ → SpecPlan = λ p k. plans.raise p (faults.Index k) in
-    let step = c.in_ok-step-in_default.step in
     moved items fs fs (plans.with_text_of (name_at items a.node) (plan a.object))
     (plans.with_text_of bytes (plan a.object)) w w w2 a.budget.now left2 step
     (ap (λ (bs : List ℕ). plans.with_text_of bs (plan a.object)) (sym (c.as_bytes.ensures.value ∙ c.name.ensures))) refl
@@ -68,14 +67,14 @@ returns-in_ok-step-in_default-clause-means c =
     (placing.no_struct text a.object at go c.in_default.not-TerraType
     ∙ ap (λ (p : Place). refused p (kind_of a.object)) (sym c.place.ensures) ∙ ap (refused c.place.result)
     (sym c.kind.ensures)) refl
-    (c.in_ok-step-in_default.ensures.means items fs)))
+    (g items fs))))
 
-pub returns-in_ok-step-in-TerraType-clause-kept : goal.returns-in_ok-step-in-TerraType-clause-kept
-returns-in_ok-step-in-TerraType-clause-kept c =
+pub returns-in-TerraType-clause-kept : goal.returns-in-TerraType-clause-kept
+returns-in-TerraType-clause-kept c = on-ok c.struct_key.result c.struct_key.ensures.kept (λ g.
     keeps_then c.args.world.now c.text.new.world c.struct_key.new.world c.in_ok-text.ensures.kept
-    c.in_ok-step-in-TerraType.ensures.kept
+    g)
 
-pub returns-in_ok-step-in_default-clause-kept : goal.returns-in_ok-step-in_default-clause-kept
-returns-in_ok-step-in_default-clause-kept c =
+pub returns-in_default-clause-kept : goal.returns-in_default-clause-kept
+returns-in_default-clause-kept c = on-ok c.raise.result c.raise.ensures.kept (λ g.
     keeps_then c.args.world.now c.text.new.world c.raise.new.world c.in_ok-text.ensures.kept
-    c.in_ok-step-in_default.ensures.kept
+    g)

@@ -12,10 +12,11 @@ use Rattle.spec_model.specs.Definitions as definitions
 use Rattle.spec_machine.specs.Frames as waiting
 use Rattle.spec_machine.proofs.Doing.{moved, chosen}
 use Rattle.lua_value.specs.declared.kind.Kind.TheVariants.{TerraType}
+use Rattle.tl_base.proofs.Results.{carried}
 use Rattle.spec_machine.proofs.paths.struct_key.Goals as goal
 
-pub returns-in_ok-step-clause-means : goal.returns-in_ok-step-clause-means
-returns-in_ok-step-clause-means c =
+pub returns-then-is_struct-clause-means : goal.returns-then-is_struct-clause-means
+returns-then-is_struct-clause-means c = carried _ _ c.at_target.result c.at_target.ensures.means (λ step g.
     let a = c.args in
     let f = a.frame.now in
     let items = items_of a.tree.now in
@@ -26,16 +27,16 @@ returns-in_ok-step-clause-means c =
     let there : TableId → SpecPlan = λ t. go (targets.Key t a.text) (Some a.of) in
     let missing : SpecPlan = plans.raise at (faults.Index TerraType) in
     chosen items fs c.at_target.new.frames.items (is_struct w a.of) true (there (tables_of w a.of).methods) missing
-    w c.at_target.new.world a.budget.now c.at_target.new.budget c.in_ok-step.step
+    w c.at_target.new.world a.budget.now c.at_target.new.budget step
     (sym c.is_struct.ensures ∙ c.if-is_struct.true)
     (moved items fs c.at_target.new.frames.items (there (tables_of w a.of).methods)
     (there c.struct_tables.result.methods) w w c.at_target.new.world
-    a.budget.now c.at_target.new.budget c.in_ok-step.step (ap (λ (t : _). there t.methods)
+    a.budget.now c.at_target.new.budget step (ap (λ (t : _). there t.methods)
     (sym c.struct_tables.ensures)) refl
-    c.in_ok-step.ensures.means)
+    g))
 
-pub returns-in_ok-step-2-clause-means : goal.returns-in_ok-step-2-clause-means
-returns-in_ok-step-2-clause-means c =
+pub returns-else-is_struct-clause-means : goal.returns-else-is_struct-clause-means
+returns-else-is_struct-clause-means c = carried _ _ c.raise.result c.raise.ensures.means (λ step g.
     let a = c.args in
     let f = a.frame.now in
     let items = items_of a.tree.now in
@@ -45,9 +46,8 @@ returns-in_ok-step-2-clause-means c =
     let go : definitions.Go = waiting.path_end items f in
     let there : TableId → SpecPlan = λ t. go (targets.Key t a.text) (Some a.of) in
     let missing : Place → SpecPlan = λ p. plans.raise p (faults.Index TerraType) in
-    let step = c.in_ok-step-2.step in
     chosen items fs fs (is_struct w a.of) false (there (tables_of w a.of).methods) (missing at)
     w c.raise.new.world a.budget.now c.raise.new.budget step (sym c.is_struct.ensures ∙ c.if-is_struct.false)
     (moved items fs fs (missing at) (missing c.place.result) w w c.raise.new.world
     a.budget.now c.raise.new.budget step (ap missing (sym c.place.ensures)) refl
-    (c.in_ok-step-2.ensures.means items fs))
+    (g items fs)))

@@ -9,6 +9,7 @@ use Rattle.spec_machine.specs.Frames as waiting
 use Rattle.spec_machine.proofs.Doing.{moved, pays}
 use Rattle.spec_machine.proofs.Paying.{unpaid_step}
 use Rattle.tl_tree.specs.Code.{names_method}
+use Rattle.tl_base.proofs.Results.{carried}
 use Rattle.spec_machine.proofs.paths.target.Goals as goal
 
 pub returns-then-not-pay-clause-means : goal.returns-then-not-pay-clause-means
@@ -21,7 +22,7 @@ returns-then-not-pay-clause-means c =
     c.if-not-pay.ensures.refused
 
 pub returns-clause-means : goal.returns-clause-means
-returns-clause-means c =
+returns-clause-means c = carried _ _ c.targeted.result c.targeted.ensures.means (λ step g.
     let a = c.args in
     let items = items_of a.tree.now in
     let fs = a.frames.now.items in
@@ -36,9 +37,9 @@ returns-clause-means c =
     a.env go in
     let names = path_names_at items a.path in
     let method = path_method_of (item_at items a.path) in
-    pays items fs fs2 1 (plan names method) a.world.now w2 a.budget.now left left2 c.in_ok-step.step
+    pays items fs fs2 1 (plan names method) a.world.now w2 a.budget.now left left2 step
     (grind (arith, c.if-not-pay.ensures.enough)) c.if-not-pay.ensures.paid
-    (moved items fs fs2 (plan names method) (plan ns m) a.world.now a.world.now w2 left left2 c.in_ok-step.step
+    (moved items fs fs2 (plan names method) (plan ns m) a.world.now a.world.now w2 left left2 step
     (ap (λ (l : List NodeId). plan l method) (sym c.path_names.ensures) ∙ ap (λ (o : Option NodeId). plan ns o)
     (sym c.path_method.ensures)) refl
-    c.in_ok-step.ensures.means)
+    g))

@@ -14,6 +14,7 @@ use Rattle.spec_machine.specs.Frames as waiting
 use Rattle.spec_machine.proofs.Doing.{returns as returned, moved}
 use Rattle.spec_machine.proofs.Pushing.{none_is}
 use Rattle.spec_machine.proofs.Placing as placing
+use Rattle.tl_base.proofs.Results.{carried}
 use Rattle.spec_machine.proofs.paths.targeted.Goals as goal
 
 pub returns-in-None-method : goal.returns-in-None-method
@@ -36,8 +37,8 @@ returns-in-None-method c =
       kept = keeps_itself a.world.now;
     }
 
-pub returns-in_ok-step-in-Some-method-clause-means : goal.returns-in_ok-step-in-Some-method-clause-means
-returns-in_ok-step-in-Some-method-clause-means c =
+pub returns-in-Some-method-clause-means : goal.returns-in-Some-method-clause-means
+returns-in-Some-method-clause-means c = carried _ _ c.only_name.result c.only_name.ensures.means (λ step g.
     let a = c.args in
     let f = a.frame in
     let items = items_of a.tree.now in
@@ -47,13 +48,13 @@ returns-in_ok-step-in-Some-method-clause-means c =
     f.env go in
     moved items fs c.only_name.new.frames.items (plan f.rest.now f.method)
     (definitions.only_name (binder items c.in-Some-method.first) (name_at items c.in-Some-method.first) f.env go)
-    a.world.now a.world.now c.only_name.new.world a.budget.now c.only_name.new.budget c.in_ok-step-in-Some-method.step
+    a.world.now a.world.now c.only_name.new.world a.budget.now c.only_name.new.budget step
     (ap (λ (ns : List NodeId). plan ns f.method) (none_is f.rest.now c.in-None.ensures.cases) ∙ ap
     (λ (m : Option NodeId). plan [] m) c.in-Some-method.is) refl
-    c.in_ok-step-in-Some-method.ensures.means
+    g)
 
-pub returns-in_ok-step-in-Some-clause-means : goal.returns-in_ok-step-in-Some-clause-means
-returns-in_ok-step-in-Some-clause-means c =
+pub returns-then-is_last-clause-means : goal.returns-then-is_last-clause-means
+returns-then-is_last-clause-means c = carried _ _ c.only_name-then-is_last.result c.only_name-then-is_last.ensures.means (λ step g.
     let a = c.args in
     let f = a.frame in
     let items = items_of a.tree.now in
@@ -64,17 +65,16 @@ returns-in_ok-step-in-Some-clause-means c =
     let n = c.in-Some.first.now in
     let rest = c.in-Some.rest.now in
     let last = sym c.is_last.ensures ∙ c.if-is_last.true in
-    let step = c.in_ok-step-in-Some.step in
     moved items fs c.only_name-then-is_last.new.frames.items (plan f.rest.now f.method)
     (definitions.only_name (binder items n) (name_at items n) f.env go)
     a.world.now a.world.now c.only_name-then-is_last.new.world a.budget.now c.only_name-then-is_last.new.budget step
     (ap (λ (ns : List NodeId). plan ns f.method) c.in-Some.ensures.cases.0
     ∙ placing.targeted_only items n rest f.method f.env go (placing.last_names rest f.method last)
     (placing.last_method rest f.method last)) refl
-    c.in_ok-step-in-Some.ensures.means
+    g)
 
-pub returns-in_ok-step-in-Some-2-clause-means : goal.returns-in_ok-step-in-Some-2-clause-means
-returns-in_ok-step-in-Some-2-clause-means c =
+pub returns-else-is_last-clause-means : goal.returns-else-is_last-clause-means
+returns-else-is_last-clause-means c = carried _ _ c.first_name.result c.first_name.ensures.means (λ step g.
     let a = c.args in
     let f = a.frame in
     let items = items_of a.tree.now in
@@ -85,11 +85,10 @@ returns-in_ok-step-in-Some-2-clause-means c =
     let n = c.in-Some.first.now in
     let rest = c.in-Some.rest.now in
     let more = placing.not_last rest f.method (sym c.is_last.ensures ∙ c.if-is_last.false) in
-    let step = c.in_ok-step-in-Some-2.step in
     moved items fs c.first_name.new.frames.items (plan f.rest.now f.method)
     (expressions.named_value (binder items n) (name_at items n) (place_at items n) f.env
     (λ object. definitions.steps items (is_any f.method) (rest ++ if_any f.method) object go))
     a.world.now a.world.now c.first_name.new.world a.budget.now c.first_name.new.budget step
     (ap (λ (ns : List NodeId). plan ns f.method) c.in-Some.ensures.cases.0 ∙ placing.targeted_more items n rest
     f.method f.env go more) refl
-    c.in_ok-step-in-Some-2.ensures.means
+    g)

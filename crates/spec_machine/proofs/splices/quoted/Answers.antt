@@ -3,13 +3,14 @@ use Rattle.tl_base.specs.declared.ids.TermId.{TermId}
 use Rattle.terra_term.specs.declared.size.Size.{Size}
 use Rattle.exotype.specs.Terms.{terms_size}
 use Rattle.spec_machine.proofs.Spliced.{quoted_comes, quoted_unpaid, quoted_other}
+use Rattle.tl_base.proofs.Results.{carried}
 use Rattle.spec_machine.proofs.splices.quoted.Goals as goal
 
-pub returns-in_ok-reached-in-None-clause-means : goal.returns-in_ok-reached-in-None-clause-means
-returns-in_ok-reached-in-None-clause-means c =
+pub returns-in-None-clause-means : goal.returns-in-None-clause-means
+returns-in-None-clause-means c = carried _ _ c.performed.result c.performed.ensures.means (λ reached g.
     let a = c.args in
-    quoted_other a.quote a.at a.terms c.in_ok-reached-in-None.reached a.world.now c.performed.new.world a.budget.now c.performed.new.budget
-    (sym c.in-None.is ∙ c.in_ok-found.ensures) c.in_ok-reached-in-None.ensures.means
+    quoted_other a.quote a.at a.terms reached a.world.now c.performed.new.world a.budget.now c.performed.new.budget
+    (sym c.in-None.is ∙ c.in_ok-found.ensures) g)
 
 pub returns-then-not-pay-clause-means : goal.returns-then-not-pay-clause-means
 returns-then-not-pay-clause-means c =

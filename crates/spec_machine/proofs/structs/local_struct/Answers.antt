@@ -12,10 +12,11 @@ use Rattle.spec_machine.specs.Kept.{keeps_then}
 use Rattle.spec_machine.proofs.Doing.{moved}
 use Rattle.spec_machine.proofs.Keeping.{kept_as}
 use Rattle.spec_machine.proofs.Typing.{keeps_struct}
+use Rattle.tl_base.proofs.Results.{carried}
 use Rattle.spec_machine.proofs.structs.local_struct.Goals as goal
 
 pub returns-clause-means : goal.returns-clause-means
-returns-clause-means c = λ left.
+returns-clause-means c = carried _ _ c.more_entries.result c.more_entries.ensures.means (λ step g left.
     let a = c.args in
     let items = items_of a.tree.now in
     let w = a.world.now in
@@ -24,12 +25,12 @@ returns-clause-means c = λ left.
     let of = c.in_ok-of.of in
     let go : TypeId → SpecPlan = λ t. structs.entries_plan items a.entries.now t 1 a.env definitions.over in
     moved items a.frames.now.items c.more_entries.new.frames.items (go x) (go of)
-    (with_heap v (declare a.env (values.TerraType x) v.heap)) c.declare.new.world c.declare.new.world left left c.in_ok-step.step
+    (with_heap v (declare a.env (values.TerraType x) v.heap)) c.declare.new.world c.declare.new.world left left step
     (ap go (sym c.in_ok-of.ensures.id))
     (sym (c.in_ok-declare.ensures.ok
     ∙ ap (λ (u : StageState). with_heap u (declare a.env (values.TerraType of) u.heap)) c.in_ok-of.ensures.ok
     ∙ ap (λ (t : TypeId). with_heap v (declare a.env (values.TerraType t) v.heap)) c.in_ok-of.ensures.id))
-    (c.in_ok-step.ensures.means c.declare.new.world left)
+    (g c.declare.new.world left))
 
 pub returns-clause-kept : goal.returns-clause-kept
 returns-clause-kept c =

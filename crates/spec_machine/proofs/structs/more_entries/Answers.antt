@@ -13,6 +13,7 @@ use Rattle.spec_machine.proofs.Doing.{returns as returned, moved}
 use Rattle.spec_machine.proofs.Pushing.{none_is}
 use Rattle.std.specs.Prelude.{if◌then◌else◌}
 use Rattle.spec_machine.proofs.Entries.{struct_is}
+use Rattle.tl_base.proofs.Results.{carried}
 use Rattle.spec_machine.proofs.structs.more_entries.Goals as goal
 
 pub returns-in-None : goal.returns-in-None
@@ -30,15 +31,15 @@ returns-in-None c =
           ∙ struct_is f ∙ ap (λ (v : Value). Give (ends.Gave v)) (sym c.made.ensures)) refl (returned items fs end w left);
     }
 
-pub returns-in_ok-step-in-Some : goal.returns-in_ok-step-in-Some
-returns-in_ok-step-in-Some c =
+pub returns-in-Some : goal.returns-in-Some
+returns-in-Some c =
     let a = c.args in
     let f = a.frame in
     let items = items_of a.tree.now in
     record {
-      means = λ w left.
+      means = carried _ _ c.entry_type.result c.entry_type.ensures.means (λ step g w left.
           moved items a.frames.now.items c.entry_type.new.frames.items (waiting.entries_from items f f.rest.now f.number)
-          (waiting.entries_from items f (c.in-Some.first.now ∷ c.in-Some.rest.now) f.number) w w w left left c.in_ok-step-in-Some.step
+          (waiting.entries_from items f (c.in-Some.first.now ∷ c.in-Some.rest.now) f.number) w w w left left step
           (ap (λ (ns : List NodeId). waiting.entries_from items f ns f.number) c.in-Some.ensures.cases.0) refl
-          (c.in_ok-step-in-Some.ensures.means items w left (sym c.typing_at.ensures.of));
+          (g items w left (sym c.typing_at.ensures.of)));
     }

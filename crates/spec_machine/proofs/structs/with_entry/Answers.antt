@@ -12,6 +12,7 @@ use Rattle.spec_model.specs.Structs as structs
 use Rattle.spec_machine.specs.Kept.{keeps_then}
 use Rattle.spec_machine.specs.Frames as waiting
 use Rattle.spec_machine.proofs.Doing.{moved, comes, leaves}
+use Rattle.tl_base.proofs.Results.{carried, on-ok}
 use Rattle.spec_machine.proofs.structs.with_entry.Goals as goal
 
 pub returns-in-Left-clause-means : goal.returns-in-Left-clause-means
@@ -28,8 +29,8 @@ returns-in-Left-clause-means c =
     (leaves {X = TypeId} items fs (λ k. types.as_type a.value c.place.result k) go c.in_ok-reached.reached c.in-Left.step
     a.world.now c.as_type.new.world a.budget.now c.as_type.new.budget c.in-Left.is c.in_ok-reached.ensures.means)
 
-pub returns-in_ok-step-in-Value-clause-means : goal.returns-in_ok-step-in-Value-clause-means
-returns-in_ok-step-in-Value-clause-means c =
+pub returns-in-Value-clause-means : goal.returns-in-Value-clause-means
+returns-in-Value-clause-means c = carried _ _ c.typed_entry.result c.typed_entry.ensures.means (λ step g.
     let a = c.args in
     let f = a.frame in
     let items = items_of a.tree.now in
@@ -40,12 +41,12 @@ returns-in_ok-step-in-Value-clause-means c =
     let go : TypeId → SpecPlan = λ t. Read (λ w. structs.entry (tables_of w f.of).entries f.number (name_at items (typing_at items a.node).name) t
     (waiting.entries_from items f f.rest.now (f.number + 1))) in
     moved items fs fs2 (types.as_type a.value (place_at items a.of) go) (types.as_type a.value c.place.result go)
-    a.world.now a.world.now w2 a.budget.now left2 c.in_ok-step-in-Value.step
+    a.world.now a.world.now w2 a.budget.now left2 step
     (ap (λ (p : Place). types.as_type a.value p go) (sym c.place.ensures)) refl
     (comes {X = TypeId} items fs fs2 (λ k. types.as_type a.value c.place.result k) go c.in_ok-reached.reached c.in-Value.of
-    a.world.now c.as_type.new.world w2 a.budget.now left2 left2 c.in_ok-step-in-Value.step c.in-Value.is c.in_ok-reached.ensures.means
-    (c.in_ok-step-in-Value.ensures.means left2))
+    a.world.now c.as_type.new.world w2 a.budget.now left2 left2 step c.in-Value.is c.in_ok-reached.ensures.means
+    (g left2)))
 
-pub returns-in_ok-step-in-Value-clause-kept : goal.returns-in_ok-step-in-Value-clause-kept
-returns-in_ok-step-in-Value-clause-kept c =
-    keeps_then c.args.world.now c.as_type.new.world c.typed_entry.new.world c.in_ok-reached.ensures.kept c.in_ok-step-in-Value.ensures.kept
+pub returns-in-Value-clause-kept : goal.returns-in-Value-clause-kept
+returns-in-Value-clause-kept c = on-ok c.typed_entry.result c.typed_entry.ensures.kept (λ g.
+    keeps_then c.args.world.now c.as_type.new.world c.typed_entry.new.world c.in_ok-reached.ensures.kept g)

@@ -10,26 +10,27 @@ use Rattle.spec_machine.specs.declared.reached.Reached.TheVariants.{Left}
 use Rattle.spec_machine.proofs.Otherwise.{none_there}
 use Rattle.spec_machine.proofs.Quoted.{quoted_type_read, quoted_type_refused}
 use Rattle.spec_machine.proofs.Reaching.{comes_past, comes_short, passes_then, passes_enough}
+use Rattle.tl_base.proofs.Results.{carried}
 use Rattle.spec_machine.proofs.types.quoted_type.Goals as goal
 
 pub returns-in_default-clause-means : goal.returns-in_default-clause-means
-returns-in_default-clause-means c =
+returns-in_default-clause-means c = carried _ _ c.no_type.result c.no_type.ensures.means (λ reached g.
     let a = c.args in
     let w = a.world.now in
     let left = a.budget.now in
-    comes_past (λ go. type_from (values.Quote a.quote) a.at go) (λ (go : TypeId → SpecPlan). raise a.at NotAType) c.in_ok-reached.reached
+    comes_past (λ go. type_from (values.Quote a.quote) a.at go) (λ (go : TypeId → SpecPlan). raise a.at NotAType) reached
     w w c.no_type.new.world left left c.no_type.new.budget
-    (quoted_type_refused a.quote a.at w left (sym c.quoted_term.ensures ∙ none_there c.quoted_term.result c.in_default.not-Some)) c.in_ok-reached.ensures.means
+    (quoted_type_refused a.quote a.at w left (sym c.quoted_term.ensures ∙ none_there c.quoted_term.result c.in_default.not-Some)) g)
 
-pub returns-in_ok-reached-in-None-clause-means : goal.returns-in_ok-reached-in-None-clause-means
-returns-in_ok-reached-in-None-clause-means c =
+pub returns-in-None-clause-means : goal.returns-in-None-clause-means
+returns-in-None-clause-means c = carried _ _ c.no_type-in-None.result c.no_type-in-None.ensures.means (λ reached g.
     let a = c.args in
     let w = a.world.now in
     let left = a.budget.now in
-    comes_past (λ go. type_from (values.Quote a.quote) a.at go) (λ (go : TypeId → SpecPlan). raise a.at NotAType) c.in_ok-reached-in-None.reached
+    comes_past (λ go. type_from (values.Quote a.quote) a.at go) (λ (go : TypeId → SpecPlan). raise a.at NotAType) reached
     w w c.no_type-in-None.new.world left left c.no_type-in-None.new.budget
     (quoted_type_read a.quote c.in-Some.term a.at None w left (sym c.quoted_term.ensures ∙ c.in-Some.is) (sym c.in-None.is ∙ c.type_at.ensures))
-    c.in_ok-reached-in-None.ensures.means
+    g)
 
 pub returns-then-not-pay-clause-means : goal.returns-then-not-pay-clause-means
 returns-then-not-pay-clause-means c =

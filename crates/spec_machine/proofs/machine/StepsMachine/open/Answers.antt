@@ -12,10 +12,11 @@ use Rattle.spec_model.specs.Meaning as meaning
 use Rattle.spec_machine.specs.Kept.{keeps_itself}
 use Rattle.spec_machine.proofs.Doing.{returns as returned, moved}
 use Rattle.spec_machine.proofs.Placing as placing
+use Rattle.tl_base.proofs.Results.{carried}
 use Rattle.spec_machine.proofs.machine.StepsMachine.open.Goals as goal
 
-pub returns-in_ok-step-in-Expression-clause-means : goal.returns-in_ok-step-in-Expression-clause-means
-returns-in_ok-step-in-Expression-clause-means c =
+pub returns-in-Expression-clause-means : goal.returns-in-Expression-clause-means
+returns-in-Expression-clause-means c = carried _ _ c.value.result c.value.ensures.means (λ step g.
     let a = c.args in
     let n = a.task.node in
     let env = a.task.env in
@@ -26,11 +27,11 @@ returns-in_ok-step-in-Expression-clause-means c =
     let m = c.in-Expression in
     let is : item_at items n ≡ kept.Expression m.place m.expression = search rules in
     moved items fs c.value.new.frames.items (plan (item_at items n)) (meaning.value_plan items m.expression m.place env)
-    w w c.value.new.world a.budget.now c.value.new.budget c.in_ok-step-in-Expression.step (ap plan is) refl
-    c.in_ok-step-in-Expression.ensures.means
+    w w c.value.new.world a.budget.now c.value.new.budget step (ap plan is) refl
+    g)
 
-pub returns-in_ok-step-in-Statement-clause-means : goal.returns-in_ok-step-in-Statement-clause-means
-returns-in_ok-step-in-Statement-clause-means c =
+pub returns-in-Statement-clause-means : goal.returns-in-Statement-clause-means
+returns-in-Statement-clause-means c = carried _ _ c.definition.result c.definition.ensures.means (λ step g.
     let a = c.args in
     let n = a.task.node in
     let env = a.task.env in
@@ -41,8 +42,8 @@ returns-in_ok-step-in-Statement-clause-means c =
     let m = c.in-Statement in
     let is : item_at items n ≡ kept.Statement m.place m.statement = search rules in
     moved items fs c.definition.new.frames.items (plan (item_at items n)) (meaning.definition_plan items m.statement n m.place env)
-    w w c.definition.new.world a.budget.now c.definition.new.budget c.in_ok-step-in-Statement.step (ap plan is) refl
-    c.in_ok-step-in-Statement.ensures.means
+    w w c.definition.new.world a.budget.now c.definition.new.budget step (ap plan is) refl
+    g)
 
 pub returns-in_default : goal.returns-in_default
 returns-in_default c =
