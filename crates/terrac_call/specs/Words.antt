@@ -5,7 +5,8 @@ use Rattle.std.specs.List.{list_all}
 use Rattle.std.specs.Char.{digit_value}
 use Rattle.std.specs.Str.{bytes_eq}
 use Rattle.std.specs.Str.Parse.{digits_value, without_leading_plus}
-use Rattle.clap.specs.Words.{App, Row, Rule, Shape, Text, all_of, fault_of, first_of, new_app, new_rule}
+use Rattle.gen_source.specs.Generated.{generated}
+use Rattle.clap.specs.Words.{App, Row, Rule, Text, all_of, fault_of, first_of, new_app, new_rule}
 use Rattle.clap.specs.Words.{subcommand_of, takes, with_rule, with_subcommand}
 use Rattle.clap.specs.Simple.{new_shape}
 use Rattle.clap.specs.Walk.{is_empty}
@@ -131,17 +132,46 @@ pub record Running : Type 0 where
   pub steps : ℕ
   pub shows : Bool
 
--- to run an entry of a source; to write the image of what it exports, within limits; to run an entry of an image for at most so many
--- steps; to check a source within limits; to write the terms of what it exports, within limits; to write a source with its locals renamed;
--- to generate a source of so many functions and run it
+-- which function of a source is called, how the source is run, and of a generated source how many functions were asked for
+pub record Asking : Type 0 where
+  pub call : Call
+  pub running : Running
+  pub generated : Option ℕ
+
+-- what is made of bytes, with nothing written before it: a source with its locals renamed
+pub data Making : Type 0 where
+  Rename : Making
+
+-- what a source is staged for: a line for the check of each function that it defines; the terms of what it exports; the image of that; or a
+-- call of it, of a source that is read or of one that is generated
+pub data Task : Type 0 where
+  Check : (limits : Limits) → Task
+  Terms : (limits : Limits) → Task
+  Emit : (limits : Limits) → Task
+  Run : (asking : Asking) → Task
+
+-- to make something of bytes; to stage a source; or to run an entry of an image for at most so many steps
 pub data Job : Type 0 where
-  Run : (call : Call) (running : Running) → Job
-  Emit : (limits : Limits) → Job
+  Make : (what : Making) → Job
+  Stage : (task : Task) → Job
   Exec : (call : Call) (steps : ℕ) → Job
-  Check : (limits : Limits) → Job
-  Terms : (limits : Limits) → Job
-  Rename : Job
-  Gen : (count : ℕ) (running : Running) → Job
+
+-- how many functions the source of a task has, where it is generated
+abbrev pub generated_of : Task → Option ℕ
+generated_of (Check limits) = None
+generated_of (Terms limits) = None
+generated_of (Emit limits) = None
+generated_of (Run asking) = asking.generated
+
+-- the source of a task, by the bytes that are read
+abbrev pub source_of : Option ℕ → List ℕ → List ℕ
+source_of None bytes = bytes
+source_of (Some count) bytes = generated count
+
+abbrev pub text_of : Task → List ℕ → List ℕ
+text_of task bytes = source_of (generated_of task) bytes
+
+-- ---- what was found
 
 -- What is required or has a default is always there, and a number is one in its range; these definitions say something of other
 -- rows as well.
@@ -167,9 +197,6 @@ call_of rows = record {
 abbrev pub number_found : Text → List Row → ℕ
 number_found id rows = number_or_zero (text_or_none (first_of id rows))
 
-abbrev pub exec_of : List Row → Job
-exec_of rows = Exec (call_of rows) (number_found (codes "steps") rows)
-
 abbrev pub limits_of : List Row → Limits
 limits_of rows = record { budget = number_found (codes "budget") rows; memory = number_found (codes "memory") rows }
 
@@ -181,22 +208,26 @@ running_of rows = record {
   shows = number_found (codes "image") rows == 1;
 }
 
-abbrev pub run_of : List Row → Job
-run_of rows = Run (call_of rows) (running_of rows)
+abbrev pub run_of : List Row → Asking
+run_of rows = record { call = call_of rows; running = running_of rows; generated = None }
 
-abbrev pub gen_of : List Row → Job
-gen_of rows = Gen (number_found (codes "N") rows) (running_of rows)
+-- a generated source is run from its `main`
+abbrev pub main_call : Call
+main_call = record { entry = codes "main"; arguments = [] }
+
+abbrev pub gen_of : List Row → Asking
+gen_of rows = record { call = main_call; running = running_of rows; generated = Some (number_found (codes "N") rows) }
 
 -- the job of a command with what was found for its arguments; there is one of seven
 abbrev pub job_of_command : Option (Text × List Row) → Job
-job_of_command None = Emit (record { budget = 0; memory = 0 })
+job_of_command None = Make Rename
 job_of_command (Some found) =
-    if bytes_eq found.0 (codes "run") then run_of found.1
-    else (if bytes_eq found.0 (codes "exec") then exec_of found.1
-    else (if bytes_eq found.0 (codes "check") then Check (limits_of found.1)
-    else (if bytes_eq found.0 (codes "terms") then Terms (limits_of found.1)
-    else (if bytes_eq found.0 (codes "rename") then Rename
-    else (if bytes_eq found.0 (codes "gen") then gen_of found.1 else Emit (limits_of found.1))))))
+    if bytes_eq found.0 (codes "run") then Stage (Run (run_of found.1))
+    else (if bytes_eq found.0 (codes "exec") then Exec (call_of found.1) (number_found (codes "steps") found.1)
+    else (if bytes_eq found.0 (codes "check") then Stage (Check (limits_of found.1))
+    else (if bytes_eq found.0 (codes "terms") then Stage (Terms (limits_of found.1))
+    else (if bytes_eq found.0 (codes "emit") then Stage (Emit (limits_of found.1))
+    else (if bytes_eq found.0 (codes "gen") then Stage (Run (gen_of found.1)) else Make Rename)))))
 
 -- the job that the words name, the program's own name first: none exactly where `clap` refuses them
 unfoldable pub job_of : List Text → Option Job

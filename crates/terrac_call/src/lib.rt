@@ -6,25 +6,24 @@
 
 mod arguments;
 pub mod call;
-mod check;
 mod delivery;
 mod due;
-mod emit;
+mod ends;
 mod exec;
-mod generating;
 mod laws;
 mod lines;
+mod making;
 mod parsing;
 mod reading;
-mod rename;
-mod run;
-mod staged;
+mod source;
 pub mod status;
-mod terms;
 mod words;
 mod work;
 mod writing;
 
 pub use call::{one_due, refuse_unread, terrac};
-pub use laws::{calls_are_meant, runs_tell_meaning, sources_are_meant};
+pub use laws::{
+    calls_are_meant, due_tells_meaning, jobs_are_lawful, runs_tell_meaning, sources_are_meant,
+    words_are_worked,
+};
 pub use status::{FaultKind, ImageFault, Status};
