@@ -7,11 +7,12 @@ use Rattle.elf_image.specs.declared.layout.Layout.{Layout}
 use Rattle.elf_image.specs.declared.rule.Rule.TheVariants.{Any, Is, Between}
 use Rattle.elf_image.specs.Fields.{u64_at, Field, field, or_else, first_of, unless, bad_field, bad_fields, bad_bytes}
 use Rattle.elf_image.specs.Layout.{layout_of, identification_fields, header_fields, segment_fields, section_fields, terra_fields}
-use Rattle.elf_image.specs.Layout.{text_size_rule, memory_rule, private_rule, text_address, region_address, private_address}
+use Rattle.elf_image.specs.Layout.{text_size_rule, memory_rule, entries_rule, beyond_entries, text_address, region_address, private_address}
 use Rattle.elf_image.specs.Exports.{export_count, record_fields, bad_record, bad_records}
+use Rattle.elf_image.specs.Entries.{entry_count, signature_rule, bad_entry, bad_entries_from}
 use Rattle.elf_image.specs.Tests.{short_header, bad_magic, bad_header, short_segments, bad_segments, short_sections, bad_sections}
 use Rattle.elf_image.specs.Tests.{short_parts, overlapping_parts, short_tables, bad_terra, bad_counts, bad_terra_records, bad_first_symbol}
-use Rattle.elf_image.specs.Tests.{section_name, bad_section_names, bad_exports, verdict_headers, verdict_tables, verdict_of}
+use Rattle.elf_image.specs.Tests.{section_name, bad_section_names, bad_exports, bad_entries, verdict_headers, verdict_tables, verdict_of}
 
 abbrev IsFault : Option ImageError → Type 0
 IsFault verdict = verdict ≡ Some NoMemory → ⊥
@@ -77,8 +78,8 @@ unfolding bad_segments
 segments_fault bytes =
     let a = bad_fields bytes 64 (segment_fields 5 text_address text_size_rule (Is (u64_at bytes 96))) in
     let b = bad_fields bytes 120 (segment_fields 6 region_address (Between 0 (u64_at bytes 160 / 2)) memory_rule) in
-    let c = bad_fields bytes 176 (segment_fields 6 private_address (Is 0) private_rule) in
-    first_fault (a ∷ b ∷ c ∷ []) (fields_fault bytes 64 (segment_fields 5 text_address text_size_rule (Is (u64_at bytes 96))), (fields_fault bytes 120 (segment_fields 6 region_address (Between 0 (u64_at bytes 160 / 2)) memory_rule), (fields_fault bytes 176 (segment_fields 6 private_address (Is 0) private_rule), tt)))
+    let c = bad_fields bytes 176 (segment_fields 6 private_address entries_rule (beyond_entries (u64_at bytes 208))) in
+    first_fault (a ∷ b ∷ c ∷ []) (fields_fault bytes 64 (segment_fields 5 text_address text_size_rule (Is (u64_at bytes 96))), (fields_fault bytes 120 (segment_fields 6 region_address (Between 0 (u64_at bytes 160 / 2)) memory_rule), (fields_fault bytes 176 (segment_fields 6 private_address entries_rule (beyond_entries (u64_at bytes 208))), tt)))
 
 sections_fault : (l : Layout) (bytes : List ℕ) → IsFault (bad_sections l bytes)
 unfolding bad_sections
@@ -148,6 +149,21 @@ exports_fault : (l : Layout) (bytes : List ℕ) → IsFault (bad_exports l bytes
 unfolding bad_exports
 exports_fault l bytes = unless_symbol _
 
+entry_fault : (text count : ℕ) (bytes : List ℕ) (at : ℕ) → IsFault (bad_entry text count bytes at)
+unfolding bad_entry
+entry_fault text count bytes at =
+    or_fault _ (bad_field bytes at (field 8 8 (signature_rule count))) (unless_field _ at) (field_fault bytes at (field 8 8 (signature_rule count)))
+
+entries_from_fault : (n text count : ℕ) (bytes : List ℕ) (at : ℕ) → IsFault (bad_entries_from n text count bytes at)
+unfolding bad_entries_from
+entries_from_fault zero text count bytes at = none_fault
+entries_from_fault (suc n) text count bytes at =
+    or_fault (bad_entry text count bytes at) (bad_entries_from n text count bytes (at + 16)) (entry_fault text count bytes at) (entries_from_fault n text count bytes (at + 16))
+
+entries_fault : (l : Layout) (bytes : List ℕ) → IsFault (bad_entries l bytes)
+unfolding bad_entries
+entries_fault l bytes = entries_from_fault (entry_count l) l.text.size (entry_count l) bytes l.entries.offset
+
 tables_fault : (l : Layout) (bytes : List ℕ) → IsFault (verdict_tables l bytes)
 unfolding verdict_tables
 tables_fault l bytes =
@@ -158,4 +174,4 @@ pub verdict_fault : (bytes : List ℕ) → verdict_of bytes ≡ Some NoMemory �
 unfolding verdict_of
 verdict_fault bytes =
     let l = layout_of bytes in
-    first_fault (verdict_headers bytes ∷ verdict_tables l bytes ∷ bad_exports l bytes ∷ []) (headers_fault bytes, (tables_fault l bytes, (exports_fault l bytes, tt)))
+    first_fault (verdict_headers bytes ∷ verdict_tables l bytes ∷ bad_exports l bytes ∷ bad_entries l bytes ∷ []) (headers_fault bytes, (tables_fault l bytes, (exports_fault l bytes, (entries_fault l bytes, tt))))

@@ -6,13 +6,14 @@ use Rattle.std.proofs.lemmas.List.{length-append, length-replicate}
 use Rattle.byteorder.specs.Endian.{little_bytes}
 use Rattle.byteorder.specs.Numbers.{length-bytes_low_first}
 use Rattle.elf_image.specs.declared.image.Symbol.{Symbol}
+use Rattle.elf_image.specs.declared.image.Entry.{Entry}
 use Rattle.elf_image.specs.declared.image.Image.{Image}
 use Rattle.elf_image.specs.declared.layout.Layout.{Layout}
-use Rattle.elf_image.specs.Layout.{text_address, region_address, private_address}
+use Rattle.elf_image.specs.Layout.{text_address, region_address, private_address, version_of}
 use Rattle.elf_image.specs.Lawful.{IsLawful, is_lawful_symbol}
 use Rattle.elf_image.specs.Written.{numbers, names_size, layout_for, file_size, header_bytes, segment_bytes, segments_bytes, words_bytes}
 use Rattle.elf_image.specs.Written.{codes_bytes, record_bytes, records_bytes, terra_bytes, symbol_bytes, symbols_bytes, names_bytes}
-use Rattle.elf_image.specs.Written.{section_names, symtab_bytes, strtab_bytes, section_bytes, sections_bytes, bytes_of}
+use Rattle.elf_image.specs.Written.{entries_bytes, section_names, symtab_bytes, strtab_bytes, section_bytes, sections_bytes, bytes_of}
 use Rattle.elf_image.proofs.Steps.{and_true}
 use Rattle.elf_image.proofs.Has.{Has, Has-all, Has-left, Has-next, length-numbers}
 
@@ -29,14 +30,14 @@ unfolding segments_bytes
 length-segments l =
     let a = segment_bytes 5 l.text.offset text_address l.text.size l.text.size in
     let b = segment_bytes 6 l.statics.offset region_address l.statics.size l.memory in
-    let c = segment_bytes 6 (l.statics.offset + l.statics.size) private_address 0 l.private in
+    let c = segment_bytes 6 l.entries.offset private_address l.entries.size (l.entries.size + l.private) in
     omega (
       arith,
       length-append a (b ++ c),
       length-append b c,
       length-segment 5 l.text.offset text_address l.text.size l.text.size,
       length-segment 6 l.statics.offset region_address l.statics.size l.memory,
-      length-segment 6 (l.statics.offset + l.statics.size) private_address 0 l.private,
+      length-segment 6 l.entries.offset private_address l.entries.size (l.entries.size + l.private),
     )
 
 pub length-words : (words : List ℕ) → length (words_bytes words) ≡ 4 * length words
@@ -44,6 +45,13 @@ unfolding words_bytes
 length-words [] = refl
 length-words (word ∷ words) =
     omega (arith, length-append (little_bytes 4 word) (words_bytes words), length-bytes_low_first 0 4 word, length-words words)
+
+pub length-entries : (es : List Entry) → length (entries_bytes es) ≡ 16 * length es
+unfolding entries_bytes
+length-entries [] = refl
+length-entries (e ∷ es) =
+    let a : List (ℕ × ℕ) = (8, e.address) ∷ (8, e.signature) ∷ [] in
+    omega (arith, length-append (numbers a) (entries_bytes es), length-numbers a, length-entries es)
 
 pub length-codes : (params : List ℕ) → length params ≤ 8 → length (codes_bytes params) ≡ 8
 length-codes params le =
@@ -84,7 +92,7 @@ length-names (s ∷ ss) = omega (arith, length-append s.name (0 ∷ names_bytes 
 pub length-terra : (i : Image) → list_all (is_lawful_symbol (4 * length i.text)) i.exports ≡ true → length (terra_bytes i) ≡ 32 + 24 * length i.exports
 unfolding terra_bytes
 length-terra i e =
-    let a : List (ℕ × ℕ) = (4, 1) ∷ (4, length i.exports) ∷ (8, i.memory) ∷ (8, i.heap) ∷ (8, i.private) ∷ [] in
+    let a : List (ℕ × ℕ) = (4, version_of (16 * length i.entries)) ∷ (4, length i.exports) ∷ (8, i.memory) ∷ (8, i.heap) ∷ (8, i.private) ∷ [] in
     omega (arith, length-append (numbers a) (records_bytes 36 i.exports), length-numbers a, length-records (4 * length i.text) 36 i.exports e)
 
 pub length-symtab : (ss : List Symbol) → length (symtab_bytes ss) ≡ 24 + 24 * length ss
@@ -129,6 +137,7 @@ pub record Stands (i : Image) : Type 0 where
   pub segments : Has (bytes_of i) 64 (segments_bytes (layout_for i))
   pub text : Has (bytes_of i) (layout_for i).text.offset (words_bytes i.text)
   pub statics : Has (bytes_of i) (layout_for i).statics.offset i.statics
+  pub entries : Has (bytes_of i) (layout_for i).entries.offset (entries_bytes i.entries)
   pub terra : Has (bytes_of i) (layout_for i).terra.offset (terra_bytes i)
   pub symtab : Has (bytes_of i) (layout_for i).symtab.offset (symtab_bytes i.exports)
   pub strtab : Has (bytes_of i) (layout_for i).strtab.offset (strtab_bytes i.exports)
@@ -144,7 +153,8 @@ stands i h =
     let f = strtab_bytes i.exports ++ g in
     let e = symtab_bytes i.exports ++ f in
     let d = terra_bytes i ++ e in
-    let c = i.statics ++ d in
+    let n = entries_bytes i.entries ++ d in
+    let c = i.statics ++ n in
     let b = words_bytes i.text ++ c in
     let a = segments_bytes l ++ b in
     let terra-len = length-terra i h.symbols in
@@ -152,7 +162,8 @@ stands i h =
     let h1 : Has xs 64 a = Has-next xs 0 64 (header_bytes l) a h0 (omega (arith, length-header l)) in
     let h2 : Has xs 232 b = Has-next xs 64 232 (segments_bytes l) b h1 (omega (arith, length-segments l)) in
     let h3 : Has xs l.statics.offset c = Has-next xs 232 l.statics.offset (words_bytes i.text) c h2 (omega (arith, length-words i.text)) in
-    let h4 : Has xs l.terra.offset d = Has-next xs l.statics.offset l.terra.offset i.statics d h3 refl in
+    let hn : Has xs l.entries.offset n = Has-next xs l.statics.offset l.entries.offset i.statics n h3 refl in
+    let h4 : Has xs l.terra.offset d = Has-next xs l.entries.offset l.terra.offset (entries_bytes i.entries) d hn (omega (arith, length-entries i.entries)) in
     let h5 : Has xs l.symtab.offset e = Has-next xs l.terra.offset l.symtab.offset (terra_bytes i) e h4 (omega (arith, terra-len)) in
     let h6 : Has xs l.strtab.offset f = Has-next xs l.symtab.offset l.strtab.offset (symtab_bytes i.exports) f h5 (omega (arith, length-symtab i.exports)) in
     let h7 : Has xs l.sections g = Has-next xs l.strtab.offset l.sections (strtab_bytes i.exports) g h6 (omega (arith, length-strtab i.exports)) in
@@ -161,7 +172,9 @@ stands i h =
       length-append (header_bytes l) a,
       length-append (segments_bytes l) b,
       length-append (words_bytes i.text) c,
-      length-append i.statics d,
+      length-append i.statics n,
+      length-append (entries_bytes i.entries) d,
+      length-entries i.entries,
       length-append (terra_bytes i) e,
       length-append (symtab_bytes i.exports) f,
       length-append (strtab_bytes i.exports) g,
@@ -177,7 +190,8 @@ stands i h =
       header = Has-left xs 0 (header_bytes l) a h0;
       segments = Has-left xs 64 (segments_bytes l) b h1;
       text = Has-left xs 232 (words_bytes i.text) c h2;
-      statics = Has-left xs l.statics.offset i.statics d h3;
+      statics = Has-left xs l.statics.offset i.statics n h3;
+      entries = Has-left xs l.entries.offset (entries_bytes i.entries) d hn;
       terra = Has-left xs l.terra.offset (terra_bytes i) e h4;
       symtab = Has-left xs l.symtab.offset (symtab_bytes i.exports) f h5;
       strtab = Has-left xs l.strtab.offset (strtab_bytes i.exports) g h6;

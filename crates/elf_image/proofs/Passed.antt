@@ -1,21 +1,23 @@
 -- What tests that found no fault say.
-use Rattle.std.proofs.Common.{◌≡◌, ℕ, ◌+◌, ◌-◌, ◌*◌, ◌/◌, ◌^◌, ◌≤◌, Bool, true, leb, List, [], ◌∷◌, length, Option, None, refl, sym, ap}
+use Rattle.std.proofs.Common.{◌≡◌, ℕ, ◌+◌, ◌-◌, ◌*◌, ◌/◌, ◌%◌, ◌^◌, ◌≤◌, Bool, true, false, cond, eqb, leb, List, [], ◌∷◌, length, Option, None, refl, sym, ap}
 use Rattle.std.proofs.Common.{subst, ◌∙◌, arith}
 use Rattle.std.specs.List.{list_all}
-use Rattle.std.proofs.lemmas.Bool.{leb-true, eqb-true}
+use Rattle.std.proofs.lemmas.Bool.{leb-true, le-leb, eqb-true}
 use Rattle.elf_image.specs.declared.error.ImageError.{ImageError}
 use Rattle.elf_image.specs.declared.error.ImageError.TheVariants.{BadField, Short}
 use Rattle.elf_image.specs.declared.rule.Rule.TheVariants.{Is, Between}
 use Rattle.elf_image.specs.declared.layout.Part.{Part}
 use Rattle.elf_image.specs.declared.layout.Layout.{Layout}
 use Rattle.elf_image.specs.Fields.{u64_at, number_at, Field, field, allows, or_else, unless, first_of, bad_field, bad_fields}
-use Rattle.elf_image.specs.Layout.{layout_of, parts_of, text_size_rule, memory_rule, private_rule, segment_fields, text_address}
-use Rattle.elf_image.specs.Layout.{region_address, private_address, heap_start, terra_fields}
+use Rattle.elf_image.specs.Layout.{layout_of, parts_of, with_entries, text_size_rule, memory_rule, private_rule, entries_rule}
+use Rattle.elf_image.specs.Layout.{beyond_entries, segment_fields, text_address}
+use Rattle.elf_image.specs.Layout.{part, region_address, private_address, heap_start, terra_fields}
 use Rattle.elf_image.specs.Exports.{export_count}
 use Rattle.elf_image.specs.Tests.{short_header, bad_magic, bad_header, short_segments, bad_segments, short_sections, bad_sections}
 use Rattle.elf_image.specs.Tests.{verdict_headers, short_parts, overlapping_parts, short_tables, bad_terra, bad_counts, bad_terra_records}
 use Rattle.elf_image.specs.Tests.{bad_first_symbol, bad_section_names, verdict_tables}
 use Rattle.elf_image.proofs.Steps.{or_else_none, unless_none, and_true}
+use Rattle.elf_image.proofs.LawfulLemmas.{and_intro}
 
 -- no test found a fault
 abbrev pub AllNone : List (Option ImageError) → Type 0
@@ -64,6 +66,14 @@ pub record HeadersPassed (bytes : List ℕ) (l : Layout) : Type 0 where
   pub memory : allows memory_rule l.memory ≡ true
   pub most : l.memory ≤ 67108864
   pub private : allows private_rule l.private ≡ true
+  pub entries : allows entries_rule l.entries.size ≡ true
+
+-- what the private segment has in memory beyond its entries
+private_beyond : (entries n : ℕ) → allows (beyond_entries entries) n ≡ true → allows private_rule (n - entries) ≡ true
+private_beyond entries n e =
+    let a = and_true (leb entries n) _ e in
+    let b = and_true (eqb ((n - entries) % 512) 0) (leb (n - entries) 603979776) a.1 in
+    and_intro _ _ b.0 (and_intro (leb 0 (n - entries)) (leb (n - entries) 603979776) (le-leb 0 (n - entries) (omega arith)) b.1)
 
 half_le : (n m : ℕ) → leb n (m / 2) ≡ true → 2 * n ≤ m
 half_le n m e = let h = leb-true n (m / 2) e in omega arith
@@ -76,11 +86,11 @@ headers_passed bytes l le e =
     let s = first_of_none (
     bad_fields bytes 64 (segment_fields 5 text_address text_size_rule (Is (u64_at bytes 96)))
     ∷ bad_fields bytes 120 (segment_fields 6 region_address (Between 0 (u64_at bytes 160 / 2)) memory_rule)
-    ∷ bad_fields bytes 176 (segment_fields 6 private_address (Is 0) private_rule)
+    ∷ bad_fields bytes 176 (segment_fields 6 private_address entries_rule (beyond_entries (u64_at bytes 208)))
     ∷ []) t.1.1.1.1.0 in
     let text = bad_fields_none bytes 64 (segment_fields 5 text_address text_size_rule (Is (u64_at bytes 96))) s.0 in
     let region = bad_fields_none bytes 120 (segment_fields 6 region_address (Between 0 (u64_at bytes 160 / 2)) memory_rule) s.1.0 in
-    let own = bad_fields_none bytes 176 (segment_fields 6 private_address (Is 0) private_rule) s.1.1.0 in
+    let own = bad_fields_none bytes 176 (segment_fields 6 private_address entries_rule (beyond_entries (u64_at bytes 208))) s.1.1.0 in
     let P : Layout → Type 0 = λ k. HeadersPassed bytes k in
     subst P (sym le) (record {
       long = leb-true _ _ (unless_none (leb 232 (length bytes)) Short t.1.1.1.0);
@@ -89,7 +99,8 @@ headers_passed bytes l le e =
       statics = half_le (u64_at bytes 152) (u64_at bytes 160) (and_true _ _ region.1.1.1.1.1.0).1;
       memory = region.1.1.1.1.1.1.0;
       most = leb-true _ _ (and_true _ _ (and_true _ _ region.1.1.1.1.1.1.0).1).1;
-      private = own.1.1.1.1.1.1.0;
+      private = private_beyond (u64_at bytes 208) (u64_at bytes 216) own.1.1.1.1.1.1.0;
+      entries = own.1.1.1.1.1.0;
     })
 
 -- ---- the parts and the tables
@@ -97,6 +108,7 @@ headers_passed bytes l le e =
 pub record PartsPassed (bytes : List ℕ) (l : Layout) : Type 0 where
   pub text : l.text.offset + l.text.size ≤ length bytes
   pub statics : l.statics.offset + l.statics.size ≤ length bytes
+  pub entries : (l.entries.size ≡ 0 → ⊥) → l.entries.offset + l.entries.size ≤ length bytes
   pub terra : l.terra.offset + l.terra.size ≤ length bytes
   pub symtab : l.symtab.offset + l.symtab.size ≤ length bytes
   pub strtab : l.strtab.offset + l.strtab.size ≤ length bytes
@@ -114,17 +126,31 @@ all_true test (x ∷ xs) e =
     let h = and_true (test x) (list_all test xs) e in
     (h.0, all_true test xs h.1)
 
+entries_split : (test : Part → Bool) (e : Part) (ps : List Part) (v : Bool) → eqb e.size 0 ≡ v → list_all test (cond v ps (e ∷ ps)) ≡ true → ((e.size ≡ 0 → ⊥) → test e ≡ true) × (list_all test ps ≡ true)
+entries_split test e ps true z h = (λ some. absurd (some (eqb-true e.size 0 z)), h)
+entries_split test e ps false z h = let a = and_true (test e) (list_all test ps) h in (λ some. a.0, a.1)
+
+-- a test of all parts is one of the entries, where there are any, and of the others
+pub with_entries_all : (test : Part → Bool) (e : Part) (ps : List Part) → list_all test (with_entries e ps) ≡ true → ((e.size ≡ 0 → ⊥) → test e ≡ true) × (list_all test ps ≡ true)
+with_entries_all test e ps h = entries_split test e ps (eqb e.size 0) refl h
+
 pub parts_passed : (bytes : List ℕ) (l : Layout) → short_parts l bytes ≡ None → PartsPassed bytes l
 unfolding short_parts
 parts_passed bytes l e =
     let n = length bytes in
-    let h = all_true (ends n) (parts_of l) (unless_none (list_all (ends n) (parts_of l)) Short e) in
+    let behind : List Part = l.terra ∷ l.symtab ∷ l.strtab ∷ part l.sections 384 ∷ [] in
+    let a = and_true (ends n (part 0 232)) _ (unless_none (list_all (ends n) (parts_of l)) Short e) in
+    let b = and_true (ends n l.text) _ a.1 in
+    let c = and_true (ends n l.statics) _ b.1 in
+    let d = with_entries_all (ends n) l.entries behind c.1 in
+    let h = all_true (ends n) behind d.1 in
     record {
-      text = leb-true _ _ h.1.0;
-      statics = leb-true _ _ h.1.1.0;
-      terra = leb-true _ _ h.1.1.1.0;
-      symtab = leb-true _ _ h.1.1.1.1.0;
-      strtab = leb-true _ _ h.1.1.1.1.1.0;
+      text = leb-true _ _ b.0;
+      statics = leb-true _ _ c.0;
+      entries = λ some. leb-true _ _ (d.0 some);
+      terra = leb-true _ _ h.0;
+      symtab = leb-true _ _ h.1.0;
+      strtab = leb-true _ _ h.1.1.0;
     }
 
 pub tables_sized : (bytes : List ℕ) (l : Layout) → l ≡ layout_of bytes → short_tables l bytes ≡ None → (32 ≤ l.terra.size) × (36 ≤ l.strtab.size)

@@ -7,10 +7,11 @@ use Rattle.std.proofs.lemmas.List.{append-nil, at_drop_more, at_drop_all}
 use Rattle.byteorder.specs.Endian.{little_bytes}
 use Rattle.elf_image.specs.declared.putting.Number.{Number}
 use Rattle.elf_image.specs.declared.image.Symbol.{Symbol}
+use Rattle.elf_image.specs.declared.image.Entry.{Entry}
 use Rattle.elf_image.proofs.Steps.{and_true}
 use Rattle.elf_image.specs.Answers.{row_of}
 use Rattle.elf_image.specs.Lawful.{names_fit}
-use Rattle.elf_image.specs.Written.{numbers, words_bytes, names_size, record_bytes, records_bytes, symbol_bytes, symbols_bytes, names_bytes}
+use Rattle.elf_image.specs.Written.{numbers, words_bytes, entries_bytes, names_size, record_bytes, records_bytes, symbol_bytes, symbols_bytes, names_bytes}
 
 pub append_turn : (out part rest whole total : List ℕ) → out ++ whole ≡ total → whole ≡ part ++ rest → (out ++ part) ++ rest ≡ total
 append_turn out part rest whole total e1 e2 =
@@ -49,6 +50,14 @@ words_turn xs i lt = at_drop_more words_bytes xs i 0 lt
 pub words_end : (xs : List ℕ) (i : ℕ) → length xs ≤ i → words_bytes (drop i xs) ≡ []
 unfolding words_bytes
 words_end xs i le = at_drop_all words_bytes xs i le
+
+pub entries_turn : (xs : List Entry) (i : ℕ) (d : Entry) → i < length xs → entries_bytes (drop i xs) ≡ numbers ((8, (get_or xs i d).address) ∷ (8, (get_or xs i d).signature) ∷ []) ++ entries_bytes (drop (i + 1) xs)
+unfolding entries_bytes
+entries_turn xs i d lt = at_drop_more entries_bytes xs i d lt
+
+pub entries_end : (xs : List Entry) (i : ℕ) → length xs ≤ i → entries_bytes (drop i xs) ≡ []
+unfolding entries_bytes
+entries_end xs i le = at_drop_all entries_bytes xs i le
 
 pub names_turn : (xs : List Symbol) (i : ℕ) (x : Symbol) → x ≡ get_or xs i x → i < length xs → names_bytes (drop i xs) ≡ (x.name ++ 0 ∷ []) ++ names_bytes (drop (i + 1) xs)
 unfolding names_bytes
@@ -109,9 +118,9 @@ pub fit_turn_by : (name next : ℕ) (xs : List Symbol) (i : ℕ) (x : Symbol) �
 fit_turn_by name next xs i x e lt n h =
     ap (λ (k : ℕ). names_fit k (drop (i + 1) xs)) n ∙ (fit_turn name xs i x e lt h).1
 
--- ---- eight parts, one behind the other
+-- ---- nine parts, one behind the other
 
-pub eight : (o0 o1 o2 o3 o4 o5 o6 o7 o8 a b c d e f g h : List ℕ) → o0 ≡ [] → o1 ≡ o0 ++ a → o2 ≡ o1 ++ b → o3 ≡ o2 ++ c → o4 ≡ o3 ++ d → o5 ≡ o4 ++ e → o6 ≡ o5 ++ f → o7 ≡ o6 ++ g → o8 ≡ o7 ++ h
-    → o8 ≡ a ++ (b ++ (c ++ (d ++ (e ++ (f ++ (g ++ h))))))
-eight o0 o1 o2 o3 o4 o5 o6 o7 o8 a b c d e f g h e0 e1 e2 e3 e4 e5 e6 e7 e8 =
-    rw (e8, e7, e6, e5, e4, e3, e2, e1, e0) (simp append_assoc)
+pub nine : (o0 o1 o2 o3 o4 o5 o6 o7 o8 o9 a b c d e f g h i : List ℕ) → o0 ≡ [] → o1 ≡ o0 ++ a → o2 ≡ o1 ++ b → o3 ≡ o2 ++ c → o4 ≡ o3 ++ d → o5 ≡ o4 ++ e → o6 ≡ o5 ++ f → o7 ≡ o6 ++ g → o8 ≡ o7 ++ h → o9 ≡ o8 ++ i
+    → o9 ≡ a ++ (b ++ (c ++ (d ++ (e ++ (f ++ (g ++ (h ++ i)))))))
+nine o0 o1 o2 o3 o4 o5 o6 o7 o8 o9 a b c d e f g h i e0 e1 e2 e3 e4 e5 e6 e7 e8 e9 =
+    rw (e9, e8, e7, e6, e5, e4, e3, e2, e1, e0) (simp append_assoc)

@@ -1,15 +1,15 @@
 -- What is read can be written.
 use Rattle.std.proofs.Common.{◌≡◌, ℕ, zero, suc, ◌+◌, ◌-◌, ◌*◌, ◌/◌, ◌%◌, ◌^◌, ◌<◌, ◌≤◌, Bool, true, false, cond, eqb, leb, ltb, List, []}
-use Rattle.std.proofs.Common.{◌∷◌, length, get_or, take, drop, slice_range, Option, None, Result, Ok, Err, refl, sym, ap, subst, ◌∙◌, inl}
+use Rattle.std.proofs.Common.{◌∷◌, ◌&&◌, length, get_or, take, drop, slice_range, Option, None, Result, Ok, Err, refl, sym, ap, subst, ◌∙◌, inl}
 use Rattle.std.proofs.Common.{inr, arith}
 use Rattle.std.specs.List.{list_all}
 use Rattle.std.specs.Option.{is_none}
 use Rattle.std.specs.Prelude.{IfOk}
-use Rattle.std.proofs.lemmas.Bool.{le-leb, eqb-true, eqb-false, lt-ltb, cases_lt}
+use Rattle.std.proofs.lemmas.Bool.{leb-true, le-leb, eqb-true, eqb-false, lt-ltb, cases_lt}
 use Rattle.std.proofs.lemmas.List.{length-take, length-drop, get_or-take, get_or-drop, get_or_past}
 use Rattle.byteorder.specs.Numbers.{little_from-lt}
 use Rattle.elf_image.specs.declared.error.ImageError.{ImageError}
-use Rattle.elf_image.specs.declared.error.ImageError.TheVariants.{BadSymbol}
+use Rattle.elf_image.specs.declared.error.ImageError.TheVariants.{BadField, BadSymbol}
 use Rattle.elf_image.specs.declared.rule.Rule.TheVariants.{Is, Between}
 use Rattle.elf_image.specs.declared.layout.Layout.{Layout}
 use Rattle.elf_image.specs.declared.image.Symbol.{Symbol}
@@ -19,10 +19,11 @@ use Rattle.elf_image.specs.Layout.{layout_of, heap_start}
 use Rattle.elf_image.specs.Exports.{export_count, names_of, before_zero, code_rule, param_rule, result_rule, code_fields, record_fields}
 use Rattle.elf_image.specs.Exports.{bad_record, bad_records, symbol_at, symbols_at, symbol_fields, is_in_text, is_name_at, is_right}
 use Rattle.elf_image.specs.Exports.{are_right, names_differ}
-use Rattle.elf_image.specs.Tests.{verdict_headers, verdict_tables, bad_terra_records, bad_exports, verdict_of}
+use Rattle.elf_image.specs.Entries.{entry_count, signature_rule, bad_entry, bad_entries_from, entry_at, entries_at}
+use Rattle.elf_image.specs.Tests.{verdict_headers, verdict_tables, bad_exports, bad_entries, verdict_of}
 use Rattle.elf_image.specs.Loads.{words_at, image_at}
 use Rattle.elf_image.specs.Answers.{Gives}
-use Rattle.elf_image.specs.Lawful.{IsLawful, is_name, is_lawful_symbol, names_fit}
+use Rattle.elf_image.specs.Lawful.{IsLawful, is_name, is_lawful_symbol, is_lawful_entry, names_fit}
 use Rattle.elf_image.proofs.Steps.{or_else_none, unless_none, and_true, params_le}
 use Rattle.elf_image.proofs.Passed.{bad_fields_none, first_of_none, headers_passed, tables_passed}
 use Rattle.elf_image.proofs.LawfulLemmas.{file_size_lt, and_intro, name_le}
@@ -172,14 +173,34 @@ few_names_fit text at (s ∷ ss) le e =
     let n = name_le text s a.0 in
     and_intro (ltb at (2 ^ 32)) _ (lt-ltb _ _ (omega arith)) (few_names_fit text (at + length s.name + 1) ss (omega arith) a.1)
 
+-- ---- the entries
+
+entry_lawful : (text count : ℕ) (bytes : List ℕ) (at : ℕ) → bad_entry text count bytes at ≡ None → is_lawful_entry text count (entry_at bytes at) ≡ true
+unfolding bad_entry bad_field
+entry_lawful text count bytes at e =
+    let a = or_else_none _ (bad_field bytes at (field 8 8 (signature_rule count))) e in
+    and_intro _ _ (unless_none (is_in_text text (u64_at bytes at)) (BadField at) a.0) (unless_none (allows (signature_rule count) (u64_at bytes (at + 8))) (BadField (at + 8)) a.1)
+
+entries_lawful : (n text count : ℕ) (bytes : List ℕ) (at : ℕ) → bad_entries_from n text count bytes at ≡ None → list_all (is_lawful_entry text count) (entries_at n bytes at) ≡ true
+unfolding bad_entries_from entries_at
+entries_lawful zero text count bytes at e = refl
+entries_lawful (suc n) text count bytes at e =
+    let a = or_else_none (bad_entry text count bytes at) (bad_entries_from n text count bytes (at + 16)) e in
+    and_intro _ _ (entry_lawful text count bytes at a.0) (entries_lawful n text count bytes (at + 16) a.1)
+
+length-entries_at : (n : ℕ) (bytes : List ℕ) (at : ℕ) → length (entries_at n bytes at) ≡ n
+unfolding entries_at
+length-entries_at zero bytes at = refl
+length-entries_at (suc n) bytes at = let h = length-entries_at n bytes (at + 16) in omega arith
+
 -- ---- the image
 
 pub image_lawful : (bytes : List ℕ) → IsBytes bytes → length bytes ≤ 268435456 → verdict_of bytes ≡ None → IsLawful (image_at (layout_of bytes) bytes)
-unfolding verdict_of bad_exports image_at bad_terra_records
+unfolding verdict_of bad_exports bad_entries image_at
 image_lawful bytes h most e =
     let l = layout_of bytes in
     let n = export_count l bytes in
-    let v = first_of_none (verdict_headers bytes ∷ verdict_tables l bytes ∷ bad_exports l bytes ∷ []) e in
+    let v = first_of_none (verdict_headers bytes ∷ verdict_tables l bytes ∷ bad_exports l bytes ∷ bad_entries l bytes ∷ []) e in
     let hp = headers_passed bytes l refl v.0 in
     let tp = tables_passed bytes l refl v.1.0 in
     let x = and_true (are_right n l bytes (l.terra.offset + 32) (l.symtab.offset + 24)) (names_differ (symbols_at n l bytes (l.terra.offset + 32))) (unless_none _ BadSymbol v.1.1.0) in
@@ -196,6 +217,13 @@ image_lawful bytes h most e =
     let top : l.memory ≤ 67108864 = hp.most in
     let text-end : l.text.offset + l.text.size ≤ length bytes = tp.parts.text in
     let lawful : list_all (is_lawful_symbol (4 * length (words_at (l.text.size / 4) bytes l.text.offset))) ss ≡ true = subst (λ (t : ℕ). list_all (is_lawful_symbol t) ss ≡ true) text-is symbols in
+    let m = entry_count l in
+    let es = entries_at m bytes l.entries.offset in
+    let es-len : length es ≡ m = length-entries_at m bytes l.entries.offset in
+    let most-entries : l.entries.size ≤ 2097152 = leb-true l.entries.size 2097152 (and_true (leb 0 l.entries.size) (leb l.entries.size 2097152) (and_true (eqb (l.entries.size % 16) 0) (leb 0 l.entries.size && leb l.entries.size 2097152) hp.entries).1).1 in
+    let many : length es ≤ 131072 = omega arith in
+    let counted-entries : list_all (is_lawful_entry l.text.size (length es)) es ≡ true = subst (λ (k : ℕ). list_all (is_lawful_entry l.text.size k) es ≡ true) (sym es-len) (entries_lawful m l.text.size m bytes l.entries.offset v.1.1.1.0) in
+    let lawful-entries : list_all (is_lawful_entry (4 * length (words_at (l.text.size / 4) bytes l.text.offset)) (length es)) es ≡ true = subst (λ (t : ℕ). list_all (is_lawful_entry t (length es)) es ≡ true) text-is counted-entries in
     let fit = few_names_fit l.text.size 36 ss (omega arith) symbols in
     let count : length ss < 2 ^ 32 = omega arith in
     record {
@@ -206,11 +234,13 @@ image_lawful bytes h most e =
       statics = omega arith;
       heap = tp.heap ∙ ap heap_start (sym statics-len);
       private = hp.private;
+      entries = lawful-entries;
+      many = many;
       symbols = lawful;
       differ = x.1;
       count = count;
       names = fit;
-      size = file_size_lt (image_at l bytes) (omega arith) (omega arith) count lawful fit;
+      size = file_size_lt (image_at l bytes) (omega arith) (omega arith) many count lawful fit;
     }
 
 -- what is read is lawful where each image without a fault is

@@ -1,5 +1,5 @@
 -- The headers of a file that was written are read.
-use Rattle.std.proofs.Common.{◌≡◌, ℕ, ◌+◌, ◌-◌, ◌*◌, ◌/◌, ◌%◌, ◌^◌, ◌<◌, ◌≤◌, Bool, true, leb, ltb, List, [], ◌∷◌, ◌++◌, length, Option}
+use Rattle.std.proofs.Common.{◌≡◌, ℕ, ◌+◌, ◌-◌, ◌*◌, ◌/◌, ◌%◌, ◌^◌, ◌<◌, ◌≤◌, Bool, true, ◌&&◌, eqb, leb, ltb, List, [], ◌∷◌, ◌++◌, length, Option}
 use Rattle.std.proofs.Common.{None, refl, sym, ap, subst, ◌∙◌, arith, add-zero}
 use Rattle.std.proofs.lemmas.Bool.{leb-true, le-leb, eq-eqb, ltb-true}
 use Rattle.elf_image.specs.declared.error.ImageError.{ImageError}
@@ -10,7 +10,7 @@ use Rattle.elf_image.specs.declared.image.Image.{Image}
 use Rattle.elf_image.specs.declared.layout.Layout.{Layout}
 use Rattle.elf_image.specs.Fields.{u32_at, u64_at, allows, unless, or_else, first_of, bad_fields}
 use Rattle.elf_image.specs.Layout.{layout_of, identification_fields, header_fields, segment_fields, section_fields, text_size_rule}
-use Rattle.elf_image.specs.Layout.{memory_rule, private_rule, text_address, region_address, private_address}
+use Rattle.elf_image.specs.Layout.{memory_rule, private_rule, entries_rule, beyond_entries, text_address, region_address, private_address}
 use Rattle.elf_image.specs.Tests.{short_header, bad_magic, bad_header, short_segments, bad_segments, short_sections, bad_sections}
 use Rattle.elf_image.specs.Tests.{verdict_headers}
 use Rattle.elf_image.specs.Lawful.{IsLawful}
@@ -227,7 +227,8 @@ pub record Bounded (i : Image) (l : Layout) : Type 0 where
   pub text_size : l.text.size < 2 ^ 64
   pub statics_offset : l.statics.offset < 2 ^ 64
   pub statics_size : l.statics.size < 2 ^ 64
-  pub own_offset : l.statics.offset + l.statics.size < 2 ^ 64
+  pub entries_offset : l.entries.offset < 2 ^ 64
+  pub entries_size : l.entries.size < 2 ^ 64
   pub terra_offset : l.terra.offset < 2 ^ 64
   pub terra_size : l.terra.size < 2 ^ 64
   pub symtab_offset : l.symtab.offset < 2 ^ 64
@@ -235,7 +236,7 @@ pub record Bounded (i : Image) (l : Layout) : Type 0 where
   pub strtab_offset : l.strtab.offset < 2 ^ 64
   pub strtab_size : l.strtab.size < 2 ^ 64
   pub memory : l.memory < 2 ^ 64
-  pub private : l.private < 2 ^ 64
+  pub own_size : l.entries.size + l.private < 2 ^ 64
 
 pub multiple_le : (step low high n : ℕ) → allows (Multiple step low high) n ≡ true → n ≤ high
 multiple_le step low high n e = leb-true n high (and_true _ _ (and_true _ _ e).1).1
@@ -252,7 +253,8 @@ bounded i h =
       text_size = omega arith;
       statics_offset = omega arith;
       statics_size = omega arith;
-      own_offset = omega arith;
+      entries_offset = omega arith;
+      entries_size = omega (arith, h.many);
       terra_offset = omega arith;
       terra_size = omega arith;
       symtab_offset = omega arith;
@@ -260,7 +262,7 @@ bounded i h =
       strtab_offset = omega arith;
       strtab_size = omega arith;
       memory = omega arith;
-      private = omega arith;
+      own_size = omega (arith, h.many);
     }
 
 -- what is read of the headers
@@ -268,7 +270,7 @@ pub record HeadersHold (bytes : List ℕ) (l : Layout) : Type 0 where
   pub header : Holds bytes 0 0 (header_rows l.sections)
   pub text : Holds bytes 64 0 (segment_rows 5 l.text.offset text_address l.text.size l.text.size)
   pub region : Holds bytes 120 0 (segment_rows 6 l.statics.offset region_address l.statics.size l.memory)
-  pub own : Holds bytes 176 0 (segment_rows 6 (l.statics.offset + l.statics.size) private_address 0 l.private)
+  pub own : Holds bytes 176 0 (segment_rows 6 l.entries.offset private_address l.entries.size (l.entries.size + l.private))
   pub null_section : Holds bytes l.sections 0 (section_rows 0 0 0 0 0 0 0 0 0 0)
   pub text_section : Holds bytes (l.sections + 64) 0 (section_rows 1 1 6 text_address l.text.offset l.text.size 0 0 1 0)
   pub data_section : Holds bytes (l.sections + 128) 0 (section_rows 7 1 3 region_address l.statics.offset l.statics.size 0 0 1 0)
@@ -288,7 +290,7 @@ headers_hold i h =
     let b = bounded i h in
     let p1 = segment_bytes 5 l.text.offset text_address l.text.size l.text.size in
     let p2 = segment_bytes 6 l.statics.offset region_address l.statics.size l.memory in
-    let p3 = segment_bytes 6 (l.statics.offset + l.statics.size) private_address 0 l.private in
+    let p3 = segment_bytes 6 l.entries.offset private_address l.entries.size (l.entries.size + l.private) in
     let q2 : Has xs 120 (p2 ++ p3) = Has-next xs 64 120 p1 (p2 ++ p3) s.segments (omega (arith, length-segment 5 l.text.offset text_address l.text.size l.text.size)) in
     let q3 : Has xs 176 p3 = Has-next xs 120 176 p2 p3 q2 (omega (arith, length-segment 6 l.statics.offset region_address l.statics.size l.memory)) in
     let a = section_bytes 0 0 0 0 0 0 0 0 0 0 in
@@ -312,7 +314,7 @@ headers_hold i h =
       header = header_holds xs l s.header b.sections;
       text = segment_holds xs 64 5 l.text.offset text_address l.text.size l.text.size (Has-left xs 64 p1 (p2 ++ p3) s.segments) (small _ _ refl) b.text_offset (small _ _ refl) b.text_size b.text_size;
       region = segment_holds xs 120 6 l.statics.offset region_address l.statics.size l.memory (Has-left xs 120 p2 p3 q2) (small _ _ refl) b.statics_offset (small _ _ refl) b.statics_size b.memory;
-      own = segment_holds xs 176 6 (l.statics.offset + l.statics.size) private_address 0 l.private q3 (small _ _ refl) b.own_offset (small _ _ refl) z b.private;
+      own = segment_holds xs 176 6 l.entries.offset private_address l.entries.size (l.entries.size + l.private) q3 (small _ _ refl) b.entries_offset (small _ _ refl) b.entries_size b.own_size;
       null_section = section_holds xs l.sections 0 0 0 0 0 0 0 0 0 0 0 (Has-start xs l.sections a l0) (small _ _ refl) (small _ _ refl) z z z z (small _ _ refl) (small _ _ refl) z z;
       text_section = section_holds xs (l.sections + 64) 0 1 1 6 text_address l.text.offset l.text.size 0 0 1 0 (Has-start xs (l.sections + 64) t l1) (small _ _ refl) (small _ _ refl) (small _ _ refl) (small _ _ refl) b.text_offset b.text_size (small _ _ refl) (small _ _ refl) (small _ _ refl) z;
       data_section = section_holds xs (l.sections + 128) 0 7 1 3 region_address l.statics.offset l.statics.size 0 0 1 0 (Has-start xs (l.sections + 128) c l2) (small _ _ refl) (small _ _ refl) (small _ _ refl) (small _ _ refl) b.statics_offset b.statics_size (small _ _ refl) (small _ _ refl) (small _ _ refl) z;
@@ -334,14 +336,31 @@ layout_read bytes l h =
     let s0 : u64_at bytes 128 ≡ l.statics.offset = h.region.1.1.0 in
     let s1 : u64_at bytes 152 ≡ l.statics.size = h.region.1.1.1.1.1.0 in
     let m : u64_at bytes 160 ≡ l.memory = h.region.1.1.1.1.1.1.0 in
-    let p : u64_at bytes 216 ≡ l.private = h.own.1.1.1.1.1.1.0 in
+    let g0 : u64_at bytes 184 ≡ l.entries.offset = h.own.1.1.0 in
+    let g1 : u64_at bytes 208 ≡ l.entries.size = h.own.1.1.1.1.1.0 in
+    let g2 : u64_at bytes 216 ≡ l.entries.size + l.private = h.own.1.1.1.1.1.1.0 in
+    let p : u64_at bytes 216 - u64_at bytes 208 ≡ l.private = omega arith in
     let r0 : u64_at bytes (l.sections + 216) ≡ l.terra.offset = h.terra_place.1.1.1.1.0 in
     let r1 : u64_at bytes (l.sections + 224) ≡ l.terra.size = h.terra_place.1.1.1.1.1.0 in
     let y0 : u64_at bytes (l.sections + 280) ≡ l.symtab.offset = h.symtab_place.1.1.1.1.0 in
     let y1 : u64_at bytes (l.sections + 288) ≡ l.symtab.size = h.symtab_place.1.1.1.1.1.0 in
     let n0 : u64_at bytes (l.sections + 344) ≡ l.strtab.offset = h.strtab_place.1.1.1.1.0 in
     let n1 : u64_at bytes (l.sections + 352) ≡ l.strtab.size = h.strtab_place.1.1.1.1.1.0 in
-    rw (e, t0, t1, s0, s1, m, p, r0, r1, y0, y1, n0, n1) refl
+    rw (e, t0, t1, s0, s1, m, p, g0, g1, r0, r1, y0, y1, n0, n1) refl
+
+-- the private segment's sizes are as they may be
+own_beyond : (entries private n : ℕ) → n ≡ entries → allows private_rule private ≡ true → allows (beyond_entries n) (entries + private) ≡ true
+own_beyond entries private n e h =
+    let a = and_true (eqb (private % 512) 0) (leb 0 private && leb private 603979776) h in
+    let b = and_true (leb 0 private) (leb private 603979776) a.1 in
+    let rest : entries + private - entries ≡ private = omega arith in
+    let test : ℕ → Bool = λ k. eqb (k % 512) 0 && leb k 603979776 in
+    let more : test (entries + private - entries) ≡ true = ap test rest ∙ and_intro _ _ a.0 b.1 in
+    ap (λ (k : ℕ). allows (beyond_entries k) (entries + private)) e ∙ and_intro (leb entries (entries + private)) _ (le-leb _ _ (omega arith)) more
+
+own_entries : (count : ℕ) → count ≤ 131072 → allows entries_rule (16 * count) ≡ true
+own_entries count le =
+    and_intro _ _ (eq-eqb (16 * count % 16) 0 (omega arith)) (and_intro (leb 0 (16 * count)) (leb (16 * count) 2097152) (le-leb _ _ (omega arith)) (le-leb _ _ (omega arith)))
 
 pub headers_round : (i : Image) → IsLawful i → HeadersHold (bytes_of i) (layout_for i) → layout_of (bytes_of i) ≡ layout_for i → verdict_headers (bytes_of i) ≡ None
 unfolding verdict_headers bad_segments bad_sections layout_for
@@ -369,12 +388,12 @@ headers_round i h hh le =
               none_first_of (
                   bad_fields xs 64 (segment_fields 5 text_address text_size_rule (Is (u64_at xs 96)))
                   ∷ bad_fields xs 120 (segment_fields 6 region_address (Between 0 (u64_at xs 160 / 2)) memory_rule)
-                  ∷ bad_fields xs 176 (segment_fields 6 private_address (Is 0) private_rule)
+                  ∷ bad_fields xs 176 (segment_fields 6 private_address entries_rule (beyond_entries (u64_at xs 208)))
                   ∷ []) (
                     segment_ok xs 64 5 l.text.offset text_address l.text.size l.text.size text_size_rule (Is (u64_at xs 96)) hh.text text-rule (eq-eqb l.text.size (u64_at xs 96) (sym t1)),
                     (
                       segment_ok xs 120 6 l.statics.offset region_address l.statics.size l.memory (Between 0 (u64_at xs 160 / 2)) memory_rule hh.region statics-rule h.memory,
-                      (segment_ok xs 176 6 (l.statics.offset + l.statics.size) private_address 0 l.private (Is 0) private_rule hh.own refl h.private, tt),
+                      (segment_ok xs 176 6 l.entries.offset private_address l.entries.size (l.entries.size + l.private) entries_rule (beyond_entries (u64_at xs 208)) hh.own (own_entries (length i.entries) h.many) (own_beyond l.entries.size l.private (u64_at xs 208) hh.own.1.1.1.1.1.0 h.private), tt),
                     ),
                   ),
               (

@@ -11,6 +11,7 @@ use Rattle.elf_image.specs.Fields.{u8_at, u32_at, field, allows, or_else, unless
 use Rattle.elf_image.specs.Loads.{words_at}
 use Rattle.elf_image.specs.Exports.{code_rule, result_rule, code_fields, record_fields, bad_record, bad_records, symbol_at, symbols_at}
 use Rattle.elf_image.specs.Exports.{is_right, are_right}
+use Rattle.elf_image.specs.Entries.{bad_entry, bad_entries_from, entry_at, entries_at}
 
 pub code_fields_step : (bytes : List ℕ) (entry params i n : ℕ) → i < n → bad_fields bytes entry (code_fields params i (n - i)) ≡ or_else (bad_field bytes entry (field (8 + i) 1 (code_rule params i))) (bad_fields bytes entry (code_fields params (i + 1) (n - (i + 1))))
 unfolding code_fields
@@ -34,6 +35,32 @@ bad_records_step bytes first i n lt =
 pub bad_records_none : (bytes : List ℕ) (at i n : ℕ) → n ≤ i → bad_records (n - i) bytes at ≡ None
 unfolding bad_records
 bad_records_none bytes at i n le =
+    let e : n - i ≡ 0 = omega arith in
+    rw e refl
+
+pub bad_entries_step : (text count : ℕ) (bytes : List ℕ) (first i n : ℕ) → i < n → bad_entries_from (n - i) text count bytes (first + 16 * i) ≡ or_else (bad_entry text count bytes (first + 16 * i)) (bad_entries_from (n - (i + 1)) text count bytes (first + 16 * (i + 1)))
+unfolding bad_entries_from
+bad_entries_step text count bytes first i n lt =
+    let e : n - i ≡ suc (n - (i + 1)) = omega arith in
+    let at : first + 16 * i + 16 ≡ first + 16 * (i + 1) = omega arith in
+    rw e (ap (λ (k : ℕ). or_else (bad_entry text count bytes (first + 16 * i)) (bad_entries_from (n - (i + 1)) text count bytes k)) at)
+
+pub bad_entries_none : (text count : ℕ) (bytes : List ℕ) (at i n : ℕ) → n ≤ i → bad_entries_from (n - i) text count bytes at ≡ None
+unfolding bad_entries_from
+bad_entries_none text count bytes at i n le =
+    let e : n - i ≡ 0 = omega arith in
+    rw e refl
+
+pub entries_at_step : (bytes : List ℕ) (first i n : ℕ) → i < n → entries_at (n - i) bytes (first + 16 * i) ≡ entry_at bytes (first + 16 * i) ∷ entries_at (n - (i + 1)) bytes (first + 16 * (i + 1))
+unfolding entries_at
+entries_at_step bytes first i n lt =
+    let e : n - i ≡ suc (n - (i + 1)) = omega arith in
+    let at : first + 16 * i + 16 ≡ first + 16 * (i + 1) = omega arith in
+    rw e (ap (λ (k : ℕ). entry_at bytes (first + 16 * i) ∷ entries_at (n - (i + 1)) bytes k) at)
+
+pub entries_at_none : (bytes : List ℕ) (at i n : ℕ) → n ≤ i → entries_at (n - i) bytes at ≡ []
+unfolding entries_at
+entries_at_none bytes at i n le =
     let e : n - i ≡ 0 = omega arith in
     rw e refl
 

@@ -1,10 +1,10 @@
 -- Numbers in a file, and the rows of a table of fields: where a field stands, its bytes, and what it may hold.
-use Rattle.std.specs.Prelude.{ℕ, ◌+◌, ◌%◌, Bool, true, ◌&&◌, ◌==◌, nat_le, if◌then◌else◌, List, [], ◌∷◌, length, slice_range, Option, Some}
+use Rattle.std.specs.Prelude.{ℕ, ◌+◌, ◌-◌, ◌%◌, Bool, true, ◌&&◌, ◌==◌, nat_le, if◌then◌else◌, List, [], ◌∷◌, length, slice_range, Option, Some}
 use Rattle.std.specs.Prelude.{None}
 use Rattle.std.specs.Str.{bytes_eq}
 use Rattle.byteorder.specs.Endian.{little_from}
 use Rattle.elf_image.specs.declared.rule.Rule.{Rule}
-use Rattle.elf_image.specs.declared.rule.Rule.TheVariants.{Any, Is, Between, Multiple}
+use Rattle.elf_image.specs.declared.rule.Rule.TheVariants.{Any, Is, Between, Multiple, Beyond}
 use Rattle.elf_image.specs.declared.error.ImageError.{ImageError}
 use Rattle.elf_image.specs.declared.error.ImageError.TheVariants.{BadField}
 
@@ -25,12 +25,13 @@ abbrev pub u64_at : List ℕ → ℕ → ℕ
 u64_at bytes at = number_at 8 bytes at
 
 -- A `Rule` says what a field may hold: every number; this number alone; the numbers from the first to the second; the multiples
--- of the first from the second to the third.
+-- of the first from the second to the third; the first number and a multiple of the second up to the third.
 abbrev pub allows : Rule → ℕ → Bool
 allows Any n = true
 allows (Is value) n = n == value
 allows (Between low high) n = nat_le low n && nat_le n high
 allows (Multiple step low high) n = (n % step == 0) && (nat_le low n && nat_le n high)
+allows (Beyond base step most) n = nat_le base n && (((n - base) % step == 0) && nat_le (n - base) most)
 
 -- a row of a table of fields: the offset from the table's begin, the bytes, and what may stand there
 pub record Field : Type 0 where

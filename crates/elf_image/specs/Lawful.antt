@@ -1,13 +1,15 @@
 -- Which images have a file.
 use Rattle.std.specs.Prelude.{◌≡◌, ℕ, ◌+◌, ◌*◌, ◌<◌, ◌≤◌, ◌^◌, Bool, true, ◌&&◌, nat_le, nat_lt, List, [], ◌∷◌, length, slice_index, IsTrue}
 use Rattle.std.specs.List.{list_all}
-use Rattle.tl_base.specs.declared.limits.TheConstants.{MAX_NAME_BYTES, MAX_PARAMETERS}
+use Rattle.tl_base.specs.declared.limits.TheConstants.{MAX_NAME_BYTES, MAX_PARAMETERS, MAX_ENTRIES}
 use Rattle.elf_image.specs.declared.image.Symbol.{Symbol}
+use Rattle.elf_image.specs.declared.image.Entry.{Entry}
 use Rattle.elf_image.specs.declared.image.Image.{Image}
 use Rattle.elf_image.specs.declared.rule.Rule.TheVariants.{Between}
 use Rattle.elf_image.specs.Fields.{allows}
 use Rattle.elf_image.specs.Layout.{text_address, heap_start, memory_rule, private_rule}
 use Rattle.elf_image.specs.Exports.{is_in_text, names_differ, param_rule, result_rule}
+use Rattle.elf_image.specs.Entries.{signature_rule}
 use Rattle.elf_image.specs.Written.{file_size}
 
 -- 1 to 255 bytes, none of them zero
@@ -21,6 +23,10 @@ is_lawful_symbol text s =
     && (is_in_text text s.address
     && ((nat_le (length s.params) MAX_PARAMETERS && list_all (allows param_rule) s.params)
     && allows result_rule s.result))
+
+-- an entry that can stand in an image with that many bytes of text and that many entries
+abbrev pub is_lawful_entry : (text count : ℕ) → Entry → Bool
+is_lawful_entry text count e = is_in_text text e.address && allows (signature_rule count) e.signature
 
 -- the offsets of the names in `.strtab`, the first of which is `at`, fit their fields
 abbrev pub names_fit : ℕ → List Symbol → Bool
@@ -39,6 +45,9 @@ pub record IsLawful (i : Image) : Type 0 where
   pub statics : 2 * length i.statics ≤ i.memory
   pub heap : i.heap ≡ heap_start (length i.statics)
   pub private : IsTrue (allows private_rule i.private)
+  -- the functions that stand as values
+  pub entries : IsTrue (list_all (is_lawful_entry (4 * length i.text) (length i.entries)) i.entries)
+  pub many : length i.entries ≤ MAX_ENTRIES
   -- the exports
   pub symbols : IsTrue (list_all (is_lawful_symbol (4 * length i.text)) i.exports)
   pub differ : IsTrue (names_differ i.exports)

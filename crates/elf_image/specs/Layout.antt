@@ -1,11 +1,11 @@
 -- Where the parts of an image's file lie, and the tables of fields of ELF-64's headers.
-use Rattle.std.specs.Prelude.{ℕ, ◌+◌, ◌-◌, ◌*◌, ◌/◌, ◌^◌, List, [], ◌∷◌}
+use Rattle.std.specs.Prelude.{ℕ, ◌+◌, ◌-◌, ◌*◌, ◌/◌, ◌^◌, ◌==◌, if◌then◌else◌, List, [], ◌∷◌}
 use Rattle.tl_base.specs.declared.limits.TheConstants.Limits.{MIN_MEMORY, MAX_MEMORY, MEMORY_UNIT}
-use Rattle.tl_base.specs.declared.limits.TheConstants.{TEXT_ADDRESS, REGION_ADDRESS, PRIVATE_ADDRESS, MAX_PRIVATE}
+use Rattle.tl_base.specs.declared.limits.TheConstants.{TEXT_ADDRESS, REGION_ADDRESS, PRIVATE_ADDRESS, MAX_PRIVATE, MAX_ENTRIES}
 use Rattle.elf_image.specs.declared.layout.Part.{Part}
 use Rattle.elf_image.specs.declared.layout.Layout.{Layout}
 use Rattle.elf_image.specs.declared.rule.Rule.{Rule}
-use Rattle.elf_image.specs.declared.rule.Rule.TheVariants.{Any, Is, Multiple}
+use Rattle.elf_image.specs.declared.rule.Rule.TheVariants.{Any, Is, Multiple, Beyond}
 use Rattle.elf_image.specs.Fields.{u64_at, Field, field}
 
 abbrev pub part : ℕ → ℕ → Part
@@ -16,8 +16,9 @@ abbrev pub part_at : List ℕ → ℕ → ℕ → Part
 part_at bytes offset size = part (u64_at bytes offset) (u64_at bytes size)
 
 -- What the headers say of the file, each by its offset. The program headers of the text, the region and the private memory
--- stand at 64, 120 and 176. The section headers stand at the offset that byte 40 on gives, 64 bytes each, those of
--- `.terra`, `.symtab` and `.strtab` at 192, 256 and 320 in their table.
+-- stand at 64, 120 and 176. The bytes of the private segment in the file are the entries, and its memory has the private size beyond
+-- them. The section headers stand at the offset that byte 40 on gives, 64 bytes each, those of `.terra`, `.symtab` and `.strtab` at
+-- 192, 256 and 320 in their table.
 unfoldable pub layout_of : List ℕ → Layout
 layout_of bytes =
     let sections = u64_at bytes 40 in
@@ -25,16 +26,22 @@ layout_of bytes =
       sections = sections;
       text = part_at bytes 72 96;
       statics = part_at bytes 128 152;
+      entries = part_at bytes 184 208;
       memory = u64_at bytes 160;
-      private = u64_at bytes 216;
+      private = u64_at bytes 216 - u64_at bytes 208;
       terra = part_at bytes (sections + 216) (sections + 224);
       symtab = part_at bytes (sections + 280) (sections + 288);
       strtab = part_at bytes (sections + 344) (sections + 352);
     }
 
+-- the entries are a part where there are any: where there are none, no test looks at their offset
+abbrev pub with_entries : Part → List Part → List Part
+with_entries entries parts = if entries.size == 0 then parts else entries ∷ parts
+
 -- the parts of the file: the header with the program headers, and what these and the section headers name
 abbrev pub parts_of : Layout → List Part
-parts_of l = part 0 232 ∷ l.text ∷ l.statics ∷ l.terra ∷ l.symtab ∷ l.strtab ∷ part l.sections 384 ∷ []
+parts_of l =
+    part 0 232 ∷ l.text ∷ l.statics ∷ with_entries l.entries (l.terra ∷ l.symtab ∷ l.strtab ∷ part l.sections 384 ∷ [])
 
 -- the addresses at which the segments begin
 abbrev pub text_address : ℕ
@@ -84,6 +91,13 @@ memory_rule = Multiple MEMORY_UNIT MIN_MEMORY MAX_MEMORY
 abbrev pub private_rule : Rule
 private_rule = Multiple 512 0 MAX_PRIVATE
 
+-- The private segment has in the file the entries, of 16 bytes each. Its memory begins with them, and has the private size beyond.
+abbrev pub entries_rule : Rule
+entries_rule = Multiple 16 0 (16 * MAX_ENTRIES)
+
+abbrev pub beyond_entries : ℕ → Rule
+beyond_entries entries = Beyond entries 512 MAX_PRIVATE
+
 -- a section header, Elf64_Shdr
 abbrev pub section_fields : (name kind flags address : ℕ) (offset size : Rule) (link info align entry : ℕ) → List Field
 section_fields name kind flags address offset size link info align entry =
@@ -94,8 +108,12 @@ section_fields name kind flags address offset size link info align entry =
     -- sh_link; sh_info; sh_addralign; sh_entsize
     ∷ field 40 4 (Is link) ∷ field 44 4 (Is info) ∷ field 48 8 (Is align) ∷ field 56 8 (Is entry) ∷ []
 
+-- the version of the format, by the bytes that the entries have: 1 where there are none, and else 2
+abbrev pub version_of : ℕ → ℕ
+version_of entries = if entries == 0 then 1 else 2
+
 -- the first 32 bytes of `.terra`: version, number of exports, memory, start of the heap, private size
 abbrev pub terra_fields : Layout → List Field
 terra_fields l =
-    field 0 4 (Is 1) ∷ field 4 4 Any ∷ field 8 8 (Is l.memory)
+    field 0 4 (Is (version_of l.entries.size)) ∷ field 4 4 Any ∷ field 8 8 (Is l.memory)
     ∷ field 16 8 (Is (heap_start l.statics.size)) ∷ field 24 8 (Is l.private) ∷ []

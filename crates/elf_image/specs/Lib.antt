@@ -9,6 +9,7 @@ pub mod Calls
 pub mod Fields
 pub mod Layout
 pub mod Exports
+pub mod Entries
 -- The tests of a file, in order, and what the code's tests answer.
 pub mod Tests
 pub mod Answers

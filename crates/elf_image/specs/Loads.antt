@@ -6,6 +6,7 @@ use Rattle.elf_image.specs.declared.image.Image.{Image}
 use Rattle.elf_image.specs.Fields.{u32_at, u64_at}
 use Rattle.elf_image.specs.Layout.{layout_of}
 use Rattle.elf_image.specs.Exports.{export_count, symbols_at}
+use Rattle.elf_image.specs.Entries.{entry_count, entries_at}
 use Rattle.elf_image.specs.Tests.{verdict_of}
 
 -- the n words from offset `at` on
@@ -18,6 +19,7 @@ unfoldable pub image_at : Layout → List ℕ → Image
 image_at l bytes = record {
   text = words_at (l.text.size / 4) bytes l.text.offset;
   statics = slice_range bytes l.statics.offset (l.statics.offset + l.statics.size);
+  entries = entries_at (entry_count l) bytes l.entries.offset;
   memory = l.memory;
   heap = u64_at bytes (l.terra.offset + 16);
   private = l.private;

@@ -9,8 +9,10 @@ use Rattle.elf_image.specs.declared.layout.Layout.{Layout}
 use Rattle.elf_image.specs.declared.rule.Rule.TheVariants.{Any, Is, Between}
 use Rattle.elf_image.specs.Fields.{u32_at, u64_at, field, bad_fields, bad_bytes, or_else, first_of, unless}
 use Rattle.elf_image.specs.Layout.{layout_of, parts_of, identification_fields, header_fields, segment_fields, section_fields, terra_fields}
-use Rattle.elf_image.specs.Layout.{text_size_rule, memory_rule, private_rule, text_address, region_address, private_address}
+use Rattle.elf_image.specs.Layout.{text_size_rule, memory_rule, entries_rule, beyond_entries, text_address, region_address}
+use Rattle.elf_image.specs.Layout.{private_address}
 use Rattle.elf_image.specs.Exports.{export_count, bad_records, symbols_at, are_right, names_differ}
+use Rattle.elf_image.specs.Entries.{entry_count, bad_entries_from}
 
 -- 1. the header is there
 abbrev pub short_header : List ℕ → Option ImageError
@@ -32,7 +34,7 @@ unfoldable pub bad_segments : List ℕ → Option ImageError
 bad_segments bytes = first_of (
     bad_fields bytes 64 (segment_fields 5 text_address text_size_rule (Is (u64_at bytes 96)))
     ∷ bad_fields bytes 120 (segment_fields 6 region_address (Between 0 (u64_at bytes 160 / 2)) memory_rule)
-    ∷ bad_fields bytes 176 (segment_fields 6 private_address (Is 0) private_rule)
+    ∷ bad_fields bytes 176 (segment_fields 6 private_address entries_rule (beyond_entries (u64_at bytes 208)))
     ∷ [])
 
 -- 5. the section headers are there, and their fields
@@ -114,6 +116,10 @@ bad_exports l bytes =
     unless (are_right n l bytes (l.terra.offset + 32) (l.symtab.offset + 24)
     && names_differ (symbols_at n l bytes (l.terra.offset + 32))) BadSymbol
 
+-- 15. each entry's address is that of a word of the text, and its signature one that there may be
+unfoldable pub bad_entries : Layout → List ℕ → Option ImageError
+bad_entries l bytes = bad_entries_from (entry_count l) l.text.size (entry_count l) bytes l.entries.offset
+
 -- the tests of the headers
 unfoldable pub verdict_headers : List ℕ → Option ImageError
 verdict_headers bytes =
@@ -128,7 +134,7 @@ verdict_headers bytes =
     ∷ bad_sections l bytes
     ∷ [])
 
--- the tests of what lies behind them, but for the last
+-- the tests of what lies behind them, but for the last two
 unfoldable pub verdict_tables : Layout → List ℕ → Option ImageError
 verdict_tables l bytes = first_of (
     short_parts l bytes
@@ -145,4 +151,4 @@ verdict_tables l bytes = first_of (
 unfoldable pub verdict_of : List ℕ → Option ImageError
 verdict_of bytes =
     let l = layout_of bytes in
-    first_of (verdict_headers bytes ∷ verdict_tables l bytes ∷ bad_exports l bytes ∷ [])
+    first_of (verdict_headers bytes ∷ verdict_tables l bytes ∷ bad_exports l bytes ∷ bad_entries l bytes ∷ [])

@@ -3,8 +3,9 @@ use Rattle.std.specs.Prelude.{ℕ, ◌+◌, ◌-◌, ◌*◌, List, [], ◌∷�
 use Rattle.byteorder.specs.Endian.{little_bytes}
 use Rattle.elf_image.specs.declared.layout.Layout.{Layout}
 use Rattle.elf_image.specs.declared.image.Symbol.{Symbol}
+use Rattle.elf_image.specs.declared.image.Entry.{Entry}
 use Rattle.elf_image.specs.declared.image.Image.{Image}
-use Rattle.elf_image.specs.Layout.{part, text_address, region_address, private_address}
+use Rattle.elf_image.specs.Layout.{part, text_address, region_address, private_address, version_of}
 use Rattle.elf_image.specs.Tests.{section_name}
 
 -- numbers, each in that many bytes, the lowest byte first
@@ -22,18 +23,20 @@ unfoldable pub layout_for : Image → Layout
 layout_for i =
     let text = 4 * length i.text in
     let statics = length i.statics in
+    let entries = 16 * length i.entries in
     let terra = 32 + 24 * length i.exports in
     let symtab = 24 + 24 * length i.exports in
     let strtab = 36 + names_size i.exports in
     record {
-      sections = 232 + text + statics + terra + symtab + strtab;
+      sections = 232 + text + statics + entries + terra + symtab + strtab;
       text = part 232 text;
       statics = part (232 + text) statics;
+      entries = part (232 + text + statics) entries;
       memory = i.memory;
       private = i.private;
-      terra = part (232 + text + statics) terra;
-      symtab = part (232 + text + statics + terra) symtab;
-      strtab = part (232 + text + statics + terra + symtab) strtab;
+      terra = part (232 + text + statics + entries) terra;
+      symtab = part (232 + text + statics + entries + terra) symtab;
+      strtab = part (232 + text + statics + entries + terra + symtab) strtab;
     }
 
 -- how many bytes the file has
@@ -54,11 +57,16 @@ unfoldable pub segments_bytes : Layout → List ℕ
 segments_bytes l =
     segment_bytes 5 l.text.offset text_address l.text.size l.text.size
     ++ (segment_bytes 6 l.statics.offset region_address l.statics.size l.memory
-    ++ segment_bytes 6 (l.statics.offset + l.statics.size) private_address 0 l.private)
+    ++ segment_bytes 6 l.entries.offset private_address l.entries.size (l.entries.size + l.private))
 
 unfoldable pub words_bytes : List ℕ → List ℕ
 words_bytes [] = []
 words_bytes (word ∷ words) = little_bytes 4 word ++ words_bytes words
+
+-- the entries, each by its address and its signature
+unfoldable pub entries_bytes : List Entry → List ℕ
+entries_bytes [] = []
+entries_bytes (e ∷ es) = numbers ((8, e.address) ∷ (8, e.signature) ∷ []) ++ entries_bytes es
 
 -- eight type codes, of which the first are those of the parameters
 abbrev pub codes_bytes : List ℕ → List ℕ
@@ -77,7 +85,8 @@ records_bytes name (s ∷ ss) = record_bytes name s ++ records_bytes (name + len
 
 unfoldable pub terra_bytes : Image → List ℕ
 terra_bytes i =
-    numbers ((4, 1) ∷ (4, length i.exports) ∷ (8, i.memory) ∷ (8, i.heap) ∷ (8, i.private) ∷ []) ++ records_bytes 36 i.exports
+    numbers ((4, version_of (16 * length i.entries)) ∷ (4, length i.exports) ∷ (8, i.memory) ∷ (8, i.heap) ∷ (8, i.private) ∷ [])
+    ++ records_bytes 36 i.exports
 
 unfoldable pub symbol_bytes : ℕ → Symbol → List ℕ
 symbol_bytes name s = numbers ((4, name) ∷ (1, 0x12) ∷ (1, 0) ∷ (2, 1) ∷ (8, s.address) ∷ (8, 0) ∷ [])
@@ -123,7 +132,8 @@ bytes_of i =
     ++ (segments_bytes l
     ++ (words_bytes i.text
     ++ (i.statics
+    ++ (entries_bytes i.entries
     ++ (terra_bytes i
     ++ (symtab_bytes i.exports
     ++ (strtab_bytes i.exports
-    ++ sections_bytes l))))))
+    ++ sections_bytes l)))))))

@@ -12,16 +12,78 @@ use crate::layout::{Layout, Part};
 use crate::parts::is_within;
 use crate::rule::Rule;
 use tl_base::Limits;
-use tl_base::limits::{MAX_PRIVATE, PRIVATE_ADDRESS, REGION_ADDRESS, TEXT_ADDRESS};
+use tl_base::limits::{MAX_ENTRIES, MAX_PRIVATE, PRIVATE_ADDRESS, REGION_ADDRESS, TEXT_ADDRESS};
 
 // The four bytes 7F 45 4C 46.
 pub const MAGIC: u32 = 0x464C_457F;
 
 const HEADER_SIZE: usize = 64;
-// Three program headers of 56 bytes stand right behind the header.
+// Three program headers of 56 bytes stand right behind the header: of the text, the region and private memory.
 const HEADERS_SIZE: usize = 232;
+
+const TEXT_HEADER: usize = 64;
+
+const REGION_HEADER: usize = 120;
+
+const PRIVATE_HEADER: usize = 176;
 // Six section headers of 64 bytes.
 const SECTIONS_SIZE: u64 = 384;
+
+// The fields of the header, Elf64_Ehdr, behind e_ident.
+const E_TYPE: usize = 16;
+
+const E_MACHINE: usize = 18;
+
+const E_VERSION: usize = 20;
+
+const E_ENTRY: usize = 24;
+
+const E_PHOFF: usize = 32;
+
+const E_SHOFF: usize = 40;
+
+const E_FLAGS: usize = 48;
+
+const E_EHSIZE: usize = 52;
+
+const E_PHENTSIZE: usize = 54;
+
+const E_PHNUM: usize = 56;
+
+const E_SHENTSIZE: usize = 58;
+
+const E_SHNUM: usize = 60;
+
+const E_SHSTRNDX: usize = 62;
+
+const ET_EXEC: u64 = 2;
+
+const EM_RISCV: u64 = 243;
+
+const EV_CURRENT: u64 = 1;
+
+// The fields of a program header, Elf64_Phdr.
+const P_TYPE: usize = 0;
+
+const P_FLAGS: usize = 4;
+
+const P_OFFSET: usize = 8;
+
+const P_VADDR: usize = 16;
+
+const P_PADDR: usize = 24;
+
+const P_FILESZ: usize = 32;
+
+const P_MEMSZ: usize = 40;
+
+const P_ALIGN: usize = 48;
+
+const PT_LOAD: u64 = 1;
+// PF_R with PF_X, and PF_R with PF_W.
+const READ_EXECUTE: u32 = 5;
+
+const READ_WRITE: u32 = 6;
 
 /// The fields of a section header that do not depend on the file.
 #[derive(Clone, Copy)]
@@ -42,19 +104,19 @@ fn check_header(bytes: &[u8]) -> Result<(), ImageError>
     ensures { Says result (bad_header bytes.now) }
 {
     check_identification(bytes)?;
-    check_u16(bytes, 0, 16, Rule::Is(2))?;
-    check_u16(bytes, 0, 18, Rule::Is(243))?;
-    check_u32(bytes, 0, 20, Rule::Is(1))?;
-    check_u64(bytes, 0, 24, Rule::Is(0))?;
-    check_u64(bytes, 0, 32, Rule::Is(64))?;
-    check_u64(bytes, 0, 40, Rule::Any)?;
-    check_u32(bytes, 0, 48, Rule::Is(0))?;
-    check_u16(bytes, 0, 52, Rule::Is(64))?;
-    check_u16(bytes, 0, 54, Rule::Is(56))?;
-    check_u16(bytes, 0, 56, Rule::Is(3))?;
-    check_u16(bytes, 0, 58, Rule::Is(64))?;
-    check_u16(bytes, 0, 60, Rule::Is(6))?;
-    check_u16(bytes, 0, 62, Rule::Is(5))
+    check_u16(bytes, 0, E_TYPE, Rule::Is(ET_EXEC))?;
+    check_u16(bytes, 0, E_MACHINE, Rule::Is(EM_RISCV))?;
+    check_u32(bytes, 0, E_VERSION, Rule::Is(EV_CURRENT))?;
+    check_u64(bytes, 0, E_ENTRY, Rule::Is(0))?;
+    check_u64(bytes, 0, E_PHOFF, Rule::Is(64))?;
+    check_u64(bytes, 0, E_SHOFF, Rule::Any)?;
+    check_u32(bytes, 0, E_FLAGS, Rule::Is(0))?;
+    check_u16(bytes, 0, E_EHSIZE, Rule::Is(64))?;
+    check_u16(bytes, 0, E_PHENTSIZE, Rule::Is(56))?;
+    check_u16(bytes, 0, E_PHNUM, Rule::Is(3))?;
+    check_u16(bytes, 0, E_SHENTSIZE, Rule::Is(64))?;
+    check_u16(bytes, 0, E_SHNUM, Rule::Is(6))?;
+    check_u16(bytes, 0, E_SHSTRNDX, Rule::Is(5))
 }
 
 fn check_identification(bytes: &[u8]) -> Result<(), ImageError>
@@ -88,14 +150,14 @@ fn check_segment(
     requires { header + 56 ≤ length bytes.now }
     ensures { Says result (bad_fields bytes.now header (segment_fields flags address in_file in_memory)) }
 {
-    check_u32(bytes, header, 0, Rule::Is(1))?;
-    check_u32(bytes, header, 4, Rule::Is(u64::from(flags)))?;
-    check_u64(bytes, header, 8, Rule::Any)?;
-    check_u64(bytes, header, 16, Rule::Is(address))?;
-    check_u64(bytes, header, 24, Rule::Is(address))?;
-    check_u64(bytes, header, 32, in_file)?;
-    check_u64(bytes, header, 40, in_memory)?;
-    check_u64(bytes, header, 48, Rule::Is(1))
+    check_u32(bytes, header, P_TYPE, Rule::Is(PT_LOAD))?;
+    check_u32(bytes, header, P_FLAGS, Rule::Is(u64::from(flags)))?;
+    check_u64(bytes, header, P_OFFSET, Rule::Any)?;
+    check_u64(bytes, header, P_VADDR, Rule::Is(address))?;
+    check_u64(bytes, header, P_PADDR, Rule::Is(address))?;
+    check_u64(bytes, header, P_FILESZ, in_file)?;
+    check_u64(bytes, header, P_MEMSZ, in_memory)?;
+    check_u64(bytes, header, P_ALIGN, Rule::Is(1))
 }
 
 #[tactic(auto, unfolding(crate::specs::Tests::bad_segments))]
@@ -103,31 +165,32 @@ fn check_segments(bytes: &[u8]) -> Result<(), ImageError>
     requires { 232 ≤ length bytes.now }
     ensures { Says result (bad_segments bytes.now) }
 {
-    let text_size = u64_at(bytes, 96);
-    let memory = u64_at(bytes, 160);
+    let text_size = u64_at(bytes, TEXT_HEADER + P_FILESZ);
+    let memory = u64_at(bytes, REGION_HEADER + P_MEMSZ);
+    let entries = u64_at(bytes, PRIVATE_HEADER + P_FILESZ);
     check_segment(
         bytes,
-        64,
-        5,
+        TEXT_HEADER,
+        READ_EXECUTE,
         TEXT_ADDRESS,
         Rule::Multiple(4, 0, u64::MAX),
         Rule::Is(text_size),
     )?;
     check_segment(
         bytes,
-        120,
-        6,
+        REGION_HEADER,
+        READ_WRITE,
         REGION_ADDRESS,
         Rule::Between(0, memory / 2),
         Rule::Multiple(Limits::MEMORY_UNIT, Limits::MIN_MEMORY, Limits::MAX_MEMORY),
     )?;
     check_segment(
         bytes,
-        176,
-        6,
+        PRIVATE_HEADER,
+        READ_WRITE,
         PRIVATE_ADDRESS,
-        Rule::Is(0),
-        Rule::Multiple(512, 0, MAX_PRIVATE),
+        Rule::Multiple(16, 0, 16 * MAX_ENTRIES),
+        Rule::Beyond(entries, 512, MAX_PRIVATE),
     )
 }
 
@@ -249,6 +312,14 @@ fn part_at(bytes: &[u8], offset: usize, size: usize) -> Part
     }
 }
 
+// The part that the program header at `header` loads.
+fn segment_at(bytes: &[u8], header: usize) -> Part
+    requires { header + 56 ≤ length bytes.now }
+    ensures { result ≡ part_at bytes.now (header + 8) (header + 32) }
+{
+    part_at(bytes, header + P_OFFSET, header + P_FILESZ)
+}
+
 #[tactic(auto, unfolding(crate::specs::Layout::layout_of))]
 fn layout_with(bytes: &[u8], table: usize) -> Layout
     requires headers { 232 ≤ length bytes.now }
@@ -256,12 +327,14 @@ fn layout_with(bytes: &[u8], table: usize) -> Layout
     requires table { table ≡ u64_at bytes.now 40 }
     ensures { result ≡ layout_of bytes.now }
 {
+    let entries = segment_at(bytes, PRIVATE_HEADER);
     Layout {
         sections: table as u64,
-        text: part_at(bytes, 72, 96),
-        statics: part_at(bytes, 128, 152),
-        memory: u64_at(bytes, 160),
-        private: u64_at(bytes, 216),
+        text: segment_at(bytes, TEXT_HEADER),
+        statics: segment_at(bytes, REGION_HEADER),
+        entries,
+        memory: u64_at(bytes, REGION_HEADER + P_MEMSZ),
+        private: u64_at(bytes, PRIVATE_HEADER + P_MEMSZ).saturating_sub(entries.size),
         terra: part_at(bytes, table + 216, table + 224),
         symtab: part_at(bytes, table + 280, table + 288),
         strtab: part_at(bytes, table + 344, table + 352),
@@ -286,7 +359,7 @@ pub fn read_layout(bytes: &[u8]) -> Result<Layout, ImageError>
     }
     check_segments(bytes)?;
     let table = Part {
-        offset: u64_at(bytes, 40),
+        offset: u64_at(bytes, E_SHOFF),
         size: SECTIONS_SIZE,
     };
     if !is_within(table, bytes.len()) {

@@ -8,6 +8,18 @@ use tl_base::{Bytes, List};
 /// The instruction words of the text, in order of their addresses.
 pub type Words = List<u32>;
 
+/// A function that stands as a value: the first entry of an image is the value 1, the next one 2, and so on.
+#[derive(Clone, Copy)]
+pub struct Entry {
+    /// Where a call by value enters it: a multiple of 4 in the text.
+    pub address: u64,
+    /// Which parameter types and which result type it has: a number from 1 to that of entries, the same for entries with the same types.
+    pub signature: u64,
+}
+
+/// The functions of an image that stand as values, in order of these.
+pub type Entries = List<Entry>;
+
 /// A function that can be called from outside.
 #[derive(Drop)]
 pub struct Symbol {
@@ -32,11 +44,13 @@ pub struct Image {
     pub text: Words,
     /// The bytes with which the region begins, at address 0x40000000.
     pub statics: Bytes,
+    /// The functions that stand as values, with which the private memory begins: at most 131,072, of 16 bytes each.
+    pub entries: Entries,
     /// Bytes of the region: a multiple of 1,024 from 65,536 to 67,108,864.
     pub memory: u64,
     /// The address at which the heap begins: the first multiple of 16 at or after the end of the static bytes.
     pub heap: u64,
-    /// Bytes of the private memory, which begins at 0x100000000: a multiple of 512, at most 603,979,776.
+    /// Bytes of the private memory, which begins at 0x100000000, beyond its entries: a multiple of 512, at most 603,979,776.
     pub private: u64,
     /// The functions that can be called, each with a name of its own.
     pub exports: Symbols,

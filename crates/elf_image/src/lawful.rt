@@ -5,15 +5,15 @@ ghost use Rattle.std.specs.List.{list_all};
 ghost use Rattle.elf_image.specs.Fields.{allows};
 ghost use Rattle.elf_image.specs.Layout.{heap_start, memory_rule, private_rule};
 ghost use Rattle.elf_image.specs.Exports.{param_rule, names_differ};
-ghost use Rattle.elf_image.specs.Lawful.{IsLawful, is_name, is_lawful_symbol, names_fit};
+ghost use Rattle.elf_image.specs.Lawful.{IsLawful, is_name, is_lawful_symbol, is_lawful_entry, names_fit};
 
 use crate::exports::is_in_text;
-use crate::image::{Image, Symbol};
+use crate::image::{Entry, Image, Symbol};
 use crate::names::have_own_names;
 use crate::rule::Rule;
 use crate::tables::heap_start;
 use tl_base::Limits;
-use tl_base::limits::{MAX_NAME_BYTES, MAX_PARAMETERS, MAX_PRIVATE};
+use tl_base::limits::{MAX_ENTRIES, MAX_NAME_BYTES, MAX_PARAMETERS, MAX_PRIVATE};
 
 // The names of more exports or longer ones would begin past what a field of four bytes can say.
 const LIMIT: u64 = 1 << 32;
@@ -75,6 +75,29 @@ fn are_lawful_symbols(text: u64, symbols: &[Symbol]) -> bool
     symbols.iter().all(|symbol| is_lawful_symbol(text, symbol))
 }
 
+fn is_lawful_entry(text: u64, count: u64, entry: &Entry) -> bool
+    ensures { result ≡ is_lawful_entry text count entry.now }
+{
+    is_in_text(text, entry.address) && Rule::Between(1, count).allows(entry.signature)
+}
+
+fn are_lawful_entries(text: u64, count: u64, entries: &[Entry]) -> bool
+    ensures { result ≡ list_all (is_lawful_entry text count) entries.now }
+{
+    entries
+        .iter()
+        .all(|entry| is_lawful_entry(text, count, entry))
+}
+
+// Whether the entries can stand in an image with that many bytes of text.
+fn has_lawful_entries(text: u64, entries: &[Entry]) -> bool
+    ensures { result ≡ (nat_le (length entries.now) MAX_ENTRIES
+        && list_all (is_lawful_entry text (length entries.now)) entries.now) }
+{
+    let count = entries.len() as u64;
+    count <= MAX_ENTRIES && are_lawful_entries(text, count, entries)
+}
+
 // Whether the offsets of the names fit their fields.
 fn names_fit(symbols: &[Symbol]) -> bool
     ensures { result ≡ names_fit 36 symbols.now }
@@ -109,5 +132,8 @@ pub fn is_lawful(image: &Image) -> bool
         return false;
     }
     let text = text_size(image.text.as_slice());
+    if !has_lawful_entries(text, image.entries.as_slice()) {
+        return false;
+    }
     has_lawful_exports(text, image.exports.as_slice())
 }

@@ -16,9 +16,11 @@ pub struct Layout {
     pub sections: u64,
     pub text: Part,
     pub statics: Part,
+    /// The functions that stand as values, 16 bytes each.
+    pub entries: Part,
     /// Bytes of the region.
     pub memory: u64,
-    /// Bytes of the private memory.
+    /// Bytes of the private memory beyond the entries.
     pub private: u64,
     pub terra: Part,
     pub symtab: Part,

@@ -10,7 +10,8 @@
 //! - `specs/Fields.antt`: numbers in a file, and rows of a table of fields with what each may hold
 //! - `specs/Layout.antt`: the tables of fields of the headers, and where they say that the parts lie
 //! - `specs/Exports.antt`: the records, symbols and names of the exports
-//! - `specs/Tests.antt`: the fourteen tests, and `verdict_of`, the fault of the first that fails
+//! - `specs/Entries.antt`: the functions that stand as values
+//! - `specs/Tests.antt`: the fifteen tests, and `verdict_of`, the fault of the first that fails
 //! - `specs/Loads.antt`: `Loads` and `BadBytes`, which image a file is and why it is none
 //! - `specs/Written.antt`: `bytes_of`, the file of an image
 //! - `specs/Lawful.antt`: `IsLawful`, which images have a file
@@ -23,6 +24,7 @@
 #![tactic(auto)]
 
 mod calls;
+mod entries;
 mod error;
 mod exports;
 mod fields;
@@ -41,11 +43,11 @@ mod writing;
 
 pub use calls::{result_text, word_above, word_below};
 pub use error::ImageError;
-pub use image::{Image, Symbol, Symbols, Words};
+pub use image::{Entries, Entry, Image, Symbol, Symbols, Words};
 pub use lawful::is_lawful;
 pub use laws::{
     a_name_is_one_symbols, apart_shares_no_byte, memory_is_no_fault, one_answer, written_is_tight,
     written_loads,
 };
 pub use reading::{LONGEST_IMAGE, read};
-pub use writing::write;
+pub use writing::{entry_bytes, write};

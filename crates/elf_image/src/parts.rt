@@ -1,35 +1,61 @@
 // Tests of where the parts of a file lie.
 
-ghost use Rattle.std.specs.Prelude.{◌≡◌, ◌+◌, nat_le};
+ghost use Rattle.std.specs.Prelude.{◌≡◌, ◌≢◌, ◌+◌, nat_le};
 ghost use Rattle.std.specs.List.{list_all};
 ghost use Rattle.elf_image.specs.declared.layout.Part.{Part};
-ghost use Rattle.elf_image.specs.Layout.{parts_of};
+ghost use Rattle.elf_image.specs.Layout.{part, parts_of};
 ghost use Rattle.elf_image.specs.Tests.{is_apart, are_apart, short_parts, overlapping_parts};
 ghost use Rattle.elf_image.specs.Answers.{Says};
 
 use crate::error::ImageError;
 use crate::layout::{Layout, Part};
 
-// The parts in the order of the format.
-fn parts_of(layout: &Layout) -> [Part; 7]
-    ensures { result ≡ parts_of layout.now }
+// The header with the program headers.
+const HEADERS: Part = Part {
+    offset: 0,
+    size: 232,
+};
+
+// The part of the section headers.
+fn sections_of(layout: &Layout) -> Part
+    ensures { result ≡ part layout.now.sections 384 }
 {
-    let headers = Part {
-        offset: 0,
-        size: 232,
-    };
-    let sections = Part {
+    Part {
         offset: layout.sections,
         size: 384,
-    };
+    }
+}
+
+// The parts of a file without entries, in the order of the format.
+fn parts_without_entries(layout: &Layout) -> [Part; 7]
+    requires { layout.now.entries.size ≡ 0 }
+    ensures { result ≡ parts_of layout.now }
+{
     [
-        headers,
+        HEADERS,
         layout.text,
         layout.statics,
         layout.terra,
         layout.symtab,
         layout.strtab,
-        sections,
+        sections_of(layout),
+    ]
+}
+
+// The parts of a file with entries, in the order of the format.
+fn parts_with_entries(layout: &Layout) -> [Part; 8]
+    requires { layout.now.entries.size ≢ 0 }
+    ensures { result ≡ parts_of layout.now }
+{
+    [
+        HEADERS,
+        layout.text,
+        layout.statics,
+        layout.entries,
+        layout.terra,
+        layout.symtab,
+        layout.strtab,
+        sections_of(layout),
     ]
 }
 
@@ -79,7 +105,12 @@ fn are_within(parts: &[Part], len: usize) -> bool
 pub fn check_ends(bytes: &[u8], layout: &Layout) -> Result<(), ImageError>
     ensures { Says result (short_parts layout.now bytes.now) }
 {
-    if are_within(&parts_of(layout), bytes.len()) {
+    let within = if layout.entries.size == 0 {
+        are_within(&parts_without_entries(layout), bytes.len())
+    } else {
+        are_within(&parts_with_entries(layout), bytes.len())
+    };
+    if within {
         Ok(())
     } else {
         Err(ImageError::Short)
@@ -91,7 +122,12 @@ pub fn check_ends(bytes: &[u8], layout: &Layout) -> Result<(), ImageError>
 pub fn check_overlap(layout: &Layout) -> Result<(), ImageError>
     ensures { Says result (overlapping_parts layout.now) }
 {
-    if are_apart(&parts_of(layout)) {
+    let apart = if layout.entries.size == 0 {
+        are_apart(&parts_without_entries(layout))
+    } else {
+        are_apart(&parts_with_entries(layout))
+    };
+    if apart {
         Ok(())
     } else {
         Err(ImageError::Overlap)

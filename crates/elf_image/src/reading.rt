@@ -11,11 +11,12 @@ ghost use Rattle.elf_image.specs.Loads.{words_at, image_at, Loads, BadBytes};
 ghost use Rattle.elf_image.specs.Lawful.{IsLawful};
 ghost use Rattle.elf_image.specs.Answers.{Says, Gives};
 
+use crate::entries::{check_entries, read_entries};
 use crate::error::ImageError;
 use crate::exports::read_exports;
 use crate::fields::{u32_at, u64_at};
 use crate::headers::read_layout;
-use crate::image::{Image, Symbols, Words};
+use crate::image::{Entries, Image, Symbols, Words};
 use crate::layout::{Layout, Part};
 use crate::parts::{check_ends, check_overlap};
 use crate::tables::{
@@ -71,18 +72,22 @@ fn check_behind(bytes: &[u8], layout: &Layout) -> Result<u32, ImageError>
     Ok(count)
 }
 
-#[tactic(auto, unfolding(crate::specs::Tests::verdict_of, crate::specs::Loads::image_at))]
+#[tactic(auto, unfolding(crate::specs::Tests::verdict_of, crate::specs::Tests::bad_entries, crate::specs::Loads::image_at))]
 fn read_image(alloc: Global, bytes: &[u8]) -> Result<Image, ImageError>
     ensures { Gives (λ (i : Image). i) result (verdict_of bytes.now) (image_at (layout_of bytes.now) bytes.now) }
 {
     let layout = read_layout(bytes)?;
     let count = check_behind(bytes, &layout)?;
     let exports = read_exports(alloc, bytes, &layout, count)?;
+    let first = layout.entries.offset as usize;
+    let many = layout.entries.size as usize / 16;
+    check_entries(bytes, layout.text.size, first, many)?;
     let text = layout.text.offset as usize;
     let words = read_words(alloc, bytes, text, layout.text.size as usize / 4)?;
     Ok(Image {
         text: Words::from_vec(words),
         statics: copy_part(alloc, bytes, layout.statics)?,
+        entries: Entries::from_vec(read_entries(alloc, bytes, first, many)?),
         memory: layout.memory,
         heap: u64_at(bytes, layout.terra.offset as usize + 16),
         private: layout.private,

@@ -13,6 +13,8 @@ pub enum Rule {
     Between(u64, u64),
     /// The multiples of the first from the second to the third.
     Multiple(u64, u64, u64),
+    /// The first number and a multiple of the second, which is at most the third.
+    Beyond(u64, u64, u64),
 }
 
 impl Rule {
@@ -28,6 +30,9 @@ impl Rule {
             Rule::Between(low, high) => low <= number && number <= high,
             Rule::Multiple(step, low, high) => {
                 number.is_multiple_of(step) && low <= number && number <= high
+            }
+            Rule::Beyond(base, step, most) => {
+                base <= number && (number - base).is_multiple_of(step) && number - base <= most
             }
         }
     }

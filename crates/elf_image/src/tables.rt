@@ -4,7 +4,7 @@ ghost use Rattle.std.specs.Prelude.{◌≡◌, ◌+◌, ◌*◌, ◌<◌, ◌≤
 ghost use Rattle.tl_base.specs.declared.limits.TheConstants.Limits.{MAX_MEMORY};
 ghost use Rattle.elf_image.specs.Fields.{bad_fields};
 ghost use Rattle.elf_image.specs.Exports.{export_count, code_rule, code_fields, bad_record, bad_records};
-ghost use Rattle.elf_image.specs.Layout.{heap_start};
+ghost use Rattle.elf_image.specs.Layout.{heap_start, version_of};
 ghost use Rattle.elf_image.specs.Tests.{short_tables, bad_terra, bad_counts, bad_first_symbol, bad_section_names};
 ghost use Rattle.elf_image.specs.Answers.{Says};
 
@@ -33,6 +33,13 @@ pub fn heap_start(statics: u64) -> u64
     (REGION_ADDRESS + statics).div_ceil(16) * 16
 }
 
+/// The version of a file whose entries have that many bytes.
+pub fn version_of(entries: u64) -> u32
+    ensures { result ≡ version_of entries }
+{
+    if entries == 0 { 1 } else { 2 }
+}
+
 /// Tests the first fields of `.terra`.
 #[tactic(auto, unfolding(crate::specs::Tests::bad_terra))]
 pub fn check_terra(bytes: &[u8], layout: &Layout) -> Result<(), ImageError>
@@ -41,7 +48,8 @@ pub fn check_terra(bytes: &[u8], layout: &Layout) -> Result<(), ImageError>
     ensures { Says result (bad_terra layout.now bytes.now) }
 {
     let terra = layout.terra.offset as usize;
-    check_u32(bytes, terra, 0, Rule::Is(1))?;
+    let version = version_of(layout.entries.size);
+    check_u32(bytes, terra, 0, Rule::Is(u64::from(version)))?;
     check_u32(bytes, terra, 4, Rule::Any)?;
     check_u64(bytes, terra, 8, Rule::Is(layout.memory))?;
     check_u64(bytes, terra, 16, Rule::Is(heap_start(layout.statics.size)))?;

@@ -1,20 +1,21 @@
 // Writing an image.
 
-ghost use Rattle.std.specs.Prelude.{◌≡◌, ◌+◌, ◌++◌, ◌<◌, ◌≤◌, ◌^◌, length, IfOk, OnOk, IsTrue};
+ghost use Rattle.std.specs.Prelude.{◌≡◌, ◌+◌, ◌*◌, ◌++◌, ◌<◌, ◌≤◌, ◌^◌, length, IfOk, OnOk, IsTrue};
 ghost use Rattle.std.specs.List.{list_all};
 ghost use Rattle.elf_image.specs.declared.image.Symbol.{Symbol};
 ghost use Rattle.elf_image.specs.Lawful.{IsLawful, is_lawful_symbol, names_fit};
 ghost use Rattle.elf_image.specs.Written.{names_size, layout_for, file_size, header_bytes, segment_bytes, segments_bytes, codes_bytes};
 ghost use Rattle.elf_image.specs.Written.{record_bytes, records_bytes, terra_bytes, symbol_bytes, symbols_bytes, names_bytes, symtab_bytes};
-ghost use Rattle.elf_image.specs.Written.{strtab_bytes, section_bytes, sections_bytes, bytes_of};
+ghost use Rattle.elf_image.specs.Written.{strtab_bytes, section_bytes, sections_bytes, entries_bytes, bytes_of};
 
 use crate::headers::{DATA, MAGIC, NULL, STRTAB, SYMTAB, Section, TERRA, TEXT};
-use crate::image::{Image, Symbol};
+use crate::image::{Entry, Image, Symbol};
 use crate::layout::{Layout, Part};
 use crate::putting::{Number, put_numbers, put_words};
+use crate::tables::version_of;
 use std::alloc::{AllocError, Global};
 use tl_base::NoMemory;
-use tl_base::limits::{PRIVATE_ADDRESS, REGION_ADDRESS, TEXT_ADDRESS};
+use tl_base::limits::{MAX_ENTRIES, PRIVATE_ADDRESS, REGION_ADDRESS, TEXT_ADDRESS};
 
 // The bytes of the names, with a zero byte behind each.
 fn names_size(symbols: &[Symbol]) -> u64
@@ -47,19 +48,21 @@ fn layout_for(image: &Image) -> Layout
     ensures { result ≡ layout_for image.now }
 {
     let exports = image.exports.as_slice();
-    let entries = 24 * exports.len() as u64;
+    let records = 24 * exports.len() as u64;
     let text = Part {
         offset: 232,
         size: 4 * image.text.as_slice().len() as u64,
     };
     let statics = part_behind(text, image.statics.as_slice().len() as u64);
-    let terra = part_behind(statics, 32 + entries);
-    let symtab = part_behind(terra, 24 + entries);
+    let entries = part_behind(statics, 16 * image.entries.as_slice().len() as u64);
+    let terra = part_behind(entries, 32 + records);
+    let symtab = part_behind(terra, 24 + records);
     let strtab = part_behind(symtab, 36 + names_size(exports));
     Layout {
         sections: strtab.offset + strtab.size,
         text,
         statics,
+        entries,
         memory: image.memory,
         private: image.private,
         terra,
@@ -133,13 +136,36 @@ fn put_segment(
 
 #[tactic(auto, unfolding(crate::specs::Written::segments_bytes))]
 fn put_segments(out: &mut Vec<u8>, layout: &Layout) -> Result<(), AllocError>
-    requires { layout.now.statics.offset + layout.now.statics.size < 2 ^ 64 }
+    requires { layout.now.entries.size + layout.now.private < 2 ^ 64 }
     ensures { OnOk result (out.new.items ≡ out.old.items ++ segments_bytes layout.now) }
 {
-    let own = part_behind(layout.statics, 0);
+    let own = layout.entries.size + layout.private;
     put_segment(out, 5, TEXT_ADDRESS, layout.text, layout.text.size)?;
     put_segment(out, 6, REGION_ADDRESS, layout.statics, layout.memory)?;
-    put_segment(out, 6, PRIVATE_ADDRESS, own, layout.private)
+    put_segment(out, 6, PRIVATE_ADDRESS, layout.entries, own)
+}
+
+fn put_entries(out: &mut Vec<u8>, entries: &[Entry]) -> Result<(), AllocError>
+    ensures { OnOk result (out.new.items ≡ out.old.items ++ entries_bytes entries.now) }
+{
+    for entry in entries {
+        put_numbers(
+            out,
+            &[Number::U64(entry.address), Number::U64(entry.signature)],
+        )?;
+    }
+    Ok(())
+}
+
+/// The bytes of entries, with which private memory begins.
+pub fn entry_bytes(alloc: Global, entries: &[Entry]) -> Result<Vec<u8>, NoMemory>
+    requires { length entries.now ≤ MAX_ENTRIES }
+    ensures bytes { IfOk result (λ bytes. bytes.items ≡ entries_bytes entries.now) }
+    ensures size { IfOk result (λ bytes. length bytes.items ≡ 16 * length entries.now) }
+{
+    let mut out = Vec::with_capacity(alloc, 16 * entries.len())?;
+    put_entries(&mut out, entries)?;
+    Ok(out)
 }
 
 // Adds the eight type codes of a record.
@@ -210,10 +236,11 @@ fn put_terra(out: &mut Vec<u8>, image: &Image) -> Result<(), AllocError>
     ensures { OnOk result (out.new.items ≡ out.old.items ++ terra_bytes image.now) }
 {
     let exports = image.exports.as_slice();
+    let version = version_of(16 * image.entries.as_slice().len() as u64);
     put_numbers(
         out,
         &[
-            Number::U32(1),
+            Number::U32(version),
             Number::U32(exports.len() as u32),
             Number::U64(image.memory),
             Number::U64(image.heap),
@@ -313,6 +340,7 @@ pub fn write(alloc: Global, image: &Image) -> Result<Vec<u8>, NoMemory>
     put_segments(&mut out, &layout)?;
     put_words(&mut out, image.text.as_slice())?;
     out.extend_from_slice(image.statics.as_slice())?;
+    put_entries(&mut out, image.entries.as_slice())?;
     put_terra(&mut out, image)?;
     put_symtab(&mut out, layout.text.size, exports)?;
     put_strtab(&mut out, exports)?;

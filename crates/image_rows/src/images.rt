@@ -1,7 +1,7 @@
 // Rows that make images, and images as rows show them.
 
 use crate::words::byte_of;
-use elf_image::{Image, Symbol, Symbols, Words, is_lawful, write};
+use elf_image::{Entries, Entry, Image, Symbol, Symbols, Words, is_lawful, write};
 use row_words::{hexadecimal, hexadecimal_bytes, word_at, words_of};
 use std::alloc::Global;
 use tl_base::{Bytes, NoMemory};
@@ -21,6 +21,7 @@ impl ImageRows {
             image: Image {
                 text: Words::new(alloc),
                 statics: Bytes::new(alloc),
+                entries: Entries::new(alloc),
                 memory: 0,
                 heap: 0,
                 private: 0,
@@ -29,18 +30,28 @@ impl ImageRows {
         }
     }
 
-    /// `image TEXT STATICS MEMORY HEAP PRIVATE`: an image without exports.
+    /// `image TEXT STATICS MEMORY HEAP PRIVATE`: an image without entries and exports.
     pub fn begin(&mut self, words: &[&str]) -> Result<String, NoMemory> {
         let alloc = self.alloc;
         self.image = Image {
             text: Words::from_vec(words_of(alloc, word_at(words, 1))?),
             statics: Bytes::from_vec(hexadecimal_bytes(alloc, word_at(words, 2))?),
+            entries: Entries::new(alloc),
             memory: hexadecimal(word_at(words, 3)),
             heap: hexadecimal(word_at(words, 4)),
             private: hexadecimal(word_at(words, 5)),
             exports: Symbols::new(alloc),
         };
         shown(alloc, &self.image)
+    }
+
+    /// `entry ADDRESS SIGNATURE`: an entry more.
+    pub fn entry(&mut self, words: &[&str]) -> Result<String, NoMemory> {
+        self.image.entries.push(Entry {
+            address: hexadecimal(word_at(words, 1)),
+            signature: hexadecimal(word_at(words, 2)),
+        })?;
+        shown(self.alloc, &self.image)
     }
 
     /// `export NAME ADDRESS PARAMETERS RESULT`: an export more.
@@ -70,7 +81,7 @@ impl ImageRows {
     }
 }
 
-/// An image as the rows write it, its exports behind it.
+/// An image as the rows write it, its entries and exports behind it.
 pub fn shown(alloc: Global, image: &Image) -> Result<String, NoMemory> {
     let mut text = String::new(alloc);
     for word in image.text.as_slice() {
@@ -85,6 +96,11 @@ pub fn shown(alloc: Global, image: &Image) -> Result<String, NoMemory> {
     let (memory, heap, private) = (image.memory, image.heap, image.private);
     let part = format!(in alloc; " {memory:x} {heap:x} {private:x}")?;
     text.push_str(&part)?;
+    for entry in image.entries.as_slice() {
+        let (address, signature) = (entry.address, entry.signature);
+        let part = format!(in alloc; " + {address:x} {signature:x}")?;
+        text.push_str(&part)?;
+    }
     for symbol in image.exports.as_slice() {
         push_symbol(alloc, &mut text, symbol)?;
     }

@@ -47,6 +47,7 @@ fn answer(
         "each" => files.each(words),
         "fronts" => files.fronts(words),
         "image" => images.begin(words),
+        "entry" => images.entry(words),
         "export" => images.export(words),
         "lawful" => images.lawful(),
         "write" => write(alloc, files, images),

@@ -41,3 +41,17 @@ pub u64_at-requires : goal.u64_at-requires
 u64_at-requires c =
     let t = tables_passed c.args.bytes.now c.in_ok-layout.layout c.in_ok-layout.ensures.layout c.in_ok-count.ensures.says in
     omega (arith, t.parts.terra, t.terra)
+
+pub check_entries-requires : goal.check_entries-requires
+check_entries-requires c =
+    let t = tables_passed c.args.bytes.now c.in_ok-layout.layout c.in_ok-layout.ensures.layout c.in_ok-count.ensures.says in
+    λ some.
+    let inside = t.parts.entries (λ z. some (omega (arith, z))) in
+    omega (arith, inside)
+
+pub read_entries-requires : goal.read_entries-requires
+read_entries-requires c =
+    let t = tables_passed c.args.bytes.now c.in_ok-layout.layout c.in_ok-layout.ensures.layout c.in_ok-count.ensures.says in
+    λ some.
+    let inside = t.parts.entries (λ z. some (omega (arith, z))) in
+    omega (arith, inside)
