@@ -32,11 +32,13 @@ fn answer(bench: &mut Bench, words: &[&str]) -> Result<String, NoMemory> {
     let alloc = bench.alloc;
     match word_at(words, 0) {
         "word" => instructions::answer(alloc, words),
+        "entries" => bench.enter(words),
         "run" => bench.run(words),
         "load" => bench.load(words),
         "start" => bench.start(words),
         "steps" => bench.steps(words),
         "count" => bench.count(),
+        "pc" => bench.pc(),
         "register" => bench.register(words),
         "sink" => bench.sink(words),
         "taken" => bench.taken(),

@@ -3,7 +3,7 @@
 ghost use Rattle.std.specs.Prelude.{◌<◌};
 
 use crate::words::numbers_from;
-use elf_image::{Image, Symbol, Symbols, Words, is_lawful};
+use elf_image::{Entries, Entry, Image, Symbol, Symbols, Words, is_lawful};
 use row_words::{hexadecimal, word_at, words_of};
 use rv_machine::{Machine, Stop, run_image};
 use std::alloc::Global;
@@ -40,15 +40,17 @@ impl Sink for Narrow {
 pub struct Bench {
     pub alloc: Global,
     out: Narrow,
+    entries: u64,
     machine: Option<Machine>,
 }
 
 impl Bench {
-    /// A bench whose sink takes nothing.
+    /// A bench whose sink takes nothing, and whose images have no entries.
     pub fn new(alloc: Global) -> Result<Bench, NoMemory> {
         Ok(Bench {
             alloc,
             out: narrow_sink(alloc, 0, 1, Vec::new(alloc))?,
+            entries: 0,
             machine: None,
         })
     }
@@ -74,10 +76,18 @@ impl Bench {
         Ok(text)
     }
 
+    /// `entries COUNT`: how many entries each image has from here on. All have the address of the first word, and each its number among
+    /// them as its signature.
+    pub fn enter(&mut self, words: &[&str]) -> Result<String, NoMemory> {
+        let count = hexadecimal(word_at(words, 1)) & 0xf_ffff;
+        self.entries = count;
+        Ok(format!(in self.alloc; "{count:x}")?)
+    }
+
     /// `run STEPS TEXT ARGUMENT..`: how the run of an image with this text stops that begins at its first word.
     pub fn run(&mut self, words: &[&str]) -> Result<String, NoMemory> {
         let alloc = self.alloc;
-        let image = image_of(alloc, word_at(words, 2))?;
+        let image = image_of(alloc, word_at(words, 2), self.entries)?;
         let arguments = numbers_from(alloc, words, 3)?;
         if !is_lawful(&image) || arguments.len() > 8 {
             return Ok(String::from_str(alloc, "no such image")?);
@@ -96,7 +106,7 @@ impl Bench {
 
     /// `load TEXT`: the machine of an image with this text.
     pub fn load(&mut self, words: &[&str]) -> Result<String, NoMemory> {
-        let image = image_of(self.alloc, word_at(words, 1))?;
+        let image = image_of(self.alloc, word_at(words, 1), self.entries)?;
         if !is_lawful(&image) {
             return Ok(String::from_str(self.alloc, "no such image")?);
         }
@@ -138,6 +148,17 @@ impl Bench {
         }
     }
 
+    /// `pc`: the address of the machine's next instruction.
+    pub fn pc(&self) -> Result<String, NoMemory> {
+        match &self.machine {
+            Some(machine) => {
+                let address = machine.pc();
+                Ok(format!(in self.alloc; "{address:x}")?)
+            }
+            None => Ok(String::from_str(self.alloc, "no machine")?),
+        }
+    }
+
     /// `register NUMBER`: what a register of the machine holds.
     pub fn register(&self, words: &[&str]) -> Result<String, NoMemory> {
         match &self.machine {
@@ -166,8 +187,15 @@ fn count_of(word: &str) -> usize {
     (hexadecimal(word) & 0xffff) as usize
 }
 
-/// An image with this text, the static bytes, and one export at the first word.
-fn image_of(alloc: Global, text: &str) -> Result<Image, NoMemory> {
+/// An image with this text, the static bytes, so many entries, and one export at the first word.
+fn image_of(alloc: Global, text: &str, count: u64) -> Result<Image, NoMemory> {
+    let mut entries = Entries::new(alloc);
+    for i in 0..count {
+        entries.push(Entry {
+            address: TEXT_ADDRESS,
+            signature: i + 1,
+        })?;
+    }
     let mut exports = Symbols::new(alloc);
     exports.push(Symbol {
         name: Bytes::from_vec(b"f".to_vec(alloc)?),
@@ -178,6 +206,7 @@ fn image_of(alloc: Global, text: &str) -> Result<Image, NoMemory> {
     Ok(Image {
         text: Words::from_vec(words_of(alloc, text)?),
         statics: Bytes::from_vec(STATICS.to_vec(alloc)?),
+        entries,
         memory: 65_536,
         heap: 0x4000_0010,
         private: 512,

@@ -1,4 +1,4 @@
--- A region that begins with bytes.
+-- Memory that begins with bytes.
 use Rattle.std.proofs.Common.{◌≡◌, ◌∙◌, ap, ◌++◌, [], ◌≤◌, take, drop, replicate, length, ◌-◌, List, ℕ, length-append, append-nil, arith}
 use Rattle.std.proofs.lemmas.List.{drop-replicate, length-replicate, take_all, drop_all}
 

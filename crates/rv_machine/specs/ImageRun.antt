@@ -1,6 +1,7 @@
 -- The run of an image, its laws, and what a call that runs an image does.
 use Rattle.std.specs.Prelude.{◌≡◌, ◌≢◌, ℕ, ◌+◌, ◌-◌, ◌<◌, ◌≤◌, List, [], ◌++◌, length, replicate, Option}
 use Rattle.elf_image.specs.declared.image.Image.{Image}
+use Rattle.elf_image.specs.Written.{entries_bytes}
 use Rattle.rv_isa.specs.declared.instr.Instr.{Instr}
 use Rattle.rv_machine.specs.declared.stops.Stop.{Stop}
 use Rattle.rv_machine.specs.declared.stops.Stop.TheVariants.{Unfinished}
@@ -9,12 +10,12 @@ use Rattle.rv_machine.specs.Program.{IsProgram}
 use Rattle.rv_machine.specs.Runs.{IsBeforeWrite}
 use Rattle.tl_base.specs.Outside.{with_back}
 
--- the region of an image, which begins with its static bytes, and its private memory
+-- the region of an image, which begins with its static bytes, and its private memory, which begins with its entries
 abbrev pub region_bytes : Image → List ℕ
 region_bytes image = image.statics ++ replicate (image.memory - length image.statics) 0
 
 abbrev pub private_bytes : Image → List ℕ
-private_bytes image = replicate image.private 0
+private_bytes image = entries_bytes image.entries ++ replicate image.private 0
 
 -- the start of an image at an address with arguments
 abbrev pub image_start : Image → (address : ℕ) → (arguments : List ℕ) → State

@@ -108,10 +108,10 @@ write_call s =
     else writes_from s (place_of (length s.region) (length s.private) (s.registers 11) (s.registers 12)))
     else Faults BadCall
 
--- The call by which the program ends the run with a fault: x10 is its kind, from 1 to 5, and x11 its place in the source.
+-- The call by which the program ends the run with a fault: x10 is its kind, from 1 to 6, and x11 its place in the source.
 abbrev pub throw_call : State → Moved
 throw_call s =
-    if nat_le 1 (s.registers 10) && nat_le (s.registers 10) 5 then Throws (s.registers 10) (s.registers 11)
+    if nat_le 1 (s.registers 10) && nat_le (s.registers 10) 6 then Throws (s.registers 10) (s.registers 11)
     else Faults BadCall
 
 -- ECALL: x17 says which of the two calls it is

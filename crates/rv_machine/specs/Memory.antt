@@ -1,8 +1,8 @@
 -- Memory: where bytes lie, and what loads and stores of each width do. The region lies at 0x40000000 and private memory at
 -- 2 ^ 32; both are read and written, misaligned too. Numbers lie in them as in Terra's memory, the lowest byte first.
-use Rattle.std.specs.Prelude.{ℕ, ◌+◌, ◌-◌, ◌≤◌, nat_lt, nat_le, if◌then◌else◌, List, Option, Some, None}
+use Rattle.std.specs.Prelude.{ℕ, ◌+◌, ◌-◌, ◌*◌, ◌≤◌, nat_lt, nat_le, if◌then◌else◌, List, Option, Some, None}
 use Rattle.std.specs.Int.{w8, w16, w32, cast_signed}
-use Rattle.tl_base.specs.declared.limits.TheConstants.{REGION_ADDRESS, PRIVATE_ADDRESS}
+use Rattle.tl_base.specs.declared.limits.TheConstants.{REGION_ADDRESS, PRIVATE_ADDRESS, MAX_PRIVATE, MAX_ENTRIES}
 use Rattle.rv_isa.specs.declared.operation.LoadOp.{LoadOp}
 use Rattle.rv_isa.specs.declared.operation.LoadOp.TheVariants.{Lb, Lh, Lw, Ld, Lbu, Lhu, Lwu}
 use Rattle.rv_isa.specs.declared.operation.StoreOp.{StoreOp}
@@ -11,6 +11,10 @@ use Rattle.rv_machine.specs.declared.memory.Place.{Place}
 use Rattle.rv_machine.specs.declared.memory.Place.TheVariants.{Region, Private}
 use Rattle.terra_memory.specs.Numbers.{number_of, part}
 use Rattle.rv_machine.specs.Word.{word}
+
+-- the most bytes of private memory: those of the entries, and the frames behind them
+abbrev pub most_private : ℕ
+most_private = MAX_PRIVATE + 16 * MAX_ENTRIES
 
 -- where bytes at an address lie in an area of so many bytes that begins at `start`, if they lie wholly in it
 unfoldable pub offset_in : (start size address width : ℕ) → Option ℕ

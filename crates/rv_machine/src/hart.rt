@@ -2,8 +2,8 @@
 
 ghost use Rattle.std.specs.Prelude.{◌≡◌, ◌≢◌, ◌+◌, ◌-◌, ◌%◌, ◌<◌, ◌≤◌, length, slice_index, IfErr, OnOk, OnErr};
 ghost use Rattle.tl_base.specs.declared.limits.TheConstants.Limits.{MAX_MEMORY};
-ghost use Rattle.tl_base.specs.declared.limits.TheConstants.{MAX_PRIVATE};
 ghost use Rattle.rv_machine.specs.Word.{low, word};
+ghost use Rattle.rv_machine.specs.Memory.{most_private};
 ghost use Rattle.rv_machine.specs.Machine.{upper_word, written, start_registers};
 
 use crate::arithmetic::{
@@ -32,7 +32,7 @@ pub(crate) struct Hart {
     pub region_starts: usize,
     pub private_starts: usize,
     ghost region_fits: { length region.items ≤ MAX_MEMORY },
-    ghost private_fits: { length private.items ≤ MAX_PRIVATE },
+    ghost private_fits: { length private.items ≤ most_private },
     ghost region_within: { region_starts ≤ length region.items - 7 },
     ghost private_within: { private_starts ≤ length private.items - 7 },
     ghost zero: { slice_index registers 0 ≡ 0 },
@@ -69,7 +69,7 @@ impl Hart {
     /// A hart with this memory, which stands at 0 with registers of zero.
     pub(crate) fn new(region: Vec<u8>, private: Vec<u8>) -> Hart
         requires region { length region.items ≤ MAX_MEMORY }
-        requires private { length private.items ≤ MAX_PRIVATE }
+        requires private { length private.items ≤ most_private }
         ensures { hart_state result ≡ loaded_state region.items private.items }
     {
         let region_starts = region.len().saturating_sub(7);
@@ -268,7 +268,7 @@ impl Hart {
         ensures { IsStop result (hart_state self.now).pc (throw_call (hart_state self.now)) }
     {
         let kind = self.registers[10];
-        if 1 <= kind && kind <= 5 {
+        if 1 <= kind && kind <= 6 {
             Stop::TerraFault {
                 kind,
                 place: self.registers[11],

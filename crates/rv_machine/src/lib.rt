@@ -3,12 +3,12 @@
 //! A machine has words of text at 0x10000, which are fetched only; a region at 0x40000000 and private memory at 2^32, which are
 //! read and written, misaligned too. [`Machine::load`] takes all the memory of a run of an image, and decodes its text once.
 //! [`Machine::start`] sets the registers to those of the start, and [`Machine::run`] takes at most so many steps and says why it
-//! stopped. [`run_image`] is the three together. [`Machine::register`] and [`Machine::steps`] say what a register holds and how many steps
-//! were taken.
+//! stopped. [`run_image`] is the three together. [`Machine::pc`], [`Machine::register`] and [`Machine::steps`] say which instruction is
+//! next, what a register holds and how many steps were taken.
 //!
 //! A program ends where the program counter is 0, with x10 as its result. It has two calls, by ECALL with their number in x17: 64
 //! writes x12 bytes from x11 to the output, which x10 names by the number 1; and 1024 ends the run by a fault of its own, with its
-//! kind from 1 to 5 in x10 and its place in x11.
+//! kind from 1 to 6 in x10 and its place in x11.
 //!
 //! `specs/` has what this means. `Word` has words and their signed values; `Arithmetic` what each instruction that computes gives, and
 //! `Memory` loads and stores, in the terms of the RISC-V Unprivileged ISA manual; `Program` the instructions of a text, by the table

@@ -7,12 +7,15 @@ ghost use Rattle.rv_machine.specs.Count.{UnfinishedTakesAll, OverAfterTaken, Not
 ghost use Rattle.rv_machine.specs.Program.{IsProgram};
 ghost use Rattle.rv_machine.specs.Decoded.{found_of};
 ghost use Rattle.rv_machine.specs.Machine.{fetch};
+ghost use Rattle.rv_machine.specs.Memory.{most_private};
+ghost use Rattle.elf_image.specs.Written.{entries_bytes};
+ghost use Rattle.tl_base.specs.declared.limits.TheConstants.{MAX_ENTRIES, MAX_PRIVATE};
 
 use crate::decoded::Decoded;
 use crate::hart::Hart;
 use crate::quiet::place_at;
 use crate::stops::{MachineKind, Stop};
-use elf_image::Image;
+use elf_image::{Entry, Image, entry_bytes};
 use rv_isa::decode;
 use std::alloc::Global;
 use tl_base::{NoMemory, Sink};
@@ -38,20 +41,20 @@ impl Machine {
     ghost use Rattle.rv_machine.specs.Count.{steps_of, count_after, CountsToWrite};
     ghost use Rattle.rv_machine.specs.Shown.{program_of, heap_of, state_of, taken_of};
 
-    /// The machine of an image: its text, its region, which begins with the static bytes, and private memory of zeros. This takes
-    /// all the memory of a run.
+    /// The machine of an image: its text, its region, which begins with the static bytes, and its private memory, which begins with
+    /// the entries. What lies behind them is zero. This takes all the memory of a run.
     pub fn load(alloc: Global, image: &Image) -> Result<Machine, NoMemory>
         requires lawful { IsLawful image.now }
         ensures program { IfOk result (λ machine. IsProgram image.now.text (program_of machine)) }
         ensures heap { IfOk result (λ machine. heap_of machine ≡ image.now.heap) }
         ensures state { IfOk result (λ machine. state_of machine
             ≡ loaded_state (image.now.statics ++ replicate (image.now.memory - length image.now.statics) 0)
-            (replicate image.now.private 0)) }
+            (entries_bytes image.now.entries ++ replicate image.now.private 0)) }
         ensures taken { IfOk result (λ machine. taken_of machine ≡ 0) }
     {
         let text = decode_text(alloc, image.text.as_slice())?;
-        let region = region_of(alloc, image.memory, image.statics.as_slice())?;
-        let private = zeros(alloc, image.private)?;
+        let region = memory_of(alloc, image.memory, image.statics.as_slice())?;
+        let private = private_of(alloc, image.private, image.entries.as_slice())?;
         Ok(Machine {
             text,
             heap: image.heap,
@@ -128,6 +131,13 @@ impl Machine {
         ensures { result ≡ register_at (state_of self.now) number }
     {
         self.hart.registers[number as usize]
+    }
+
+    /// The address of the next instruction, or 0 where the run is over.
+    pub fn pc(&self) -> u64
+        ensures { result ≡ (state_of self.now).pc }
+    {
+        self.hart.pc
     }
 
     // Counts steps.
@@ -227,14 +237,25 @@ fn decode_text(alloc: Global, words: &[u32]) -> Result<Vec<Decoded>, NoMemory>
     Ok(text)
 }
 
-// A region of so many bytes that begins with these.
-fn region_of(alloc: Global, size: u64, statics: &[u8]) -> Result<Vec<u8>, NoMemory>
-    requires { length statics.now ≤ size }
-    ensures { IfOk result (λ region. region.items ≡ statics.now ++ replicate (size - length statics.now) 0) }
+// Memory of so many bytes that begins with these.
+fn memory_of(alloc: Global, size: u64, front: &[u8]) -> Result<Vec<u8>, NoMemory>
+    requires { length front.now ≤ size }
+    ensures { IfOk result (λ memory. memory.items ≡ front.now ++ replicate (size - length front.now) 0) }
 {
-    let mut region = zeros(alloc, size)?;
-    put_front(&mut region, statics);
-    Ok(region)
+    let mut memory = zeros(alloc, size)?;
+    put_front(&mut memory, front);
+    Ok(memory)
+}
+
+// Private memory: the entries, and behind them so many bytes of zero.
+fn private_of(alloc: Global, size: u64, entries: &[Entry]) -> Result<Vec<u8>, NoMemory>
+    requires size { size ≤ MAX_PRIVATE }
+    requires many { length entries.now ≤ MAX_ENTRIES }
+    ensures bytes { IfOk result (λ private. private.items ≡ entries_bytes entries.now ++ replicate size 0) }
+    ensures most { IfOk result (λ private. length private.items ≤ most_private) }
+{
+    let front = entry_bytes(alloc, entries)?;
+    memory_of(alloc, front.len() as u64 + size, &front)
 }
 
 // Puts bytes at the begin of memory.

@@ -2,10 +2,9 @@
 
 ghost use Rattle.std.specs.Prelude.{◌≡◌, ℕ, ◌+◌, ◌^◌, ◌<◌, ◌≤◌, List, length, take, IfSome};
 ghost use Rattle.tl_base.specs.declared.limits.TheConstants.Limits.{MAX_MEMORY};
-ghost use Rattle.tl_base.specs.declared.limits.TheConstants.{MAX_PRIVATE};
 ghost use Rattle.byteorder.specs.Endian.{little_number, little_bytes};
 ghost use Rattle.terra_memory.specs.Numbers.{number_of, low_bytes, overwritten, part};
-ghost use Rattle.rv_machine.specs.Memory.{offset_in, place_of, FitsIn, load_width, load_value, store_width};
+ghost use Rattle.rv_machine.specs.Memory.{most_private, offset_in, place_of, FitsIn, load_width, load_value, store_width};
 
 use rv_isa::{LoadOp, StoreOp};
 use terra_memory::number::{number_at, put_number};
@@ -26,7 +25,7 @@ pub enum Place {
 #[tactic(auto, unfolding(crate::specs::Memory::place_of, crate::specs::Memory::offset_in))]
 pub(crate) fn find_place(region: usize, private: usize, address: u64, width: u64) -> Option<Place>
     requires region { region ≤ MAX_MEMORY }
-    requires private { private ≤ MAX_PRIVATE }
+    requires private { private ≤ most_private }
     ensures place { result ≡ place_of region private address width }
     ensures within { IfSome result (FitsIn region private width) }
 {
