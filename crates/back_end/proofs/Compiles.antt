@@ -46,6 +46,7 @@ pub record IsMade (store : Contents) (functions : List Function) (linked : Linke
   pub text : IsLinkedText functions linked
   pub lawful : IsLawful image
   pub text_is : image.text ≡ linked.words.items
+  pub no_entries : image.entries ≡ []
   pub room : 512 * linked.frame ≤ image.private
   pub closed : IsClosed (all_compiled store) In
   pub same : HasSame (all_compiled store) (program_of functions []) In
@@ -73,7 +74,7 @@ module _ (store : Contents) (functions : List Function) (linked : Linked) (image
       let run = lowering_keeps_runs store (all_lowered store) made.types made.typed none-few (λ g. refl) image.memory n f k
       (map word arguments) made.memory made.half there narrow values in
       images-carried functions [] linked image f (compiled_code store k) n arguments (source n) made.selected made.sound made.text
-      made.lawful made.text_is made.room code-is args eight count
+      made.lawful made.text_is made.no_entries made.room code-is args eight count
       (subst (λ bytes. Run_of bytes n) (sym made.statics)
       (same-run (all_compiled store) (program_of functions []) In made.closed made.same (static_bytes store) image.memory n f
       (map word arguments) (source n) here

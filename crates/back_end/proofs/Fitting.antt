@@ -14,7 +14,7 @@ use Rattle.elf_image.specs.Exports.{is_in_text, names_differ, param_rule, result
 use Rattle.elf_image.specs.Fields.{allows}
 use Rattle.elf_image.specs.Layout.{heap_start, memory_rule, private_rule, text_address}
 use Rattle.elf_image.specs.Lawful.{IsLawful, is_lawful_symbol, is_name, names_fit}
-use Rattle.elf_image.proofs.LawfulLemmas.{is_lawful_from}
+use Rattle.elf_image.proofs.LawfulLemmas.{entries_test, is_lawful_from}
 use Rattle.terra_memory.specs.Region.{IsMemorySize}
 use Rattle.terra_types.specs.declared.types.TypeForm.{TypeForm}
 use Rattle.terra_types.specs.declared.types.TypeForm.TheVariants as forms
@@ -309,9 +309,10 @@ module _ (store : Contents) (exports : List Export) (functions : List Function) 
 
   pub lawful : (image : Image) → image.text ≡ linked.words.items → image.statics ≡ static_bytes store → IsMemorySize image.memory →
       length (static_bytes store) ≤ image.memory / 2 → image.heap ≡ heap_start (length image.statics) → image.private ≡ 512 * linked.frame →
+      image.entries ≡ [] →
       image.exports ≡ symbols_of store ids linked.starts.items exports → ((k : ℕ) → slice_index image.text k < 2 ^ 32) →
       ((k : ℕ) → slice_index image.statics k < 2 ^ 8) → IsLawful image
-  lawful image text_is statics_are memory half heap private symbols are_words are_bytes =
+  lawful image text_is statics_are memory half heap private none symbols are_words are_bytes =
       is_lawful_from image (small (length image.text) (words functions) long (words-few store exports functions few whole)) are_words are_bytes
       (both (allows memory_rule image.memory)
       (nat_le (2 * length image.statics) image.memory && ((image.heap == heap_start (length image.statics)) && allows private_rule image.private))
@@ -321,6 +322,7 @@ module _ (store : Contents) (exports : List Export) (functions : List Function) 
       (ap length statics_are) half))
       (both (image.heap == heap_start (length image.statics)) (allows private_rule image.private)
       (eq-eqb image.heap (heap_start (length image.statics)) heap) (room image.private linked.frame private frame-fits))))
+      (ap (entries_test (4 * length image.text)) none)
       (subst (λ n. list_all (is_lawful_symbol (4 * n)) image.exports ≡ true) (sym long)
       (subst (λ ss. list_all (is_lawful_symbol (4 * words functions)) ss ≡ true) (sym symbols)
       (symbols-lawful exports named.names outward whole.exported)))

@@ -218,7 +218,8 @@ module _ (store : Contents) (exports : List Export) (functions : List Function) 
     (types : AreTypes store.types) (typed : AreTyped store) (memory : IsMemorySize image.memory)
     (half : length (static_bytes store) ≤ image.memory / 2) (outward : AreExports store exports) (whole : AreWhole store exports functions)
     (text : IsLinkedText functions linked) (lawful : IsLawful image) (statics : image.statics ≡ static_bytes store)
-    (text_is : image.text ≡ linked.words.items) (room : image.private ≡ 512 * linked.frame) (rising : AreRising (map id_of functions))
+    (text_is : image.text ≡ linked.words.items) (no_entries : image.entries ≡ []) (room : image.private ≡ 512 * linked.frame)
+    (rising : AreRising (map id_of functions))
     (symbols : image.exports ≡ symbols_of store (map id_of functions) linked.starts.items exports) where
   abbrev ids : List FnId
   ids = map id_of functions
@@ -244,6 +245,7 @@ module _ (store : Contents) (exports : List Export) (functions : List Function) 
     text = text;
     lawful = lawful;
     text_is = text_is;
+    no_entries = no_entries;
     room = omega (arith, room);
     closed = record {
       calls = λ f code block b k to at g arguments h e i j.

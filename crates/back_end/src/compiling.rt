@@ -7,7 +7,7 @@ ghost use Rattle.back_end.specs.Compiled.{AreExports, AreFew, AreNamed, AreReady
 
 use crate::function::compile_functions;
 use crate::symbols::push_symbols;
-use elf_image::{Image, Symbols, Words};
+use elf_image::{Entries, Image, Symbols, Words};
 use rv_link::link;
 use std::alloc::Global;
 use terra_eval::static_bytes;
@@ -61,6 +61,7 @@ pub fn compile(
     Ok(Image {
         text: Words::from_vec(linked.words),
         statics: Bytes::from_vec(statics),
+        entries: Entries::new(alloc),
         memory: limits.memory,
         heap: (end + 15) / 16 * 16,
         private: MAX_CALLS * linked.frame,

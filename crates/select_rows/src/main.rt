@@ -15,7 +15,7 @@ mod functions;
 ghost use Rattle.std.specs.Prelude.{◌≤◌, length, IfOk};
 ghost use Rattle.rv_link.specs.Linked.{AreSelected, AreThere};
 
-use elf_image::{Image, Symbol, Symbols, Words, is_lawful};
+use elf_image::{Entries, Image, Symbol, Symbols, Words, is_lawful};
 use functions::program;
 use reg_alloc::{Home, assign};
 use row_words::{number_at, operator_of, word_at};
@@ -215,6 +215,7 @@ fn image_of(alloc: Global, code: Vec<u32>) -> Result<Image, NoMemory> {
     Ok(Image {
         text: Words::from_vec(code),
         statics: Bytes::new(alloc),
+        entries: Entries::new(alloc),
         memory: 65_536,
         heap: 0x4000_0000,
         private: 131_072,
