@@ -23,13 +23,13 @@ use Rattle.terrac_call.specs.Exec.{place_of}
 
 -- ---- kinds
 
--- the kind of a fault of the program is from 1 to 5
+-- the kind of a fault of the program is from 1 to 6
 abbrev IsFew : Moved → Type 0
-IsFew (Throws kind place) = kind ≤ 5
+IsFew (Throws kind place) = kind ≤ 6
 IsFew moved = Unit {0}
 
 abbrev pub IsFewStop : Stop → Type 0
-IsFewStop (stops.TerraFault kind place) = kind ≤ 5
+IsFewStop (stops.TerraFault kind place) = kind ≤ 6
 IsFewStop stop = Unit {0}
 
 few_if : (b : Bool) (x y : Moved) → (b ≡ true → IsFew x) → IsFew y → IsFew (if b then x else y)
@@ -55,10 +55,10 @@ few_call s =
     (λ _. few_if (nat_eq (s.registers 10) 1) (if nat_eq (s.registers 12) 0 then GoesOn (returned s) else writes_from s _) (Faults _)
     (λ _. few_if (nat_eq (s.registers 12) 0) (GoesOn (returned s)) (writes_from s _) (λ _. tt) (few_write s _)) tt)
     (few_if (nat_eq (s.registers 17) 1024) (throw_call s) (Faults _)
-    (λ _. few_if (nat_le 1 (s.registers 10) && nat_le (s.registers 10) 5) (Throws (s.registers 10) (s.registers 11)) (Faults _)
-    (λ is. at_most (s.registers 10) (and_parts (nat_le 1 (s.registers 10)) (nat_le (s.registers 10) 5) is).1) tt) tt)
+    (λ _. few_if (nat_le 1 (s.registers 10) && nat_le (s.registers 10) 6) (Throws (s.registers 10) (s.registers 11)) (Faults _)
+    (λ is. at_most (s.registers 10) (and_parts (nat_le 1 (s.registers 10)) (nat_le (s.registers 10) 6) is).1) tt) tt)
   where
-    at_most : (n : ℕ) → nat_le n 5 ≡ true → n ≤ 5
+    at_most : (n : ℕ) → nat_le n 6 ≡ true → n ≤ 6
     at_most n is = grind (arith, nat_tests)
 
 few_act : (i : Instr) (s : State) → IsFew (act i s)

@@ -47,13 +47,13 @@ use Rattle.terrac_call.proofs.Saying.{same_arguments, same_text}
 
 -- ---- how a run ends
 
-kind_said : (kind : TerraFault) (k : ℕ) → k ≡ fault_number kind → k ≤ 5 → fault_said kind ≡ Some (fault_kind k)
+kind_said : (kind : TerraFault) (k : ℕ) → k ≡ fault_number kind → k ≤ 6 → fault_said kind ≡ Some (fault_kind k)
 kind_said faults.BadAddress k is few = subst (λ (n : ℕ). fault_said faults.BadAddress ≡ Some (fault_kind n)) (sym is) refl
 kind_said faults.DivZero k is few = subst (λ (n : ℕ). fault_said faults.DivZero ≡ Some (fault_kind n)) (sym is) refl
 kind_said faults.StackFull k is few = subst (λ (n : ℕ). fault_said faults.StackFull ≡ Some (fault_kind n)) (sym is) refl
 kind_said faults.CallDepth k is few = subst (λ (n : ℕ). fault_said faults.CallDepth ≡ Some (fault_kind n)) (sym is) refl
 kind_said faults.NoReturn k is few = subst (λ (n : ℕ). fault_said faults.NoReturn ≡ Some (fault_kind n)) (sym is) refl
-kind_said faults.BadCall k is few = absurd (omega (arith, is, few))
+kind_said faults.BadCall k is few = subst (λ (n : ℕ). fault_said faults.BadCall ≡ Some (fault_kind n)) (sym is) refl
 
 -- what is due for how the machine stopped is what is due for how the function ended
 end_said : (types : List TypeForm) (result : TypeId) (front : List ℕ) (e : End) (out : List ℕ) (stop : Stop) → SameEnd types result e stop

@@ -15,7 +15,7 @@ use Rattle.rv_machine.specs.Machine.{Ran}
 use Rattle.rv_machine.specs.ImageRun.{RvRun}
 use Rattle.terrac_call.specs.declared.status.Status.TheVariants as statuses
 use Rattle.terrac_call.specs.declared.status.FaultKind.{FaultKind}
-use Rattle.terrac_call.specs.declared.status.FaultKind.TheVariants.{BadAddress, DivZero, StackFull, CallDepth, NoReturn}
+use Rattle.terrac_call.specs.declared.status.FaultKind.TheVariants.{BadAddress, DivZero, StackFull, CallDepth, NoReturn, BadCall}
 use Rattle.terrac_call.specs.declared.status.ImageFault.{ImageFault}
 use Rattle.terrac_call.specs.declared.status.ImageFault.TheVariants.{TooLong, Refused}
 use Rattle.terrac_call.specs.Words.{Call}
@@ -33,14 +33,15 @@ due_of_bad_image fault = refused (statuses.BadImage fault)
 
 -- ---- how a run ends
 
--- the kind of a fault of the program by its number, which is from 1 to 5
+-- the kind of a fault of the program by its number, which is from 1 to 6
 abbrev pub fault_kind : ℕ → FaultKind
 fault_kind number =
     if number == 1 then BadAddress
     else (if number == 2 then DivZero
     else (if number == 3 then StackFull
     else (if number == 4 then CallDepth
-    else NoReturn)))
+    else (if number == 5 then NoReturn
+    else BadCall))))
 
 -- the place of a fault: the line in the upper half of its word, and the number of the token on it in the lower
 abbrev pub place_of : ℕ → Place

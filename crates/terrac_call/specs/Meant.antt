@@ -17,7 +17,7 @@ use Rattle.exotype.specs.World.{StageState}
 use Rattle.check_stage.specs.declared.staging.End.TheVariants.{Done}
 use Rattle.stage_image.specs.Emitted.{defined_count}
 use Rattle.terrac_call.specs.declared.status.FaultKind.{FaultKind}
-use Rattle.terrac_call.specs.declared.status.FaultKind.TheVariants.{BadAddress, DivZero, StackFull, CallDepth, NoReturn}
+use Rattle.terrac_call.specs.declared.status.FaultKind.TheVariants.{BadAddress, DivZero, StackFull, CallDepth, NoReturn, BadCall}
 use Rattle.terrac_call.specs.declared.status.Status.TheVariants as statuses
 use Rattle.terrac_call.specs.Arguments.{Arguments, Good, Bad}
 use Rattle.terrac_call.specs.Values.{value_text, values_said}
@@ -28,14 +28,14 @@ use Rattle.terrac_call.specs.Staged.{bytes_of}
 
 -- ---- how an export ends
 
--- the kind that a line has for a fault: none for a call of a function value, as no code that calls one is compiled
+-- the kind that a line has for a fault
 abbrev pub fault_said : TerraFault → Option FaultKind
 fault_said faults.BadAddress = Some BadAddress
 fault_said faults.DivZero = Some DivZero
 fault_said faults.StackFull = Some StackFull
 fault_said faults.CallDepth = Some CallDepth
 fault_said faults.NoReturn = Some NoReturn
-fault_said faults.BadCall = None
+fault_said faults.BadCall = Some BadCall
 
 -- What is due where an export with a result of this type ends so: the line of the value, behind a text; or that of the fault, with its
 -- place in the source. An export is never stuck.

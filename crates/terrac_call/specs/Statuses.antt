@@ -64,6 +64,7 @@ fault_text faults.DivZero = codes "DivZero"
 fault_text faults.StackFull = codes "StackFull"
 fault_text faults.CallDepth = codes "CallDepth"
 fault_text faults.NoReturn = codes "NoReturn"
+fault_text faults.BadCall = codes "BadCall"
 
 abbrev pub machine_fault_text : MachineKind → List ℕ
 machine_fault_text machine.IllegalWord = codes "IllegalWord"

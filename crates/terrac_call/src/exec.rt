@@ -200,7 +200,7 @@ fn stop_due(alloc: Global, front: &str, code: u8, stop: Stop) -> Result<Due, NoM
     }
 }
 
-/// The kind of a fault by its number, which is from 1 to 5.
+/// The kind of a fault by its number, which is from 1 to 6.
 fn fault_kind(number: u64) -> FaultKind
     ensures { result ≡ fault_kind number }
 {
@@ -209,7 +209,8 @@ fn fault_kind(number: u64) -> FaultKind
         2 => FaultKind::DivZero,
         3 => FaultKind::StackFull,
         4 => FaultKind::CallDepth,
-        _ => FaultKind::NoReturn,
+        5 => FaultKind::NoReturn,
+        _ => FaultKind::BadCall,
     }
 }
 

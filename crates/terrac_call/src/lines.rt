@@ -206,6 +206,7 @@ fn fault_text(kind: FaultKind) -> &'static str
         FaultKind::StackFull => "StackFull",
         FaultKind::CallDepth => "CallDepth",
         FaultKind::NoReturn => "NoReturn",
+        FaultKind::BadCall => "BadCall",
     }
 }
 

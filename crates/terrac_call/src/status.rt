@@ -54,6 +54,8 @@ pub enum FaultKind {
     CallDepth,
     /// A function with a result ends without one.
     NoReturn,
+    /// A call by value whose value names no function of the call's types.
+    BadCall,
 }
 
 /// Why bytes are no image.

@@ -1,7 +1,7 @@
 // Rows that make images, whose numbers are hexadecimal.
 
 use crate::texts::codes_of;
-use elf_image::{Image, Symbol, Symbols, Words, is_lawful, write};
+use elf_image::{Entries, Entry, Image, Symbol, Symbols, Words, is_lawful, write};
 use row_words::{hexadecimal, word_at, words_of};
 use std::alloc::Global;
 use tl_base::{Bytes, NoMemory};
@@ -14,7 +14,7 @@ pub struct ImageRows {
 }
 
 impl ImageRows {
-    /// An image without text and exports.
+    /// An image without text, entries and exports.
     pub fn new(alloc: Global) -> ImageRows {
         ImageRows {
             alloc,
@@ -27,6 +27,15 @@ impl ImageRows {
         let text = words_of(self.alloc, word_at(words, 0))?;
         self.image = image_with(self.alloc, Words::from_vec(text));
         Ok(String::from_str(self.alloc, "begun")?)
+    }
+
+    /// `entry ADDRESS SIGNATURE`: an entry more.
+    pub fn entry(&mut self, words: &[&str]) -> Result<String, NoMemory> {
+        self.image.entries.push(Entry {
+            address: hexadecimal(word_at(words, 0)),
+            signature: hexadecimal(word_at(words, 1)),
+        })?;
+        Ok(String::from_str(self.alloc, "added")?)
     }
 
     /// `export NAME ADDRESS RESULT CODES`: an export more.
@@ -50,11 +59,12 @@ impl ImageRows {
     }
 }
 
-/// An image with this text and no exports.
+/// An image with this text, without entries and exports.
 fn image_with(alloc: Global, text: Words) -> Image {
     Image {
         text,
         statics: Bytes::new(alloc),
+        entries: Entries::new(alloc),
         memory: 1_048_576,
         heap: 0x4000_0000,
         private: 8_192,

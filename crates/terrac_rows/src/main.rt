@@ -66,6 +66,7 @@ impl Bench {
             "source" => self.sources.replace(unescaped(alloc, rest)?),
             "more" => self.sources.more(&words),
             "image" => self.images.begin(&words),
+            "entry" => self.images.entry(&words),
             "export" => self.images.export(&words),
             "file" => match self.images.file()? {
                 Some(bytes) => self.sources.replace(bytes),
