@@ -255,7 +255,7 @@ run_call f items by (values.Table t) vs place outer go passes s l =
     run_handler f (handler_at s.world t (codes "__call")) (values.Table t ∷ vs) place outer (faults.Call (kind_of
     (values.Table t))) go passes s l
 run_call f items by (values.TerraFunction x) vs place outer go passes s l =
-    run_raise f place faults.CallsTerra go passes s l
+    run_ask f (questions.Terra x vs place) go s l
 run_call f items by (values.Primitive x) vs place outer go passes s l =
     run_raise f place faults.CallsTerra go passes s l
 run_call f items by v vs place outer go passes s l = run_raise f place (faults.Call (kind_of v)) go passes s l

@@ -1,6 +1,7 @@
 -- Calls (Lua 5.1 manual, sections 2.5.8 and 2.5.9).
 use Rattle.std.specs.Prelude.{ℕ, ◌+◌, List, [], ◌∷◌, length, drop, codes, nat_lt, Option, Some, if◌then◌else◌}
 use Rattle.tl_base.specs.declared.ids.ClosureId.{ClosureId}
+use Rattle.tl_base.specs.declared.ids.FnId.{FnId}
 use Rattle.tl_base.specs.declared.limits.TheConstants.{MAX_LUA_CALLS}
 use Rattle.tl_base.specs.declared.place.Place.{Place}
 use Rattle.tl_base.specs.Plan.{Do, AskFor, Read, Write}
@@ -21,7 +22,7 @@ use Rattle.lua_model.specs.declared.job.Caller.{Caller}
 use Rattle.lua_model.specs.declared.job.Caller.TheVariants.{ByNode, ByOther}
 use Rattle.lua_model.specs.declared.end.End.{End}
 use Rattle.lua_model.specs.declared.end.End.TheVariants.{Many, Fell, Broke, Returned}
-use Rattle.lua_model.specs.declared.question.LuaQuestion.TheVariants.{Library}
+use Rattle.lua_model.specs.declared.question.LuaQuestion.TheVariants.{Library, Terra}
 use Rattle.lua_model.specs.Plans.{LuaPlan, statements, reply, raise}
 
 -- at most so many calls are in progress
@@ -93,6 +94,12 @@ abbrev pub call_library : LibFn → List Value → Place → Option Place → (E
 call_library f vs place outer go =
     deepen place (λ s. Write (deeper s) (ask_library f vs place outer (λ r. leave r go)))
 
+-- ---- Terra functions
+
+-- asks for a call of a Terra function, which is no call in progress
+abbrev pub call_terra : FnId → List Value → Place → (End → LuaPlan) → LuaPlan
+call_terra f vs place go = AskFor (Terra f vs place) (λ a. go (reply a))
+
 -- ---- any value
 
 -- a call of what is a function by a metatable's event
@@ -106,7 +113,7 @@ abbrev pub call_lua : Items → Caller → ClosureId → List Value → Place �
 call_lua items ByNode c vs place go = call_closure items c vs place go
 call_lua items ByOther c vs place go = Do (jobs.Callback c vs place) go
 
--- Calls a value. A table is called by its handler, which must be a function. Lua code can't call Terra code.
+-- Calls a value. A table is called by its handler, which must be a function. Lua code can't call Terra's primitives.
 abbrev pub call : Items → Caller → Value → List Value → Place → Option Place → (End → LuaPlan) → LuaPlan
 call items by (values.Closure c) vs place outer go = call_lua items by c vs place go
 call items by (values.Library f) vs place outer go = call_library f vs place outer go
@@ -114,6 +121,6 @@ call items by (values.Table t) vs place outer go =
     Read (λ s.
     call_handler (handler_at s t (codes "__call")) (values.Table t ∷ vs) place outer go
     (raise place (faults.Call (kind_of (values.Table t)))))
-call items by (values.TerraFunction f) vs place outer go = raise place faults.CallsTerra
+call items by (values.TerraFunction f) vs place outer go = call_terra f vs place go
 call items by (values.Primitive p) vs place outer go = raise place faults.CallsTerra
 call items by v vs place outer go = raise place (faults.Call (kind_of v))
