@@ -3,6 +3,7 @@ use Rattle.std.specs.Prelude.{◌∷◌, List, [], codes, nat_lt, Option}
 use Rattle.std.proofs.Common.{ap, ◌∙◌}
 use Rattle.tl_base.specs.declared.ids.NodeId.{NodeId}
 use Rattle.tl_base.specs.declared.ids.ClosureId.{ClosureId}
+use Rattle.tl_base.specs.declared.ids.FnId.{FnId}
 use Rattle.tl_base.specs.declared.place.Place.{Place}
 use Rattle.tl_base.specs.Plan.{Write}
 use Rattle.tl_tree.specs.Code.{Parts, function_at, statements_at}
@@ -20,10 +21,10 @@ use Rattle.lua_model.specs.declared.job.Job.TheVariants as jobs
 use Rattle.lua_model.specs.declared.job.Caller.{Caller}
 use Rattle.lua_model.specs.declared.job.Caller.TheVariants.{ByNode, ByOther}
 use Rattle.lua_model.specs.declared.end.End.{End}
-use Rattle.lua_model.specs.declared.question.LuaQuestion.TheVariants.{Library}
+use Rattle.lua_model.specs.declared.question.LuaQuestion.TheVariants.{Library, Terra}
 use Rattle.lua_model.specs.Plans.{LuaPlan, statements, reply}
 use Rattle.lua_model.specs.Calls.{most_calls, leave, deepen, called_state, called_scope, returned, call_function, call_closure}
-use Rattle.lua_model.specs.Calls.{ask_library, call_library, call_handler, call_lua, call}
+use Rattle.lua_model.specs.Calls.{ask_library, call_library, call_terra, call_handler, call_lua, call}
 use Rattle.lua_alike.proofs.PlansAlike.{Two, Same, then_same, if_same, do_same, ask_same, reading_same, writing_same, run_same, raise_same}
 
 pub leave_same : {two : Two} (r : End) {go goes : End → LuaPlan} → ((e : End) → Same two (go e) (goes e))
@@ -74,6 +75,12 @@ pub call_closure_same : {two : Two} (c : ClosureId) (vs : List Value) (place : P
     → ((r : End) → Same two (go r) (goes r)) → Same two (call_closure two.items c vs place go) (call_closure two.other c vs place goes)
 call_closure_same c vs place h = reading_same (λ s. call_function_same (closure_at s c) vs place h)
 
+-- ---- Terra functions
+
+pub call_terra_same : {two : Two} (f : FnId) (vs : List Value) (place : Place) {go goes : End → LuaPlan}
+    → ((r : End) → Same two (go r) (goes r)) → Same two (call_terra f vs place go) (call_terra f vs place goes)
+call_terra_same f vs place h = ask_same (Terra f vs place) (λ a. h (reply a))
+
 -- ---- any value
 
 pub call_handler_same : {two : Two} (v : Value) (vs : List Value) (place : Place) (outer : Option Place) {go goes : End → LuaPlan}
@@ -97,6 +104,6 @@ call_same by (values.Table t) vs place outer h =
     reading_same (λ s.
     call_handler_same (handler_at s t (codes "__call")) (values.Table t ∷ vs) place outer h
     (raise_same place (faults.Call (kind_of (values.Table t)))))
-call_same by (values.TerraFunction f) vs place outer h = raise_same place faults.CallsTerra
+call_same by (values.TerraFunction f) vs place outer h = call_terra_same f vs place h
 call_same by (values.Primitive p) vs place outer h = raise_same place faults.CallsTerra
 call_same by v vs place outer h = raise_same place (faults.Call (kind_of v))

@@ -2,6 +2,7 @@
 use Rattle.std.proofs.Common.{◌≡◌, ℕ, Bool, true, false, List, [], ◌∷◌, ◌++◌, refl, sym, ap, ◌∙◌, Option}
 use Rattle.std.specs.Prelude.{nat_lt, if◌then◌else◌}
 use Rattle.tl_base.specs.declared.ids.ClosureId.{ClosureId}
+use Rattle.tl_base.specs.declared.ids.FnId.{FnId}
 use Rattle.tl_base.specs.declared.ids.NodeId.{NodeId}
 use Rattle.tl_base.specs.declared.ids.TableId.{TableId}
 use Rattle.tl_base.specs.declared.place.Place.{Place}
@@ -184,11 +185,12 @@ call_prepared items function arguments place scope f c vs s left mid left2 found
 -- what no function is called by: the value itself, and a table's handler
 pub not_called : (items : Items) (by : Caller) (v : Value) (vs : List Value) (place : Place) (outer : Option Place) (go : End → LuaPlan)
     → ((c : ClosureId) → v ≡ values.Closure c → ⊥) → ((f : LibFn) → v ≡ values.Library f → ⊥) → ((t : TableId) → v ≡ values.Table t → ⊥)
-    → call items by v vs place outer go ≡ raise place (call_fault v)
-not_called items by (values.Closure c) vs place outer go not_closure not_library not_table = absurd (not_closure c refl)
-not_called items by (values.Library f) vs place outer go not_closure not_library not_table = absurd (not_library f refl)
-not_called items by (values.Table t) vs place outer go not_closure not_library not_table = absurd (not_table t refl)
-not_called items by v vs place outer go not_closure not_library not_table = refl
+    → ((f : FnId) → v ≡ values.TerraFunction f → ⊥) → call items by v vs place outer go ≡ raise place (call_fault v)
+not_called items by (values.Closure c) vs place outer go not_closure not_library not_table not_terra = absurd (not_closure c refl)
+not_called items by (values.Library f) vs place outer go not_closure not_library not_table not_terra = absurd (not_library f refl)
+not_called items by (values.Table t) vs place outer go not_closure not_library not_table not_terra = absurd (not_table t refl)
+not_called items by (values.TerraFunction f) vs place outer go not_closure not_library not_table not_terra = absurd (not_terra f refl)
+not_called items by v vs place outer go not_closure not_library not_table not_terra = refl
 
 pub not_handled : (v : Value) (vs : List Value) (place : Place) (outer : Option Place) (go : End → LuaPlan) (otherwise : LuaPlan)
     → ((c : ClosureId) → v ≡ values.Closure c → ⊥) → ((f : LibFn) → v ≡ values.Library f → ⊥)

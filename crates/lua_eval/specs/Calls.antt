@@ -37,8 +37,7 @@ entered_scope method names variadic c vs place s =
       call = Some place;
     }
 
--- what the call of a value raises that is no function and no table
+-- what the call of a value raises that is no function of the source or the library and no table
 abbrev pub call_fault : Value → Fault
-call_fault (values.TerraFunction f) = CallsTerra
 call_fault (values.Primitive p) = CallsTerra
 call_fault v = Call (kind_of v)

@@ -228,12 +228,13 @@ fn call_handler<'a>(
     }
 }
 
-/// What the call of a value raises that is no function and no table. Lua code can't call Terra code.
+/// What the call of a value raises that is no function of the source or the library and no table. Lua code can't call Terra's
+/// primitives.
 fn call_fault(function: &Value) -> Fault
     ensures { result ≡ call_fault function.now }
 {
     match function {
-        Value::TerraFunction(_) | Value::Primitive(_) => Fault::CallsTerra,
+        Value::Primitive(_) => Fault::CallsTerra,
         _ => Fault::Call(function.kind()),
     }
 }
@@ -279,6 +280,9 @@ pub fn call<'a>(
             let args = with_first(heap.allocator(), function, args.as_slice())?;
             let step = call_handler(frames, heap, budget, handler, args, place, outer)?;
             Ok(step)
+        }
+        Value::TerraFunction(function) => {
+            Ok(Step::Stop(LuaQuestion::Terra(function, args, place)))
         }
         _ => {
             let step = raise(heap, budget, place, call_fault(&function))?;

@@ -44,6 +44,6 @@ returns-in_ok-step-in_default-clause-means c =
     let fs = a.frames.now.items in
     moved items fs fs (call items a.by a.function a.args a.place a.outer Give) (raise a.place c.call_fault.result)
     a.heap.now a.heap.now c.raise.new.heap a.budget.now c.raise.new.budget c.in_ok-step-in_default.step
-    (not_called items a.by a.function a.args a.place a.outer Give d.not-Closure d.not-Library d.not-Table
+    (not_called items a.by a.function a.args a.place a.outer Give d.not-Closure d.not-Library d.not-Table d.not-TerraFunction
     ∙ ap (λ (f : Fault). raise a.place f) (sym c.call_fault.ensures)) refl
     (c.in_ok-step-in_default.ensures.means items fs)
