@@ -3,7 +3,7 @@ use Rattle.std.proofs.Common.{◌≡◌, ℕ, zero, suc, ◌+◌, ◌≤◌, Boo
 use Rattle.std.proofs.Common.{List, [], ◌∷◌, ◌++◌, length, Option, Some, None}
 use Rattle.std.specs.Prelude.{nat_lt}
 use Rattle.tl_base.specs.Layer.{State, at}
-use Rattle.stage_form.specs.Stage.{Final, Finished, Exhausted, staged}
+use Rattle.stage_form.specs.Stage.{Final, Finished, Exhausted}
 use Rattle.stage_form.proofs.Reaching.{fed-more}
 use Rattle.tl_tree.specs.Code.{Items}
 use Rattle.spec_model.specs.Making.{is_undefined}
@@ -13,16 +13,17 @@ use Rattle.check_stage.specs.declared.jobs.Job.TheVariants as jobs
 use Rattle.check_stage.specs.declared.jobs.JobEnd.{JobEnd}
 use Rattle.check_stage.specs.declared.jobs.JobEnd.TheVariants as ends
 use Rattle.check_stage.specs.declared.staging.CheckLine.{CheckLine}
-use Rattle.check_stage.specs.Layers.{check_stage}
+use Rattle.check_stage.specs.declared.jobs.Asked.TheVariants as asked
+use Rattle.check_stage.specs.Layers.{check_stage, job_staged}
 use Rattle.check_stage.specs.Staging.{Checked, checked_with, after_check, checks, line_of}
 
 -- ---- at a larger n
 
 -- what a job comes to, it comes to at each larger n
 pub staged-more : (items : Items) (n m : ℕ) (job : Job) (s : State TypingState) (out : Final TypingState JobEnd)
-    → staged (check_stage items) n job s ≡ Some out → n ≤ m → staged (check_stage items) m job s ≡ Some out
+    → job_staged items n job s ≡ Some out → n ≤ m → job_staged items m job s ≡ Some out
 staged-more items n m job s out is more =
-    let stage = check_stage items in fed-more stage n m (stage.meaning job) (at stage.go s) out is more
+    let stage = check_stage items in fed-more stage n m (stage.meaning (asked.Job job)) (at stage.go s) out is more
 
 choose-more : {A : Type 0} (b : Bool) (x x' y y' : Option A) (out : A) → (x ≡ Some out → x' ≡ Some out)
     → (y ≡ Some out → y' ≡ Some out) → (if b then x else y) ≡ Some out → (if b then x' else y') ≡ Some out
@@ -43,7 +44,7 @@ following items n i lines end next = checks items n (i + 1) (lines ++ line_of (r
 
 -- one function is checked, and the next ones follow
 abbrev checked : Items → ℕ → ℕ → List CheckLine → State TypingState → Option (Final TypingState Checked)
-checked items n i lines s = after_check (staged (check_stage items) n (jobs.Check (record { 0 = i })) s) (following items n i lines)
+checked items n i lines s = after_check (job_staged items n (jobs.Check (record { 0 = i })) s) (following items n i lines)
 
 -- the same unless it isn't defined
 abbrev one : Items → ℕ → ℕ → List CheckLine → State TypingState → Option (Final TypingState Checked)
@@ -67,7 +68,7 @@ checks-more items (suc n) (suc m) i lines s out is more =
     (choose-more (is_undefined s.world.stage (record { 0 = i })) (checks items n (i + 1) lines s) (checks items m (i + 1) lines s)
     (checked items n i lines s) (checked items m i lines s) out
     (λ k. checks-more items n m (i + 1) lines s out k left)
-    (after-more (staged (check_stage items) n job s) (staged (check_stage items) m job s) (following items n i lines)
+    (after-more (job_staged items n job s) (job_staged items m job s) (following items n i lines)
     (following items m i lines) (λ o k. staged-more items n m job s o k left)
     (λ e next o k. checks-more items n m (i + 1) (lines ++ line_of (record { 0 = i }) e ∷ []) next o k left) out))
     (λ k. k) is
@@ -116,7 +117,7 @@ checks_passed items i lines s out within undefined rest = record {
 pub checks_checked : (items : Items) (i k : ℕ) (lines : List CheckLine) (s next : State TypingState) (end : JobEnd)
     (out : Final TypingState Checked)
     → nat_lt i (length s.world.stage.store.functions) ≡ true → is_undefined s.world.stage (record { 0 = i }) ≡ false
-    → staged (check_stage items) k (jobs.Check (record { 0 = i })) s ≡ Some (Finished end next)
+    → job_staged items k (jobs.Check (record { 0 = i })) s ≡ Some (Finished end next)
     → ChecksTo items (i + 1) (lines ++ line_of (record { 0 = i }) end ∷ []) next out → ChecksTo items i lines s out
 unfolding checks
 checks_checked items i k lines s next end out within defined check rest =
@@ -135,7 +136,7 @@ checks_checked items i k lines s next end out within defined check rest =
 -- or units lack
 pub checks_spent : (items : Items) (i k : ℕ) (lines : List CheckLine) (s next : State TypingState)
     → nat_lt i (length s.world.stage.store.functions) ≡ true → is_undefined s.world.stage (record { 0 = i }) ≡ false
-    → staged (check_stage items) k (jobs.Check (record { 0 = i })) s ≡ Some (Exhausted next)
+    → job_staged items k (jobs.Check (record { 0 = i })) s ≡ Some (Exhausted next)
     → ChecksTo items i lines s (Exhausted next)
 unfolding checks
 checks_spent items i k lines s next within defined check = record {

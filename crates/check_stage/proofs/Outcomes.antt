@@ -4,7 +4,7 @@ use Rattle.tl_base.specs.declared.place.Place.{Place}
 use Rattle.tl_base.specs.Layer.{State, state}
 use Rattle.stage_form.specs.declared.staging.Outcome.{Outcome as Staging}
 use Rattle.stage_form.specs.declared.staging.Outcome.TheVariants as stagings
-use Rattle.stage_form.specs.Stage.{Final, Finished, final_of, staged}
+use Rattle.stage_form.specs.Stage.{Final, Finished, final_of}
 use Rattle.tl_tree.specs.Code.{Items}
 use Rattle.check_model.specs.Typing.{TypingState}
 use Rattle.check_stage.specs.declared.jobs.Job.{Job}
@@ -14,7 +14,7 @@ use Rattle.check_stage.specs.declared.jobs.JobEnd.TheVariants as ends
 use Rattle.check_stage.specs.declared.staging.CheckLine.{CheckLine}
 use Rattle.check_stage.specs.declared.staging.Mode.{Mode}
 use Rattle.check_stage.specs.declared.staging.Mode.TheVariants.{Exports, CheckAll}
-use Rattle.check_stage.specs.Layers.{check_stage}
+use Rattle.check_stage.specs.Layers.{job_staged}
 use Rattle.check_stage.specs.Staging.{Checked, checked_with, checked_final, after_check, exported, by_mode, checks}
 use Rattle.check_stage.specs.Staging.{Ending, ending, ending_of, ending_if_any, end_in, gave_values, lines_in}
 use Rattle.check_stage.proofs.Checking.{staged-more, after-more, checks-more}
@@ -63,8 +63,8 @@ ending_by stagings.Spent lines w left = refl
 
 pub joined : (items : Items) (place : Place) (mode : Mode) (n m : ℕ) (job : Job) (s : State TypingState)
     (chunk : Final TypingState JobEnd) (final : Final TypingState Checked)
-    → staged (check_stage items) n job s ≡ Some chunk → after_check (Some chunk) (by_mode mode items m place) ≡ Some final
-    → ending_if_any (after_check (staged (check_stage items) (n + m) job s) (by_mode mode items (n + m) place)) ≡ Some (ending_of final)
+    → job_staged items n job s ≡ Some chunk → after_check (Some chunk) (by_mode mode items m place) ≡ Some final
+    → ending_if_any (after_check (job_staged items (n + m) job s) (by_mode mode items (n + m) place)) ≡ Some (ending_of final)
 joined items place mode n m job s chunk final ran ended =
     ap (λ (o : Option (Final TypingState JobEnd)). ending_if_any (after_check o (by_mode mode items (n + m) place)))
     (staged-more items n (n + m) job s chunk ran (omega arith))
@@ -96,7 +96,7 @@ exports_final stagings.Spent s = refl
 
 -- behind another one come its exports
 pub exports_behind : (items : Items) (n : ℕ) (place : Place) (chunk : Staging JobEnd) (s : State TypingState) (it : Staging JobEnd)
-    (next : State TypingState) → gave_values chunk ≡ true → staged (check_stage items) n (jobs.Export place) s ≡ Some (final_of it next)
+    (next : State TypingState) → gave_values chunk ≡ true → job_staged items n (jobs.Export place) s ≡ Some (final_of it next)
     → after_check (Some (final_of chunk s)) (by_mode Exports items n place) ≡ Some (checked_final [] (final_of it next))
 exports_behind items n place (stagings.Ends (ends.Values vs)) s it next gave ran =
     let go : JobEnd → State TypingState → Option (Final TypingState Checked) = λ e last. Some (Finished (checked_with e []) last) in

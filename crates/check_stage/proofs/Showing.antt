@@ -16,10 +16,7 @@ use Rattle.check_model.specs.Bodies.{body}
 use Rattle.check_expr.specs.declared.body.Body.{Body}
 use Rattle.check_expr.specs.Rest.{body_rest}
 use Rattle.check_library.specs.declared.ask.AskTurn.TheVariants as asks
-use Rattle.terra_stage.specs.Layers.{turn_within}
 use Rattle.check_stage.specs.Asking.{asking_seen, end_seen}
-use Rattle.check_stage.specs.Layers.{asking_fitting}
-use Rattle.check_stage.specs.declared.jobs.Job.{Job}
 use Rattle.check_stage.specs.declared.jobs.JobEnd.{JobEnd}
 use Rattle.check_stage.specs.declared.results.ResultOf.{ResultOf}
 use Rattle.check_stage.specs.declared.results.ResultOf.TheVariants as layers
@@ -68,12 +65,6 @@ pub asks_more : {Q E : Type 0} (t : Turn Q E) (H G : Q → Type 0) → ((q : Q) 
 asks_more (End e) H G more h = tt
 asks_more (Ask q) H G more h = more q h
 asks_more Spent H G more h = tt
-
--- what asks in the library stops where it stops
-pub asking_same : (t : Turn Job JobEnd) → turn_within asking_fitting t ≡ t
-asking_same (End e) = refl
-asking_same (Ask q) = refl
-asking_same Spent = refl
 
 -- ---- result types
 

@@ -17,17 +17,17 @@ use Rattle.check_stage.specs.declared.jobs.Job.{Job}
 use Rattle.check_stage.specs.declared.jobs.Job.TheVariants as jobs
 use Rattle.check_stage.specs.declared.jobs.JobEnd.{JobEnd}
 use Rattle.check_stage.specs.declared.jobs.JobEnd.TheVariants as ends
-use Rattle.check_stage.specs.declared.asking.Asked.{Asked}
-use Rattle.check_stage.specs.declared.asking.Asked.TheVariants as begins
+use Rattle.check_stage.specs.declared.asking.Asker.{Asker}
+use Rattle.check_stage.specs.declared.asking.Asker.TheVariants as begins
 use Rattle.check_stage.specs.declared.asking.Asking.{Asking}
 
 -- what begins
-abbrev pub begun : Asked → State StageState → library.Asked
+abbrev pub begun : Asker → State StageState → library.Asked
 begun (begins.Call call) s = calls.called s call
 begun (begins.Export place) s = chunk_ended s place
 
 -- the place at which it asks
-abbrev pub place_of : Asked → Place
+abbrev pub place_of : Asker → Place
 place_of (begins.Call call) = call.place
 place_of (begins.Export place) = place
 
@@ -58,11 +58,11 @@ asking_seen place (given ∷ later) turn s =
     let left = calls.backed given.state next given.answer place in asking_seen place later left.turn left.left)
 
 -- what comes of an answer where it is to begin, or waits
-abbrev pub asking_turned : Asked → Option AskNext → Given StageState CheckAnswer → library.Asked
+abbrev pub asking_turned : Asker → Option AskNext → Given StageState CheckAnswer → library.Asked
 asking_turned what None first = begun what first.state
 asking_turned what (Some next) first = calls.backed first.state next first.answer (place_of what)
 
-abbrev pub asking_going : Asked → Option AskNext → Meaning StageState Job CheckAnswer JobEnd
+abbrev pub asking_going : Asker → Option AskNext → Meaning StageState Job CheckAnswer JobEnd
 asking_going what waiting first later =
     let left = asking_turned what waiting first in asking_seen (place_of what) later left.turn left.left
 

@@ -1,7 +1,7 @@
 -- The layers as one stage: how each stands in it, and what each job means.
-use Rattle.std.specs.Prelude.{◌≡◌, false, if◌then◌else◌, [], refl}
-use Rattle.tl_base.specs.Layer.{Meaning, Given}
-use Rattle.stage_form.specs.Stage.{Stage}
+use Rattle.std.specs.Prelude.{◌≡◌, ℕ, false, if◌then◌else◌, [], refl, Option}
+use Rattle.tl_base.specs.Layer.{Meaning, Given, State}
+use Rattle.stage_form.specs.Stage.{Stage, Final, staged}
 use Rattle.stage_form.specs.Within.{Fitting, given_part, within}
 use Rattle.tl_tree.specs.Code.{Items}
 use Rattle.lua_model.specs.declared.end.LuaEnd.{LuaEnd}
@@ -12,6 +12,8 @@ use Rattle.lua_model.specs.declared.question.LuaAnswer.TheVariants as lua_answer
 use Rattle.exotype.specs.World.{StageState}
 use Rattle.stage_library.specs.declared.tasks.Task.{Task}
 use Rattle.stage_library.specs.declared.tasks.Task.TheVariants as tasks
+use Rattle.terra_stage.specs.declared.asked.Asked.{Asked as TaskAsked}
+use Rattle.terra_stage.specs.declared.asked.Asked.TheVariants as of_tasks
 use Rattle.terra_stage.specs.Layers.{task_meaning, staged_rest, StagedFits}
 use Rattle.check_model.specs.declared.question.BodyQuestion.{BodyQuestion}
 use Rattle.check_model.specs.declared.question.BodyQuestion.TheVariants as of_bodies
@@ -37,9 +39,12 @@ use Rattle.check_flow.specs.Rest.{check_rest, CheckFits, layout_rest, LayoutFits
 use Rattle.check_library.specs.Calls.{asks}
 use Rattle.check_stage.specs.declared.jobs.Job.{Job}
 use Rattle.check_stage.specs.declared.jobs.Job.TheVariants as jobs
+use Rattle.check_stage.specs.declared.jobs.Asked.{Asked}
+use Rattle.check_stage.specs.declared.jobs.Asked.TheVariants as asked
 use Rattle.check_stage.specs.declared.jobs.JobEnd.{JobEnd}
 use Rattle.check_stage.specs.declared.jobs.JobEnd.TheVariants as ends
 use Rattle.check_stage.specs.Asking.{called, exporting, asking_rest}
+use Rattle.check_stage.specs.Calling.{refusing}
 use Rattle.check_stage.specs.Results.{result_meaning, result_rest, ResultFits}
 use Rattle.check_stage.specs.declared.staged.Staged.{Staged}
 use Rattle.check_stage.specs.declared.staged.Staged.TheVariants as layers
@@ -63,14 +68,19 @@ abbrev pub lua_end : LuaEnd → JobEnd
 lua_end (lua_ends.Done vs) = ends.Values vs
 lua_end (lua_ends.Raised v place) = ends.Raised v place
 
-abbrev pub stage_fitting : Fitting TypingState StageState Task Job LuaAnswer CheckAnswer LuaEnd JobEnd
-stage_fitting = record { part = λ w. w.stage; with_part = with_stage; question = job_of; answer = lua_answer; end = lua_end }
+-- what it asks for
+abbrev pub stage_asks : TaskAsked → Asked
+stage_asks (of_tasks.Task task) = asked.Job (job_of task)
+stage_asks (of_tasks.Terra f vs place) = asked.Terra f vs place
+
+abbrev pub stage_fitting : Fitting TypingState StageState TaskAsked Asked LuaAnswer CheckAnswer LuaEnd JobEnd
+stage_fitting = record { part = λ w. w.stage; with_part = with_stage; question = stage_asks; answer = lua_answer; end = lua_end }
 
 -- ---- what asks in the library
 
--- it has the world of the staging; its questions, answers and ends are those of the stage
-abbrev pub asking_fitting : Fitting TypingState StageState Job Job CheckAnswer CheckAnswer JobEnd JobEnd
-asking_fitting = record { part = λ w. w.stage; with_part = with_stage; question = λ q. q; answer = λ a. a; end = λ e. e }
+-- it has the world of the staging, and asks for jobs alone; its answers and ends are those of the stage
+abbrev pub asking_fitting : Fitting TypingState StageState Job Asked CheckAnswer CheckAnswer JobEnd JobEnd
+asking_fitting = record { part = λ w. w.stage; with_part = with_stage; question = asked.Job; answer = λ a. a; end = λ e. e }
 
 -- ---- bodies, checks and layouts
 
@@ -84,12 +94,24 @@ abbrev pub body_end : BodyEnd → JobEnd
 body_end (body_ends.Typed made) = ends.Done
 body_end (body_ends.Refused why) = ends.Refused why
 
-abbrev pub body_fitting : Fitting TypingState TypingState BodyQuestion Job CheckAnswer CheckAnswer BodyEnd JobEnd
-body_fitting = record { part = λ w. w; with_part = λ w p. p; question = body_asks; answer = λ a. a; end = body_end }
+abbrev pub body_fitting : Fitting TypingState TypingState BodyQuestion Asked CheckAnswer CheckAnswer BodyEnd JobEnd
+body_fitting = record {
+  part = λ w. w;
+  with_part = λ w p. p;
+  question = λ q. asked.Job (body_asks q);
+  answer = λ a. a;
+  end = body_end;
+}
 
 -- the same where the end is the result type
-abbrev pub result_fitting : Fitting TypingState TypingState BodyQuestion Job CheckAnswer CheckAnswer JobEnd JobEnd
-result_fitting = record { part = λ w. w; with_part = λ w p. p; question = body_asks; answer = λ a. a; end = λ e. e }
+abbrev pub result_fitting : Fitting TypingState TypingState BodyQuestion Asked CheckAnswer CheckAnswer JobEnd JobEnd
+result_fitting = record {
+  part = λ w. w;
+  with_part = λ w p. p;
+  question = λ q. asked.Job (body_asks q);
+  answer = λ a. a;
+  end = λ e. e;
+}
 
 abbrev pub check_asks : CheckQuestion → Job
 check_asks (of_checks.Body f) = jobs.Body f
@@ -98,8 +120,14 @@ abbrev pub check_end : CheckEnd → JobEnd
 check_end check_ends.Done = ends.Done
 check_end (check_ends.Refused why) = ends.Refused why
 
-abbrev pub check_fitting : Fitting TypingState StageState CheckQuestion Job CheckAnswer CheckAnswer CheckEnd JobEnd
-check_fitting = record { part = λ w. w.stage; with_part = with_stage; question = check_asks; answer = λ a. a; end = check_end }
+abbrev pub check_fitting : Fitting TypingState StageState CheckQuestion Asked CheckAnswer CheckAnswer CheckEnd JobEnd
+check_fitting = record {
+  part = λ w. w.stage;
+  with_part = with_stage;
+  question = λ q. asked.Job (check_asks q);
+  answer = λ a. a;
+  end = check_end;
+}
 
 abbrev pub layout_asks : LayoutQuestion → Job
 layout_asks (of_layouts.CallLua v vs at) = jobs.Stage (tasks.Evaluate (lua_jobs.Call v vs at))
@@ -109,13 +137,19 @@ abbrev pub layout_end : LayoutEnd → JobEnd
 layout_end layout_ends.Done = ends.Done
 layout_end (layout_ends.Refused kind) = ends.NoLayout kind
 
-abbrev pub layout_fitting : Fitting TypingState StageState LayoutQuestion Job CheckAnswer CheckAnswer LayoutEnd JobEnd
-layout_fitting = record { part = λ w. w.stage; with_part = with_stage; question = layout_asks; answer = λ a. a; end = layout_end }
+abbrev pub layout_fitting : Fitting TypingState StageState LayoutQuestion Asked CheckAnswer CheckAnswer LayoutEnd JobEnd
+layout_fitting = record {
+  part = λ w. w.stage;
+  with_part = with_stage;
+  question = λ q. asked.Job (layout_asks q);
+  answer = λ a. a;
+  end = layout_end;
+}
 
 -- ---- the stage
 
 -- what each job means, over the nodes of a tree
-abbrev pub job_meaning : Items → Job → Meaning TypingState Job CheckAnswer JobEnd
+abbrev pub job_meaning : Items → Job → Meaning TypingState Asked CheckAnswer JobEnd
 job_meaning items (jobs.Stage task) = within stage_fitting (task_meaning items task)
 job_meaning items (jobs.Call call) = within asking_fitting (called call)
 job_meaning items (jobs.Export place) = within asking_fitting (exporting place)
@@ -123,6 +157,11 @@ job_meaning items (jobs.Check f) = within check_fitting (check f)
 job_meaning items (jobs.Body f) = within body_fitting (body f)
 job_meaning items (jobs.Result f) = within result_fitting (result_meaning f)
 job_meaning items (jobs.Layout t at) = within layout_fitting (layout (record { of = t; at = at }))
+
+-- what each question means: that Lua code calls a Terra function is refused
+abbrev pub asked_meaning : Items → Asked → Meaning TypingState Asked CheckAnswer JobEnd
+asked_meaning items (asked.Job job) = job_meaning items job
+asked_meaning items (asked.Terra f vs place) = within asking_fitting (refusing place)
 
 -- an end as the answer to the layer that asked
 abbrev pub answer_of : JobEnd → CheckAnswer
@@ -133,19 +172,24 @@ answer_of (ends.Refused why) = answers.Refused why
 answer_of ends.Done = answers.Done
 answer_of (ends.NoLayout kind) = answers.NoLayout kind
 
-abbrev pub check_stage : Items → Stage TypingState Job CheckAnswer JobEnd
-check_stage items = record { meaning = job_meaning items; go = answers.Go; answer_of = answer_of }
+abbrev pub check_stage : Items → Stage TypingState Asked CheckAnswer JobEnd
+check_stage items = record { meaning = asked_meaning items; go = answers.Go; answer_of = answer_of }
+
+-- what a job comes to
+abbrev pub job_staged : Items → ℕ → Job → State TypingState → Option (Final TypingState JobEnd)
+job_staged items n job s = staged (check_stage items) n (asked.Job job) s
 
 -- ---- layers that are suspended
 
 -- what remains to be done by a layer of the stage
-abbrev pub rest : Staged → Meaning TypingState Job CheckAnswer JobEnd
+abbrev pub rest : Staged → Meaning TypingState Asked CheckAnswer JobEnd
 rest (layers.Stage staged) = within stage_fitting (staged_rest staged)
 rest (layers.Asking asking) = within asking_fitting (asking_rest asking)
 rest (layers.Check check) = within check_fitting (check_rest check)
 rest (layers.Body body) = within body_fitting (body_rest body)
 rest (layers.Result result) = within result_fitting (result_rest result)
 rest (layers.Layout layout) = within layout_fitting (layout_rest layout)
+rest (layers.Calling place) = within asking_fitting (refusing place)
 
 abbrev pub JobGiven : Type 0
 JobGiven = Given TypingState CheckAnswer
@@ -157,6 +201,7 @@ Fits (layers.Check check) next = CheckFits check (given_part check_fitting next)
 Fits (layers.Body body) next = BodyFits body (given_part body_fitting next)
 Fits (layers.Result result) next = ResultFits result (given_part result_fitting next)
 Fits (layers.Layout layout) next = LayoutFits layout (given_part layout_fitting next)
+Fits (layers.Calling place) next = Unit {0}
 
 -- no end begins a layer
 pub ends_follow : (end : JobEnd) → is_go (answer_of end) ≡ false

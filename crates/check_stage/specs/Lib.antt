@@ -4,8 +4,9 @@ pub mod Staging
 pub mod Texts
 -- The layers as one stage.
 pub mod Layers
--- Layers of their own: functions of the library that ask, and result types.
+-- Layers of their own: functions of the library that ask, result types, and calls of Terra functions by Lua code.
 pub mod Asking
 pub mod Results
+pub mod Calling
 -- What each turn keeps.
 pub mod Keeping

@@ -7,7 +7,7 @@ use Rattle.tl_base.specs.declared.place.Place.{Place}
 use Rattle.tl_base.specs.Layer.{State, state}
 use Rattle.stage_form.specs.declared.staging.Outcome.{Outcome as Staging}
 use Rattle.stage_form.specs.declared.staging.Outcome.TheVariants as stagings
-use Rattle.stage_form.specs.Stage.{Final, Finished, Exhausted, staged}
+use Rattle.stage_form.specs.Stage.{Final, Finished, Exhausted}
 use Rattle.tl_tree.specs.Code.{Items}
 use Rattle.lua_value.specs.declared.value.Value.{Value}
 use Rattle.lua_value.specs.declared.value.Value.TheVariants as values
@@ -29,7 +29,7 @@ use Rattle.check_stage.specs.declared.staging.End.{End}
 use Rattle.check_stage.specs.declared.staging.End.TheVariants.{Done, Raised, Spent}
 use Rattle.check_stage.specs.declared.staging.Mode.{Mode}
 use Rattle.check_stage.specs.declared.staging.Mode.TheVariants.{Exports, CheckAll}
-use Rattle.check_stage.specs.Layers.{check_stage}
+use Rattle.check_stage.specs.Layers.{job_staged}
 
 -- ---- the end of the chunk
 
@@ -40,7 +40,7 @@ gave_values _ = false
 
 -- a chunk that ended without an error makes its exports, at the place of the end of the text
 abbrev pub exported : Items → ℕ → Place → JobEnd → State TypingState → Option (Final TypingState JobEnd)
-exported items n place (ends.Values vs) s = staged (check_stage items) n (jobs.Export place) s
+exported items n place (ends.Values vs) s = job_staged items n (jobs.Export place) s
 exported items n place end s = Some (Finished end s)
 
 -- ---- checks of all functions
@@ -70,7 +70,7 @@ checks items zero i lines s = None
 checks items (suc n) i lines s =
     if nat_lt i (length s.world.stage.store.functions)
     then (if is_undefined s.world.stage (record { 0 = i }) then checks items n (i + 1) lines s
-    else after_check (staged (check_stage items) n (jobs.Check (record { 0 = i })) s) (λ end next.
+    else after_check (job_staged items n (jobs.Check (record { 0 = i })) s) (λ end next.
     checks items n (i + 1) (lines ++ line_of (record { 0 = i }) end ∷ []) next))
     else Some (Finished (checked_with (ends.Values []) lines) s)
 
@@ -136,7 +136,7 @@ begun memory = record { stage = opened memory; variables = [] }
 -- value where layers ask one another, or are answered, more than n times in one another
 abbrev pub outcome_from : Items → Place → Mode → ℕ → State TypingState → Option Ending
 outcome_from items place mode n s =
-    ending_if_any (after_check (staged (check_stage items) n (jobs.Stage (Evaluate Chunk)) s) (by_mode mode items n place))
+    ending_if_any (after_check (job_staged items n (jobs.Stage (Evaluate Chunk)) s) (by_mode mode items n place))
 
 -- what the staging of a source comes to, with so many units, for a program with so many bytes of memory
 abbrev pub outcome : Items → Place → Mode → ℕ → (units memory : ℕ) → Option Ending

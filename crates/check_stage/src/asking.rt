@@ -18,7 +18,7 @@ use tl_base::{Budget, NoMemory, Place, Turn};
 
 /// What asks.
 #[derive(Drop)]
-pub enum Asked {
+pub enum Asker {
     /// A call of a function of the library that asks.
     Call(LibCall),
     /// The exports at the end of the chunk, at the place of the end of the text.
@@ -28,13 +28,13 @@ pub enum Asked {
 /// What asks, which is to begin, or waits for what it asked for.
 #[derive(Drop)]
 pub struct Asking {
-    what: Asked,
+    what: Asker,
     waiting: Option<AskNext>,
 }
 
 impl Asking {
     /// What is to begin.
-    pub fn new(what: Asked) -> Asking
+    pub fn new(what: Asker) -> Asking
         ensures what { result.what ≡ what }
         ensures begins { result.waiting ≡ None }
     {
@@ -89,8 +89,8 @@ impl Asking {
         ensures { result ≡ place_of self.now.what }
     {
         match &self.what {
-            Asked::Call(call) => call.place,
-            Asked::Export(place) => *place,
+            Asker::Call(call) => call.place,
+            Asker::Export(place) => *place,
         }
     }
 
@@ -118,7 +118,7 @@ impl Asking {
 }
 
 /// What shows of an end.
-fn end_of(heap: &Heap, turn: LibTurn) -> Turn<Job, JobEnd>
+pub fn end_of(heap: &Heap, turn: LibTurn) -> Turn<Job, JobEnd>
     ensures seen { (s : State StageState) → seen result s ≡ end_seen turn s }
     ensures ends { OnAsk result (λ _. ⊥) }
 {
@@ -132,15 +132,15 @@ fn end_of(heap: &Heap, turn: LibTurn) -> Turn<Job, JobEnd>
 }
 
 /// Begins what asks.
-fn begin(world: &mut World, what: &Asked, budget: &mut Budget) -> Result<AskTurn, NoMemory>
+fn begin(world: &mut World, what: &Asker, budget: &mut Budget) -> Result<AskTurn, NoMemory>
     ensures does { IfOk result (λ turn.
         asked turn (state world.new budget.new) ≡ begun what.now (state world.old budget.old)) }
     ensures kept { OnOk result (KeepsStaging world.old world.new) }
     ensures paid { OnOk result (budget.new ≤ budget.old) }
 {
     match what {
-        Asked::Call(call) => check_library::call(world, call, budget),
-        Asked::Export(place) => check_library::end_of_chunk(world, budget, *place),
+        Asker::Call(call) => check_library::call(world, call, budget),
+        Asker::Export(place) => check_library::end_of_chunk(world, budget, *place),
     }
 }
 

@@ -29,6 +29,15 @@ pub enum Job {
     Layout(TypeId, Place),
 }
 
+/// What a layer asks.
+#[derive(Drop)]
+pub enum Asked {
+    /// For a job of these layers.
+    Job(Job),
+    /// For a call of a Terra function with these arguments, at the place of the call by Lua code.
+    Terra(FnId, Values, Place),
+}
+
 /// How a layer ends.
 #[derive(Drop)]
 pub enum JobEnd {

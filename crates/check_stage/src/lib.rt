@@ -3,6 +3,7 @@
 //!
 //! - `jobs`: what a layer is asked to do, and how it ends;
 //! - `asking`: functions of the library that ask, and the exports at the end of the chunk, as layers;
+//! - `calling`: the answers to what asks to call a Terra function;
 //! - `results`: the result type of a function, as a layer;
 //! - `staged`: all layers as one stage;
 //! - `staging`: the call, and its outcome;
@@ -10,6 +11,7 @@
 #![tactic(auto)]
 
 pub mod asking;
+pub mod calling;
 pub mod jobs;
 pub mod results;
 pub mod staged;

@@ -1,7 +1,7 @@
 // The layers as one stage.
 
 ghost use Rattle.std.specs.Prelude.{◌≡◌, ◌≤◌, List, [], ◌∷◌, false, IfOk, OnOk};
-ghost use Rattle.tl_base.specs.Layer.{given, state, seen, OnAsk, UnlessAsk};
+ghost use Rattle.tl_base.specs.Layer.{State, given, at, state, seen, OnAsk, UnlessAsk};
 ghost use Rattle.stage_form.specs.Within.{given_part, within};
 ghost use Rattle.tl_tree.specs.Arena.{items_of};
 ghost use Rattle.lua_eval.specs.Slots.{ArePaths};
@@ -10,14 +10,17 @@ ghost use Rattle.check_expr.specs.Frames.{is_go};
 ghost use Rattle.check_expr.specs.Rest.{body_rest, BodyFits};
 ghost use Rattle.check_flow.specs.Rest.{check_rest, CheckFits, layout_rest, LayoutFits};
 ghost use Rattle.check_stage.specs.Asking.{asking_rest};
+ghost use Rattle.check_stage.specs.Calling.{refusing};
 ghost use Rattle.check_stage.specs.Results.{result_rest, ResultFits};
 ghost use Rattle.check_stage.specs.Keeping.{KeepsChecking};
 ghost use Rattle.check_stage.specs.Layers as models;
 ghost use Rattle.check_stage.specs.Layers.{JobGiven, stage_fitting, asking_fitting, check_fitting};
-ghost use Rattle.check_stage.specs.Layers.{body_fitting, result_fitting, layout_fitting};
+ghost use Rattle.check_stage.specs.Layers.{body_fitting, result_fitting, layout_fitting, rest, Fits, job_meaning};
+ghost use Rattle.check_model.specs.Typing.{TypingState};
 
-use crate::asking::{Asked, Asking};
-use crate::jobs::{Job, JobEnd, answer_of};
+use crate::asking::{Asker, Asking};
+use crate::calling::refuse_call;
+use crate::jobs::{Asked, Job, JobEnd, answer_of};
 use crate::results::ResultOf;
 use check_expr::Body;
 use check_flow::{Check, Layout};
@@ -30,8 +33,8 @@ use lua_value::Values;
 use stage_form::Stages;
 use stage_library::Task;
 use std::alloc::Global;
-use terra_stage::{Staged as WithoutChecks, TerraStage};
-use tl_base::{Budget, Layer, NoMemory, Turn};
+use terra_stage::{Asked as TaskAsked, Staged as WithoutChecks, TerraStage};
+use tl_base::{Budget, Layer, NoMemory, Place, Turn};
 use tl_rename::Slots;
 use tl_tree::Tree;
 
@@ -75,13 +78,23 @@ fn lua_end(end: LuaEnd) -> JobEnd
     }
 }
 
+/// What such a layer asks for.
+fn stage_asks(asked: TaskAsked) -> Asked
+    ensures { result ≡ models.stage_asks asked }
+{
+    match asked {
+        TaskAsked::Task(task) => Asked::Job(job_of(task)),
+        TaskAsked::Terra(function, args, place) => Asked::Terra(function, args, place),
+    }
+}
+
 /// Where such a layer stops.
-fn stage_turn(turn: Turn<Task, LuaEnd>) -> Turn<Job, JobEnd>
+fn stage_turn(turn: Turn<TaskAsked, LuaEnd>) -> Turn<Asked, JobEnd>
     ensures { result ≡ turn_within stage_fitting turn }
 {
     match turn {
         Turn::End(end) => Turn::End(lua_end(end)),
-        Turn::Ask(task) => Turn::Ask(job_of(task)),
+        Turn::Ask(asked) => Turn::Ask(stage_asks(asked)),
         Turn::Spent => Turn::Spent,
     }
 }
@@ -92,7 +105,7 @@ fn resume_stage(
     typing: &mut Typing,
     budget: &mut Budget,
     answer: CheckAnswer,
-) -> Result<Turn<Job, JobEnd>, NoMemory>
+) -> Result<Turn<Asked, JobEnd>, NoMemory>
     requires { StagedFits staged.old (given_part stage_fitting (given answer typing.old budget.old)) }
     ensures turn { IfOk result (λ turn. within stage_fitting (staged_rest staged.old) (given answer typing.old budget.old) []
         ≡ seen turn (state typing.new budget.new)) }
@@ -112,13 +125,24 @@ fn resume_stage(
     Ok(stage_turn(turn))
 }
 
+/// Where what asks in the library stops.
+fn asking_turn(turn: Turn<Job, JobEnd>) -> Turn<Asked, JobEnd>
+    ensures { result ≡ turn_within asking_fitting turn }
+{
+    match turn {
+        Turn::End(end) => Turn::End(end),
+        Turn::Ask(job) => Turn::Ask(Asked::Job(job)),
+        Turn::Spent => Turn::Spent,
+    }
+}
+
 /// Goes on with what asks in the library, to where it stops next.
 fn resume_asking(
     asking: &mut Asking,
     typing: &mut Typing,
     budget: &mut Budget,
     answer: CheckAnswer,
-) -> Result<Turn<Job, JobEnd>, NoMemory>
+) -> Result<Turn<Asked, JobEnd>, NoMemory>
     ensures turn { IfOk result (λ turn. within asking_fitting (asking_rest asking.old) (given answer typing.old budget.old) []
         ≡ seen turn (state typing.new budget.new)) }
     ensures reads_no_more { IfOk result (λ turn. UnlessAsk turn ((later : List JobGiven) →
@@ -131,7 +155,27 @@ fn resume_asking(
     ensures paid { OnOk result (budget.new ≤ budget.old) }
 {
     let turn = asking.resume(&mut typing.world, budget, answer)?;
-    Ok(turn)
+    Ok(asking_turn(turn))
+}
+
+/// Refuses a call of a Terra function by Lua code at a place, whatever begins that.
+fn resume_calling(
+    place: Place,
+    typing: &mut Typing,
+    budget: &mut Budget,
+    answer: CheckAnswer,
+) -> Result<Turn<Asked, JobEnd>, NoMemory>
+    ensures turn { IfOk result (λ turn. within asking_fitting (refusing place) (given answer typing.old budget.old) []
+        ≡ seen turn (state typing.new budget.new)) }
+    ensures reads_no_more { IfOk result (λ turn. UnlessAsk turn ((later : List JobGiven) →
+        within asking_fitting (refusing place) (given answer typing.old budget.old) later
+        ≡ seen turn (state typing.new budget.new))) }
+    ensures ends { IfOk result (λ turn. OnAsk turn (λ _. ⊥)) }
+    ensures kept { OnOk result (KeepsChecking typing.old typing.new) }
+    ensures paid { OnOk result (budget.new ≤ budget.old) }
+{
+    let turn = refuse_call(&mut typing.world, budget, place, answer)?;
+    Ok(asking_turn(turn))
 }
 
 // ---- bodies, checks and layouts
@@ -150,51 +194,60 @@ fn body_asks(question: BodyQuestion) -> Job
 }
 
 /// Where the typing of a body stops.
-fn body_turn(turn: Turn<BodyQuestion, BodyEnd>) -> Turn<Job, JobEnd>
+fn body_turn(turn: Turn<BodyQuestion, BodyEnd>) -> Turn<Asked, JobEnd>
     ensures { result ≡ turn_within body_fitting turn }
 {
     match turn {
         Turn::End(BodyEnd::Typed(_)) => Turn::End(JobEnd::Done),
         Turn::End(BodyEnd::Refused(refusal)) => Turn::End(JobEnd::Refused(refusal)),
-        Turn::Ask(question) => Turn::Ask(body_asks(question)),
+        Turn::Ask(question) => Turn::Ask(Asked::Job(body_asks(question))),
         Turn::Spent => Turn::Spent,
     }
 }
 
 /// Where the finding of a result type stops.
-fn result_turn(turn: Turn<BodyQuestion, JobEnd>) -> Turn<Job, JobEnd>
+fn result_turn(turn: Turn<BodyQuestion, JobEnd>) -> Turn<Asked, JobEnd>
     ensures { result ≡ turn_within result_fitting turn }
 {
     match turn {
         Turn::End(end) => Turn::End(end),
-        Turn::Ask(question) => Turn::Ask(body_asks(question)),
+        Turn::Ask(question) => Turn::Ask(Asked::Job(body_asks(question))),
         Turn::Spent => Turn::Spent,
     }
 }
 
 /// Where a check stops.
-fn check_turn(turn: Turn<CheckQuestion, CheckEnd>) -> Turn<Job, JobEnd>
+fn check_turn(turn: Turn<CheckQuestion, CheckEnd>) -> Turn<Asked, JobEnd>
     ensures { result ≡ turn_within check_fitting turn }
 {
     match turn {
         Turn::End(CheckEnd::Done) => Turn::End(JobEnd::Done),
         Turn::End(CheckEnd::Refused(refusal)) => Turn::End(JobEnd::Refused(refusal)),
-        Turn::Ask(CheckQuestion::Body(f)) => Turn::Ask(Job::Body(f)),
+        Turn::Ask(CheckQuestion::Body(f)) => Turn::Ask(Asked::Job(Job::Body(f))),
         Turn::Spent => Turn::Spent,
     }
 }
 
+/// The job that a question of a layout is.
+fn layout_asks(question: LayoutQuestion) -> Job
+    ensures { result ≡ models.layout_asks question }
+{
+    match question {
+        LayoutQuestion::CallLua(function, args, at) => {
+            Job::Stage(Task::Evaluate(LuaJob::Call(function, args, at)))
+        }
+        LayoutQuestion::LayoutOf(of, at) => Job::Layout(of, at),
+    }
+}
+
 /// Where a layout stops.
-fn layout_turn(turn: Turn<LayoutQuestion, LayoutEnd>) -> Turn<Job, JobEnd>
+fn layout_turn(turn: Turn<LayoutQuestion, LayoutEnd>) -> Turn<Asked, JobEnd>
     ensures { result ≡ turn_within layout_fitting turn }
 {
     match turn {
         Turn::End(LayoutEnd::Done) => Turn::End(JobEnd::Done),
         Turn::End(LayoutEnd::Refused(kind)) => Turn::End(JobEnd::NoLayout(kind)),
-        Turn::Ask(LayoutQuestion::CallLua(function, args, at)) => {
-            Turn::Ask(Job::Stage(Task::Evaluate(LuaJob::Call(function, args, at))))
-        }
-        Turn::Ask(LayoutQuestion::LayoutOf(of, at)) => Turn::Ask(Job::Layout(of, at)),
+        Turn::Ask(question) => Turn::Ask(Asked::Job(layout_asks(question))),
         Turn::Spent => Turn::Spent,
     }
 }
@@ -205,7 +258,7 @@ fn resume_check(
     typing: &mut Typing,
     budget: &mut Budget,
     answer: CheckAnswer,
-) -> Result<Turn<Job, JobEnd>, NoMemory>
+) -> Result<Turn<Asked, JobEnd>, NoMemory>
     requires { CheckFits check.old (given_part check_fitting (given answer typing.old budget.old)) }
     ensures turn { IfOk result (λ turn. within check_fitting (check_rest check.old) (given answer typing.old budget.old) []
         ≡ seen turn (state typing.new budget.new)) }
@@ -230,7 +283,7 @@ fn resume_body(
     typing: &mut Typing,
     budget: &mut Budget,
     answer: CheckAnswer,
-) -> Result<Turn<Job, JobEnd>, NoMemory>
+) -> Result<Turn<Asked, JobEnd>, NoMemory>
     requires { BodyFits body.old (given_part body_fitting (given answer typing.old budget.old)) }
     ensures turn { IfOk result (λ turn. within body_fitting (body_rest body.old) (given answer typing.old budget.old) []
         ≡ seen turn (state typing.new budget.new)) }
@@ -255,7 +308,7 @@ fn resume_result(
     typing: &mut Typing,
     budget: &mut Budget,
     answer: CheckAnswer,
-) -> Result<Turn<Job, JobEnd>, NoMemory>
+) -> Result<Turn<Asked, JobEnd>, NoMemory>
     requires { ResultFits finding.old (given_part result_fitting (given answer typing.old budget.old)) }
     ensures turn { IfOk result (λ turn. within result_fitting (result_rest finding.old) (given answer typing.old budget.old) []
         ≡ seen turn (state typing.new budget.new)) }
@@ -280,7 +333,7 @@ fn resume_layout(
     typing: &mut Typing,
     budget: &mut Budget,
     answer: CheckAnswer,
-) -> Result<Turn<Job, JobEnd>, NoMemory>
+) -> Result<Turn<Asked, JobEnd>, NoMemory>
     requires { LayoutFits layout.old (given_part layout_fitting (given answer typing.old budget.old)) }
     ensures turn { IfOk result (λ turn. within layout_fitting (layout_rest layout.old) (given answer typing.old budget.old) []
         ≡ seen turn (state typing.new budget.new)) }
@@ -311,14 +364,14 @@ pub enum Staged<'a> {
     Body(Body),
     Result(ResultOf),
     Layout(Layout),
+    /// It is to call a Terra function, at this place.
+    Calling(Place),
 }
 
 impl Layer for Staged<'_> {
-    ghost use Rattle.check_stage.specs.Layers.{rest, Fits};
-
     type World = Typing;
 
-    type Question = Job;
+    type Question = Asked;
 
     type Answer = CheckAnswer;
 
@@ -337,7 +390,7 @@ impl Layer for Staged<'_> {
         typing: &mut Typing,
         budget: &mut Budget,
         answer: CheckAnswer,
-    ) -> Result<Turn<Job, JobEnd>, NoMemory> {
+    ) -> Result<Turn<Asked, JobEnd>, NoMemory> {
         match self {
             Staged::Stage(staged) => resume_stage(staged, typing, budget, answer),
             Staged::Asking(asking) => resume_asking(asking, typing, budget, answer),
@@ -345,6 +398,7 @@ impl Layer for Staged<'_> {
             Staged::Body(body) => resume_body(body, typing, budget, answer),
             Staged::Result(result) => resume_result(result, typing, budget, answer),
             Staged::Layout(layout) => resume_layout(layout, typing, budget, answer),
+            Staged::Calling(place) => resume_calling(*place, typing, budget, answer),
         }
     }
 }
@@ -365,6 +419,23 @@ impl<'a> CheckStage<'a> {
             inner: TerraStage::new(tree, slots),
         }
     }
+
+    /// The layer of a job, which is to begin.
+    fn start_job(&self, alloc: Global, job: Job) -> Staged<'a>
+        ensures means { (first : JobGiven) (later : List JobGiven) →
+            rest result first later ≡ job_meaning (items_of self.now.inner.tree.now) job first later }
+        ensures fits { (s : State TypingState) → Fits result (at CheckAnswer.Go s) }
+    {
+        match job {
+            Job::Stage(task) => Staged::Stage(self.inner.start(alloc, task)),
+            Job::Call(call) => Staged::Asking(Asking::new(Asker::Call(call))),
+            Job::Export(place) => Staged::Asking(Asking::new(Asker::Export(place))),
+            Job::Check(f) => Staged::Check(Check::start(alloc, f)),
+            Job::Body(f) => Staged::Body(Body::start(alloc, f)),
+            Job::Result(f) => Staged::Result(ResultOf::Begins(f)),
+            Job::Layout(of, at) => Staged::Layout(Layout::start(alloc, of, at)),
+        }
+    }
 }
 
 impl<'a> Stages for CheckStage<'a> {
@@ -374,7 +445,7 @@ impl<'a> Stages for CheckStage<'a> {
 
     type World = Typing;
 
-    type Question = Job;
+    type Question = Asked;
 
     type Answer = CheckAnswer;
 
@@ -396,15 +467,10 @@ impl<'a> Stages for CheckStage<'a> {
 
     ghost keeps_on = { λ u v w. keeps_then u.stage v.stage w.stage };
 
-    fn start(&self, alloc: Global, job: Job) -> Staged<'a> {
-        match job {
-            Job::Stage(task) => Staged::Stage(self.inner.start(alloc, task)),
-            Job::Call(call) => Staged::Asking(Asking::new(Asked::Call(call))),
-            Job::Export(place) => Staged::Asking(Asking::new(Asked::Export(place))),
-            Job::Check(f) => Staged::Check(Check::start(alloc, f)),
-            Job::Body(f) => Staged::Body(Body::start(alloc, f)),
-            Job::Result(f) => Staged::Result(ResultOf::Begins(f)),
-            Job::Layout(of, at) => Staged::Layout(Layout::start(alloc, of, at)),
+    fn start(&self, alloc: Global, asked: Asked) -> Staged<'a> {
+        match asked {
+            Asked::Job(job) => self.start_job(alloc, job),
+            Asked::Terra(_, _, place) => Staged::Calling(place),
         }
     }
 

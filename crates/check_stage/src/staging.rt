@@ -14,7 +14,7 @@ ghost use Rattle.check_stage.specs.Keeping.{KeepsChecking};
 ghost use Rattle.check_stage.specs.Staging.{Ending, ending, begun, after_check, by_mode, checks};
 ghost use Rattle.check_stage.specs.Staging.{checked_final, gave_values, line_of, lines_in, raised_text, end_in, outcome, outcome_from};
 
-use crate::jobs::{Job, JobEnd};
+use crate::jobs::{Asked, Job, JobEnd};
 use crate::staged::CheckStage;
 use check_model::Typing;
 use exotype::World;
@@ -112,7 +112,7 @@ fn stage_from(
     let chunk = run(
         alloc,
         stages,
-        Job::Stage(Task::Evaluate(LuaJob::Chunk)),
+        Asked::Job(Job::Stage(Task::Evaluate(LuaJob::Chunk))),
         &mut *typing,
         &mut budget,
     )?;
@@ -170,7 +170,13 @@ fn behind_chunk(
     }
     match mode {
         Mode::Exports => {
-            let it = run(alloc, stages, Job::Export(place), typing, budget)?;
+            let it = run(
+                alloc,
+                stages,
+                Asked::Job(Job::Export(place)),
+                typing,
+                budget,
+            )?;
             Ok(it)
         }
         Mode::CheckAll => {
@@ -213,7 +219,7 @@ fn check_all(
         if is_undefined(typing, f) {
             continue;
         }
-        match run(alloc, stages, Job::Check(f), typing, budget)? {
+        match run(alloc, stages, Asked::Job(Job::Check(f)), typing, budget)? {
             Staging::Spent => return Ok(Staging::Spent),
             Staging::Ends(end) => lines.push(line_of(f, &end))?,
         }

@@ -28,7 +28,9 @@ use Rattle.stage_library.specs.declared.tasks.Task.{Task}
 use Rattle.stage_library.specs.declared.tasks.Task.TheVariants as tasks
 use Rattle.stage_library.specs.Library as of_library
 use Rattle.stage_library.specs.Types.{type_asked, type_turned}
-use Rattle.terra_stage.specs.Layers.{lua_fitting, spec_fitting, lua_asks, spec_asks, task_meaning}
+use Rattle.terra_stage.specs.declared.asked.Asked.{Asked as TaskAsked}
+use Rattle.terra_stage.specs.declared.asked.Asked.TheVariants as of_tasks
+use Rattle.terra_stage.specs.Layers.{lua_fitting, spec_fitting, library_fitting, lua_asks, spec_asks, task_meaning}
 use Rattle.check_library.specs.declared.ask.AskTurn.{AskTurn}
 use Rattle.check_library.specs.declared.ask.AskTurn.TheVariants as asks
 use Rattle.check_library.specs.declared.ask.AskNext.{AskNext}
@@ -48,13 +50,16 @@ use Rattle.check_library.specs.Calls.{asks as may_ask}
 use Rattle.check_stage.specs.declared.jobs.Job.{Job}
 use Rattle.check_stage.specs.declared.jobs.Job.TheVariants as jobs
 use Rattle.check_stage.specs.declared.jobs.JobEnd.{JobEnd}
-use Rattle.check_stage.specs.declared.asking.Asked.{Asked}
-use Rattle.check_stage.specs.declared.asking.Asked.TheVariants as begins
+use Rattle.check_stage.specs.declared.jobs.Asked.{Asked}
+use Rattle.check_stage.specs.declared.jobs.Asked.TheVariants as asked
+use Rattle.check_stage.specs.declared.asking.Asker.{Asker}
+use Rattle.check_stage.specs.declared.asking.Asker.TheVariants as begins
 use Rattle.check_stage.specs.Asking as of_asking
 use Rattle.check_stage.specs.Asking.{called, exporting}
 use Rattle.check_stage.specs.Results.{result_meaning}
+use Rattle.check_stage.specs.Calling.{refused, refusing}
 use Rattle.check_stage.specs.Layers.{stage_fitting, asking_fitting, body_fitting, result_fitting, check_fitting, layout_fitting}
-use Rattle.check_stage.specs.Layers.{body_asks, check_asks, layout_asks, job_of, job_meaning, check_stage}
+use Rattle.check_stage.specs.Layers.{stage_asks, body_asks, check_asks, layout_asks, job_of, job_meaning, asked_meaning, check_stage}
 
 -- ---- what is asked for
 
@@ -63,9 +68,17 @@ abbrev pub IsTask : Items → Items → Task → Type 0
 IsTask items other (tasks.Evaluate job) = IsProper items other job
 IsTask items other _ = Unit {0}
 
+abbrev pub IsTaskAsked : Items → Items → TaskAsked → Type 0
+IsTaskAsked items other (of_tasks.Task task) = IsTask items other task
+IsTaskAsked items other _ = Unit {0}
+
 abbrev pub IsJob : Items → Items → Job → Type 0
 IsJob items other (jobs.Stage task) = IsTask items other task
 IsJob items other _ = Unit {0}
+
+abbrev pub IsJobAsked : Items → Items → Asked → Type 0
+IsJobAsked items other (asked.Job job) = IsJob items other job
+IsJobAsked items other _ = Unit {0}
 
 -- any question
 abbrev Any : {Q : Type 0} → Q → Type 0
@@ -110,9 +123,10 @@ library-same items other call first later =
 
 -- ---- tasks
 
-lua-asks : (items other : Items) (q : LuaQuestion) → Any q → IsTask items other (lua_asks q)
+lua-asks : (items other : Items) (q : LuaQuestion) → Any q → IsTaskAsked items other (lua_asks q)
 lua-asks items other (lua_questions.Library call) h = tt
 lua-asks items other (lua_questions.Specialise n env) h = tt
+lua-asks items other (lua_questions.Terra f vs place) h = tt
 
 spec-asks : (items other : Items) (q : SpecQuestion) → IsAsked items other q → IsTask items other (spec_asks q)
 spec-asks items other (spec_questions.Eval n env) h = h
@@ -120,16 +134,20 @@ spec-asks items other (spec_questions.Emitted n env) h = tt
 spec-asks items other (spec_questions.Index v t place) h = tt
 
 pub task-same : (items other : Items) → AreAlike items other → (task : Task) → IsTask items other task
-    → MeanSame (IsTask items other) (task_meaning items task) (task_meaning other task)
+    → MeanSame (IsTaskAsked items other) (task_meaning items task) (task_meaning other task)
 task-same items other alike (tasks.Evaluate job) proper =
-    within_means_same Any (IsTask items other) lua_fitting (lua items job) (lua other job) (lua-asks items other)
+    within_means_same Any (IsTaskAsked items other) lua_fitting (lua items job) (lua other job) (lua-asks items other)
     (lua_same items other alike job proper)
 task-same items other alike (tasks.Specialise n env) proper =
-    within_means_same (IsAsked items other) (IsTask items other) spec_fitting (spec items (record { node = n; env = env }))
+    within_means_same (IsAsked items other) (IsTaskAsked items other) spec_fitting (spec items (record { node = n; env = env }))
     (spec other (record { node = n; env = env })) (spec-asks items other) (means-same items other alike (record { node = n; env = env }))
-task-same items other alike (tasks.Library call) proper = library-same items other call
-task-same items other alike (tasks.TypeText t place) proper = λ first later.
-    (refl, turn-only items other place (type_turned first.state t place).turn (type_turned first.state t place).left)
+task-same items other alike (tasks.Library call) proper =
+    within_means_same (IsTask items other) (IsTaskAsked items other) library_fitting (of_library.library call) (of_library.library call)
+    (λ q h. h) (library-same items other call)
+task-same items other alike (tasks.TypeText t place) proper =
+    within_means_same (IsTask items other) (IsTaskAsked items other) library_fitting (type_asked t place) (type_asked t place)
+    (λ q h. h) (λ first later.
+    (refl, turn-only items other place (type_turned first.state t place).turn (type_turned first.state t place).left))
 
 -- ---- what asks for checks and layouts
 
@@ -152,21 +170,25 @@ asking-only items other place (given ∷ later) (asks.Check f next) s =
 asking-only items other place (given ∷ later) (asks.Layout t next) s =
     let left = calls.backed given.state next given.answer place in asking-only items other place later left.turn left.left
 
-asking-same : (items other : Items) (what : Asked) → MeanSame (IsJob items other) (of_asking.asking_going what None) (of_asking.asking_going what None)
+asking-same : (items other : Items) (what : Asker) → MeanSame (IsJob items other) (of_asking.asking_going what None) (of_asking.asking_going what None)
 asking-same items other what first later =
     (refl, asking-only items other (of_asking.place_of what) later (of_asking.begun what first.state).turn (of_asking.begun what first.state).left)
 
 -- ---- jobs
 
-stage-asks : (items other : Items) (q : Task) → IsTask items other q → IsJob items other (job_of q)
-stage-asks items other (tasks.Evaluate job) h = h
-stage-asks items other (tasks.Specialise n env) h = tt
-stage-asks items other (tasks.Library call) h = by-function (may_ask call.function)
+task-asks : (items other : Items) (q : Task) → IsTask items other q → IsJob items other (job_of q)
+task-asks items other (tasks.Evaluate job) h = h
+task-asks items other (tasks.Specialise n env) h = tt
+task-asks items other (tasks.Library call) h = by-function (may_ask call.function)
   where
     by-function : (b : Bool) → IsJob items other (if b then jobs.Call call else jobs.Stage (tasks.Library call))
     by-function true = tt
     by-function false = tt
-stage-asks items other (tasks.TypeText t place) h = tt
+task-asks items other (tasks.TypeText t place) h = tt
+
+stage-asks : (items other : Items) (q : TaskAsked) → IsTaskAsked items other q → IsJobAsked items other (stage_asks q)
+stage-asks items other (of_tasks.Task task) h = task-asks items other task h
+stage-asks items other (of_tasks.Terra f vs place) h = tt
 
 body-asks : (items other : Items) (q : BodyQuestion) → Any q → IsJob items other (body_asks q)
 body-asks items other (of_bodies.CallLua v vs at) h = tt
@@ -181,30 +203,43 @@ layout-asks items other (of_layouts.CallLua v vs at) h = tt
 layout-asks items other (of_layouts.LayoutOf t at) h = tt
 
 pub job-same : (items other : Items) → AreAlike items other → (job : Job) → IsJob items other job
-    → MeanSame (IsJob items other) (job_meaning items job) (job_meaning other job)
+    → MeanSame (IsJobAsked items other) (job_meaning items job) (job_meaning other job)
 job-same items other alike (jobs.Stage task) proper =
-    within_means_same (IsTask items other) (IsJob items other) stage_fitting (task_meaning items task) (task_meaning other task)
+    within_means_same (IsTaskAsked items other) (IsJobAsked items other) stage_fitting (task_meaning items task) (task_meaning other task)
     (stage-asks items other) (task-same items other alike task proper)
 job-same items other alike (jobs.Call call) proper =
-    within_means_same (IsJob items other) (IsJob items other) asking_fitting (called call) (called call) (λ q h. h)
+    within_means_same (IsJob items other) (IsJobAsked items other) asking_fitting (called call) (called call) (λ q h. h)
     (asking-same items other (begins.Call call))
 job-same items other alike (jobs.Export place) proper =
-    within_means_same (IsJob items other) (IsJob items other) asking_fitting (exporting place) (exporting place) (λ q h. h)
+    within_means_same (IsJob items other) (IsJobAsked items other) asking_fitting (exporting place) (exporting place) (λ q h. h)
     (asking-same items other (begins.Export place))
 job-same items other alike (jobs.Check f) proper =
-    within_means_same Any (IsJob items other) check_fitting (check f) (check f) (check-asks items other) (itself (check f))
+    within_means_same Any (IsJobAsked items other) check_fitting (check f) (check f) (check-asks items other) (itself (check f))
 job-same items other alike (jobs.Body f) proper =
-    within_means_same Any (IsJob items other) body_fitting (body f) (body f) (body-asks items other) (itself (body f))
+    within_means_same Any (IsJobAsked items other) body_fitting (body f) (body f) (body-asks items other) (itself (body f))
 job-same items other alike (jobs.Result f) proper =
-    within_means_same Any (IsJob items other) result_fitting (result_meaning f) (result_meaning f) (body-asks items other)
+    within_means_same Any (IsJobAsked items other) result_fitting (result_meaning f) (result_meaning f) (body-asks items other)
     (itself (result_meaning f))
 job-same items other alike (jobs.Layout t at) proper =
-    within_means_same Any (IsJob items other) layout_fitting (layout (record { of = t; at = at })) (layout (record { of = t; at = at }))
+    within_means_same Any (IsJobAsked items other) layout_fitting (layout (record { of = t; at = at })) (layout (record { of = t; at = at }))
     (layout-asks items other) (itself (layout (record { of = t; at = at })))
 
-pub stage-same : (items other : Items) → AreAlike items other → StagesSame (IsJob items other) (check_stage items) (check_stage other)
+-- a call of a Terra function reads no tree
+refusing-same : (items other : Items) (place : Place) → MeanSame (IsJob items other) (refusing place) (refusing place)
+refusing-same items other place first later =
+    (refl, asking-turn-only items other place (asks.Turn (refused first.state place).turn) (refused first.state place).left)
+
+asked-same : (items other : Items) → AreAlike items other → (question : Asked) → IsJobAsked items other question
+    → MeanSame (IsJobAsked items other) (asked_meaning items question) (asked_meaning other question)
+asked-same items other alike (asked.Job job) proper = job-same items other alike job proper
+asked-same items other alike (asked.Terra f vs place) proper =
+    within_means_same (IsJob items other) (IsJobAsked items other) asking_fitting (refusing place) (refusing place) (λ q h. h)
+    (refusing-same items other place)
+
+pub stage-same : (items other : Items) → AreAlike items other
+    → StagesSame (IsJobAsked items other) (check_stage items) (check_stage other)
 stage-same items other alike = record {
   go = refl;
   answer_of = λ end. refl;
-  meaning = job-same items other alike;
+  meaning = asked-same items other alike;
 }

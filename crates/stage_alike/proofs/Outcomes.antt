@@ -4,7 +4,7 @@ use Rattle.std.proofs.Common.{if◌then◌else◌}
 use Rattle.tl_base.specs.declared.place.Place.{Place}
 use Rattle.tl_base.specs.declared.ids.FnId.{FnId}
 use Rattle.tl_base.specs.Layer.{State, state}
-use Rattle.stage_form.specs.Stage.{Final, Finished, Exhausted, staged}
+use Rattle.stage_form.specs.Stage.{Final, Finished, Exhausted}
 use Rattle.tl_tree.specs.Nodes.{lay}
 use Rattle.tl_tree.specs.Tokens.{finish_of}
 use Rattle.tl_tree.specs.Code.{Items}
@@ -16,16 +16,18 @@ use Rattle.lua_model.specs.declared.job.LuaJob.TheVariants.{Chunk}
 use Rattle.spec_model.specs.Making.{is_undefined}
 use Rattle.stage_library.specs.declared.tasks.Task.TheVariants.{Evaluate}
 use Rattle.check_model.specs.Typing.{TypingState}
+use Rattle.check_stage.specs.declared.jobs.Job.{Job}
 use Rattle.check_stage.specs.declared.jobs.Job.TheVariants as jobs
+use Rattle.check_stage.specs.declared.jobs.Asked.TheVariants as asked
 use Rattle.check_stage.specs.declared.jobs.JobEnd.{JobEnd}
 use Rattle.check_stage.specs.declared.jobs.JobEnd.TheVariants as ends
 use Rattle.check_stage.specs.declared.staging.CheckLine.{CheckLine}
 use Rattle.check_stage.specs.declared.staging.Mode.{Mode}
 use Rattle.check_stage.specs.declared.staging.Mode.TheVariants.{Exports, CheckAll}
-use Rattle.check_stage.specs.Layers.{check_stage}
+use Rattle.check_stage.specs.Layers.{check_stage, job_staged}
 use Rattle.check_stage.specs.Staging.{after_check, exported, by_mode, checks, line_of, Checked, checked_with, outcome, outcome_from, ending_if_any, begun}
 use Rattle.stage_alike.specs.Same.{TreesStageAlike, TextsStageAlike}
-use Rattle.stage_alike.proofs.Jobs.{IsJob, stage-same}
+use Rattle.stage_alike.proofs.Jobs.{IsJob, IsJobAsked, stage-same}
 
 after_check-same : {A B : Type 0} (one : Option (Final TypingState A)) (go goes : A → State TypingState → Option (Final TypingState B))
     → ((a : A) (s : State TypingState) → go a s ≡ goes a s) → after_check one go ≡ after_check one goes
@@ -34,10 +36,10 @@ after_check-same (Some (Finished e s)) go goes h = h e s
 after_check-same (Some (Exhausted s)) go goes h = refl
 
 -- what each job that isn't of Lua code comes to, or the whole chunk
-at-stage : (items other : Items) → AreAlike items other → (n : ℕ) (job : _) → IsJob items other job → (s : State TypingState)
-    → staged (check_stage items) n job s ≡ staged (check_stage other) n job s
+at-stage : (items other : Items) → AreAlike items other → (n : ℕ) (job : Job) → IsJob items other job → (s : State TypingState)
+    → job_staged items n job s ≡ job_staged other n job s
 at-stage items other alike n job proper s =
-    staged_same (IsJob items other) (check_stage items) (check_stage other) (stage-same items other alike) n job proper s
+    staged_same (IsJobAsked items other) (check_stage items) (check_stage other) (stage-same items other alike) n (asked.Job job) proper s
 
 exported-same : (items other : Items) → AreAlike items other → (n : ℕ) (place : Place) (end : JobEnd) (s : State TypingState)
     → exported items n place end s ≡ exported other n place end s
@@ -51,7 +53,7 @@ exported-same items other alike n place (ends.NoLayout kind) s = refl
 -- the check of a function, and of those behind it
 abbrev checked-here : Items → (n i : ℕ) → List CheckLine → State TypingState → Option (Final TypingState Checked)
 checked-here items n i lines s =
-    after_check (staged (check_stage items) n (jobs.Check (record { 0 = i })) s) (λ end next.
+    after_check (job_staged items n (jobs.Check (record { 0 = i })) s) (λ end next.
     checks items n (i + 1) (lines ++ line_of (record { 0 = i }) end ∷ []) next)
 
 one-more : (items other : Items) (n i : ℕ) (lines : List CheckLine) (s : State TypingState)
@@ -71,7 +73,7 @@ unfolding checks
 checks-same items other alike zero i lines s = refl
 checks-same items other alike (suc n) i lines s =
     one-more items other n i lines s
-    (after_check-same (staged (check_stage items) n (jobs.Check (record { 0 = i })) s)
+    (after_check-same (job_staged items n (jobs.Check (record { 0 = i })) s)
     (λ end next. checks items n (i + 1) (lines ++ line_of (record { 0 = i }) end ∷ []) next)
     (λ end next. checks other n (i + 1) (lines ++ line_of (record { 0 = i }) end ∷ []) next)
     (λ end next. checks-same items other alike n (i + 1) (lines ++ line_of (record { 0 = i }) end ∷ []) next)
@@ -96,7 +98,7 @@ by_mode-same items other alike CheckAll n place (ends.NoLayout kind) s = refl
 pub trees_stage_alike : TreesStageAlike
 trees_stage_alike items other alike place mode n units memory =
     ap ending_if_any
-    (after_check-same (staged (check_stage items) n (jobs.Stage (Evaluate Chunk)) s) (by_mode mode items n place) (by_mode mode other n place)
+    (after_check-same (job_staged items n (jobs.Stage (Evaluate Chunk)) s) (by_mode mode items n place) (by_mode mode other n place)
     (by_mode-same items other alike mode n place)
     ∙ ap (λ (o : Option (Final TypingState JobEnd)). after_check o (by_mode mode other n place))
     (at-stage items other alike n (jobs.Stage (Evaluate Chunk)) tt s))

@@ -2,7 +2,7 @@
 use Rattle.std.proofs.Common.{◌≡◌, ℕ, zero, suc, List, [], ◌∷◌, ◌++◌, Option, Some, None, refl, sym, subst}
 use Rattle.tl_base.specs.Layer.{State, Given, Seen, Ended, SpentAt, Asks, Meaning, at}
 use Rattle.stage_form.specs.Stage.{Stage, Final, Finished, Exhausted, after, on_question, on_end, fed, staged}
-use Rattle.stage_sound.specs.Holding.{IsBackFor, AllBack, Shows, Holds, Comes, LayersHold}
+use Rattle.stage_form.specs.Holding.{IsBackFor, AllBack, Shows, Holds, Comes, LayersHold}
 
 none-apart : {A : Type 0} (x : A) → ◌≡◌ {A = Option A} None (Some x) → ⊥
 none-apart x e = cc e

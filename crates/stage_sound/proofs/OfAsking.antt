@@ -3,9 +3,10 @@ use Rattle.std.proofs.Common.{◌≡◌, List, [], ◌∷◌, ◌++◌, None, re
 use Rattle.tl_base.specs.declared.place.Place.{Place}
 use Rattle.tl_base.specs.declared.ids.FnId.{FnId}
 use Rattle.tl_base.specs.declared.ids.TypeId.{TypeId}
-use Rattle.tl_base.specs.Layer.{State, Given}
+use Rattle.tl_base.specs.Layer.{State, Given, Meaning}
 use Rattle.stage_form.specs.Within.{given_part, within}
 use Rattle.tl_tree.specs.Code.{Items}
+use Rattle.lua_value.specs.declared.value.Value.{Value}
 use Rattle.lua_table.specs.declared.call.LibCall.{LibCall}
 use Rattle.lua_table.specs.declared.call.LibTurn.{LibTurn}
 use Rattle.lua_table.specs.declared.call.LibTurn.TheVariants as turns
@@ -23,13 +24,16 @@ use Rattle.check_sound.proofs.Grows.{grows-itself}
 use Rattle.library_sound.specs.Leaving.{AskIsFine, AsksSound, FitsAsk}
 use Rattle.check_stage.specs.declared.jobs.Job.{Job}
 use Rattle.check_stage.specs.declared.jobs.Job.TheVariants as jobs
+use Rattle.check_stage.specs.declared.jobs.Asked.{Asked}
+use Rattle.check_stage.specs.declared.jobs.Asked.TheVariants as asked
 use Rattle.check_stage.specs.declared.jobs.JobEnd.{JobEnd}
 use Rattle.check_stage.specs.declared.jobs.JobEnd.TheVariants as ends
-use Rattle.check_stage.specs.declared.asking.Asked.{Asked}
-use Rattle.check_stage.specs.declared.asking.Asked.TheVariants as begins
+use Rattle.check_stage.specs.declared.asking.Asker.{Asker}
+use Rattle.check_stage.specs.declared.asking.Asker.TheVariants as begins
 use Rattle.check_stage.specs.Asking.{begun, place_of, end_seen, turn_seen, asking_seen, asking_going}
+use Rattle.check_stage.specs.Calling.{refused, refusing}
 use Rattle.check_stage.specs.Layers.{check_stage, answer_of, with_stage, asking_fitting}
-use Rattle.stage_sound.specs.Holding.{IsBackFor, Shows, Holds, Comes}
+use Rattle.stage_form.specs.Holding.{IsBackFor, Shows, Holds, Comes}
 use Rattle.stage_sound.specs.Jobs.{Begins, Says, Leaves}
 use Rattle.stage_sound.proofs.Layers.{LayersKeep}
 use Rattle.stage_sound.proofs.OfChecks.{JobHolds}
@@ -44,7 +48,7 @@ IsAsked job w = ⊥
 
 -- what an answer says to it
 abbrev SaysTo : Job → CheckAnswer → StageState → Type 0
-SaysTo job answer v = (end : JobEnd) × ((answer ≡ answer_of end) × Says job end v)
+SaysTo job answer v = (end : JobEnd) × ((answer ≡ answer_of end) × Says (asked.Job job) end v)
 
 abbrev AskedBack : Job → State StageState → Given StageState CheckAnswer → Type 0
 AskedBack job s next = Led s.world next.state.world × SaysTo job next.answer next.state.world
@@ -70,7 +74,7 @@ ready-now w f sound r = record {
 }
 
 -- the answers that fit
-fits-check : (f : FnId) (n : AskNext) (end : JobEnd) (v : StageState) → IsSound v → Says (jobs.Check f) end v →
+fits-check : (f : FnId) (n : AskNext) (end : JobEnd) (v : StageState) → IsSound v → Says (asked.Job (jobs.Check f)) end v →
     FitsAsk (asks.Check f n) (answer_of end) v
 fits-check f n ends.Done v sound h = λ g at. ready-now v f sound (h g at)
 fits-check f n (ends.Refused why) v sound h = tt
@@ -79,7 +83,7 @@ fits-check f n (ends.Raised x at) v sound h = absurd h
 fits-check f n (ends.Result t) v sound h = absurd h
 fits-check f n (ends.NoLayout kind) v sound h = absurd h
 
-fits-layout : (t : TypeId) (place : Place) (n : AskNext) (end : JobEnd) (v : StageState) → Says (jobs.Layout t place) end v →
+fits-layout : (t : TypeId) (place : Place) (n : AskNext) (end : JobEnd) (v : StageState) → Says (asked.Job (jobs.Layout t place)) end v →
     FitsAsk (asks.Layout t n) (answer_of end) v
 fits-layout t place n ends.Done v h = h
 fits-layout t place n (ends.NoLayout kind) v h = tt
@@ -132,11 +136,11 @@ module _ (items : Items) (k : LayersKeep items) where
       seen-shows w place later left.turn left.left (x.0, x.1.0) x.1.1
       (λ before behind y split. back (g ∷ before) behind y (ap (λ l. g ∷ l) split))
 
-  begun-sound : (what : Asked) (s : State StageState) → IsSound s.world → AsksSound s.world (begun what s)
+  begun-sound : (what : Asker) (s : State StageState) → IsSound s.world → AsksSound s.world (begun what s)
   begun-sound (begins.Call call) s sound = k.asking_calls s call sound
   begun-sound (begins.Export place) s sound = k.asking_ends s place sound
 
-  going-holds : (what : Asked) (first : Given StageState CheckAnswer) → IsSound first.state.world →
+  going-holds : (what : Asker) (first : Given StageState CheckAnswer) → IsSound first.state.world →
       Holds IsAsked AskedBack (Ends first.state.world) (asking_going what None) first
   going-holds what first sound later all =
       let left = begun what first.state in
@@ -145,7 +149,7 @@ module _ (items : Items) (k : LayersKeep items) where
 
   -- ---- in the stage
 
-  asks-begin : (w : TypingState) (q : Job) (p : StageState) → IsAsked q p → Begins q (with_stage w p)
+  asks-begin : (w : TypingState) (q : Job) (p : StageState) → IsAsked q p → Begins (asked.Job q) (with_stage w p)
   asks-begin w (jobs.Check f) p h = (h, tt)
   asks-begin w (jobs.Layout t at) p h = (h, tt)
   asks-begin w (jobs.Stage task) p h = absurd h
@@ -154,21 +158,22 @@ module _ (items : Items) (k : LayersKeep items) where
   asks-begin w (jobs.Body f) p h = absurd h
   asks-begin w (jobs.Result f) p h = absurd h
 
-  module _ (what : Asked) (job : Job) (says : (end : JobEnd) (v : StageState) → IsEnd end → Says job end v)
-      (first : Given TypingState CheckAnswer) (sound : IsSound first.state.world.stage) where
-    going-in-stage : Holds Begins (λ j s next. Comes (check_stage items) Leaves j s next) (Leaves job first.state.world)
-        (within asking_fitting (asking_going what None)) first
+  module _ (layer : Meaning StageState Job CheckAnswer JobEnd) (question : Asked)
+      (says : (end : JobEnd) (v : StageState) → IsEnd end → Says question end v) (first : Given TypingState CheckAnswer)
+      (holds : Holds IsAsked AskedBack (Ends first.state.world.stage) layer (given_part asking_fitting first)) where
+    going-in-stage : Holds Begins (λ q s next. Comes (check_stage items) Leaves q s next) (Leaves question first.state.world)
+        (within asking_fitting layer) first
     going-in-stage =
         within-holds asking_fitting IsAsked AskedBack (Ends first.state.world.stage) Begins
-        (λ j s next. Comes (check_stage items) Leaves j s next) (Leaves job first.state.world)
+        (λ q s next. Comes (check_stage items) Leaves q s next) (Leaves question first.state.world)
         (λ w. w.variables ≡ first.state.world.variables)
         (λ w q p b h. asks-begin w q p h)
         (λ w end p b h. record { sound = h.1.0; leads = h.1.1; variables = b; says = says end p h.0 })
         (λ w q s next b may h.
         (((h.1.1.sound, h.1.1.leads), (h.0, (h.1.0, h.1.1.says))), h.1.1.variables ∙ b))
-        (asking_going what None) first refl (going-holds what (given_part asking_fitting first) sound)
+        layer first refl holds
 
-  call-says : (call : LibCall) (end : JobEnd) (v : StageState) → IsEnd end → Says (jobs.Call call) end v
+  call-says : (call : LibCall) (end : JobEnd) (v : StageState) → IsEnd end → Says (asked.Job (jobs.Call call)) end v
   call-says call (ends.Values vs) v h = tt
   call-says call (ends.Raised x at) v h = tt
   call-says call (ends.Result t) v h = absurd h
@@ -176,7 +181,7 @@ module _ (items : Items) (k : LayersKeep items) where
   call-says call ends.Done v h = absurd h
   call-says call (ends.NoLayout kind) v h = absurd h
 
-  export-says : (place : Place) (end : JobEnd) (v : StageState) → IsEnd end → Says (jobs.Export place) end v
+  export-says : (place : Place) (end : JobEnd) (v : StageState) → IsEnd end → Says (asked.Job (jobs.Export place)) end v
   export-says place (ends.Values vs) v h = tt
   export-says place (ends.Raised x at) v h = tt
   export-says place (ends.Result t) v h = absurd h
@@ -184,10 +189,40 @@ module _ (items : Items) (k : LayersKeep items) where
   export-says place ends.Done v h = absurd h
   export-says place (ends.NoLayout kind) v h = absurd h
 
-  pub call-holds : (call : LibCall) (first : Given TypingState CheckAnswer) → Begins (jobs.Call call) first.state.world →
+  pub call-holds : (call : LibCall) (first : Given TypingState CheckAnswer) → Begins (asked.Job (jobs.Call call)) first.state.world →
       JobHolds items k (jobs.Call call) first
-  call-holds call first begin = going-in-stage (begins.Call call) (jobs.Call call) (call-says call) first begin.0
+  call-holds call first begin =
+      going-in-stage (asking_going (begins.Call call) None) (asked.Job (jobs.Call call)) (call-says call) first
+      (going-holds (begins.Call call) (given_part asking_fitting first) begin.0)
 
-  pub export-holds : (place : Place) (first : Given TypingState CheckAnswer) → Begins (jobs.Export place) first.state.world →
-      JobHolds items k (jobs.Export place) first
-  export-holds place first begin = going-in-stage (begins.Export place) (jobs.Export place) (export-says place) first begin.0
+  pub export-holds : (place : Place) (first : Given TypingState CheckAnswer) →
+      Begins (asked.Job (jobs.Export place)) first.state.world → JobHolds items k (jobs.Export place) first
+  export-holds place first begin =
+      going-in-stage (asking_going (begins.Export place) None) (asked.Job (jobs.Export place)) (export-says place) first
+      (going-holds (begins.Export place) (given_part asking_fitting first) begin.0)
+
+  -- ---- calls of Terra functions by Lua code
+
+  -- the heap alone is another
+  refusing-holds : (place : Place) (first : Given StageState CheckAnswer) → IsSound first.state.world →
+      Holds IsAsked AskedBack (Ends first.state.world) (refusing place) first
+  refusing-holds place first sound later all =
+      let left = refused first.state place in
+      end-shows first.state.world left.turn left.left (k.heaps first.state.world sound left.left.world.heap)
+
+  terra-says : (f : FnId) (vs : List Value) (place : Place) (end : JobEnd) (v : StageState) → IsEnd end →
+      Says (asked.Terra f vs place) end v
+  terra-says f vs place (ends.Values us) v h = tt
+  terra-says f vs place (ends.Raised x at) v h = tt
+  terra-says f vs place (ends.Result t) v h = absurd h
+  terra-says f vs place (ends.Refused why) v h = absurd h
+  terra-says f vs place ends.Done v h = absurd h
+  terra-says f vs place (ends.NoLayout kind) v h = absurd h
+
+  pub refusal-holds : (f : FnId) (vs : List Value) (place : Place) (first : Given TypingState CheckAnswer) →
+      Begins (asked.Terra f vs place) first.state.world →
+      Holds Begins (Comes (check_stage items) Leaves) (Leaves (asked.Terra f vs place) first.state.world)
+      (within asking_fitting (refusing place)) first
+  refusal-holds f vs place first begin =
+      going-in-stage (refusing place) (asked.Terra f vs place) (terra-says f vs place) first
+      (refusing-holds place (given_part asking_fitting first) begin.0)

@@ -42,13 +42,15 @@ use Rattle.check_sound.specs.Layers as laws
 use Rattle.check_sound.proofs.Foreseen.{body-result}
 use Rattle.check_sound.proofs.Leading.{leads-itself}
 use Rattle.check_stage.specs.declared.jobs.Job.{Job}
+use Rattle.check_stage.specs.declared.jobs.Asked.{Asked}
+use Rattle.check_stage.specs.declared.jobs.Asked.TheVariants as asked
 use Rattle.check_stage.specs.declared.jobs.Job.TheVariants as jobs
 use Rattle.check_stage.specs.declared.jobs.JobEnd.{JobEnd}
 use Rattle.check_stage.specs.declared.jobs.JobEnd.TheVariants as ends
 use Rattle.check_stage.specs.Layers.{check_stage, answer_of, with_stage, job_meaning, check_fitting, check_asks, check_end, body_fitting}
 use Rattle.check_stage.specs.Layers.{body_asks, body_end, result_fitting, layout_fitting, layout_asks, layout_end}
 use Rattle.check_stage.specs.Results.{result_meaning, result_by, result_seen}
-use Rattle.stage_sound.specs.Holding.{IsBackFor, Shows, Holds, Comes}
+use Rattle.stage_form.specs.Holding.{IsBackFor, Shows, Holds, Comes}
 use Rattle.stage_sound.specs.Jobs.{Begins, Says, Leaves}
 use Rattle.stage_sound.proofs.Layers.{LayersKeep}
 use Rattle.stage_sound.proofs.Parts.{within-holds}
@@ -57,10 +59,10 @@ module _ (items : Items) (k : LayersKeep items) where
   -- what a job holds to in the stage
   abbrev pub JobHolds : Job → Given TypingState CheckAnswer → Type 0
   JobHolds job first =
-      Holds Begins (Comes (check_stage items) Leaves) (Leaves job first.state.world) (job_meaning items job) first
+      Holds Begins (Comes (check_stage items) Leaves) (Leaves (asked.Job job) first.state.world) (job_meaning items job) first
 
-  abbrev Back : Job → State TypingState → Given TypingState CheckAnswer → Type 0
-  Back job s next = Comes (check_stage items) Leaves job s next
+  abbrev Back : Asked → State TypingState → Given TypingState CheckAnswer → Type 0
+  Back question s next = Comes (check_stage items) Leaves question s next
 
   -- ---- checks
 
@@ -91,15 +93,15 @@ module _ (items : Items) (k : LayersKeep items) where
     beside w = w.variables ≡ first.state.world.variables
 
     check-asks : (w : TypingState) (q : CheckQuestion) (p : StageState) → beside w → IsCheckAsked q p →
-        Begins (check_asks q) (with_stage w p)
+        Begins (asked.Job (check_asks q)) (with_stage w p)
     check-asks w (of_checks.Body g) p b h = h
 
     check-leaves : (w : TypingState) (end : CheckEnd) (p : StageState) → beside w → checks_left end p →
-        Leaves (jobs.Check f) first.state.world (check_end end) (with_stage w p)
+        Leaves (asked.Job (jobs.Check f)) first.state.world (check_end end) (with_stage w p)
     check-leaves w check_ends.Done p b h = record { sound = h.0; leads = h.1.0; variables = b; says = h.1.1 }
     check-leaves w (check_ends.Refused why) p b h = record { sound = h.0; leads = h.1.0; variables = b; says = tt }
 
-    body-says : (g : FnId) (end : JobEnd) (v : StageState) → Says (jobs.Body g) end v →
+    body-says : (g : FnId) (end : JobEnd) (v : StageState) → Says (asked.Job (jobs.Body g)) end v →
         ChecksAnswer (of_checks.Body g) (answer_of end) v
     body-says g ends.Done v h = h
     body-says g (ends.Refused why) v h = tt
@@ -109,7 +111,7 @@ module _ (items : Items) (k : LayersKeep items) where
     body-says g (ends.NoLayout kind) v h = absurd h
 
     check-comes : (w : TypingState) (q : CheckQuestion) (s : State StageState) (next : Given TypingState CheckAnswer) →
-        beside w → IsCheckAsked q s.world → Back (check_asks q) (whole check_fitting w s) next →
+        beside w → IsCheckAsked q s.world → Back (asked.Job (check_asks q)) (whole check_fitting w s) next →
         IsCheckBack q s (given_part check_fitting next) × beside next.state.world
     check-comes w (of_checks.Body g) s next b may h = (
       record {
@@ -121,10 +123,10 @@ module _ (items : Items) (k : LayersKeep items) where
       h.1.1.variables ∙ b,
     )
 
-    pub check-holds : Begins (jobs.Check f) first.state.world → JobHolds (jobs.Check f) first
+    pub check-holds : Begins (asked.Job (jobs.Check f)) first.state.world → JobHolds (jobs.Check f) first
     check-holds begin =
         within-holds check_fitting IsCheckAsked IsCheckBack checks_left Begins Back
-        (Leaves (jobs.Check f) first.state.world) beside check-asks check-leaves check-comes (check f) first refl
+        (Leaves (asked.Job (jobs.Check f)) first.state.world) beside check-asks check-leaves check-comes (check f) first refl
         (check-layer begin.0)
 
   -- ---- layouts
@@ -164,35 +166,36 @@ module _ (items : Items) (k : LayersKeep items) where
     beside_layout w = w.variables ≡ first.state.world.variables
 
     layout-asks : (w : TypingState) (q : LayoutQuestion) (p : StageState) → beside_layout w → LayoutAsked q p →
-        Begins (layout_asks q) (with_stage w p)
+        Begins (asked.Job (layout_asks q)) (with_stage w p)
     layout-asks w (of_layouts.CallLua v vs place) p b h = (h, tt)
     layout-asks w (of_layouts.LayoutOf u place) p b h = (h, tt)
 
     layout-leaves : (w : TypingState) (end : LayoutEnd) (p : StageState) → beside_layout w → layouts_left end p →
-        Leaves (jobs.Layout t at) first.state.world (layout_end end) (with_stage w p)
+        Leaves (asked.Job (jobs.Layout t at)) first.state.world (layout_end end) (with_stage w p)
     layout-leaves w layout_ends.Done p b h = record { sound = h.0; leads = h.1.0; variables = b; says = h.1.1 }
     layout-leaves w (layout_ends.Refused kind) p b h = record { sound = h.0; leads = h.1.0; variables = b; says = tt }
 
     layout-comes : (w : TypingState) (q : LayoutQuestion) (s : State StageState) (next : Given TypingState CheckAnswer) →
-        beside_layout w → LayoutAsked q s.world → Back (layout_asks q) (whole layout_fitting w s) next →
+        beside_layout w → LayoutAsked q s.world → Back (asked.Job (layout_asks q)) (whole layout_fitting w s) next →
         LayoutBack q s (given_part layout_fitting next) × beside_layout next.state.world
     layout-comes w q s next b may h = ((h.1.1.sound, h.1.1.leads), h.1.1.variables ∙ b)
 
-    pub layout-holds : Begins (jobs.Layout t at) first.state.world → JobHolds (jobs.Layout t at) first
+    pub layout-holds : Begins (asked.Job (jobs.Layout t at)) first.state.world → JobHolds (jobs.Layout t at) first
     layout-holds begin =
         within-holds layout_fitting LayoutAsked LayoutBack layouts_left Begins Back
-        (Leaves (jobs.Layout t at) first.state.world) beside_layout layout-asks layout-leaves layout-comes
+        (Leaves (asked.Job (jobs.Layout t at)) first.state.world) beside_layout layout-asks layout-leaves layout-comes
         (layout (record { of = t; at = at })) first refl (layout-layer begin.0)
 
   -- ---- bodies, and the result types that they have
 
   -- what is asked for in a body
-  body-asked : (q : BodyQuestion) (p : TypingState) → IsBodyAsked q p → Begins (body_asks q) p
+  body-asked : (q : BodyQuestion) (p : TypingState) → IsBodyAsked q p → Begins (asked.Job (body_asks q)) p
   body-asked (of_bodies.CallLua v vs place) p h = (h, tt)
   body-asked (of_bodies.ResultOf g) p h = h
   body-asked (of_bodies.LayoutOf u place) p h = (h, tt)
 
-  answer-says : (q : BodyQuestion) (end : JobEnd) (v : StageState) → Says (body_asks q) end v → Answers q (answer_of end) v
+  answer-says : (q : BodyQuestion) (end : JobEnd) (v : StageState) → Says (asked.Job (body_asks q)) end v →
+      Answers q (answer_of end) v
   answer-says (of_bodies.CallLua x vs place) (ends.Values us) v h = tt
   answer-says (of_bodies.CallLua x vs place) (ends.Raised y at) v h = tt
   answer-says (of_bodies.CallLua x vs place) (ends.Result t) v h = absurd h
@@ -212,7 +215,8 @@ module _ (items : Items) (k : LayersKeep items) where
   answer-says (of_bodies.LayoutOf u place) (ends.Result t) v h = absurd h
   answer-says (of_bodies.LayoutOf u place) (ends.Refused why) v h = absurd h
 
-  body-came : (q : BodyQuestion) (s : State TypingState) (next : BodyGiven) → Back (body_asks q) s next → IsBodyBack q s next
+  body-came : (q : BodyQuestion) (s : State TypingState) (next : BodyGiven) → Back (asked.Job (body_asks q)) s next →
+      IsBodyBack q s next
   body-came q s next h = record {
     sound = h.1.1.sound;
     leads = h.1.1.leads;
@@ -249,21 +253,21 @@ module _ (items : Items) (k : LayersKeep items) where
         (λ before behind next split. body-back (body f first before) next (all before behind next split)))
 
     body-leaves : (w : TypingState) (end : BodyEnd) (p : TypingState) → Anywhere w → bodies_left end p →
-        Leaves (jobs.Body f) first.state.world (body_end end) p
+        Leaves (asked.Job (jobs.Body f)) first.state.world (body_end end) p
     body-leaves w (body_ends.Typed made) p b h =
         record { sound = h.0; leads = h.1.0; variables = h.1.1.0; says = (made, h.1.1.1.0) }
     body-leaves w (body_ends.Refused why) p b h = record { sound = h.0; leads = h.1.0; variables = h.1.1.0; says = tt }
 
-    pub body-holds : Begins (jobs.Body f) first.state.world → JobHolds (jobs.Body f) first
+    pub body-holds : Begins (asked.Job (jobs.Body f)) first.state.world → JobHolds (jobs.Body f) first
     body-holds begin =
-        within-holds body_fitting IsBodyAsked IsBodyBack bodies_left Begins Back (Leaves (jobs.Body f) first.state.world)
+        within-holds body_fitting IsBodyAsked IsBodyBack bodies_left Begins Back (Leaves (asked.Job (jobs.Body f)) first.state.world)
         Anywhere (λ w q p b h. body-asked q p h) body-leaves (λ w q s next b may h. (body-came q s next h, tt)) (body f) first tt
         (body-layer begin.0 (subst MayBeTyped (sym begin.1.1) tt))
 
     -- ---- result types
 
     abbrev results_left : JobEnd → TypingState → Type 0
-    results_left end v = Leaves (jobs.Result f) first.state.world end v
+    results_left end v = Leaves (asked.Job (jobs.Result f)) first.state.world end v
 
     result-shows : (o : Seen TypingState BodyQuestion BodyEnd) → BodyStaysSound f first o →
         Shows IsBodyAsked results_left (result_seen o)
@@ -325,8 +329,8 @@ module _ (items : Items) (k : LayersKeep items) where
             (λ before behind next split. result-back (body f first before) next
             (subst (λ o. IsBackFor IsBodyBack (result_by o f first before) next) is (all before behind next split))))
 
-    pub result-holds : Begins (jobs.Result f) first.state.world → JobHolds (jobs.Result f) first
+    pub result-holds : Begins (asked.Job (jobs.Result f)) first.state.world → JobHolds (jobs.Result f) first
     result-holds begin =
-        within-holds result_fitting IsBodyAsked IsBodyBack results_left Begins Back (Leaves (jobs.Result f) first.state.world)
+        within-holds result_fitting IsBodyAsked IsBodyBack results_left Begins Back (Leaves (asked.Job (jobs.Result f)) first.state.world)
         Anywhere (λ w q p b h. body-asked q p h) (λ w end p b h. h) (λ w q s next b may h. (body-came q s next h, tt))
         (result_meaning f) first tt (result-layer begin.0 begin.1)

@@ -29,10 +29,13 @@ use Rattle.stage_library.specs.declared.tasks.Task.{Task}
 use Rattle.stage_library.specs.declared.tasks.Task.TheVariants as tasks
 use Rattle.stage_library.specs.Library.{library}
 use Rattle.stage_library.specs.Types.{type_asked}
-use Rattle.terra_stage.specs.Layers.{lua_fitting, spec_fitting, task_meaning}
+use Rattle.terra_stage.specs.declared.asked.Asked.{Asked}
+use Rattle.terra_stage.specs.declared.asked.Asked.TheVariants as of_tasks
+use Rattle.terra_stage.specs.Layers.{lua_fitting, spec_fitting, library_fitting, task_meaning}
 use Rattle.check_stage.specs.declared.jobs.Job.TheVariants as jobs
-use Rattle.check_stage.specs.Layers.{check_stage, with_stage, stage_fitting, job_of, lua_end}
-use Rattle.stage_sound.specs.Holding.{IsBackFor, Shows, Holds, Comes}
+use Rattle.check_stage.specs.declared.jobs.Asked.TheVariants as asked
+use Rattle.check_stage.specs.Layers.{check_stage, with_stage, stage_fitting, stage_asks, job_of, lua_end}
+use Rattle.stage_form.specs.Holding.{IsBackFor, Shows, Holds, Comes}
 use Rattle.stage_sound.specs.Jobs.{Begins, IsMeant, Leaves}
 use Rattle.stage_sound.proofs.Layers.{LayersKeep}
 use Rattle.stage_sound.proofs.OfChecks.{JobHolds}
@@ -40,17 +43,17 @@ use Rattle.stage_sound.proofs.Parts.{within-holds}
 
 -- ---- among what needs no check and no layout by itself
 
-abbrev pub TaskAsked : Task → StageState → Type 0
-TaskAsked task w = IsSound w
+abbrev pub TaskAsked : Asked → StageState → Type 0
+TaskAsked question w = IsSound w
 
-abbrev pub TaskBack : Task → State StageState → Given StageState LuaAnswer → Type 0
-TaskBack task s next = IsBack s next
+abbrev pub TaskBack : Asked → State StageState → Given StageState LuaAnswer → Type 0
+TaskBack question s next = IsBack s next
 
 -- a sound world, to which one has led
 abbrev pub Led : StageState → StageState → Type 0
 Led w v = IsSound v × Leads w v
 
-abbrev pub TaskHolds : Meaning StageState Task LuaAnswer LuaEnd → Given StageState LuaAnswer → Type 0
+abbrev pub TaskHolds : Meaning StageState Asked LuaAnswer LuaEnd → Given StageState LuaAnswer → Type 0
 TaskHolds layer first = Holds TaskAsked TaskBack (λ end v. Led first.state.world v) layer first
 
 -- a layer that needs nothing of its answers
@@ -121,46 +124,60 @@ module _ (items : Items) (k : LayersKeep items) where
       (λ w. Unit {0}) (λ w q p b h. h) (λ w end p b h. h) (λ w q s next b may h. (h, tt)) (spec items task) first tt
       (sound-holds (spec items task) (given_part spec_fitting first) (k.specialising task) sound)
 
+  -- what asks for tasks alone
+  asking-holds : (layer : Meaning StageState Task LuaAnswer LuaEnd) (first : Given StageState LuaAnswer) → LayerKeepsSound layer →
+      IsSound first.state.world → TaskHolds (within library_fitting layer) first
+  asking-holds layer first keeps sound =
+      within-holds library_fitting (λ q w. IsSound w) (λ q s next. IsBack s next) (λ end v. Led first.state.world v) TaskAsked TaskBack
+      (λ end v. Led first.state.world v)
+      (λ w. Unit {0}) (λ w q p b h. h) (λ w end p b h. h) (λ w q s next b may h. (h, tt)) layer first tt
+      (sound-holds layer (given_part library_fitting first) keeps sound)
+
   library-holds : (call : LibCall) (first : Given StageState LuaAnswer) → asks call.function ≡ false →
-      IsSound first.state.world → TaskHolds (library call) first
-  library-holds call first free sound = sound-holds (library call) first (k.library call free) sound
+      IsSound first.state.world → TaskHolds (within library_fitting (library call)) first
+  library-holds call first free sound = asking-holds (library call) first (k.library call free) sound
 
   type-holds : (t : TypeId) (place : Place) (first : Given StageState LuaAnswer) → IsSound first.state.world →
-      TaskHolds (type_asked t place) first
-  type-holds t place first sound = sound-holds (type_asked t place) first (k.texts t place) sound
+      TaskHolds (within library_fitting (type_asked t place)) first
+  type-holds t place first sound = asking-holds (type_asked t place) first (k.texts t place) sound
 
   -- ---- each task
 
   task-holds : (task : Task) (first : Given StageState LuaAnswer) → IsSound first.state.world →
-      IsMeant (jobs.Stage task) first.state.world → TaskHolds (task_meaning items task) first
+      IsMeant (asked.Job (jobs.Stage task)) first.state.world → TaskHolds (task_meaning items task) first
   task-holds (tasks.Evaluate job) first sound meant = lua-holds job first sound
   task-holds (tasks.Specialise n env) first sound meant = spec-holds (record { node = n; env = env }) first sound
   task-holds (tasks.Library call) first sound meant = library-holds call first meant sound
   task-holds (tasks.TypeText t place) first sound meant = type-holds t place first sound
 
   -- a task as a job
-  task-begins : (w : TypingState) (task : Task) (p : StageState) → IsSound p → Begins (job_of task) (with_stage w p)
+  task-begins : (w : TypingState) (task : Task) (p : StageState) → IsSound p → Begins (asked.Job (job_of task)) (with_stage w p)
   task-begins w (tasks.Evaluate job) p sound = (sound, tt)
   task-begins w (tasks.Specialise n env) p sound = (sound, tt)
   task-begins w (tasks.TypeText t place) p sound = (sound, tt)
   task-begins w (tasks.Library call) p sound = by (asks call.function) refl
     where
       by : (c : Bool) → asks call.function ≡ c →
-          Begins (if c then jobs.Call call else jobs.Stage (tasks.Library call)) (with_stage w p)
+          Begins (asked.Job (if c then jobs.Call call else jobs.Stage (tasks.Library call))) (with_stage w p)
       by true e = (sound, tt)
       by false e = (sound, e)
 
-  pub stage-holds : (task : Task) (first : Given TypingState CheckAnswer) → Begins (jobs.Stage task) first.state.world →
+  -- what such a layer asks for
+  asked-begins : (w : TypingState) (q : Asked) (p : StageState) → IsSound p → Begins (stage_asks q) (with_stage w p)
+  asked-begins w (of_tasks.Task task) p sound = task-begins w task p sound
+  asked-begins w (of_tasks.Terra f vs place) p sound = (sound, tt)
+
+  pub stage-holds : (task : Task) (first : Given TypingState CheckAnswer) → Begins (asked.Job (jobs.Stage task)) first.state.world →
       JobHolds items k (jobs.Stage task) first
   stage-holds task first begin =
       within-holds stage_fitting TaskAsked TaskBack (λ end v. Led first.state.world.stage v) Begins
-      (λ job s next. Comes (check_stage items) Leaves job s next) (Leaves (jobs.Stage task) first.state.world)
+      (λ question s next. Comes (check_stage items) Leaves question s next) (Leaves (asked.Job (jobs.Stage task)) first.state.world)
       (λ w. w.variables ≡ first.state.world.variables)
-      (λ w q p b h. task-begins w q p h) leaves
+      (λ w q p b h. asked-begins w q p h) leaves
       (λ w q s next b may h. ((h.1.1.sound, h.1.1.leads), h.1.1.variables ∙ b))
       (task_meaning items task) first refl (task-holds task (given_part stage_fitting first) begin.0 begin.1)
     where
       leaves : (w : TypingState) (end : LuaEnd) (p : StageState) → w.variables ≡ first.state.world.variables →
-          Led first.state.world.stage p → Leaves (jobs.Stage task) first.state.world (lua_end end) (with_stage w p)
+          Led first.state.world.stage p → Leaves (asked.Job (jobs.Stage task)) first.state.world (lua_end end) (with_stage w p)
       leaves w (lua_ends.Done vs) p b h = record { sound = h.0; leads = h.1; variables = b; says = tt }
       leaves w (lua_ends.Raised x place) p b h = record { sound = h.0; leads = h.1; variables = b; says = tt }

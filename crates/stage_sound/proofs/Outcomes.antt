@@ -5,7 +5,7 @@ use Rattle.std.specs.Prelude.{nat_lt}
 use Rattle.tl_base.specs.declared.place.Place.{Place}
 use Rattle.tl_base.specs.declared.ids.FnId.{FnId}
 use Rattle.tl_base.specs.Layer.{State, state}
-use Rattle.stage_form.specs.Stage.{Final, Finished, Exhausted, staged}
+use Rattle.stage_form.specs.Stage.{Final, Finished, Exhausted}
 use Rattle.tl_tree.specs.Code.{Items}
 use Rattle.lua_model.specs.declared.job.LuaJob.TheVariants.{Chunk}
 use Rattle.terra_term.specs.declared.store.Export.{Export}
@@ -22,19 +22,20 @@ use Rattle.check_sound.proofs.Leading.{leads-itself, leads-twice}
 use Rattle.stage_library.specs.declared.tasks.Task.TheVariants.{Evaluate}
 use Rattle.check_stage.specs.declared.jobs.Job.{Job}
 use Rattle.check_stage.specs.declared.jobs.Job.TheVariants as jobs
+use Rattle.check_stage.specs.declared.jobs.Asked.TheVariants as asked
 use Rattle.check_stage.specs.declared.jobs.JobEnd.{JobEnd}
 use Rattle.check_stage.specs.declared.jobs.JobEnd.TheVariants as ends
 use Rattle.check_stage.specs.declared.staging.CheckLine.{CheckLine}
 use Rattle.check_stage.specs.declared.staging.Mode.{Mode}
 use Rattle.check_stage.specs.declared.staging.Mode.TheVariants.{Exports, CheckAll}
-use Rattle.check_stage.specs.Layers.{check_stage}
+use Rattle.check_stage.specs.Layers.{job_staged}
 use Rattle.check_stage.specs.Staging.{Checked, checked_with, after_check, exported, line_of, checks, by_mode, Ending, ending_of}
 use Rattle.check_stage.specs.Staging.{ending_if_any, begun, outcome}
 use Rattle.stage_sound.specs.Jobs.{IsMeant}
 use Rattle.stage_sound.specs.Parts.{HasPart}
 use Rattle.stage_sound.specs.Promises.{IsWhole, EndsSound}
 use Rattle.stage_sound.proofs.Layers.{LayersKeep}
-use Rattle.stage_sound.proofs.Whole.{job-leaves}
+use Rattle.stage_sound.proofs.Whole.{question-leaves}
 
 -- where exports are ready, there is a store of what they reach
 abbrev pub HaveParts : Type 0
@@ -53,17 +54,17 @@ module _ (items : Items) (k : LayersKeep items) (w0 : StageState) where
   Fine (Some (Exhausted s)) = Unit {0}
   Fine (Some (Finished e s)) = Reached s.world
 
-  reached-job : (n : ℕ) (job : Job) (s : State TypingState) → Reached s.world → IsMeant job s.world.stage →
-      (end : JobEnd) (t : State TypingState) → staged (check_stage items) n job s ≡ Some (Finished end t) → Reached t.world
+  reached-job : (n : ℕ) (job : Job) (s : State TypingState) → Reached s.world → IsMeant (asked.Job job) s.world.stage →
+      (end : JobEnd) (t : State TypingState) → job_staged items n job s ≡ Some (Finished end t) → Reached t.world
   reached-job n job s r meant end t is =
-      let l = job-leaves items k n job s end t (r.0, meant) is in
+      let l = question-leaves items k n (asked.Job job) s end t (r.0, meant) is in
       (l.sound, leads-twice w0 s.world.stage t.world.stage r.1 l.leads)
 
-  fine-job : (n : ℕ) (job : Job) (s : State TypingState) → Reached s.world → IsMeant job s.world.stage →
-      Fine (staged (check_stage items) n job s)
-  fine-job n job s r meant = by (staged (check_stage items) n job s) refl
+  fine-job : (n : ℕ) (job : Job) (s : State TypingState) → Reached s.world → IsMeant (asked.Job job) s.world.stage →
+      Fine (job_staged items n job s)
+  fine-job n job s r meant = by (job_staged items n job s) refl
     where
-      by : (o : Option (Final TypingState JobEnd)) → staged (check_stage items) n job s ≡ o → Fine o
+      by : (o : Option (Final TypingState JobEnd)) → job_staged items n job s ≡ o → Fine o
       by None is = tt
       by (Some (Exhausted t)) is = tt
       by (Some (Finished end t)) is = reached-job n job s r meant end t is
@@ -96,14 +97,14 @@ module _ (items : Items) (k : LayersKeep items) (w0 : StageState) where
       let f : FnId = record { 0 = i } in
       fine-choice (nat_lt i (length s.world.stage.store.functions))
       (if is_undefined s.world.stage f then checks items n (i + 1) lines s
-      else after_check (staged (check_stage items) n (jobs.Check f) s) (λ end next.
+      else after_check (job_staged items n (jobs.Check f) s) (λ end next.
       checks items n (i + 1) (lines ++ line_of f end ∷ []) next))
       (Some (Finished (checked_with (ends.Values []) lines) s))
       (fine-choice (is_undefined s.world.stage f) (checks items n (i + 1) lines s)
-      (after_check (staged (check_stage items) n (jobs.Check f) s) (λ end next.
+      (after_check (job_staged items n (jobs.Check f) s) (λ end next.
       checks items n (i + 1) (lines ++ line_of f end ∷ []) next))
       (fine-checks n (i + 1) lines s r)
-      (fine-after (staged (check_stage items) n (jobs.Check f) s)
+      (fine-after (job_staged items n (jobs.Check f) s)
       (λ end next. checks items n (i + 1) (lines ++ line_of f end ∷ []) next) (fine-job n (jobs.Check f) s r tt)
       (λ end next x. fine-checks n (i + 1) (lines ++ line_of f end ∷ []) next x))) r
 
@@ -182,6 +183,6 @@ module _ (items : Items) (k : LayersKeep items) (w0 : StageState) where
       let s = state (begun memory) units in
       let r : Reached s.world = subst (λ w. IsSound w × Leads w0 w) (sym same) (sound, leads-itself w0) in
       final-sound stays parts (none-fine sound none)
-      (after_check (staged (check_stage items) n (jobs.Stage (Evaluate Chunk)) s) (by_mode mode items n place))
-      (fine-after (staged (check_stage items) n (jobs.Stage (Evaluate Chunk)) s) (by_mode mode items n place)
+      (after_check (job_staged items n (jobs.Stage (Evaluate Chunk)) s) (by_mode mode items n place))
+      (fine-after (job_staged items n (jobs.Stage (Evaluate Chunk)) s) (by_mode mode items n place)
       (fine-job n (jobs.Stage (Evaluate Chunk)) s r tt) (λ e t x. fine-mode mode n place e t x)) out is whole

@@ -3,7 +3,7 @@ use Rattle.std.proofs.Common.{◌≡◌, List, [], ◌∷◌, refl, ap, subst}
 use Rattle.tl_base.specs.Layer.{State, Given, Seen, Ended, SpentAt, Asks, Meaning}
 use Rattle.stage_form.specs.Stage.{after}
 use Rattle.stage_form.specs.Within.{Fitting, given_part, whole, seen_within, answered, within}
-use Rattle.stage_sound.specs.Holding.{IsBackFor, AllBack, Shows, Holds}
+use Rattle.stage_form.specs.Holding.{IsBackFor, AllBack, Shows, Holds}
 use Rattle.stage_sound.proofs.Feeding.{shows-first, holds-after}
 
 -- What holds of the layer's part, what of the whole, and what stands beside the part where the layer was last answered.

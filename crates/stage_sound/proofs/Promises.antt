@@ -17,7 +17,7 @@ use Rattle.check_stage.specs.Staging.{opened}
 use Rattle.terra_lib.specs.Opening as library
 use Rattle.stage_sound.specs.Promises.{JobsKeepSound, StagingsEndSound}
 use Rattle.stage_sound.proofs.Layers.{LayersKeep}
-use Rattle.stage_sound.proofs.Whole.{job-leaves}
+use Rattle.stage_sound.proofs.Whole.{question-leaves}
 use Rattle.stage_sound.proofs.Outcomes.{outcome-sound}
 use Rattle.stage_sound.proofs.Making.{have-parts}
 
@@ -37,7 +37,8 @@ layers-keep items placed = record {
 }
 
 pub jobs-keep-sound : JobsKeepSound
-jobs-keep-sound items placed n job s end t begin is = job-leaves items (layers-keep items placed) n job s end t begin is
+jobs-keep-sound items placed n question s end t begin is =
+    question-leaves items (layers-keep items placed) n question s end t begin is
 
 pub stagings-end-sound : StagingsEndSound
 stagings-end-sound items placed place mode n units memory out small is whole =

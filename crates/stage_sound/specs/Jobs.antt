@@ -1,4 +1,4 @@
--- What each job of the stage demands of the world in which it is asked for, and what it leaves.
+-- What each question of the stage demands of the world in which it is asked, and what it leaves.
 use Rattle.std.specs.Prelude.{◌≡◌, false, Some}
 use Rattle.tl_base.specs.declared.ids.TermId.{TermId}
 use Rattle.terra_term.specs.declared.store.Function.{Function}
@@ -14,8 +14,9 @@ use Rattle.check_library.specs.Calls.{asks}
 use Rattle.check_sound.specs.Growing.{Leads}
 use Rattle.check_sound.specs.Layers.{ReachesReady}
 use Rattle.stage_library.specs.declared.tasks.Task.TheVariants as tasks
-use Rattle.check_stage.specs.declared.jobs.Job.{Job}
 use Rattle.check_stage.specs.declared.jobs.Job.TheVariants as jobs
+use Rattle.check_stage.specs.declared.jobs.Asked.{Asked}
+use Rattle.check_stage.specs.declared.jobs.Asked.TheVariants as asked
 use Rattle.check_stage.specs.declared.jobs.JobEnd.{JobEnd}
 use Rattle.check_stage.specs.declared.jobs.JobEnd.TheVariants as ends
 
@@ -23,38 +24,40 @@ use Rattle.check_stage.specs.declared.jobs.JobEnd.TheVariants as ends
 
 -- a function of the library that asks is a job of its own; a body is typed of a function that is defined, and which no one types; and a
 -- result type is found where it isn't known
-abbrev pub IsMeant : Job → StageState → Type 0
-IsMeant (jobs.Stage (tasks.Library call)) w = asks call.function ≡ false
-IsMeant (jobs.Body f) w = (t : TermId) × (state_of w.store f ≡ standing.Defined t)
-IsMeant (jobs.Result f) w = result_of w f ≡ NotYet
-IsMeant job w = Unit {0}
+abbrev pub IsMeant : Asked → StageState → Type 0
+IsMeant (asked.Job (jobs.Stage (tasks.Library call))) w = asks call.function ≡ false
+IsMeant (asked.Job (jobs.Body f)) w = (t : TermId) × (state_of w.store f ≡ standing.Defined t)
+IsMeant (asked.Job (jobs.Result f)) w = result_of w f ≡ NotYet
+IsMeant question w = Unit {0}
 
-abbrev pub Begins : Job → TypingState → Type 0
-Begins job w = IsSound w.stage × IsMeant job w.stage
+abbrev pub Begins : Asked → TypingState → Type 0
+Begins question w = IsSound w.stage × IsMeant question w.stage
 
 -- ---- what is left
 
 -- what an end says of the world that is left
-abbrev pub Says : Job → JobEnd → StageState → Type 0
-Says (jobs.Stage task) (ends.Values vs) v = Unit {0}
-Says (jobs.Stage task) (ends.Raised x place) v = Unit {0}
-Says (jobs.Call call) (ends.Values vs) v = Unit {0}
-Says (jobs.Call call) (ends.Raised x place) v = Unit {0}
-Says (jobs.Export place) (ends.Values vs) v = Unit {0}
-Says (jobs.Export place) (ends.Raised x at) v = Unit {0}
-Says (jobs.Check f) ends.Done v = (g : Function) → function_at v f ≡ Some g → ReachesReady v f
-Says (jobs.Check f) (ends.Refused why) v = Unit {0}
-Says (jobs.Body f) ends.Done v = (made : TermId) × (typed_in (state_of v.store f) ≡ Some made)
-Says (jobs.Body f) (ends.Refused why) v = Unit {0}
-Says (jobs.Result f) (ends.Result t) v = result_of v f ≡ Is t
-Says (jobs.Result f) (ends.Refused why) v = Unit {0}
-Says (jobs.Layout t at) ends.Done v = IsLaidOut v t (is_aggregate_form (form_in v t))
-Says (jobs.Layout t at) (ends.NoLayout kind) v = Unit {0}
-Says job end v = ⊥
+abbrev pub Says : Asked → JobEnd → StageState → Type 0
+Says (asked.Job (jobs.Stage task)) (ends.Values vs) v = Unit {0}
+Says (asked.Job (jobs.Stage task)) (ends.Raised x place) v = Unit {0}
+Says (asked.Job (jobs.Call call)) (ends.Values vs) v = Unit {0}
+Says (asked.Job (jobs.Call call)) (ends.Raised x place) v = Unit {0}
+Says (asked.Job (jobs.Export place)) (ends.Values vs) v = Unit {0}
+Says (asked.Job (jobs.Export place)) (ends.Raised x at) v = Unit {0}
+Says (asked.Job (jobs.Check f)) ends.Done v = (g : Function) → function_at v f ≡ Some g → ReachesReady v f
+Says (asked.Job (jobs.Check f)) (ends.Refused why) v = Unit {0}
+Says (asked.Job (jobs.Body f)) ends.Done v = (made : TermId) × (typed_in (state_of v.store f) ≡ Some made)
+Says (asked.Job (jobs.Body f)) (ends.Refused why) v = Unit {0}
+Says (asked.Job (jobs.Result f)) (ends.Result t) v = result_of v f ≡ Is t
+Says (asked.Job (jobs.Result f)) (ends.Refused why) v = Unit {0}
+Says (asked.Job (jobs.Layout t at)) ends.Done v = IsLaidOut v t (is_aggregate_form (form_in v t))
+Says (asked.Job (jobs.Layout t at)) (ends.NoLayout kind) v = Unit {0}
+Says (asked.Terra f vs at) (ends.Values us) v = Unit {0}
+Says (asked.Terra f vs at) (ends.Raised x place) v = Unit {0}
+Says question end v = ⊥
 
--- a sound world, to which the one in which the job was asked for has led; the bodies that are being typed have their variables still
-pub record Leaves (job : Job) (w : TypingState) (end : JobEnd) (v : TypingState) : Type 0 where
+-- a sound world, to which the one in which the question was asked has led; the bodies that are being typed have their variables still
+pub record Leaves (question : Asked) (w : TypingState) (end : JobEnd) (v : TypingState) : Type 0 where
   pub sound : IsSound v.stage
   pub leads : Leads w.stage v.stage
   pub variables : v.variables ≡ w.variables
-  pub says : Says job end v.stage
+  pub says : Says question end v.stage

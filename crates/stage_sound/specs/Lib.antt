@@ -3,5 +3,3 @@ pub mod Promises
 pub mod Jobs
 -- What an image is made of.
 pub mod Parts
--- What holds of a layer and of a stage of layers.
-pub mod Holding

@@ -12,7 +12,7 @@ use Rattle.check_sound.specs.Sound.{IsSound}
 use Rattle.check_sound.specs.Growing.{AreFine}
 use Rattle.check_sound.specs.Layers.{ReachesReady}
 use Rattle.spec_sound.specs.Sound.{ArePlaced}
-use Rattle.check_stage.specs.declared.jobs.Job.{Job}
+use Rattle.check_stage.specs.declared.jobs.Asked.{Asked}
 use Rattle.check_stage.specs.declared.jobs.JobEnd.{JobEnd}
 use Rattle.check_stage.specs.declared.staging.End.{End}
 use Rattle.check_stage.specs.declared.staging.End.TheVariants.{Spent}
@@ -22,11 +22,11 @@ use Rattle.check_stage.specs.Staging.{Ending, outcome}
 use Rattle.stage_sound.specs.Jobs.{Begins, Leaves}
 use Rattle.stage_sound.specs.Parts.{HasPart}
 
--- The law of jobs: what is asked for in a sound world leaves one, over the nodes of a tree that have places of a text.
+-- The law of questions: what is asked for in a sound world leaves one, over the nodes of a tree that have places of a text.
 abbrev pub JobsKeepSound : Type 0
 JobsKeepSound =
-    (items : Items) → ArePlaced items → (n : ℕ) (job : Job) (s : State TypingState) (end : JobEnd) (t : State TypingState) →
-    Begins job s.world → staged (check_stage items) n job s ≡ Some (Finished end t) → Leaves job s.world end t.world
+    (items : Items) → ArePlaced items → (n : ℕ) (question : Asked) (s : State TypingState) (end : JobEnd) (t : State TypingState) →
+    Begins question s.world → staged (check_stage items) n question s ≡ Some (Finished end t) → Leaves question s.world end t.world
 
 -- a staging for which there were units
 abbrev pub IsWhole : End → Type 0

@@ -28,18 +28,21 @@ use Rattle.stage_library.specs.Library.{library, library_rest}
 use Rattle.stage_library.specs.Types.{type_asked}
 use Rattle.stage_library.specs.declared.tasks.Task.{Task}
 use Rattle.stage_library.specs.declared.tasks.Task.TheVariants.{Evaluate, Specialise, Library, TypeText}
+use Rattle.terra_stage.specs.declared.asked.Asked.{Asked}
+use Rattle.terra_stage.specs.declared.asked.Asked.TheVariants as asked
 use Rattle.terra_stage.specs.declared.staged.Staged.{Staged}
 use Rattle.terra_stage.specs.declared.staged.Staged.TheVariants as layers
 
 -- ---- Lua code
 
--- the task that a question of Lua code is
-abbrev pub lua_asks : LuaQuestion → Task
-lua_asks (questions.Library call) = Library call
-lua_asks (questions.Specialise n env) = Specialise n env
+-- what a question of Lua code is in the stage
+abbrev pub lua_asks : LuaQuestion → Asked
+lua_asks (questions.Library call) = asked.Task (Library call)
+lua_asks (questions.Specialise n env) = asked.Task (Specialise n env)
+lua_asks (questions.Terra f vs place) = asked.Terra f vs place
 
 -- Lua code has the heap, and the rest of the world stays while it works
-abbrev pub lua_fitting : Fitting StageState LuaState LuaQuestion Task LuaAnswer LuaAnswer LuaEnd LuaEnd
+abbrev pub lua_fitting : Fitting StageState LuaState LuaQuestion Asked LuaAnswer LuaAnswer LuaEnd LuaEnd
 lua_fitting = record { part = λ w. w.heap; with_part = with_heap; question = lua_asks; answer = λ a. a; end = λ e. e }
 
 -- ---- the specialisation of Terra code
@@ -61,8 +64,20 @@ spec_end (spec_ends.Done v) = Done (v ∷ [])
 spec_end (spec_ends.Raised v place) = Raised v place
 
 -- it has the whole world
-abbrev pub spec_fitting : Fitting StageState StageState SpecQuestion Task SpecAnswer LuaAnswer SpecEnd LuaEnd
-spec_fitting = record { part = λ w. w; with_part = λ w p. p; question = spec_asks; answer = spec_answer; end = spec_end }
+abbrev pub spec_fitting : Fitting StageState StageState SpecQuestion Asked SpecAnswer LuaAnswer SpecEnd LuaEnd
+spec_fitting = record {
+  part = λ w. w;
+  with_part = λ w p. p;
+  question = λ q. asked.Task (spec_asks q);
+  answer = spec_answer;
+  end = spec_end;
+}
+
+-- ---- functions of the library, and texts of types
+
+-- they have the whole world, and ask for tasks alone
+abbrev pub library_fitting : Fitting StageState StageState Task Asked LuaAnswer LuaAnswer LuaEnd LuaEnd
+library_fitting = record { part = λ w. w; with_part = λ w p. p; question = asked.Task; answer = λ a. a; end = λ e. e }
 
 -- ---- turns
 
@@ -75,20 +90,20 @@ turn_within f turns.Spent = turns.Spent
 -- ---- tasks
 
 -- what each task means, over the nodes of a tree
-abbrev pub task_meaning : Items → Task → Meaning StageState Task LuaAnswer LuaEnd
+abbrev pub task_meaning : Items → Task → Meaning StageState Asked LuaAnswer LuaEnd
 task_meaning items (Evaluate job) = within lua_fitting (lua items job)
 task_meaning items (Specialise n env) = within spec_fitting (spec items (record { node = n; env = env }))
-task_meaning items (Library call) = library call
-task_meaning items (TypeText t place) = type_asked t place
+task_meaning items (Library call) = within library_fitting (library call)
+task_meaning items (TypeText t place) = within library_fitting (type_asked t place)
 
 -- ---- layers that are suspended
 
 -- what remains to be done by a layer of the stage
-abbrev pub staged_rest : Staged → Meaning StageState Task LuaAnswer LuaEnd
+abbrev pub staged_rest : Staged → Meaning StageState Asked LuaAnswer LuaEnd
 staged_rest (layers.Lua lua) = within lua_fitting (lua_rest lua)
 staged_rest (layers.Spec spec) = within spec_fitting (spec_rest spec)
-staged_rest (layers.Library call) = library_rest call
-staged_rest (layers.TypeText t place) = type_asked t place
+staged_rest (layers.Library call) = within library_fitting (library_rest call)
+staged_rest (layers.TypeText t place) = within library_fitting (type_asked t place)
 
 abbrev pub StageGiven : Type 0
 StageGiven = Given StageState LuaAnswer

@@ -10,10 +10,12 @@ ghost use Rattle.lua_eval.specs.Slots.{ArePaths};
 ghost use Rattle.exotype.specs.World.{StageState};
 ghost use Rattle.spec_machine.specs.Rest.{spec_rest, SpecFits};
 ghost use Rattle.stage_library.specs.Keeping.{KeepsStaging};
+ghost use Rattle.stage_library.specs.Library.{library_rest};
 ghost use Rattle.stage_library.specs.Types.{type_asked};
-ghost use Rattle.terra_stage.specs.Layers.{lua_asks, spec_asks, spec_answer, spec_end, lua_fitting, spec_fitting};
+ghost use Rattle.terra_stage.specs.Layers.{lua_asks, spec_asks, spec_answer, spec_end, lua_fitting, spec_fitting, library_fitting};
 ghost use Rattle.terra_stage.specs.Layers.{turn_within, task_meaning, staged_rest, StageGiven, StagedFits};
 
+use crate::asked::Asked;
 use exotype::World;
 use lua_eval::Lua;
 use lua_model::{LuaAnswer, LuaEnd, LuaJob, LuaQuestion};
@@ -26,13 +28,14 @@ use tl_base::{Budget, Layer, NoMemory, Place, Turn, TypeId};
 use tl_rename::Slots;
 use tl_tree::Tree;
 
-/// The task that a question of Lua code is.
-fn lua_asks(question: LuaQuestion) -> Task
+/// What a question of Lua code is in the stage.
+fn lua_asks(question: LuaQuestion) -> Asked
     ensures { result ≡ lua_asks question }
 {
     match question {
-        LuaQuestion::Library(call) => Task::Library(call),
-        LuaQuestion::Specialise(node, env) => Task::Specialise(node, env),
+        LuaQuestion::Library(call) => Asked::Task(Task::Library(call)),
+        LuaQuestion::Specialise(node, env) => Asked::Task(Task::Specialise(node, env)),
+        LuaQuestion::Terra(function, args, place) => Asked::Terra(function, args, place),
     }
 }
 
@@ -75,7 +78,7 @@ fn spec_end(alloc: Global, end: SpecEnd) -> Result<LuaEnd, NoMemory>
 }
 
 /// Where Lua code stops, as that is in the stage.
-fn lua_turn(turn: Turn<LuaQuestion, LuaEnd>) -> Turn<Task, LuaEnd>
+fn lua_turn(turn: Turn<LuaQuestion, LuaEnd>) -> Turn<Asked, LuaEnd>
     ensures { result ≡ turn_within lua_fitting turn }
 {
     match turn {
@@ -89,7 +92,7 @@ fn lua_turn(turn: Turn<LuaQuestion, LuaEnd>) -> Turn<Task, LuaEnd>
 fn spec_turn(
     alloc: Global,
     turn: Turn<SpecQuestion, SpecEnd>,
-) -> Result<Turn<Task, LuaEnd>, NoMemory>
+) -> Result<Turn<Asked, LuaEnd>, NoMemory>
     ensures { IfOk result (λ it. it ≡ turn_within spec_fitting turn) }
 {
     match turn {
@@ -97,8 +100,19 @@ fn spec_turn(
             let end = spec_end(alloc, end)?;
             Ok(Turn::End(end))
         }
-        Turn::Ask(question) => Ok(Turn::Ask(spec_asks(question))),
+        Turn::Ask(question) => Ok(Turn::Ask(Asked::Task(spec_asks(question)))),
         Turn::Spent => Ok(Turn::Spent),
+    }
+}
+
+/// Where what asks for tasks alone stops, as that is in the stage.
+fn library_turn(turn: Turn<Task, LuaEnd>) -> Turn<Asked, LuaEnd>
+    ensures { result ≡ turn_within library_fitting turn }
+{
+    match turn {
+        Turn::End(end) => Turn::End(end),
+        Turn::Ask(task) => Turn::Ask(Asked::Task(task)),
+        Turn::Spent => Turn::Spent,
     }
 }
 
@@ -108,7 +122,7 @@ fn resume_lua(
     world: &mut World,
     budget: &mut Budget,
     answer: LuaAnswer,
-) -> Result<Turn<Task, LuaEnd>, NoMemory>
+) -> Result<Turn<Asked, LuaEnd>, NoMemory>
     requires { LuaFits lua.old (given_part lua_fitting (given answer world.old budget.old)) }
     ensures turn { IfOk result (λ turn. within lua_fitting (lua_rest lua.old) (given answer world.old budget.old) []
         ≡ seen turn (state world.new budget.new)) }
@@ -133,7 +147,7 @@ fn resume_spec(
     world: &mut World,
     budget: &mut Budget,
     answer: LuaAnswer,
-) -> Result<Turn<Task, LuaEnd>, NoMemory>
+) -> Result<Turn<Asked, LuaEnd>, NoMemory>
     requires { SpecFits spec.old (given_part spec_fitting (given answer world.old budget.old)) }
     ensures turn { IfOk result (λ turn. within spec_fitting (spec_rest spec.old) (given answer world.old budget.old) []
         ≡ seen turn (state world.new budget.new)) }
@@ -153,6 +167,28 @@ fn resume_spec(
     Ok(turn)
 }
 
+/// Goes on with a call of a function of the library, to where it stops next.
+fn resume_library(
+    library: &mut Library,
+    world: &mut World,
+    budget: &mut Budget,
+    answer: LuaAnswer,
+) -> Result<Turn<Asked, LuaEnd>, NoMemory>
+    ensures turn { IfOk result (λ turn. within library_fitting (library_rest library.old) (given answer world.old budget.old) []
+        ≡ seen turn (state world.new budget.new)) }
+    ensures reads_no_more { IfOk result (λ turn. UnlessAsk turn ((later : List StageGiven) →
+        within library_fitting (library_rest library.old) (given answer world.old budget.old) later
+        ≡ seen turn (state world.new budget.new))) }
+    ensures goes_on { IfOk result (λ turn. OnAsk turn (λ _. (next : StageGiven) (later : List StageGiven) →
+        within library_fitting (library_rest library.old) (given answer world.old budget.old) (next ∷ later)
+        ≡ within library_fitting (library_rest library.new) next later)) }
+    ensures kept { OnOk result (KeepsStaging world.old world.new) }
+    ensures paid { OnOk result (budget.new ≤ budget.old) }
+{
+    let turn = library.resume(world, budget, answer)?;
+    Ok(library_turn(turn))
+}
+
 /// Gives the text of a type, whatever begins that.
 fn resume_type_text(
     world: &mut World,
@@ -160,17 +196,18 @@ fn resume_type_text(
     of: TypeId,
     place: Place,
     answer: LuaAnswer,
-) -> Result<Turn<Task, LuaEnd>, NoMemory>
-    ensures turn { IfOk result (λ turn. type_asked of place (given answer world.old budget.old) []
+) -> Result<Turn<Asked, LuaEnd>, NoMemory>
+    ensures turn { IfOk result (λ turn. within library_fitting (type_asked of place) (given answer world.old budget.old) []
         ≡ seen turn (state world.new budget.new)) }
     ensures reads_no_more { IfOk result (λ turn. UnlessAsk turn ((later : List StageGiven) →
-        type_asked of place (given answer world.old budget.old) later ≡ seen turn (state world.new budget.new))) }
+        within library_fitting (type_asked of place) (given answer world.old budget.old) later
+        ≡ seen turn (state world.new budget.new))) }
     ensures ends { IfOk result (λ turn. OnAsk turn (λ _. ⊥)) }
     ensures kept { OnOk result (KeepsStaging world.old world.new) }
     ensures paid { OnOk result (budget.new ≤ budget.old) }
 {
     let turn = give_type_text(world, budget, of, place)?;
-    Ok(turn)
+    Ok(library_turn(turn))
 }
 
 /// A layer of the stage, which is to begin, or is suspended.
@@ -186,7 +223,7 @@ pub enum Staged<'a> {
 impl Layer for Staged<'_> {
     type World = World;
 
-    type Question = Task;
+    type Question = Asked;
 
     type Answer = LuaAnswer;
 
@@ -205,11 +242,11 @@ impl Layer for Staged<'_> {
         world: &mut World,
         budget: &mut Budget,
         answer: LuaAnswer,
-    ) -> Result<Turn<Task, LuaEnd>, NoMemory> {
+    ) -> Result<Turn<Asked, LuaEnd>, NoMemory> {
         match self {
             Staged::Lua(lua) => resume_lua(lua, world, budget, answer),
             Staged::Spec(spec) => resume_spec(spec, world, budget, answer),
-            Staged::Library(library) => library.resume(world, budget, answer),
+            Staged::Library(library) => resume_library(library, world, budget, answer),
             Staged::TypeText(of, place) => resume_type_text(world, budget, *of, *place, answer),
         }
     }

@@ -1,16 +1,12 @@
 use Rattle.std.proofs.Common.{◌≡◌, List, ◌∷◌, subst}
-use Rattle.tl_base.specs.declared.turn.Turn.{Turn}
 use Rattle.tl_base.specs.Layer.{given, OnAsk}
 use Rattle.stage_form.specs.Within.{within}
 use Rattle.terra_stage.specs.Layers.{turn_within}
 use Rattle.terra_stage.proofs.Turning.{goes_on}
 use Rattle.check_model.specs.Typing.{TypingState}
 use Rattle.check_model.specs.contracts.typing.Typing.{the_view}
-use Rattle.check_stage.specs.declared.jobs.Job.{Job}
-use Rattle.check_stage.specs.declared.jobs.JobEnd.{JobEnd}
 use Rattle.check_stage.specs.Asking.{asking_rest}
 use Rattle.check_stage.specs.Layers.{JobGiven, asking_fitting}
-use Rattle.check_stage.proofs.Showing.{asking_same}
 use Rattle.check_stage.proofs.staged.resume_asking.Goals as goal
 
 pub returns-clause-goes_on : goal.returns-clause-goes_on
@@ -20,10 +16,7 @@ returns-clause-goes_on c =
     let old = asking_rest a.asking.now in
     let rest = asking_rest c.resume.new.self in
     let turn = c.in_ok-turn.ensures in
-    subst
-    (λ (t : Turn Job JobEnd). OnAsk t (λ _. (next : JobGiven) (later : List JobGiven) →
-    within asking_fitting old (given a.answer a.typing.now a.budget.now) (next ∷ later) ≡ within asking_fitting rest next later))
-    (asking_same c.in_ok-turn.turn)
+    rw c.asking_turn.ensures
     (subst
     (λ (w : TypingState). OnAsk (turn_within asking_fitting c.in_ok-turn.turn) (λ _. (next : JobGiven) (later : List JobGiven) →
     within asking_fitting old (given a.answer w a.budget.now) (next ∷ later) ≡ within asking_fitting rest next later))

@@ -1,9 +1,8 @@
 use Rattle.tl_base.specs.Layer.{state}
-use Rattle.stage_form.specs.Stage.{staged}
 use Rattle.lua_model.specs.declared.job.LuaJob.TheVariants.{Chunk}
 use Rattle.stage_library.specs.declared.tasks.Task.TheVariants.{Evaluate}
 use Rattle.check_stage.specs.declared.jobs.Job.TheVariants as jobs
-use Rattle.check_stage.specs.Layers.{check_stage}
+use Rattle.check_stage.specs.Layers.{job_staged}
 use Rattle.check_stage.specs.Staging.{begun, after_check, by_mode}
 use Rattle.check_stage.proofs.Checking.{staged-more, after-more}
 use Rattle.check_stage.proofs.Outcomes.{by_mode-more, carried}
@@ -13,8 +12,8 @@ pub returns : goal.returns
 returns c = λ items place mode n m units memory out is more.
     let job = jobs.Stage (Evaluate Chunk) in
     let s = state (begun memory) units in
-    let here = staged (check_stage items) n job s in
-    let there = staged (check_stage items) m job s in
+    let here = job_staged items n job s in
+    let there = job_staged items m job s in
     carried (after_check here (by_mode mode items n place)) (after_check there (by_mode mode items m place)) out
     (λ final k.
     after-more here there (by_mode mode items n place) (by_mode mode items m place)

@@ -1,9 +1,24 @@
 use Rattle.std.proofs.Common.{[]}
-use Rattle.terra_stage.proofs.Turning.{unless}
+use Rattle.tl_base.specs.Layer.{given}
+use Rattle.stage_library.specs.Types.{type_asked}
+use Rattle.terra_stage.specs.Layers.{library_fitting}
+use Rattle.terra_stage.proofs.Turning.{stops, reads_no_more, asks}
 use Rattle.terra_stage.proofs.staged.resume_type_text.Goals as goal
 
 pub returns-clause-turn : goal.returns-clause-turn
-returns-clause-turn c = c.in_ok-turn.ensures.turn c.args.answer []
+returns-clause-turn c =
+    let a = c.args in
+    let first = given a.answer a.world.now a.budget.now in
+    rw c.library_turn.ensures
+    (stops library_fitting (type_asked a.of a.place) first c.in_ok-turn.turn _ (c.in_ok-turn.ensures.turn a.answer []))
 
 pub returns-clause-reads_no_more : goal.returns-clause-reads_no_more
-returns-clause-reads_no_more c = unless c.in_ok-turn.turn _ (λ later. c.in_ok-turn.ensures.turn c.args.answer later)
+returns-clause-reads_no_more c =
+    let a = c.args in
+    let first = given a.answer a.world.now a.budget.now in
+    rw c.library_turn.ensures
+    (reads_no_more library_fitting (type_asked a.of a.place) first c.in_ok-turn.turn _ (c.in_ok-turn.ensures.turn a.answer []))
+
+pub returns-clause-ends : goal.returns-clause-ends
+returns-clause-ends c =
+    rw c.library_turn.ensures (asks library_fitting c.in_ok-turn.turn _ _ (λ q none. none) c.in_ok-turn.ensures.ends)

@@ -28,3 +28,6 @@ returns-in-Specialise-clause-means c = λ first later.
 
 pub returns-in-Specialise-clause-fits : goal.returns-in-Specialise-clause-fits
 returns-in-Specialise-clause-fits c = λ s. c.start-in-Specialise.ensures.fits (given_part spec_fitting (at Go s)) refl
+
+pub returns-in-Library-clause-means : goal.returns-in-Library-clause-means
+returns-in-Library-clause-means c = λ first later. rw c.in-Library.is (rw c.new.ensures.call (rw c.new.ensures.begins refl))

@@ -1,0 +1,20 @@
+-- Calls of Terra functions by Lua code.
+use Rattle.tl_base.specs.declared.place.Place.{Place}
+use Rattle.tl_base.specs.Layer.{State, Meaning}
+use Rattle.lua_ops.specs.declared.fault.Fault.TheVariants.{CallsTerra}
+use Rattle.lua_ops.specs.Faults.{fault_text}
+use Rattle.lua_base.specs.Calls as base
+use Rattle.exotype.specs.World.{StageState}
+use Rattle.terra_lib.specs.Answers.{Turned, on_heap}
+use Rattle.check_model.specs.declared.question.CheckAnswer.{CheckAnswer}
+use Rattle.check_stage.specs.declared.jobs.Job.{Job}
+use Rattle.check_stage.specs.declared.jobs.JobEnd.{JobEnd}
+use Rattle.check_stage.specs.Asking.{end_seen}
+
+-- Lua code can't call Terra code. That is raised at the place of the call, and paid for, as Lua code raises it of a primitive.
+abbrev pub refused : State StageState → Place → Turned
+refused s place = on_heap s (λ h. base.raised h place (fault_text CallsTerra))
+
+-- what it means to be asked to call a Terra function at a place: it ends at once
+abbrev pub refusing : Place → Meaning StageState Job CheckAnswer JobEnd
+refusing place first later = let left = refused first.state place in end_seen left.turn left.left

@@ -1,0 +1,46 @@
+// Calls of Terra functions by Lua code.
+
+ghost use Rattle.std.specs.Prelude.{◌≡◌, ◌≤◌, List, [], IfOk, OnOk};
+ghost use Rattle.tl_base.specs.Layer.{Given, given, state, seen, OnAsk, UnlessAsk};
+ghost use Rattle.exotype.specs.World.{StageState};
+ghost use Rattle.terra_lib.specs.Answers.{turned};
+ghost use Rattle.stage_library.specs.Keeping.{KeepsStaging};
+ghost use Rattle.check_stage.specs.Calling.{refused, refusing};
+
+use crate::asking::end_of;
+use crate::jobs::{Job, JobEnd};
+use check_model::CheckAnswer;
+use exotype::World;
+use lua_ops::Fault;
+use lua_table::LibTurn;
+use tl_base::{Budget, NoMemory, Place, Turn};
+
+/// Raises that Lua code can't call Terra code, at the place of the call, whatever begins that.
+pub fn refuse_call(
+    world: &mut World,
+    budget: &mut Budget,
+    place: Place,
+    answer: CheckAnswer,
+) -> Result<Turn<Job, JobEnd>, NoMemory>
+    ensures turn { IfOk result (λ turn.
+        refusing place (given answer world.old budget.old) [] ≡ seen turn (state world.new budget.new)) }
+    ensures reads_no_more { IfOk result (λ turn. UnlessAsk turn ((later : List (Given StageState CheckAnswer)) →
+        refusing place (given answer world.old budget.old) later ≡ seen turn (state world.new budget.new))) }
+    ensures ends { IfOk result (λ turn. OnAsk turn (λ _. ⊥)) }
+    ensures kept { OnOk result (KeepsStaging world.old world.new) }
+    ensures paid { OnOk result (budget.new ≤ budget.old) }
+{
+    let turn = refuse(world, budget, place)?;
+    Ok(end_of(&world.heap, turn))
+}
+
+/// The answer that Lua code can't call Terra code.
+fn refuse(world: &mut World, budget: &mut Budget, place: Place) -> Result<LibTurn, NoMemory>
+    ensures does { IfOk result (λ turn.
+        turned turn (state world.new budget.new) ≡ refused (state world.old budget.old) place) }
+    ensures kept { OnOk result (KeepsStaging world.old world.new) }
+    ensures paid { OnOk result (budget.new ≤ budget.old) }
+{
+    let text = Fault::CallsTerra.text(world.heap.allocator())?;
+    lua_base::raise(&mut world.heap, budget, place, text.as_bytes())
+}
