@@ -59,6 +59,8 @@ pub mod Returns
 pub mod Entrances
 pub mod Within
 pub mod Compares
+pub mod Counts
+pub mod Parted
 pub mod Weighed
 pub mod Reached
 pub mod Backs
