@@ -3,6 +3,8 @@ use Rattle.std.proofs.Common.{◌≡◌, ◌≢◌, ℕ, suc, ◌+◌, ◌-◌, 
 use Rattle.std.proofs.Common.{Option, Some, refl, sym, ap, ◌∙◌, subst, arith}
 use Rattle.std.specs.Prelude.{if◌then◌else◌, nat_eq, not, IsTrue}
 use Rattle.std.proofs.lemmas.Bool.{ne_eqb}
+use Rattle.tl_base.specs.declared.place.Place.{Place}
+use Rattle.terra_words.specs.declared.words.FaultKind.{FaultKind}
 use Rattle.rv_isa.specs.declared.instr.Instr.{Instr}
 use Rattle.rv_isa.specs.declared.instr.Instr.TheVariants.{Ebreak, RegisterImmediate}
 use Rattle.rv_isa.specs.declared.operation.BranchCondition.TheVariants.{Ne}
@@ -20,7 +22,7 @@ use Rattle.rv_operators.proofs.Runs.{not-zero}
 use Rattle.rv_select.specs.Numbers.{below_zero}
 use Rattle.rv_select.specs.Places.{AreBytes, Holds, Housed, IsHome, Keeps, Layout, World, area_offset, frame_bytes, home_of, slot_offset, word_at}
 use Rattle.rv_select.specs.Shapes.{take_count, x9}
-use Rattle.rv_select.specs.Steps.{Breaks, CountsLeft, with_count}
+use Rattle.rv_select.specs.Steps.{Breaks, CountsLeft, Ends, EndsLeft, with_count}
 use Rattle.rv_select.proofs.Faults.{branch-way}
 use Rattle.rv_select.proofs.Moves.{lasts-not}
 use Rattle.rv_select.proofs.Numbers.{below-is}
@@ -171,4 +173,34 @@ later-breaks program k weight whole m n way e h = record {
   runs = λ more.
       let q : k + e.steps + more ≡ k + (e.steps + more) = omega arith in
       ap (run_of program m) q ∙ (way.runs (e.steps + more) ∙ e.runs more);
+}
+
+-- the counts that are left once one is taken
+pub count-left : (counts : Bool) (left : ℕ) (m n : State) → CountsLeft counts (suc left) m →
+    n.registers 9 ≡ (with_count counts left m).registers 9 → CountsLeft counts left n
+count-left true left m n c e = let small : suc left < 2 ^ 64 = c.1 in (e, omega (arith, small))
+count-left false left m n c e = tt
+
+-- a run that ends by a fault where so many counts are left
+pub ends-left : (counts : Bool) (program : List (Option Instr)) (kind : FaultKind) (at : Place) (k weight whole left : ℕ) (m n : State) →
+    Way program k m n → Ends program kind at weight n → k + weight ≤ whole → CountsLeft counts left n →
+    EndsLeft counts program kind at whole left m
+ends-left counts program kind at k weight whole left m n way e h c = record {
+  steps = k + e.steps;
+  last = e.last;
+  few = omega (arith, e.few);
+  runs = λ more.
+      let q : k + e.steps + more ≡ k + (e.steps + more) = omega arith in
+      ap (run_of program m) q ∙ (way.runs (e.steps + more) ∙ e.runs more);
+  count = counts-stay counts left n e.last e.count c;
+}
+
+pub ends-here : (counts : Bool) (program : List (Option Instr)) (kind : FaultKind) (at : Place) (most left : ℕ) (m : State) →
+    Ends program kind at most m → CountsLeft counts left m → EndsLeft counts program kind at most left m
+ends-here counts program kind at most left m e c = record {
+  steps = e.steps;
+  last = e.last;
+  few = e.few;
+  runs = e.runs;
+  count = counts-stay counts left m e.last e.count c;
 }

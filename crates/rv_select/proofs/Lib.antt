@@ -61,6 +61,8 @@ pub mod Within
 pub mod Compares
 pub mod Counts
 pub mod Parted
+pub mod Weighing
+pub mod Edges
 pub mod Weighed
 pub mod Reached
 pub mod Backs

@@ -25,7 +25,7 @@ use Rattle.rv_select.proofs.Counts.{TookCount, breaks-off, count-holds, counted-
 use Rattle.rv_select.proofs.Divisors.{stays}
 use Rattle.rv_select.proofs.Faults.{branch-way}
 use Rattle.rv_select.proofs.Jumps.{Reaches, jump-count, jump-few, jump_words}
-use Rattle.rv_select.proofs.Leaves.{InNear, InReach, chosen-comes, jump-comes, reach-behind}
+use Rattle.rv_select.proofs.Edges.{InNear, InReach, chosen-comes, jump-comes, reach-behind}
 use Rattle.rv_select.proofs.Moves.{near-holds}
 use Rattle.rv_select.proofs.Straight.{Scratch, low-below}
 use Rattle.rv_select.proofs.Ways.{Near, Way, at_pc, near-both, near-pc, near-same, scratch-near, stands-back, stands-front, straight-way}

@@ -57,12 +57,13 @@ pub record Comes (y : Layout) (program : List (Option Instr)) (Next : ℕ → Ty
   pub holds : Holds y Next w base after
   pub keeps : Keeps y base m after
 
--- The machine writes nothing, and ends the run in at most so many steps by a fault.
+-- The machine writes nothing, and ends the run in at most so many steps by a fault. Then x9 is as it was.
 pub record Ends (program : List (Option Instr)) (kind : FaultKind) (at : Place) (most : ℕ) (m : State) : Type 0 where
   pub steps : ℕ
   pub last : State
   pub few : steps ≤ most
   pub runs : (more : ℕ) → run_of program m (steps + more) ≡ stands (TerraFault (fault_number kind) (place_number at)) last
+  pub count : last.registers 9 ≡ m.registers 9
 
 -- The machine writes nothing, and breaks the run off in at most so many steps.
 pub record Breaks (program : List (Option Instr)) (most : ℕ) (m : State) : Type 0 where
@@ -79,6 +80,14 @@ CountsLeft false left m = Unit {0}
 abbrev pub with_count : (counts : Bool) → (left : ℕ) → State → State
 with_count true left m = record m { registers = λ r. if nat_eq r 9 then left else m.registers r }
 with_count false left m = m
+
+-- The machine ends the run so where code counts and has so many counts left then.
+pub record EndsLeft (counts : Bool) (program : List (Option Instr)) (kind : FaultKind) (at : Place) (most left : ℕ) (m : State) : Type 0 where
+  pub steps : ℕ
+  pub last : State
+  pub few : steps ≤ most
+  pub runs : (more : ℕ) → run_of program m (steps + more) ≡ stands (TerraFault (fault_number kind) (place_number at)) last
+  pub count : CountsLeft counts left last
 
 -- Where three-address code needs one more count, code that counts breaks the run off, and of any other nothing is promised.
 abbrev pub OnMore : (counts : Bool) → List (Option Instr) → (most : ℕ) → State → Type 0
