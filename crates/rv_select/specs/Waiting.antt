@@ -29,7 +29,7 @@ use Rattle.rv_select.specs.Places.{private_word, uses, word_at}
 use Rattle.rv_select.specs.declared.pairs.Reads.{Reads}
 use Rattle.rv_select.specs.Pairs.{plain_of, reads_of}
 use Rattle.rv_select.specs.Shapes.{held_after, start_of}
-use Rattle.rv_select.specs.Steps.{CountsLeft, Ends, OnMore, world_of}
+use Rattle.rv_select.specs.Steps.{CountsLeft, EndsLeft, OnMore, world_of}
 use Rattle.rv_select.specs.Entering.{begun, kept_offset}
 use Rattle.rv_select.specs.Calls.{all_has_code, block_starts, call_begun, function_code, instruction_code}
 
@@ -186,15 +186,15 @@ pub record Arrives (p : Program) (image : Image) (program : List (Option Instr))
   pub runs : (more : ℕ) → run_of program m (steps + more) ≡ after_output out (run_of program after more)
   pub stands : StandsIn p image program most size t base after
 
--- The machine writes nothing, and ends the run in so many steps by giving back a word: that of the value, if it is one. Then x9 is as it
--- was.
-pub record Finishes (program : List (Option Instr)) (v : Value) (bound : ℕ) (m : State) : Type 0 where
+-- The machine writes nothing, and ends the run in so many steps by giving back a word: that of the value, if it is one. Where code counts,
+-- so many counts are left then.
+pub record Finishes (counts : Bool) (program : List (Option Instr)) (v : Value) (bound left : ℕ) (m : State) : Type 0 where
   pub steps : ℕ
   pub last : State
   pub few : steps ≤ bound
   pub runs : (more : ℕ) → run_of program m (steps + more) ≡ stands (stops.Returned (last.registers 10)) last
   pub gives : (x : ℕ) → v ≡ word x → last.registers 10 ≡ x
-  pub count : last.registers 9 ≡ m.registers 9
+  pub count : CountsLeft counts left last
 
 -- whether a function counts
 abbrev pub counts_in : Option Tac → Bool
@@ -202,15 +202,17 @@ counts_in None = false
 counts_in (Some code) = code.counts
 
 -- What the machine does for a step of three-address code, in at most so many steps of its own: it comes to where three-address code is
--- then, and writes what that writes, or ends the run as that does. Where one more count is needed it breaks the run off, if code counts,
+-- then, and writes what that writes, or ends the run as that does, with so many counts left if code counts. Where one more count is needed it breaks the run off, if code counts,
 -- and else it only stands there; and of code that is stuck nothing is promised.
-abbrev pub Stepped : Program → Image → List (Option Instr) → (most size bound : ℕ) → tac.State → State → tac.Moved → Type 0
-Stepped p image program most size bound s m (Goes t) =
+abbrev pub Stepped : Program → Image → List (Option Instr) → (most size left bound : ℕ) → tac.State → State → tac.Moved → Type 0
+Stepped p image program most size left bound s m (Goes t) =
     (out : List ℕ) × (t.out ≡ s.out ++ out) × Arrives p image program most size bound s.left out t m
-Stepped p image program most size bound s m (Stops (Over (Fault kind at) out)) = (out ≡ s.out) × Ends program kind at bound m
-Stepped p image program most size bound s m (Stops (Over (Returned v) out)) = (out ≡ s.out) × Finishes program v bound m
-Stepped p image program most size bound s m (Stops (Over Stuck out)) = Unit {0}
-Stepped p image program most size bound s m (Stops (More out)) =
+Stepped p image program most size left bound s m (Stops (Over (Fault kind at) out)) =
+    (out ≡ s.out) × EndsLeft (counts_in (p.code s.here.function)) program kind at bound left m
+Stepped p image program most size left bound s m (Stops (Over (Returned v) out)) =
+    (out ≡ s.out) × Finishes (counts_in (p.code s.here.function)) program v bound left m
+Stepped p image program most size left bound s m (Stops (Over Stuck out)) = Unit {0}
+Stepped p image program most size left bound s m (Stops (More out)) =
     (out ≡ s.out) × (s.left ≡ 0) × OnMore (counts_in (p.code s.here.function)) program bound m
 
 -- What waits goes on waiting where a function keeps what its callers rest on.
