@@ -107,3 +107,16 @@ count-few false = omega arith
 
 pub counted-most : (c : Bool) (code : List Instr) (n : ℕ) → length code ≤ n → length (counted_if c code) ≤ 3 + n
 counted-most c code n h = omega (arith, counted-length c code, count-few c, h)
+
+pub counted-split : (c : Bool) (a b : List Instr) → counted_if c (a ++ b) ≡ counted_if c a ++ b
+counted-split true a b = refl
+counted-split false a b = refl
+
+-- what the code says of the words of a jump
+pub counted_words_are : (takes short : Bool) (at to : ℕ) →
+    (length (counted_jump takes short at to) ≡ counted_words takes short) × (counted_words takes short ≤ 5)
+counted_words_are takes short at to = (counted-count takes short at to, few takes short)
+  where
+    few : (t s : Bool) → counted_words t s ≤ 5
+    few true s = omega (arith, (jump-few s).1)
+    few false s = omega (arith, (jump-few s).1)

@@ -40,6 +40,8 @@ pub(crate) const X4: Register = Register { number: 4 };
 /// The address of the frame in the region.
 pub(crate) const X8: Register = Register { number: 8 };
 
+pub(crate) const X9: Register = Register { number: 9 };
+
 pub(crate) const X10: Register = Register { number: 10 };
 
 pub(crate) const X11: Register = Register { number: 11 };

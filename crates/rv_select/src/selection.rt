@@ -9,7 +9,7 @@ ghost use Rattle.rv_select.specs.Calls.{held_behind, instruction_calls, instruct
 ghost use Rattle.rv_select.specs.Calls.{jump_unless_last, last_address, pair_code, returned, starts_from};
 ghost use Rattle.rv_select.specs.Entering.{begun, entered, received, words_offset};
 ghost use Rattle.rv_select.specs.Pairs.{pair_of, plain_of, reads_of};
-ghost use Rattle.rv_select.specs.Places.{extent_of, frame_bytes, layout_with, with_homes, with_reads};
+ghost use Rattle.rv_select.specs.Places.{extent_of, frame_bytes, layout_with, with_counting, with_homes, with_reads};
 ghost use Rattle.rv_select.specs.Settings.{setting_of};
 ghost use Rattle.rv_select.specs.Shapes.{jump, start_of};
 ghost use Rattle.tac_form.specs.declared.tac.Instruction.TheVariants as instructions;
@@ -61,6 +61,7 @@ fn push_called(
     calls: &mut Vec<Call>,
     homes: &[Option<Home>],
     sizes: &[u64],
+    counts: bool,
     held: Option<u64>,
     to: Destination,
     at: Place,
@@ -68,11 +69,11 @@ fn push_called(
     arguments: &[Part],
 ) -> Result<(), NoMemory>
     ensures code { OnOk result (code.new.items ≡ code.old.items
-        ++ map word_of (called (with_homes homes.now) sizes.now (λ f. 0) (4 * length code.old.items) held to at callee arguments.now)) }
+        ++ map word_of (called (with_counting homes.now counts) sizes.now (λ f. 0) (4 * length code.old.items) held to at callee arguments.now)) }
     ensures calls { OnOk result (calls.new.items ≡ calls.old.items
-        ++ instruction_calls (with_homes homes.now) (length code.old.items) held (instructions.Call to at callee arguments.now)) }
+        ++ instruction_calls (with_counting homes.now counts) (length code.old.items) held (instructions.Call to at callee arguments.now)) }
 {
-    push_call_begun(code, homes, held, at, arguments)?;
+    push_call_begun(code, homes, counts, held, at, arguments)?;
     push_jump_to(code, calls, callee)?;
     push_call_ended(code, homes, sizes, to)
 }
@@ -83,14 +84,15 @@ fn push_one(
     calls: &mut Vec<Call>,
     homes: &[Option<Home>],
     sizes: &[u64],
+    counts: bool,
     held: Option<u64>,
     instruction: &Instruction,
 ) -> Result<(), NoMemory>
     requires { IsTrue (has_code instruction.now) }
     ensures code { OnOk result (code.new.items ≡ code.old.items
-        ++ map word_of (instruction_code (with_homes homes.now) sizes.now (λ f. 0) (4 * length code.old.items) held instruction.now)) }
+        ++ map word_of (instruction_code (with_counting homes.now counts) sizes.now (λ f. 0) (4 * length code.old.items) held instruction.now)) }
     ensures calls { OnOk result (calls.new.items ≡ calls.old.items
-        ++ instruction_calls (with_homes homes.now) (length code.old.items) held instruction.now) }
+        ++ instruction_calls (with_counting homes.now counts) (length code.old.items) held instruction.now) }
 {
     match instruction {
         Instruction::Call(to, at, callee, arguments) => push_called(
@@ -98,6 +100,7 @@ fn push_one(
             calls,
             homes,
             sizes,
+            counts,
             held,
             *to,
             *at,
@@ -114,18 +117,19 @@ fn push_all(
     calls: &mut Vec<Call>,
     homes: &[Option<Home>],
     sizes: &[u64],
+    counts: bool,
     instructions: &[Instruction],
 ) -> Result<Option<u64>, NoMemory>
     requires { IsTrue (list_all has_code instructions.now) }
     ensures code { OnOk result (code.new.items ≡ code.old.items
-        ++ map word_of (instructions_code (with_homes homes.now) sizes.now (λ f. 0) (4 * length code.old.items) None instructions.now)) }
+        ++ map word_of (instructions_code (with_counting homes.now counts) sizes.now (λ f. 0) (4 * length code.old.items) None instructions.now)) }
     ensures calls { OnOk result (calls.new.items ≡ calls.old.items
-        ++ instructions_calls (with_homes homes.now) sizes.now (length code.old.items) None instructions.now) }
+        ++ instructions_calls (with_counting homes.now counts) sizes.now (length code.old.items) None instructions.now) }
     ensures held { IfOk result (λ held. held ≡ held_behind None instructions.now) }
 {
     let mut held = None;
     for instruction in instructions {
-        push_one(code, calls, homes, sizes, held, instruction)?;
+        push_one(code, calls, homes, sizes, counts, held, instruction)?;
         held = held_after(instruction);
     }
     Ok(held)
@@ -264,7 +268,7 @@ fn push_block(
 {
     let pair = pair_of(reads, block);
     let plain = plain_of(block.instructions.as_slice(), pair);
-    let held = push_all(code, calls, homes, sizes, plain)?;
+    let held = push_all(code, calls, homes, sizes, extent.counts, plain)?;
     let setting = setting_of(extent, rest);
     push_block_end(code, homes, setting, held, starts, last, pair, &block.exit)
 }
@@ -424,7 +428,7 @@ struct Places {
     last: u64,
 }
 
-/// Whether a function is near and whether it is short, how many blocks it has, and whether it makes calls.
+/// Whether a function is near and whether it is short, how many blocks it has, whether it makes calls, and whether it counts.
 fn extent_of(tac: &Tac) -> Extent
     ensures { result ≡ extent_of tac.now }
 {
@@ -433,6 +437,7 @@ fn extent_of(tac: &Tac) -> Extent
         short: is_short(tac),
         blocks: tac.blocks.as_slice().len() as u64,
         calls: makes_calls(tac),
+        counts: tac.counts,
     }
 }
 
