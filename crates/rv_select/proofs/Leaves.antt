@@ -151,7 +151,7 @@ edge-left y graph program base most starts e counts s m same c ways =
     (zero-or-more s.left))
     (λ h. (refl, inl (plain counts same (ways.free (ap (λ b. counts && b) h ∙ nothing counts)) c)))
   where
-    abbrev Next : ℕ → Type 0
+    Next : ℕ → Type 0
     Next = InUse graph e.block 0
 
     nothing : (b : Bool) → (b && false) ≡ false

@@ -155,6 +155,9 @@ pub counted-few : (takes short : Bool) (at to : ℕ) → length (counted_jump ta
 counted-few true short at to = omega (arith, jump-count short (at + 12) to, (jump-few short).1)
 counted-few false short at to = omega (arith, jump-count short at to, (jump-few short).1)
 
+one-more : (a n : ℕ) → a + suc n ≡ a + (1 + n)
+one-more a n = omega arith
+
 -- a branch to two blocks
 module _ (y : Layout) (Used Next : ℕ → Type 0) (w : World) (base first second weight : ℕ) (setting : Setting) (condition : BranchCondition)
     (a b : Register) (e f : Edge) (taken_it : Bool) (A : List Instr) (program : List (Option Instr)) (m k : State)
@@ -223,7 +226,7 @@ module _ (y : Layout) (Used Next : ℕ → Type 0) (w : World) (base first secon
       enough-all = subst (λ c. length (A ++ by c) ≤ weight) g enough
 
       count : length (A ++ counted) ≡ length A + (1 + (length J + length E))
-      count = length-append A counted ∙ ap (λ n. length A + suc n) (length-append J E)
+      count = length-append A counted ∙ (ap (λ n. length A + suc n) (length-append J E) ∙ one-more (length A) (length J + length E))
 
       j-few : length J ≤ 5
       j-few = counted-few (setting.counts && e.counts) setting.short (at + 4) first
