@@ -64,6 +64,9 @@ parted_by false setting e f = chosen_words setting.near setting.short (follower 
 abbrev pub parted_words : Setting → Edge → Edge → ℕ
 parted_words setting e f = parted_by (setting.counts && (e.counts || f.counts)) setting e f
 
+one-more : (n : ℕ) → suc n ≡ 1 + n
+one-more n = omega arith
+
 pub parted-count : (setting : Setting) (condition : BranchCondition) (a b : Register) (at : ℕ) (e f : Edge) (first second : ℕ) →
     length (parted setting condition a b at e f first second) ≡ parted_words setting e f
 parted-count setting condition a b at e f first second = either (setting.counts && (e.counts || f.counts))
@@ -75,10 +78,11 @@ parted-count setting condition a b at e f first second = either (setting.counts 
         length (if c then counting setting condition a b at e f first second
         else chosen setting.near setting.short (follower setting.next e.block f.block) condition a b at first second) ≡ parted_by c setting e f
     either true =
-        ap (λ n. 1 + n)
+        ap suc
         (length-append J (edge_shape setting f (at + 4 + 4 * length J) second)
         ∙ (ap (λ n. n + length (edge_shape setting f (at + 4 + 4 * length J) second)) (counted-count (setting.counts && e.counts) setting.short (at + 4) first)
         ∙ ap (λ n. counted_words (setting.counts && e.counts) setting.short + n) (edge-shape-count setting f (at + 4 + 4 * length J) second)))
+        ∙ one-more (counted_words (setting.counts && e.counts) setting.short + edge_shape_words setting f)
     either false = chosen-count setting.near setting.short (follower setting.next e.block f.block) condition a b at first second
 
 pub parted-weight : (setting : Setting) (e f : Edge) → parted_words setting e f ≤ 1 + weights.edge_words e + weights.edge_words f
