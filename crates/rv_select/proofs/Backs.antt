@@ -572,7 +572,10 @@ pub return-steps : (p : Program) (image : Image) (program : List (Option Instr))
     (frame_bytes (layout_of x.code (image s.here.function).homes)) x.code.frame)) s.callers) s m (step p s)
 return-steps p image program most size linked s base m x block v in-f in-b alone is found =
     let e1 = x.function in
-    rw (e1, in-f, in-b) (rw is (go s.callers refl x.waits))
+    rw (e1, in-f, in-b)
+    (rw is
+    (subst (λ n. Stepped p image program most size n (return_most p image (found.own + L) s.callers) s m (give p (value_of s v) s.callers s)) untaken
+    (go s.callers refl x.waits)))
   where
     untaken : left_behind p s ≡ s.left
     untaken = let e1 = x.function in rw (e1, in-f, in-b) (rw is refl)

@@ -33,13 +33,15 @@ use Rattle.rv_select.specs.Pairs.{pair_of, plain_of, reads_of}
 use Rattle.rv_select.specs.Asked.{asked_homes, part_asks, passed_asks}
 use Rattle.rv_select.specs.Places.{HasHome, Holds, Housed, Layout, World, area_offset, frame_bytes, home_of, layout_of, link_in}
 use Rattle.rv_select.specs.Places.{private_word}
-use Rattle.rv_select.specs.Shapes.{place_number, start_of}
-use Rattle.rv_select.specs.Steps.{Ends, world_of}
+use Rattle.rv_select.specs.Shapes.{place_number, start_of, x11}
+use Rattle.rv_select.specs.Steps.{Ends, CountsLeft, EndsLeft, OnMore, world_of}
+use Rattle.tac_counts.specs.Counts.{left_behind}
 use Rattle.rv_select.specs.Calls.{block_starts, blocks_length, call_begun, call_ended, call_jump, head_code, instruction_code, last_address}
-use Rattle.rv_select.specs.Calls.{starts_from}
+use Rattle.rv_select.specs.Calls.{depth_tested, one_more, passed, starts_from}
+use Rattle.rv_select.specs.Numbers.{constant}
 use Rattle.rv_select.specs.Entering.{begun, entered, received, words_offset}
 use Rattle.rv_select.specs.Frames.{ArePassed, BeforeEntering, Enters, IsPartFirst, Received, part_value, seen, without_words}
-use Rattle.rv_select.specs.Waiting.{Arrives, HasRoom, Image, IsLinked, IsPlaced, StandsIn, Stepped, Waiting, Waits, entries_of, entry_of}
+use Rattle.rv_select.specs.Waiting.{Arrives, HasRoom, Image, IsLinked, IsPlaced, StandsIn, Stepped, Waiting, Waits, counts_in, entries_of, entry_of}
 use Rattle.rv_select.specs.Waiting.{held_in, place_in, plain_in, restored}
 use Rattle.rv_select.proofs.Amounts.{all-few, args-room, bytes-least, chain, deep-is, entry-facts, far, few-deep, frame-fits, goes, head-in}
 use Rattle.rv_select.proofs.Amounts.{least, less-frame, link-facts, link-low, link-word, nearer, not-le, not-lt, shallow-is, shorter}

@@ -14,9 +14,9 @@ use Rattle.rv_select.specs.Places.{AreBytes, Housed, Layout, frame_bytes, layout
 use Rattle.rv_select.proofs.Lives.{housed}
 use Rattle.rv_select.specs.Steps.{Ends}
 use Rattle.rv_select.specs.Entering.{entered, frame_taken, left, region_taken}
-use Rattle.rv_select.specs.Calls.{call_begun, returned}
+use Rattle.rv_select.specs.Calls.{call_begun, depth_tested, one_more, passed, returned}
 use Rattle.rv_select.specs.Frames.{BeforeEntering, Calls, CallsAreBegun, Enters, FunctionsAreEntered, FunctionsAreLeft, Returns, part_value}
-use Rattle.rv_select.proofs.Callings.{Begun, begins, too-deep}
+use Rattle.rv_select.proofs.Callings.{Begun, begins, begun-words, call-breaks, too-deep}
 use Rattle.rv_select.proofs.Enters.{Placed, Taken, region-refused, takes-frame, takes-region}
 use Rattle.rv_select.proofs.Returns.{BackIn, goes-back}
 use Rattle.rv_select.proofs.Straight.{low-below, pc-both}

@@ -175,7 +175,7 @@ pub inner-step : (p : Program) (image : Image) (program : List (Option Instr)) (
     (x : StandsIn p image program most size s base m) (block : Block) (i : Instruction) →
     slice_get x.code.blocks s.here.block ≡ Some block → slice_get (plain_of (reads_of x.code) block) s.here.at ≡ Some i →
     has_shape i ≡ true →
-    Stepped p image program most size
+    Stepped p image program most size (left_behind p s)
     (length (shape_of (layout_of x.code (image s.here.function).homes) (held_in x.code s.here.block s.here.at) i)) s m (step p s)
 inner-step p image program most size linked s base m x block i in-f in-p h =
     joined p image program most size linked s base m x (held_after i)
