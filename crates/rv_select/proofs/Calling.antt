@@ -83,8 +83,10 @@ abbrev pub taking : Image → FnId → Option Tac → ℕ
 taking image f None = 0
 taking image f (Some code) = entering_words image f code + receiving_words image f code
 
-abbrev pub call_most : Program → Image → Tac → Activation → Place → FnId → List Part → ℕ
-call_most p image code a place f arguments = length (begun_in image code a place arguments) + 2 + taking image f (p.code f)
+-- how many steps a call takes at most, with so many counts left: with none it only begins
+abbrev pub call_most : Program → Image → Tac → Activation → (left : ℕ) → Place → FnId → List Part → ℕ
+call_most p image code a zero place f arguments = length (begun_in image code a place arguments)
+call_most p image code a (suc left) place f arguments = length (begun_in image code a place arguments) + 2 + taking image f (p.code f)
 
 -- what a call passes is in use before it, and is at home unless x5 holds it
 part-first : (code : Tac) (homes : List (Option Home)) (held : Option ℕ) (Used : ℕ → Type 0) (q : Part) → part_fits code q ≡ true →
@@ -706,9 +708,9 @@ pub call-step : (p : Program) (image : Image) (program : List (Option Instr)) (m
     →
     slice_get x.code.blocks s.here.block ≡ Some block → slice_get (plain_of (reads_of x.code) block) s.here.at ≡ Some
     (Call to place f arguments) →
-    Stepped p image program most size (left_behind p s) (call_most p image x.code s.here place f arguments) s m (step p s)
+    Stepped p image program most size (left_behind p s) (call_most p image x.code s.here s.left place f arguments) s m (step p s)
 call-step p image program most size linked s base m x block to place f arguments in-f in-b =
-    stepped (call_most p image x.code s.here place f arguments) refl
+    stepped (call_most p image x.code s.here s.left place f arguments) refl
   where
     here : slice_get block.instructions s.here.at ≡ Some (Call to place f arguments)
     here = plain-get (pair_of (reads_of x.code) block) block.instructions s.here.at (Call to place f arguments) in-b
@@ -790,28 +792,23 @@ call-step p image program most size linked s base m x block to place f arguments
               (sym q) (both.1 (not-lt s.here.base (heap_limit s.region + callee.frame) fits) accepted),
         )) (λ no. tt)))
 
-    enough : (a b t : ℕ) → a ≤ b → a ≤ b + 2 + t
-    enough a b t h = omega (arith, h)
-
     counts : (l : ℕ) → s.left ≡ l →
-        Stepped p image program most size (left_behind p s) (call_most p image x.code s.here place f arguments) s m
+        Stepped p image program most size (left_behind p s) (call_most p image x.code s.here l place f arguments) s m
         (tac.counted l s (λ z. enter place f (p.code f) (values_of s arguments) z.here.base
         (record { waits = (tac.ahead z).here; to = to } ∷ z.callers) z))
     counts zero q = (
       refl,
       q,
-      subst (λ o. OnMore (counts_in o) program (call_most p image x.code s.here place f arguments) m) (sym x.function)
+      subst (λ o. OnMore (counts_in o) program (length (begun_in image x.code s.here place arguments)) m) (sym x.function)
           (call-breaks program x.code.counts place
           (depth_tested ++ (passed (layout_of x.code (image s.here.function).homes) (held_in x.code s.here.block s.here.at) 0 arguments ++ one_more))
-          m x.holds.pc c.place_small (counted 0 q) (call_most p image x.code s.here place f arguments)
-          (enough (length (constant x11 (place_number place)) + count_words x.code.counts) (length (begun_in image x.code s.here place arguments))
-          (taking image f (p.code f))
-          (omega (arith, begun-words (layout_of x.code (image s.here.function).homes) (held_in x.code s.here.block s.here.at) place arguments)))
+          m x.holds.pc c.place_small (counted 0 q) (length (begun_in image x.code s.here place arguments))
+          (omega (arith, begun-words (layout_of x.code (image s.here.function).homes) (held_in x.code s.here.block s.here.at) place arguments))
           (stands-front program m.pc (begun_in image x.code s.here place arguments) _ c.code)),
     )
     counts (suc l) q = with-code l q (p.code f) refl
 
-    stepped : (n : ℕ) → call_most p image x.code s.here place f arguments ≡ n → Stepped p image program most size (left_behind p s) n s m (step p s)
+    stepped : (n : ℕ) → call_most p image x.code s.here s.left place f arguments ≡ n → Stepped p image program most size (left_behind p s) n s m (step p s)
     stepped n same =
         let e1 = x.function in
         let e2 = here in

@@ -260,7 +260,7 @@ a-step p image program most size words linked s base m x = in-block (slice_get x
       count = 1;
       some = omega arith;
       count_is = one-here block (Call to place f arguments) e g;
-      bound = call_most p image x.code s.here place f arguments;
+      bound = call_most p image x.code s.here s.left place f arguments;
       stepped = call-step p image program most size linked s base m x block to place f arguments e g;
       falls = λ short. falls-call p image program most words linked short x.code block to place f arguments s x.function e
           (whole block (Call to place f arguments) g)
@@ -351,7 +351,7 @@ FallsTo p image words top bound s (Goes t) = (4 * bound + bytes_left p image wor
 FallsTo p image words top bound s (Stops (Over (Returned v) out)) = bound ≤ top
 FallsTo p image words top bound s (Stops (Over (Fault kind at) out)) = bound ≤ top
 FallsTo p image words top bound s (Stops (Over Stuck out)) = Unit {0}
-FallsTo p image words top bound s (Stops (More out)) = Unit {0}
+FallsTo p image words top bound s (Stops (More out)) = bound ≤ top
 
 falls-to : (p : Program) (image : Image) (words bound top : ℕ) (s : tac.State) (moved : tac.Moved) → bytes_left p image words s ≤ 4 * top →
     FallsIf p image words bound s moved → FallsTo p image words top bound s moved
@@ -369,7 +369,10 @@ falls-to p image words bound top s (Stops (Over (Fault kind at) out)) few h = fo
     fourth : (a b c : ℕ) → 4 * a ≤ b → b ≤ 4 * c → a ≤ c
     fourth a b c g i = omega (arith, g, i)
 falls-to p image words bound top s (Stops (Over Stuck out)) few h = tt
-falls-to p image words bound top s (Stops (More out)) few h = tt
+falls-to p image words bound top s (Stops (More out)) few h = fourth bound (bytes_left p image words s) top h few
+  where
+    fourth : (a b c : ℕ) → 4 * a ≤ b → b ≤ 4 * c → a ≤ c
+    fourth a b c g i = omega (arith, g, i)
 
 -- some steps, and a run from there
 then-ended : (p : Program) (image : Image) (program : List (Option Instr)) (most size bound top left : ℕ) (counts : Bool) (out : List ℕ)
