@@ -11,6 +11,7 @@ use Rattle.reg_alloc.specs.declared.assignment.Home.{Home}
 use Rattle.rv_isa.specs.declared.instr.Instr.{Instr}
 use Rattle.terra_memory.specs.Numbers.{number_of}
 use Rattle.terra_memory.specs.Region.{end_address, heap_limit}
+use Rattle.terra_words.specs.declared.words.FaultKind.{FaultKind}
 use Rattle.terra_words.specs.declared.words.FaultKind.TheVariants.{CallDepth, StackFull}
 use Rattle.terra_words.specs.Words.{most_calls}
 use Rattle.terra_words.specs.Runs.{Value}

@@ -30,7 +30,7 @@ use Rattle.rv_select.specs.declared.settings.Setting.{Setting}
 use Rattle.rv_select.specs.Places.{AreBytes, Holds, IsFirst, IsHeld, IsRead, Keeps, Layout, World, area_offset, frame_bytes, layout_of}
 use Rattle.rv_select.specs.Places.{link_in, private_word, uses, value_in}
 use Rattle.rv_select.specs.Shapes.{place_number}
-use Rattle.rv_select.specs.Steps.{CountsLeft, Ends, OnMore, with_count}
+use Rattle.rv_select.specs.Steps.{CountsLeft, Ends, EndsLeft, OnMore, with_count}
 use Rattle.rv_select.specs.Entering.{begun, entered, kept_offset, left, received, receiving, words_offset}
 use Rattle.rv_select.specs.Calls.{call_begun, called, returned}
 
@@ -138,7 +138,7 @@ CallsAreBegun =
     Stands program m.pc (call_begun y held at ps) →
     (CountsLeft code.counts 0 m → OnMore code.counts program (length (call_begun y held at ps)) m) ×
     ((left : ℕ) → CountsLeft code.counts (suc left) m →
-    (511 ≤ w.depth → Ends program CallDepth at (length (call_begun y held at ps)) m) ×
+    (511 ≤ w.depth → EndsLeft code.counts program CallDepth at (length (call_begun y held at ps)) left m) ×
     (w.depth < 511 → ArePassed y held Used ps → 8 * length ps ≤ base → Calls program y held base w at ps left m))
 
 -- A function is left: x10 has its result, and the machine goes on at the return address, with the caller's frames, and its
