@@ -30,7 +30,8 @@ use Rattle.rv_select.specs.Calls.{blocks_length, head_code, last_address}
 use Rattle.rv_select.specs.Entering.{arguments_stored, begun, entered, kept_offset, place_given, received, stored_below}
 use Rattle.rv_select.specs.Entering.{words_offset}
 use Rattle.rv_select.specs.Frames.{BeforeEntering, Enters, HasWords, Received, seen, without_words}
-use Rattle.rv_select.specs.Waiting.{Arrives, Image, IsLinked, IsPlaced, Stepped, entries_of, place_in, plain_in}
+use Rattle.rv_select.specs.Steps.{CountsLeft, EndsLeft}
+use Rattle.rv_select.specs.Waiting.{Arrives, Image, IsLinked, IsPlaced, Stepped, counts_in, entries_of, place_in, plain_in}
 use Rattle.rv_select.specs.Whole.{EntriesAreCarried, Starts, before_entry}
 use Rattle.rv_select.proofs.Arrivals.{InFunction, begin-holds, link-after}
 use Rattle.rv_select.proofs.Bytes.{stored-word}
@@ -38,6 +39,7 @@ use Rattle.rv_select.proofs.Amounts.{top-is}
 use Rattle.rv_select.proofs.Calling.{entering_words, first-start, fresh_call, receiving_words, slice-below, takes-is, widen}
 use Rattle.rv_select.proofs.Carries.{by-test, place-small}
 use Rattle.rv_select.proofs.Areas.{Saves}
+use Rattle.rv_select.proofs.Counts.{counts-stay, ends-left}
 use Rattle.rv_select.proofs.Entrances.{functions-entered}
 use Rattle.rv_select.proofs.Faults.{later-ends}
 use Rattle.rv_select.proofs.Finds.{FoundFunction}

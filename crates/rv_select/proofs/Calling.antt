@@ -813,6 +813,13 @@ call-step p image program most size linked s base m x block to place f arguments
     stepped n same =
         let e1 = x.function in
         let e2 = here in
-        rw (e1, in-f, e2) (subst (λ z. Stepped p image program most size (left_behind p s) z s m
+        rw (e1, in-f, e2)
+        (subst (λ w. Stepped p image program most size w n s m
         (tac.counted s.left s (λ z. enter place f (p.code f) (values_of s arguments) z.here.base
-        (record { waits = (tac.ahead z).here; to = to } ∷ z.callers) z))) same (counts s.left refl))
+        (record { waits = (tac.ahead z).here; to = to } ∷ z.callers) z))) one-less
+        (subst (λ z. Stepped p image program most size (left_behind p s) z s m
+        (tac.counted s.left s (λ z. enter place f (p.code f) (values_of s arguments) z.here.base
+        (record { waits = (tac.ahead z).here; to = to } ∷ z.callers) z))) same (counts s.left refl)))
+
+    one-less : left_behind p s ≡ s.left - 1
+    one-less = let e1 = x.function in let e2 = here in rw (e1, in-f, e2) refl
