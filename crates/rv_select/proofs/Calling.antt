@@ -809,6 +809,9 @@ call-step p image program most size linked s base m x block to place f arguments
     )
     counts (suc l) q = with-code l q (p.code f) refl
 
+    one-less : left_behind p s ≡ s.left - 1
+    one-less = let e1 = x.function in let e2 = here in rw (e1, in-f, e2) refl
+
     stepped : (n : ℕ) → call_most p image x.code s.here s.left place f arguments ≡ n → Stepped p image program most size (left_behind p s) n s m (step p s)
     stepped n same =
         let e1 = x.function in
@@ -821,5 +824,3 @@ call-step p image program most size linked s base m x block to place f arguments
         (tac.counted s.left s (λ z. enter place f (p.code f) (values_of s arguments) z.here.base
         (record { waits = (tac.ahead z).here; to = to } ∷ z.callers) z))) same (counts s.left refl)))
 
-    one-less : left_behind p s ≡ s.left - 1
-    one-less = let e1 = x.function in let e2 = here in rw (e1, in-f, e2) refl
