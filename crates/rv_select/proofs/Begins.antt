@@ -41,7 +41,6 @@ use Rattle.rv_select.proofs.Carries.{by-test, place-small}
 use Rattle.rv_select.proofs.Areas.{Saves}
 use Rattle.rv_select.proofs.Counts.{counts-stay, ends-left}
 use Rattle.rv_select.proofs.Entrances.{functions-entered}
-use Rattle.rv_select.proofs.Faults.{later-ends}
 use Rattle.rv_select.proofs.Finds.{FoundFunction}
 use Rattle.rv_select.proofs.Numbers.{constant-loads, register-is}
 use Rattle.rv_select.proofs.Passes.{Beneath, below-saves, beneath-both, near-beneath, saves-beneath}

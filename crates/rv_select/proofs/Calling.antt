@@ -34,12 +34,11 @@ use Rattle.rv_select.specs.Pairs.{pair_of, plain_of, reads_of}
 use Rattle.rv_select.specs.Asked.{asked_homes, part_asks, passed_asks}
 use Rattle.rv_select.specs.Places.{HasHome, Holds, Housed, Layout, World, area_offset, frame_bytes, home_of, layout_of, link_in}
 use Rattle.rv_select.specs.Places.{private_word}
-use Rattle.rv_select.specs.Shapes.{place_number, start_of, x11}
+use Rattle.rv_select.specs.Shapes.{place_number, start_of}
 use Rattle.rv_select.specs.Steps.{Ends, CountsLeft, EndsLeft, OnMore, world_of}
 use Rattle.tac_counts.specs.Counts.{left_behind}
 use Rattle.rv_select.specs.Calls.{block_starts, blocks_length, call_begun, call_ended, call_jump, head_code, instruction_code, last_address}
 use Rattle.rv_select.specs.Calls.{depth_tested, one_more, passed, starts_from}
-use Rattle.rv_select.specs.Numbers.{constant}
 use Rattle.rv_select.specs.Entering.{begun, entered, received, words_offset}
 use Rattle.rv_select.specs.Frames.{ArePassed, BeforeEntering, Enters, IsPartFirst, Received, part_value, seen, without_words}
 use Rattle.rv_select.specs.Waiting.{Arrives, HasRoom, Image, IsLinked, IsPlaced, StandsIn, Stepped, Waiting, Waits, counts_in, entries_of, entry_of}
@@ -52,10 +51,8 @@ use Rattle.rv_select.proofs.Asking.{instruction-homes}
 use Rattle.rv_select.proofs.Arrivals.{InFunction, areas-lie, begin-holds, enters-call, has-words, link-after, room-next, same-after}
 use Rattle.rv_select.proofs.Callings.{Begun, JumpedTo, begins, begun-words, call-breaks, jumps-to, too-deep}
 use Rattle.rv_select.proofs.Counts.{count-left, counts-stay, ends-left}
-use Rattle.rv_select.proofs.Weighing.{count_words}
 use Rattle.rv_select.proofs.Carries.{by-test, first-read, has-left, has-right, nothing-written, place-small}
-use Rattle.rv_select.proofs.Entrances.{functions-entered, more-ends}
-use Rattle.rv_select.proofs.Faults.{later-ends}
+use Rattle.rv_select.proofs.Entrances.{functions-entered}
 use Rattle.rv_select.proofs.Finds.{FoundFunction}
 use Rattle.rv_select.proofs.Pairing.{plain-get}
 use Rattle.rv_select.proofs.Lives.{housed, read-live, step-in-graph, use-follows}

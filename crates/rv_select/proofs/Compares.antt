@@ -1,5 +1,5 @@
 -- A comparison and its branch as one.
-use Rattle.std.proofs.Common.{◌≡◌, ◌≢◌, ℕ, suc, ◌+◌, ◌*◌, ◌%◌, ◌^◌, ◌<◌, ◌≤◌, Bool, true, false, not, ◌&&◌, ◌||◌, List, [], ◌++◌, length}
+use Rattle.std.proofs.Common.{◌≡◌, ◌≢◌, ℕ, suc, ◌+◌, ◌*◌, ◌%◌, ◌^◌, ◌<◌, ◌≤◌, Bool, true, false, not, ◌&&◌, ◌||◌, List, ◌++◌, length}
 use Rattle.std.proofs.Common.{map, Option, refl, sym, ap, ◌∙◌, subst, ⊎_elim, inl, arith}
 use Rattle.std.specs.Prelude.{if◌then◌else◌, nat_eq, nat_lt, int_lt}
 use Rattle.std.specs.List.{list_any}
@@ -35,12 +35,9 @@ use Rattle.rv_operators.proofs.Values.{signed-less}
 use Rattle.rv_select.specs.Asked.{both_ask, is_second}
 use Rattle.rv_select.specs.Places.{Holds, Housed, IsFirst, IsRead, Layout, World, layout_of, value_in}
 use Rattle.rv_select.specs.declared.settings.Setting.{Setting}
-use Rattle.rv_select.specs.declared.settings.Follows.{Follows}
-use Rattle.rv_select.specs.declared.settings.Follows.TheVariants.{First, Second}
-use Rattle.rv_select.specs.Settings.{follower}
 use Rattle.rv_select.specs.Compared.{ComparesAreCarried, ComparesKeepWithin, StandsAtCompare, below_condition, compared, compared_shape}
 use Rattle.rv_select.specs.Compared.{condition_of, first_register, least_condition, left_of, operands_taken, right_of, second_register}
-use Rattle.rv_select.specs.Steps.{AreFewer, Comes, Left, with_temp, world_of}
+use Rattle.rv_select.specs.Steps.{AreFewer, Left, with_temp, world_of}
 use Rattle.rv_select.proofs.Moves.{at-most, fewer-holds, unused-holds}
 use Rattle.rv_select.proofs.Sides.{Sides, sides-count, sides-few, sides-taken}
 use Rattle.rv_select.proofs.Numbers.{pushed_words}
@@ -48,7 +45,6 @@ use Rattle.rv_select.proofs.Lives.{housed, read-live, step-in-graph, use-follows
 use Rattle.rv_select.proofs.Carries.{both-read, both-true, by-test, has-left, has-right, used-small}
 use Rattle.rv_select.proofs.Leaves.{edge-left, edge-near, edge-reach, exit-in-graph, next-live, or-left, or-second}
 use Rattle.rv_select.proofs.Parted.{EdgeWays, parted-ways}
-use Rattle.rv_select.proofs.Branched.{follower-first, follower-second}
 use Rattle.rv_select.proofs.Weighing.{parted-count, parted-few, parted-weight, parted_words}
 
 -- the result of a comparison, as its branch sees it

@@ -1,53 +1,24 @@
 -- Ways to a block that take no count.
-use Rattle.std.proofs.Common.{◌≡◌, ◌≢◌, ℕ, zero, suc, ◌+◌, ◌*◌, ◌%◌, ◌^◌, ◌<◌, ◌≤◌, Bool, true, false, not, ◌&&◌, ◌||◌, List, [], ◌++◌}
-use Rattle.std.proofs.Common.{length, option_map, Option, Some, None, refl, sym, ap, ◌∙◌, subst, ⊎_elim, inl, inr, arith}
-use Rattle.std.specs.Prelude.{if◌then◌else◌, nat_eq, nat_le, slice_get, ◌⊎◌}
-use Rattle.std.specs.List.{list_any}
-use Rattle.std.proofs.lemmas.Bool.{cases_Bool, eq-eqb, ne_eqb, eqb-true, leb-true, ltb-true}
+use Rattle.std.proofs.Common.{◌≡◌, ℕ, ◌+◌, ◌*◌, ◌%◌, ◌^◌, ◌<◌, ◌≤◌, Bool, true, false, List, [], ◌++◌}
+use Rattle.std.proofs.Common.{length, Option, refl, sym, ◌∙◌, subst, arith}
+use Rattle.std.specs.Prelude.{if◌then◌else◌}
 use Rattle.std.proofs.lemmas.List.{length-append}
-use Rattle.std.proofs.lemmas.Option.{slice_get-map}
-use Rattle.tl_base.specs.declared.place.Place.{Place}
 use Rattle.rv_isa.specs.declared.instr.Instr.{Instr}
 use Rattle.rv_isa.specs.declared.operation.BranchCondition.{BranchCondition}
-use Rattle.rv_isa.specs.declared.operation.BranchCondition.TheVariants.{Ne}
 use Rattle.rv_isa.specs.declared.operand.Register.{Register}
-use Rattle.reg_alloc.specs.declared.assignment.Home.{Home}
 use Rattle.rv_machine.specs.Arithmetic.{is_taken}
 use Rattle.rv_machine.specs.Machine.{State, value_at}
-use Rattle.terra_words.specs.declared.words.FaultKind.{FaultKind}
-use Rattle.terra_words.specs.declared.words.FaultKind.TheVariants.{BadAddress, DivZero, StackFull, CallDepth, NoReturn, BadCall}
-use Rattle.terra_words.specs.Words.{fault_number}
-use Rattle.tac_form.specs.declared.tac.Operand.{Operand}
-use Rattle.tac_form.specs.declared.tac.Edge.{Edge}
-use Rattle.tac_form.specs.declared.tac.Exit.{Exit}
-use Rattle.tac_form.specs.declared.tac.Exit.TheVariants.{Jump, Branch, Return, Fail}
-use Rattle.tac_form.specs.declared.tac.Block.{Block}
-use Rattle.tac_form.specs.declared.tac.Tac.{Tac}
-use Rattle.tac_form.specs.declared.graph.FlowBlock.{FlowBlock}
-use Rattle.tac_form.specs.Flow as tac
-use Rattle.tac_form.specs.Flow.{Program, step}
-use Rattle.tac_form.specs.Graph.{block_of, exit_next, exit_reads, graph_of, step_of}
-use Rattle.tac_form.specs.Live.{InUse, IsLive, at_place, at_step, has, read_within}
-use Rattle.tac_form.specs.Fits.{edge_fits, operand_fits}
-use Rattle.tac_form.specs.Weights.{code_words}
-use Rattle.rv_operators.specs.Codes.{x0, x5}
 use Rattle.rv_operators.specs.Runs.{Stands}
-use Rattle.rv_select.specs.Places.{Holds, Housed, Layout, World, is_near, is_short, layout_of, value_in}
+use Rattle.rv_select.specs.Places.{Holds, Housed, Layout, World}
 use Rattle.rv_select.specs.declared.settings.Follows.{Follows}
 use Rattle.rv_select.specs.declared.settings.Follows.TheVariants.{First, Second}
-use Rattle.rv_select.specs.Settings.{falls, follower, is_next}
-use Rattle.rv_select.specs.Shapes.{branched_bytes, chosen, exit_shape, failed, first_read, jump, read_in}
-use Rattle.rv_select.specs.Steps.{AreFewer, Comes, ExitsAreCarried, IsReached, Left, Remains, StandsAtExit, world_of}
+use Rattle.rv_select.specs.Shapes.{branched_bytes, chosen, jump}
+use Rattle.rv_select.specs.Steps.{AreFewer, Comes}
 use Rattle.rv_select.proofs.Straight.{Scratch}
-use Rattle.rv_select.proofs.Ways.{Near, Way, near-both, near-same, scratch-near, stands-back, stands-front, straight-way}
-use Rattle.rv_select.proofs.Ways.{way-both, way-none}
-use Rattle.rv_select.proofs.Sides.{FirstSide, first-side, read-few}
-use Rattle.rv_select.proofs.Faults.{fails}
+use Rattle.rv_select.proofs.Ways.{Near, Way, near-both, scratch-near, stands-back, stands-front, straight-way}
+use Rattle.rv_select.proofs.Ways.{way-both}
 use Rattle.rv_select.proofs.Divisors.{stays}
-use Rattle.rv_select.proofs.Moves.{at-most, fewer-holds}
-use Rattle.rv_select.proofs.Lives.{housed}
-use Rattle.rv_select.proofs.Carries.{both-true, by-test, first-read, place-small}
-use Rattle.rv_select.proofs.Branched.{IsNearby, Turned, branched-few, chosen-turns, follower-first, follower-second, is-next, low-near}
+use Rattle.rv_select.proofs.Branched.{IsNearby, Turned, branched-few, chosen-turns, low-near}
 use Rattle.rv_select.proofs.Jumps.{Jumped, Reaches, chosen-count, chosen_words, jump-count, jump-few, jump_words, jumps-there}
 
 -- a jump to a block, from anywhere near the exit

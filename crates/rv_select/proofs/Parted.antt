@@ -1,11 +1,10 @@
 -- Ways along edges, before which a count may be taken, and a branch to two of them.
-use Rattle.std.proofs.Common.{◌≡◌, ◌≢◌, ℕ, suc, ◌+◌, ◌*◌, ◌%◌, ◌^◌, ◌<◌, ◌≤◌, Bool, true, false, not, ◌&&◌, ◌||◌, List, [], ◌∷◌, ◌++◌, length}
+use Rattle.std.proofs.Common.{◌≡◌, ℕ, suc, ◌+◌, ◌*◌, ◌%◌, ◌^◌, ◌<◌, ◌≤◌, Bool, true, false, not, ◌&&◌, ◌||◌, List, [], ◌++◌, length}
 use Rattle.std.proofs.Common.{Option, Some, refl, sym, ap, ◌∙◌, subst, ⊎_elim, arith}
 use Rattle.std.specs.Prelude.{if◌then◌else◌}
 use Rattle.std.proofs.lemmas.Bool.{cases_Bool}
 use Rattle.std.proofs.lemmas.List.{length-append}
 use Rattle.rv_isa.specs.declared.instr.Instr.{Instr}
-use Rattle.rv_isa.specs.declared.instr.Instr.TheVariants as instrs
 use Rattle.rv_isa.specs.declared.operation.BranchCondition.{BranchCondition}
 use Rattle.rv_isa.specs.declared.operand.Register.{Register}
 use Rattle.rv_machine.specs.Arithmetic.{is_taken}
@@ -15,19 +14,18 @@ use Rattle.tac_form.specs.declared.tac.Edge.{Edge}
 use Rattle.rv_operators.specs.Runs.{Stands}
 use Rattle.rv_select.specs.declared.settings.Setting.{Setting}
 use Rattle.rv_select.specs.declared.settings.Follows.{Follows}
-use Rattle.rv_select.specs.declared.settings.Follows.TheVariants.{First, Second}
 use Rattle.rv_select.specs.Settings.{falls, follower, is_next}
 use Rattle.rv_select.specs.Places.{Holds, Housed, Layout, World}
-use Rattle.rv_select.specs.Shapes.{chosen, counted_jump, counting, edge_shape, jump, negated, over, parted, take_count}
+use Rattle.rv_select.specs.Shapes.{chosen, counted_jump, counting, edge_shape, jump, negated, parted, take_count}
 use Rattle.rv_select.specs.Steps.{AreFewer, Breaks, Comes, LeadsTo, with_count}
 use Rattle.rv_select.proofs.Branched.{follower-first, follower-second, is-next, low-near, negated-taken}
 use Rattle.rv_select.proofs.Counts.{TookCount, breaks-off, count-holds, counted-keeps, later-breaks, takes-count}
 use Rattle.rv_select.proofs.Divisors.{stays}
 use Rattle.rv_select.proofs.Faults.{branch-way}
-use Rattle.rv_select.proofs.Jumps.{Reaches, jump-count, jump-few, jump_words}
+use Rattle.rv_select.proofs.Jumps.{Reaches, jump-count, jump-few}
 use Rattle.rv_select.proofs.Edges.{InNear, InReach, chosen-comes, jump-comes, reach-behind}
 use Rattle.rv_select.proofs.Moves.{near-holds}
-use Rattle.rv_select.proofs.Straight.{Scratch, low-below}
+use Rattle.rv_select.proofs.Straight.{Scratch}
 use Rattle.rv_select.proofs.Ways.{Near, Way, at_pc, near-both, near-pc, near-same, scratch-near, stands-back, stands-front, straight-way}
 use Rattle.rv_select.proofs.Ways.{way-both, way-none}
 

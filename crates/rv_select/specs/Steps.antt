@@ -1,6 +1,6 @@
 -- What the code of an instruction promises: one step of three-address code is at least one of the machine's steps and at most as many
 -- as this code has words, and the machine holds afterwards what three-address code sees then.
-use Rattle.std.specs.Prelude.{◌≡◌, ℕ, ◌+◌, ◌*◌, ◌^◌, ◌<◌, ◌≤◌, ◌%◌, Bool, true, false, nat_eq, if◌then◌else◌, List, [], ◌++◌, length, Option}
+use Rattle.std.specs.Prelude.{◌≡◌, ℕ, ◌+◌, ◌*◌, ◌^◌, ◌<◌, ◌≤◌, ◌%◌, Bool, true, false, nat_eq, if◌then◌else◌, List, ◌++◌, length, Option}
 use Rattle.std.specs.Prelude.{Some, None, slice_get, IsTrue, ◌⊎◌}
 use Rattle.std.specs.List.{list_all}
 use Rattle.tl_base.specs.declared.place.Place.{Place}
