@@ -80,6 +80,10 @@ layout_with code homes = record {
   extent = extent_of code;
 }
 
+-- the same code, counting or not
+abbrev pub as_counting : Bool → Tac → Tac
+as_counting counts code = record code { counts = counts }
+
 -- by an assignment, which gives a home to temporaries that need none too
 abbrev pub layout_of : Tac → List (Option Home) → Layout
 layout_of code homes = layout_with code (asked_homes code homes)

@@ -37,4 +37,4 @@ pub use law::{
 };
 pub use selectable::all_has_code;
 pub use selected::{Call, Code};
-pub use selection::select;
+pub use selection::{select, select_counted};

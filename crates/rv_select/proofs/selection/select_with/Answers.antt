@@ -1,17 +1,19 @@
 use Rattle.std.proofs.Common.{ap, ◌∙◌}
 use Rattle.rv_select.specs.Asked.{asked_homes}
-use Rattle.rv_select.specs.Places.{layout_with}
+use Rattle.rv_select.specs.Places.{as_counting, layout_with}
 use Rattle.rv_select.proofs.Bodies.{left-whole, selected-by, whole-calls, whole-words}
+use Rattle.rv_select.proofs.Counted.{homes-counting}
 use Rattle.rv_select.proofs.Weighed.{keeps-within}
-use Rattle.rv_select.proofs.selection.select.Goals as goal
+use Rattle.rv_select.proofs.selection.select_with.Goals as goal
 
 pub returns-clause-selected : goal.returns-clause-selected
 returns-clause-selected c =
-    let tac = c.args.tac.now in
+    let tac = as_counting c.args.counts c.args.tac.now in
     let h = c.as_slice-homes.result.now in
     selected-by tac h c.args.assignment.now
     (record { words = c.push_left.new.code; calls = c.push_body.new.calls; entry = c.in_ok-head.head.entry; frame = c.in_ok-head.head.frame })
-    (c.as_slice-homes.ensures.value ∙ (c.in_ok-given.ensures ∙ ap (asked_homes tac) c.as_slice.ensures))
+    (c.as_slice-homes.ensures.value ∙ (c.in_ok-given.ensures ∙ (ap (asked_homes c.args.tac.now) c.as_slice.ensures
+    ∙ homes-counting c.args.counts c.args.tac.now c.args.assignment.now)))
     (whole-words (layout_with tac h) tac c.new-words.result.items c.push_head.new.code.items c.push_body.new.code.items
     c.push_left.new.code.items c.deref-3.result.now c.in_ok-places.places.last
     c.new-words.ensures.items (c.deref-3.ensures.value ∙ c.in_ok-places.ensures.starts) c.in_ok-places.ensures.last
@@ -24,6 +26,6 @@ returns-clause-selected c =
 
 pub returns-clause-within : goal.returns-clause-within
 returns-clause-within c =
-    keeps-within c.args.tac.now c.args.assignment.now
+    keeps-within (as_counting c.args.counts c.args.tac.now) c.args.assignment.now
     (record { words = c.push_left.new.code; calls = c.push_body.new.calls; entry = c.in_ok-head.head.entry; frame = c.in_ok-head.head.frame })
     c.requires (returns-clause-selected c)
