@@ -37,7 +37,7 @@ use Rattle.tac_counts.specs.Counts.{left_after, left_in}
 use Rattle.tac_form.specs.Flow.{begun}
 use Rattle.terra_words.specs.Runs.{word}
 use Rattle.rv_machine.specs.declared.stops.MachineKind.TheVariants.{Break}
-use Rattle.std.proofs.Math.Nat.{suc-mul, mul-dist-left}
+use Rattle.std.proofs.Math.Nat.{suc-mul, mul-add}
 use Rattle.rv_select.specs.Calls.{function_code}
 use Rattle.rv_select.proofs.Entire.{programs-carried}
 use Rattle.rv_link.specs.declared.function.Function.{Function}
@@ -425,7 +425,7 @@ counted-images-carried functions values linked image f code units arguments r se
 
     bound : (u l b n : ℕ) → n ≡ l + b → b + (u + 1) * l ≤ (u + 1) * n
     bound u l b n e =
-        let sum : (u + 1) * n ≡ (u + 1) * l + (u + 1) * b = ap (λ z. (u + 1) * z) e ∙ mul-dist-left (u + 1) l b in
+        let sum : (u + 1) * n ≡ (u + 1) * l + (u + 1) * b = ap (λ z. (u + 1) * z) e ∙ mul-add (u + 1) l b in
         let more : b ≤ (u + 1) * b = at-least-once u b in
         omega (arith, sum, more)
 
