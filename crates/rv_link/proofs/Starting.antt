@@ -25,7 +25,7 @@ use Rattle.rv_select.specs.Numbers.{constant}
 use Rattle.rv_select.specs.Waiting.{IsLinked, IsPlaced}
 use Rattle.rv_select.specs.Whole.{AreShort, Ended, Starts, before_entry}
 use Rattle.rv_select.specs.Places.{layout_of}
-use Rattle.rv_select.specs.Shapes.{jump, place_number, x9}
+use Rattle.rv_select.specs.Shapes.{jump, place_number, units_given, x9}
 use Rattle.rv_select.proofs.Branched.{low-near}
 use Rattle.rv_select.proofs.Jumps.{Jumped, jumps-there}
 use Rattle.rv_select.proofs.Numbers.{constant-count, constant-loads}
@@ -42,7 +42,7 @@ use Rattle.rv_select.specs.Calls.{function_code}
 use Rattle.rv_select.proofs.Entire.{programs-carried}
 use Rattle.rv_link.specs.declared.function.Function.{Function}
 use Rattle.rv_link.specs.Linked.{function_words, image_of, places_of, program_of, text_from}
-use Rattle.rv_link.specs.Images.{CountedImagesAreCarried, EndsCounted, EndsLike, ImagesAreCarried, ImagesStart, text_end, units_given}
+use Rattle.rv_link.specs.Images.{CountedImagesAreCarried, EndsCounted, EndsLike, ImagesAreCarried, ImagesStart, text_end}
 use Rattle.rv_link.proofs.Links.{texts-linked, texts-short}
 
 all-bytes : (xs : List ℕ) → ((k : ℕ) → slice_index xs k < 256) → AreBytes xs

@@ -19,7 +19,7 @@ use Rattle.tac_form.specs.declared.tac.Tac.{Tac}
 use Rattle.tac_form.specs.Flow.{TacRun, begun}
 use Rattle.tac_counts.specs.Counts.{left_after, left_in}
 use Rattle.rv_select.specs.Numbers.{constant}
-use Rattle.rv_select.specs.Shapes.{jump, place_number, x9}
+use Rattle.rv_select.specs.Shapes.{place_number, units_given}
 use Rattle.rv_select.specs.Whole.{Starts}
 use Rattle.rv_link.specs.declared.function.Function.{Function}
 use Rattle.rv_link.specs.declared.function.Linked.{Linked}
@@ -70,10 +70,6 @@ EndsLike image at arguments n most (Over (Fault kind place) out) =
     ImageFails image at arguments most (fault_number kind) (place_number place) out
 EndsLike image at arguments n most (Over Stuck out) = Unit {0}
 EndsLike image at arguments n most (More out) = ImageGoesOn image at arguments n most out
-
--- The words behind all functions by which a function that counts is entered: they put counts into x9, and jump to where it begins.
-abbrev pub units_given : (units at to : ℕ) → List Instr
-units_given units at to = constant x9 units ++ jump false (at + 4 * length (constant x9 units)) to
 
 abbrev pub text_end : Linked → ℕ
 text_end linked = text_address + 4 * length linked.words.items

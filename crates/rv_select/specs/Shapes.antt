@@ -580,6 +580,10 @@ counted_jump false short at to = jump short at to
 abbrev pub edge_shape : Setting → Edge → (at to : ℕ) → List Instr
 edge_shape setting e at to = if falls setting.next e then [] else counted_jump (setting.counts && e.counts) setting.short at to
 
+-- The words behind all functions by which one that counts is entered as the entry: they put counts into x9, and jump to where it begins.
+abbrev pub units_given : (units at to : ℕ) → List Instr
+units_given units at to = constant x9 units ++ jump false (at + 4 * length (constant x9 units)) to
+
 -- A branch to two blocks in code that counts, where a way to one of them takes a count: over the first way to the second.
 abbrev pub counting : Setting → BranchCondition → (a b : Register) → (at : ℕ) → (e f : Edge) → (first second : ℕ) → List Instr
 counting setting condition a b at e f first second =

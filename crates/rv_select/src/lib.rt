@@ -25,7 +25,7 @@ pub mod selection;
 pub mod settings;
 mod short;
 
-pub use calls::push_call_jump;
+pub use calls::{push_call_jump, push_units};
 pub use compared::push_compared;
 pub use exits::push_exit;
 pub use instructions::{held_after, push_instruction};
