@@ -8,11 +8,12 @@ use Rattle.tl_base.specs.declared.ids.FnId.{FnId}
 use Rattle.rv_isa.specs.declared.instr.Instr.{Instr}
 use Rattle.elf_image.specs.declared.image.Image.{Image}
 use Rattle.elf_image.specs.Layout.{text_address}
+use Rattle.elf_image.specs.Written.{entries_bytes}
 use Rattle.rv_machine.specs.declared.stops.Stop.TheVariants as stops
 use Rattle.rv_isa.specs.Table.{word_of}
 use Rattle.rv_machine.specs.Machine.{State, after_output, run_of, stands, start_registers}
 use Rattle.rv_machine.specs.Program.{IsProgram}
-use Rattle.rv_machine.specs.ImageRun.{image_start, region_bytes}
+use Rattle.rv_machine.specs.ImageRun.{image_start, private_bytes, region_bytes}
 use Rattle.terra_words.specs.Words.{fault_number}
 use Rattle.terra_words.specs.Runs.{Fault, More, Over, Returned, Run, Stuck}
 use Rattle.terra_memory.specs.Region.{fresh}
@@ -78,8 +79,13 @@ argument-register end heap limit arguments k x e =
     found (z ∷ xs) zero x e = cc
     found (z ∷ xs) (suc k) x e = found xs k x e
 
+-- the private memory of an image without entries
+zeros-only : (image : Image) → image.entries ≡ [] → private_bytes image ≡ replicate image.private 0
+unfolding entries_bytes
+zeros-only image none = ap (λ es. entries_bytes es ++ replicate image.private 0) none
+
 pub images-start : ImagesStart
-images-start image at arguments l few small = record {
+images-start image at arguments l none few small = record {
   pc = refl;
   link = refl;
   pointer = refl;
@@ -94,8 +100,8 @@ images-start image at arguments l few small = record {
     begun = begun (length image.statics);
     limited = limited (length image.statics) (length (region_bytes image)) long sizes.1;
   };
-  private = subst (λ n. n ≤ 603979776) (sym (length-replicate image.private 0)) most;
-  are_bytes = zero-bytes image.private;
+  private = subst (λ xs. length xs ≤ 603979776) (sym (zeros-only image none)) (subst (λ n. n ≤ 603979776) (sym (length-replicate image.private 0)) most);
+  are_bytes = subst AreBytes (sym (zeros-only image none)) (zero-bytes image.private);
 }
   where
     memory : (image.memory % 1024 == 0) ≡ true × ((65536 ≤ image.memory) × (image.memory ≤ 67108864))
@@ -221,7 +227,7 @@ ends-like image program at arguments n most lasts s (More out) few decoded none 
     below c h = omega (arith, h)
 
 pub images-carried : ImagesAreCarried
-images-carried functions values linked image f code n arguments r selected sound t lawful text frame is plain args few count run =
+images-carried functions values linked image f code n arguments r selected sound t lawful text none frame is plain args few count run =
     let p : Program = program_of functions values in
     let start : State = image_start image (image_of functions f).at arguments in
     let whole : image.text ≡ map word_of (code-from (places_of functions) text_address functions) =
@@ -229,7 +235,8 @@ images-carried functions values linked image f code n arguments r selected sound
     let program : List (Option Instr) = map Some (code-from (places_of functions) text_address functions) in
     let decoded : IsProgram image.text program =
     subst (λ z. IsProgram z program) (sym whole) (program-of (code-from (places_of functions) text_address functions)) in
-    let room : 512 * linked.frame ≤ length start.private = subst (λ z. 512 * linked.frame ≤ z) (sym (length-replicate image.private 0)) frame in
+    let room : 512 * linked.frame ≤ length start.private =
+    subst (λ xs. 512 * linked.frame ≤ length xs) (sym (zeros-only image none)) (subst (λ z. 512 * linked.frame ≤ z) (sym (length-replicate image.private 0)) frame) in
     let short : AreShort p (image_of functions) (length image.text) =
     subst (λ z. AreShort p (image_of functions) (length z)) (sym text) (texts-short functions values linked selected sound t) in
     let left : ℕ = left_after (begun p image.statics image.memory n f (map word arguments)) (left_in p run.0) n in
@@ -239,7 +246,7 @@ images-carried functions values linked image f code n arguments r selected sound
     (programs-carried p (image_of functions) program linked.frame (length image.text) image.memory n image.statics f code arguments start r
     (texts-linked functions values linked [] program selected sound t
     (subst (λ z. IsProgram z program) (text ∙ sym (append-nil linked.words.items)) decoded)) short is
-    (images-start image (image_of functions f).at arguments lawful few args) (subst (λ c. CountsLeft c n start) (sym plain) tt) few count
+    (images-start image (image_of functions f).at arguments lawful none few args) (subst (λ c. CountsLeft c n start) (sym plain) tt) few count
     room run))
 
 -- the machine's start behind all functions, and where one of them begins with counts
@@ -366,7 +373,7 @@ ends-counted image program at arguments first most whole left s m (More out) few
         ap (run_of program (image_start image at arguments)) sum ∙ way.runs (d.count + more)
 
 pub counted-images-carried : CountedImagesAreCarried
-counted-images-carried functions values linked image f code units arguments r selected sound t lawful text frame is counts small args few count
+counted-images-carried functions values linked image f code units arguments r selected sound t lawful text none frame is counts small args few count
     run =
     let p : Program = program_of functions values in
     let at : ℕ = (image_of functions f).at in
@@ -389,9 +396,9 @@ counted-images-carried functions values linked image f code units arguments r se
     (fits (length linked.words.items) (length G) end-near (given-few units from at)) in
     let g : Given image program at units (length (constant x9 units) + 2) arguments start =
     gives-units image program from at units arguments end-near (begins-near at _ pl.near) (begins-even at pl.aligned) small few there
-    (images-start image from arguments lawful few args) in
+    (images-start image from arguments lawful none few args) in
     let room : 512 * linked.frame ≤ length g.after.private =
-    subst (λ z. 512 * linked.frame ≤ z) (sym (g.long ∙ length-replicate image.private 0)) frame in
+    subst (λ z. 512 * linked.frame ≤ z) (sym (g.long ∙ (ap length (zeros-only image none) ∙ length-replicate image.private 0))) frame in
     let left : ℕ = left_after (begun p image.statics image.memory units f (map word arguments)) (left_in p run.0) units in
     ends-counted image program from arguments (length (constant x9 units) + 2) ((units + 1) * length linked.words.items)
     ((units + 1) * length image.text) left (before_entry f (fresh image.memory image.statics) units) g.after r few decoded refl
