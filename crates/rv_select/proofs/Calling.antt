@@ -820,4 +820,3 @@ call-step p image program most size linked s base m x block to place f arguments
         (subst (λ z. Stepped p image program most size (left_behind p s) z s m
         (tac.counted s.left s (λ z. enter place f (p.code f) (values_of s arguments) z.here.base
         (record { waits = (tac.ahead z).here; to = to } ∷ z.callers) z))) same (counts s.left refl)))
-

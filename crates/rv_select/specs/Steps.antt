@@ -82,7 +82,8 @@ with_count true left m = record m { registers = λ r. if nat_eq r 9 then left el
 with_count false left m = m
 
 -- The machine ends the run so where code counts and has so many counts left then.
-pub record EndsLeft (counts : Bool) (program : List (Option Instr)) (kind : FaultKind) (at : Place) (most left : ℕ) (m : State) : Type 0 where
+pub record EndsLeft (counts : Bool) (program : List (Option Instr)) (kind : FaultKind) (at : Place) (most left : ℕ) (m : State) :
+    Type 0 where
   pub steps : ℕ
   pub last : State
   pub few : steps ≤ most

@@ -202,8 +202,8 @@ counts_in None = false
 counts_in (Some code) = code.counts
 
 -- What the machine does for a step of three-address code, in at most so many steps of its own: it comes to where three-address code is
--- then, and writes what that writes, or ends the run as that does, with so many counts left if code counts. Where one more count is needed it breaks the run off, if code counts,
--- and else it only stands there; and of code that is stuck nothing is promised.
+-- then, and writes what that writes, or ends the run as that does, with so many counts left if code counts. Where one more count is
+-- needed it breaks the run off, if code counts, and else it only stands there; and of code that is stuck nothing is promised.
 abbrev pub Stepped : Program → Image → List (Option Instr) → (most size left bound : ℕ) → tac.State → State → tac.Moved → Type 0
 Stepped p image program most size left bound s m (Goes t) =
     (out : List ℕ) × (t.out ≡ s.out ++ out) × Arrives p image program most size bound s.left out t m

@@ -135,7 +135,8 @@ StepsAreCarried =
     (p : Program) (image : Image) (program : List (Option Instr)) (most size : ℕ) (s : tac.State) (base : ℕ) (m : State) →
     IsLinked p image program most → StandsIn p image program most size s base m →
     (bound : ℕ) ×
-    Stepped p image program most size (left_behind p s) bound s m (steps p (steps_at_once (p.code s.here.function) s.here.block s.here.at) (Goes s))
+    Stepped p image program most size (left_behind p s) bound s m
+    (steps p (steps_at_once (p.code s.here.function) s.here.block s.here.at) (Goes s))
 
 -- So is each run, from a state on in which the machine stands where three-address code does, in at most so many steps if no more than
 -- four bytes are left for each.
@@ -182,7 +183,8 @@ EntriesAreCarried =
     (region : Contents) (m : State) →
     IsLinked p image program most → p.code f ≡ Some code → Starts (image f).at region arguments m → CountsLeft code.counts n m →
     length arguments ≤ 8 → length arguments ≡ length code.parameters → MAX_CALLS * most ≤ length m.private →
-    Stepped p image program most (length region.bytes) n (length (head_code (layout_of code (image f).homes) code)) (before_entry f region n) m
+    Stepped p image program most (length region.bytes) n (length (head_code (layout_of code (image f).homes) code)) (before_entry f region n)
+    m
     (enter code.place f (Some code) (map word arguments) (end_address region) [] (before_entry f region n))
 
 -- A whole run of a program, from the machine's start at the count n: it ends as that of three-address code does, with the same output, in

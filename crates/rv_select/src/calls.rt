@@ -11,14 +11,13 @@ ghost use Rattle.rv_select.specs.Entering.{result_put};
 ghost use Rattle.rv_select.specs.Places.{has_call, is_call, makes_calls, with_counting, with_homes};
 ghost use Rattle.rv_select.specs.Shapes.{jump, area_reached, counted_if, units_given, x10};
 
-use crate::emit::{X5, X6, push_constant, push_moved, push_taken, put};
+use crate::accessing::push_area_address;
+use crate::emit::{X5, X6, X9, X10, X11, push_constant, push_moved, push_taken, put};
 use crate::entries::{X1, X28, push_result_put, push_stored_below};
 use crate::exits::{distance, push_jump, push_take_count};
-use crate::instructions::{
-    X9, X10, X11, place_number, push_area_address, push_brought, push_fault_call, push_first,
-    push_small,
-};
+use crate::failing::{place_number, push_fault_call, push_small};
 use crate::operands::{below_zero, immediate, lower, offset, upper};
+use crate::reading::{push_brought, push_first};
 use reg_alloc::Home;
 use rv_isa::{BranchCondition, ImmediateOp, Instr, Register};
 use tac_form::{Block, Destination, Instruction, Operand, Part, Tac};
@@ -240,7 +239,7 @@ pub fn push_call_jump(code: &mut Vec<u32>, from: u64, to: u64) -> Result<(), NoM
 
 /// The words, at an address, by which a function that counts is entered as the entry with so many counts: they put these into x9 and jump
 /// to where it begins.
-#[tactic(auto, using(crate::proofs::Numbers::pushed_words, crate::proofs::Numbers::constant-count))]
+#[tactic(auto, using(crate::proofs::Numbers::pushed_words, crate::proofs::Numbers::constant_count))]
 pub fn push_units(code: &mut Vec<u32>, units: u64, at: u64, to: u64) -> Result<(), NoMemory>
     requires { at ≤ 2 ^ 31 }
     ensures { OnOk result (code.new.items ≡ code.old.items ++ map word_of (units_given units at to)) }

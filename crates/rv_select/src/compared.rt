@@ -10,7 +10,7 @@ ghost use Rattle.rv_select.specs.Shapes.{start_of};
 
 use crate::emit::{X5, X6};
 use crate::exits::{push_parted, start_of};
-use crate::instructions::{is_second, push_first_read, push_second_read, read_in};
+use crate::reading::{is_second, push_first_read, push_second_read, read_in};
 use crate::settings::Setting;
 use reg_alloc::Home;
 use rv_isa::{BranchCondition, Register};

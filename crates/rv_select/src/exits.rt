@@ -12,9 +12,10 @@ ghost use Rattle.rv_select.specs.Shapes.{branch_bytes, branch_offset, branched, 
 ghost use Rattle.rv_select.specs.Shapes.{edge_shape, exit_shape, first_read, has_exit_shape, jump, jump_offset, negated, parted, read_in};
 ghost use Rattle.rv_select.specs.Shapes.{start_of, take_count};
 
-use crate::emit::{X0, X5, put};
-use crate::instructions::{X9, push_failed, push_first_read, read_in};
+use crate::emit::{X0, X5, X9, put};
+use crate::failing::push_failed;
 use crate::operands::{below_zero, branch_offset, jump_offset, lower, offset, upper};
+use crate::reading::{push_first_read, read_in};
 use crate::settings::{Follows, Setting, falls, follower};
 use reg_alloc::Home;
 use rv_isa::{BranchCondition, ImmediateOp, Instr, Register};
@@ -416,7 +417,9 @@ pub(crate) fn push_parted(
         )
     } else {
         let follows = follower(setting.next, first_edge.block, second_edge.block);
-        push_chosen(code, setting, follows, condition, rs1, rs2, at, first, second)
+        push_chosen(
+            code, setting, follows, condition, rs1, rs2, at, first, second,
+        )
     }
 }
 

@@ -6,12 +6,15 @@
 //! machine holds afterwards what three-address code sees then. The laws of `law` have that of each instruction.
 #![tactic(auto)]
 
+mod accessing;
 mod asked;
 mod calls;
 pub mod compared;
+mod computing;
 mod emit;
 mod entries;
 pub mod exits;
+mod failing;
 mod folded;
 pub mod instructions;
 pub mod law;
@@ -19,6 +22,7 @@ mod moving;
 mod operands;
 mod outputs;
 pub mod pairs;
+mod reading;
 pub mod selectable;
 pub mod selected;
 pub mod selection;

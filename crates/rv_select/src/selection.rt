@@ -69,7 +69,8 @@ fn push_called(
     arguments: &[Part],
 ) -> Result<(), NoMemory>
     ensures code { OnOk result (code.new.items ≡ code.old.items
-        ++ map word_of (called (with_counting homes.now counts) sizes.now (λ f. 0) (4 * length code.old.items) held to at callee arguments.now)) }
+        ++ map word_of (called (with_counting homes.now counts) sizes.now (λ f. 0) (4 * length code.old.items) held to at callee
+        arguments.now)) }
     ensures calls { OnOk result (calls.new.items ≡ calls.old.items
         ++ instruction_calls (with_counting homes.now counts) (length code.old.items) held (instructions.Call to at callee arguments.now)) }
 {
@@ -90,7 +91,8 @@ fn push_one(
 ) -> Result<(), NoMemory>
     requires { IsTrue (has_code instruction.now) }
     ensures code { OnOk result (code.new.items ≡ code.old.items
-        ++ map word_of (instruction_code (with_counting homes.now counts) sizes.now (λ f. 0) (4 * length code.old.items) held instruction.now)) }
+        ++ map word_of (instruction_code (with_counting homes.now counts) sizes.now (λ f. 0) (4 * length code.old.items) held
+        instruction.now)) }
     ensures calls { OnOk result (calls.new.items ≡ calls.old.items
         ++ instruction_calls (with_counting homes.now counts) (length code.old.items) held instruction.now) }
 {
@@ -122,7 +124,8 @@ fn push_all(
 ) -> Result<Option<u64>, NoMemory>
     requires { IsTrue (list_all has_code instructions.now) }
     ensures code { OnOk result (code.new.items ≡ code.old.items
-        ++ map word_of (instructions_code (with_counting homes.now counts) sizes.now (λ f. 0) (4 * length code.old.items) None instructions.now)) }
+        ++ map word_of (instructions_code (with_counting homes.now counts) sizes.now (λ f. 0) (4 * length code.old.items) None
+        instructions.now)) }
     ensures calls { OnOk result (calls.new.items ≡ calls.old.items
         ++ instructions_calls (with_counting homes.now counts) sizes.now (length code.old.items) None instructions.now) }
     ensures held { IfOk result (λ held. held ≡ held_behind None instructions.now) }
@@ -374,7 +377,8 @@ fn push_head(
     tac: &Tac,
 ) -> Result<Head, NoMemory>
     requires { extent ≡ extent_of (as_counting extent.counts tac.now) }
-    ensures code { OnOk result (code.new.items ≡ code.old.items ++ map word_of (head_code (layout_with (as_counting extent.counts tac.now) homes.now) (as_counting extent.counts tac.now))) }
+    ensures code { OnOk result (code.new.items ≡ code.old.items
+        ++ map word_of (head_code (layout_with (as_counting extent.counts tac.now) homes.now) (as_counting extent.counts tac.now))) }
     ensures entry { IfOk result (λ head. head.entry ≡ length (begun tac.now)) }
     ensures frame { IfOk result (λ head. head.frame ≡ frame_bytes (layout_with (as_counting extent.counts tac.now) homes.now)) }
 {
@@ -400,12 +404,14 @@ fn push_body(
     requires reads { reads.now ≡ reads_of (as_counting extent.counts tac.now) }
     requires extent { extent ≡ extent_of (as_counting extent.counts tac.now) }
     ensures code { OnOk result (code.new.items ≡ code.old.items
-        ++ map word_of (blocks_code (layout_with (as_counting extent.counts tac.now) homes.now) tac.now.areas (λ f. 0) (start_of starts.now) last
-        (4 * length code.old.items) tac.now.blocks)) }
+        ++ map word_of (blocks_code (layout_with (as_counting extent.counts tac.now) homes.now) tac.now.areas (λ f. 0)
+        (start_of starts.now) last (4 * length code.old.items) tac.now.blocks)) }
     ensures calls { OnOk result (calls.new.items ≡ calls.old.items
-        ++ blocks_calls (layout_with (as_counting extent.counts tac.now) homes.now) tac.now.areas (length code.old.items) tac.now.blocks) }
+        ++ blocks_calls (layout_with (as_counting extent.counts tac.now) homes.now) tac.now.areas (length code.old.items)
+        tac.now.blocks) }
     ensures begins { OnOk result (begins.new.items ≡ begins.old.items
-        ++ starts_from (layout_with (as_counting extent.counts tac.now) homes.now) tac.now.areas (4 * length code.old.items) tac.now.blocks) }
+        ++ starts_from (layout_with (as_counting extent.counts tac.now) homes.now) tac.now.areas (4 * length code.old.items)
+        tac.now.blocks) }
 {
     push_blocks(
         code,
@@ -453,8 +459,10 @@ fn find_places(
     requires has_code { IsTrue (all_has_code tac.now) }
     requires reads { reads.now ≡ reads_of (as_counting extent.counts tac.now) }
     requires extent { extent ≡ extent_of (as_counting extent.counts tac.now) }
-    ensures starts { IfOk result (λ places. places.starts.items ≡ block_starts (layout_with (as_counting extent.counts tac.now) homes.now) (as_counting extent.counts tac.now) 0) }
-    ensures last { IfOk result (λ places. places.last ≡ last_address (layout_with (as_counting extent.counts tac.now) homes.now) (as_counting extent.counts tac.now) 0) }
+    ensures starts { IfOk result (λ places. places.starts.items
+        ≡ block_starts (layout_with (as_counting extent.counts tac.now) homes.now) (as_counting extent.counts tac.now) 0) }
+    ensures last { IfOk result (λ places. places.last
+        ≡ last_address (layout_with (as_counting extent.counts tac.now) homes.now) (as_counting extent.counts tac.now) 0) }
 {
     let mut code = Vec::new(alloc);
     let mut calls = Vec::new(alloc);
@@ -529,11 +537,7 @@ pub fn select(alloc: Global, tac: &Tac, assignment: &Assignment) -> Result<Code,
 
 /// The same of code that counts, whether the three-address code says so or not: x9 holds the counts that are left, and before each count
 /// one is taken from it, or an EBREAK is reached where x9 is 0.
-pub fn select_counted(
-    alloc: Global,
-    tac: &Tac,
-    assignment: &Assignment,
-) -> Result<Code, NoMemory>
+pub fn select_counted(alloc: Global, tac: &Tac, assignment: &Assignment) -> Result<Code, NoMemory>
     requires { IsTrue (all_has_code tac.now) }
     ensures selected { IfOk result (λ code. IsSelected (as_counting true tac.now) assignment.now code) }
     ensures within { IfOk result (λ code. KeepsWithin tac.now assignment.now code) }

@@ -1,5 +1,5 @@
 use Rattle.rv_select.proofs.Clears.{zeros-turn}
-use Rattle.rv_select.proofs.instructions.+push_zeros.Goals as goal
+use Rattle.rv_select.proofs.accessing.+push_zeros.Goals as goal
 
 pub returns : goal.returns
 returns t c =

@@ -4,7 +4,7 @@ use Rattle.rv_operators.specs.Codes.{code_of, x5}
 use Rattle.rv_select.specs.Shapes.{five_or_six, read_in, result_in}
 use Rattle.rv_select.specs.Places.{with_homes}
 use Rattle.rv_select.proofs.Pushed.{read-at, register-as}
-use Rattle.rv_select.proofs.instructions.push_moved_operation.Goals as goal
+use Rattle.rv_select.proofs.computing.push_moved_operation.Goals as goal
 
 pub returns : goal.returns
 returns c =

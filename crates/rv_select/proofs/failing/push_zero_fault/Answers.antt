@@ -5,7 +5,7 @@ use Rattle.rv_operators.specs.Codes.{x0, x5}
 use Rattle.rv_select.specs.Shapes.{branched_over, read_in}
 use Rattle.rv_select.specs.Places.{with_homes}
 use Rattle.rv_select.proofs.Pushed.{read-at, register-as}
-use Rattle.rv_select.proofs.instructions.push_zero_fault.Goals as goal
+use Rattle.rv_select.proofs.failing.push_zero_fault.Goals as goal
 
 pub returns : goal.returns
 returns c =

@@ -10,7 +10,7 @@ use Rattle.rv_operators.specs.Codes.{x5}
 use Rattle.rv_select.specs.Numbers.{constant, immediate_of}
 use Rattle.rv_select.specs.Shapes.{located, x8}
 use Rattle.rv_select.proofs.Pushed.{turn}
-use Rattle.rv_select.proofs.instructions.push_located.Goals as goal
+use Rattle.rv_select.proofs.accessing.push_located.Goals as goal
 
 pub returns : goal.returns
 returns c =

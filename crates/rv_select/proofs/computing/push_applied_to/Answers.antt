@@ -4,7 +4,7 @@ use Rattle.rv_operators.specs.Codes.{x5}
 use Rattle.rv_select.specs.Shapes.{applied_to, read_in, result_in}
 use Rattle.rv_select.specs.Places.{with_homes}
 use Rattle.rv_select.proofs.Pushed.{read-at, register-as}
-use Rattle.rv_select.proofs.instructions.push_applied_to.Goals as goal
+use Rattle.rv_select.proofs.computing.push_applied_to.Goals as goal
 
 pub returns : goal.returns
 returns c =

@@ -3,7 +3,7 @@ use Rattle.rv_operators.specs.Codes.{x5}
 use Rattle.rv_select.specs.Shapes.{bounds_tested, read_in}
 use Rattle.rv_select.specs.Places.{with_homes}
 use Rattle.rv_select.proofs.Pushed.{read-at, register-as}
-use Rattle.rv_select.proofs.instructions.push_read_test.Goals as goal
+use Rattle.rv_select.proofs.accessing.push_read_test.Goals as goal
 
 pub returns : goal.returns
 returns c =
