@@ -38,7 +38,7 @@ use Rattle.back_end.specs.Working.{AreFunctions, IsFunction, compiled_code, with
 use Rattle.back_end.proofs.Coded.{AllBlocks, AllNamed, Exits, Named, block-at, instruction-at, lowered-names}
 use Rattle.back_end.proofs.Growing.{same-function}
 use Rattle.back_end.proofs.Passing.{Passes, body-passes}
-use Rattle.back_end.proofs.WithoutCopies.{as-many-parameters, stays-good, stays-named}
+use Rattle.back_end.proofs.WithoutCopies.{as-many-parameters, same-counting, stays-good, stays-named}
 
 pub both : (a b : Bool) → a ≡ true → b ≡ true → (a && b) ≡ true
 both true true e f = refl
@@ -154,6 +154,14 @@ module _ (store : Contents) where
       let p = parts-within (compiled_code store k) good.fits.within in
       blocks-have (Passes store) (compiled_code store k) p.1 (compiled_code store k).blocks (named f k is r) p.0
 
+  -- it counts nothing
+  pub counts-nothing : (k : Callable) → (compiled_code store k).counts ≡ false
+  counts-nothing k = same-counting (lowered store [] k) ∙ by (are_narrow store.types (parameter_types k))
+    where
+      by : (b : Bool) → (if b then code_of store [] k else unreached k).counts ≡ false
+      by true = refl
+      by false = refl
+
   -- as many parameters as the term has
   pub as-many : (k : Callable) → are_narrow store.types (parameter_types k) ≡ true →
       length (compiled_code store k).parameters ≡ length k.body.parameters
@@ -204,6 +212,11 @@ module _ (store : Contents) where
       has_code = subst (λ c. all_has_code c ≡ true) (sym h.0.tac)
           (has-code x.id h.0.term h.0.is h.0.ready (subst IsGood h.0.tac h.0.good));
       passes = all-pass all are x h.0;
+      alike = λ f other there.
+          let c = code-is all f other are there in
+          ap (λ (t : Tac). t.counts) c.2
+          ∙ counts-nothing c.0
+          ∙ sym (ap (λ (t : Tac). t.counts) h.0.tac ∙ counts-nothing h.0.term);
     },
     are-sound all are xs h.1,
   )
