@@ -15,7 +15,7 @@
 
 mod functions;
 
-ghost use Rattle.std.specs.Prelude.{◌≤◌, length, IfOk};
+ghost use Rattle.std.specs.Prelude.{◌≡◌, ◌+◌, ◌*◌, ◌^◌, ◌≤◌, length, IfOk};
 ghost use Rattle.rv_link.specs.Linked.{AreSelected, AreThere};
 
 use elf_image::{Entries, Image, Symbol, Symbols, Words, is_lawful};
@@ -117,10 +117,18 @@ fn counted_answer(alloc: Global, words: &[&str]) -> Result<String, NoMemory> {
         return Ok(String::from_str(alloc, "no jump reaches so far")?);
     }
     let linked = link(alloc, &functions)?;
+    let at = behind(&linked.words);
     let mut text = linked.words;
-    let at = TEXT_ADDRESS + 4 * text.len() as u64;
     push_units(&mut text, number_at(words, 1), at, TEXT_ADDRESS)?;
     run_answer(alloc, text, at, words, 3)
+}
+
+/// The address behind a text.
+fn behind(text: &[u32]) -> u64
+    requires { 65536 + 4 * length text.now ≤ 2 ^ 30 }
+    ensures { result ≡ 65536 + 4 * length text.now }
+{
+    TEXT_ADDRESS + 4 * text.len() as u64
 }
 
 /// The same functions, which count.
