@@ -8,8 +8,9 @@ ghost use Rattle.rv_operators.specs.Codes.{x5};
 ghost use Rattle.rv_select.specs.Calls.{call_begun, call_ended, call_jump, called, depth_tested, one_more, part_given, part_taken, passed};
 ghost use Rattle.rv_select.specs.Calls.{word_given, part_passed};
 ghost use Rattle.rv_select.specs.Entering.{result_put};
+ghost use Rattle.rv_select.specs.Numbers.{constant};
 ghost use Rattle.rv_select.specs.Places.{has_call, is_call, makes_calls, with_counting, with_homes};
-ghost use Rattle.rv_select.specs.Shapes.{jump, area_reached, counted_if, units_given, x10};
+ghost use Rattle.rv_select.specs.Shapes.{jump, area_reached, counted_if, units_given, x9, x10};
 
 use crate::accessing::push_area_address;
 use crate::emit::{X5, X6, X9, X10, X11, push_constant, push_moved, push_taken, put};
@@ -237,16 +238,25 @@ pub fn push_call_jump(code: &mut Vec<u32>, from: u64, to: u64) -> Result<(), NoM
     )
 }
 
+/// Counts to x9. The answer is how many words that takes.
+#[tactic(auto, using(crate::proofs::Numbers::pushed_words, crate::proofs::Numbers::constant_count))]
+fn push_counts(code: &mut Vec<u32>, units: u64) -> Result<u64, NoMemory>
+    ensures code { OnOk result (code.new.items ≡ code.old.items ++ map word_of (constant x9 units)) }
+    ensures words { IfOk result (λ words. words ≡ length (constant x9 units)) }
+    ensures few { IfOk result (λ words. words ≤ 8) }
+{
+    let before = code.len();
+    push_constant(code, X9, units)?;
+    Ok((code.len() - before) as u64)
+}
+
 /// The words, at an address, by which a function that counts is entered as the entry with so many counts: they put these into x9 and jump
 /// to where it begins.
-#[tactic(auto, using(crate::proofs::Numbers::pushed_words, crate::proofs::Numbers::constant_count))]
 pub fn push_units(code: &mut Vec<u32>, units: u64, at: u64, to: u64) -> Result<(), NoMemory>
     requires { at ≤ 2 ^ 31 }
     ensures { OnOk result (code.new.items ≡ code.old.items ++ map word_of (units_given units at to)) }
 {
-    let before = code.len();
-    push_constant(code, X9, units)?;
-    let words = (code.len() - before) as u64;
+    let words = push_counts(code, units)?;
     push_jump(code, false, at + 4 * words, to)
 }
 
