@@ -79,8 +79,9 @@ pub fn compile_counted(
     let mut text = linked.words;
     let at = TEXT_ADDRESS + 4 * text.len() as u64;
     push_units(&mut text, units, at, start)?;
+    let symbol = symbol_alone(alloc, store, at, function)?;
     let mut symbols = Vec::new(alloc);
-    symbols.push(symbol_alone(alloc, store, at, function)?)?;
+    symbols.push(symbol)?;
     let statics = static_bytes(store)?;
     let end = REGION_ADDRESS + statics.len() as u64;
     are_words(&text);
