@@ -1,5 +1,5 @@
 -- What is compiled of one function whose code counts: a lawful image that agrees with what the function means at the counts that it has.
-use Rattle.std.proofs.Common.{◌≡◌, ◌≢◌, ℕ, suc, ◌+◌, ◌-◌, ◌*◌, ◌<◌, ◌≤◌, Bool, true, false, List, [], ◌∷◌, ◌++◌, length, map, Option, Some, None}
+use Rattle.std.proofs.Common.{◌≡◌, ◌≢◌, ℕ, zero, suc, ◌+◌, ◌-◌, ◌*◌, ◌<◌, ◌≤◌, Bool, true, false, List, [], ◌∷◌, ◌++◌, length, map, Option, Some, None}
 use Rattle.std.proofs.Common.{refl, sym, ap, ◌∙◌, subst, arith}
 use Rattle.std.specs.Prelude.{◌&&◌, ◌%◌, ◌/◌, ◌^◌, ◌==◌, nat_le, option_map, slice_get, slice_index}
 use Rattle.std.specs.List.{list_all}
@@ -20,6 +20,7 @@ use Rattle.terra_words.specs.Words.{fault_number, wrapped}
 use Rattle.terra_words.specs.Runs.{Value, word, bytes, End, Returned, Fault, Stuck, Run, Over, More, number}
 use Rattle.terra_types.specs.declared.types.TypeForm.{TypeForm}
 use Rattle.terra_types.specs.Opening.{AreTypes}
+use Rattle.terra_term.specs.declared.store.Export.{Export}
 use Rattle.terra_term.specs.Stores.{Callable, Contents, callable_of, static_bytes}
 use Rattle.terra_meaning.specs.Values.{AreValues, IsValue, form_at, is_aggregate, width_of}
 use Rattle.terra_meaning.specs.Laws.{itself}
@@ -51,7 +52,7 @@ use Rattle.rv_link.specs.Images.{EndsCounted, Halts, text_end}
 use Rattle.rv_link.proofs.Starting.{counted-images-carried}
 use Rattle.back_end.specs.Agrees.{EndsSo, SameEnd}
 use Rattle.back_end.specs.Codes.{codes_of, type_code}
-use Rattle.back_end.specs.Ready.{AreFew, IsOutward, IsTypedPart, all_scalar, nodes_in}
+use Rattle.back_end.specs.Ready.{AreExports, AreFew, IsOutward, IsTypedPart, all_scalar, nodes_in}
 use Rattle.back_end.specs.Symbols.{parameters_in, result_in, symbol_of}
 use Rattle.back_end.specs.Units.{AgreesCounted, IsCompiledCounted, Needs, alone, export_of}
 use Rattle.back_end.specs.Working.{AreWhole, Has, coded, compiled_code, id_of}
@@ -59,7 +60,7 @@ use Rattle.back_end.proofs.Closed.{HasSame, IsClosed, same-run}
 use Rattle.back_end.proofs.Fitting.{Within, any-code, codes-allowed, codes-long, frames-few, in-text, words-few}
 use Rattle.back_end.proofs.Making.{narrow-names, text-short, there, values-long, values-words, whole-result, within}
 use Rattle.back_end.proofs.Needed.{left-is}
-use Rattle.back_end.proofs.Parted.{alike}
+use Rattle.back_end.proofs.Parted.{alike, exported-same, outward-part, symbol-same, whole-part}
 use Rattle.back_end.proofs.Sounds.{are-selected, are-sound, as-many, both, code-is}
 use Rattle.back_end.proofs.WithoutCopies.{all_compiled, all_lowered, compiled-runs}
 
@@ -352,3 +353,42 @@ module _ (store : Contents) (f : FnId) (units memory : ℕ) (image : Image) (par
         (subst (λ ts. AreValues ts x.function.body.parameters (map word arguments)) (sym is.types) values)
         (ap (λ (s : ℕ → Run). s units) (meanings arguments) ∙ more) r;
   }
+
+-- ---- all of it
+
+outward-alone : (store : Contents) (f : FnId) → IsOutward store f → AreExports store (alone f)
+outward-alone store f out zero e at = subst (λ (x : Export). IsOutward store x.function) (one (export_of f) e at) out
+  where
+    one : (a b : Export) → Some a ≡ Some b → a ≡ b
+    one a b q = cc
+outward-alone store f out (suc i) e at = absurd (grind (arith, at))
+
+pub compiled-counted : (store : Contents) (f : FnId) (units : ℕ) (functions : List Function) (linked : Linked) (image : Image)
+    (part : Contents) → IsTypedPart store (alone f) part → AreTypes store.types → IsMemorySize image.memory →
+    length (static_bytes store) ≤ image.memory / 2 → IsOutward store f → AreFew store (alone f) → AreWhole true store (alone f) functions →
+    IsLinkedText functions linked → image.statics ≡ static_bytes store →
+    image.text ≡ linked.words.items ++ map word_of (units_given units (text_end linked) (image_of functions f).at) → image.entries ≡ [] →
+    image.heap ≡ heap_start (length image.statics) → image.private ≡ 512 * linked.frame → units < 2 ^ 64 →
+    image.exports ≡ symbol_of store (text_end linked) (export_of f) ∷ [] → ((k : ℕ) → slice_index image.text k < 2 ^ 32) →
+    ((k : ℕ) → slice_index image.statics k < 2 ^ 8) → IsCompiledCounted store image.memory f units image
+compiled-counted store f units functions linked image part is types memory half out few whole text statics text_is none heap private small symbols
+    are_words are_bytes =
+    let can : IsLawful image =
+    image-lawful store f units (image_of functions f).at functions linked image out few whole text text_is statics memory half heap private none
+    symbols are_words are_bytes in
+    let inner : AgreesCounted part image image.memory f units =
+    agrees-counted part f units functions linked image (subst AreTypes (sym is.types) types) is.typed memory
+    (subst (λ (bs : List ℕ). length bs ≤ image.memory / 2) (sym is.statics) half)
+    (outward-part store (alone f) part is (outward-alone store f out) 0 (export_of f) refl)
+    (whole-part store (alone f) part is true functions whole) text can (statics ∙ sym is.statics) text_is none private small
+    (symbols
+    ∙ ap (λ (s : Symbol). s ∷ [])
+    (sym (symbol-same store (alone f) part is (text_end linked) (export_of f) (exported-same store (alone f) part is 0 (export_of f) refl)))) in
+    record {
+      agrees = agrees-back store f units image.memory image part is inner;
+      name = refl;
+      statics = statics;
+      functions = map id_of functions;
+      reached = whole.reached;
+      short = short store f units (image_of functions f).at functions linked image out few whole text text_is;
+    }

@@ -115,7 +115,7 @@ module _ (store : Contents) (exports : List Export) (part : Contents) (is : IsTy
   }
 
   -- symbols depend on the types and on the exported functions alone
-  symbol-same : (at : ℕ) (e : Export) → callable_of part e.function ≡ callable_of store e.function → symbol_of part at e ≡ symbol_of store at e
+  pub symbol-same : (at : ℕ) (e : Export) → callable_of part e.function ≡ callable_of store e.function → symbol_of part at e ≡ symbol_of store at e
   symbol-same at e here = λ i. record {
     name = e.name;
     address = at;
