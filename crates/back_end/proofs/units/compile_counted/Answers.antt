@@ -46,4 +46,46 @@ link-requires-clause-near c =
     (text-near true (contents_of c.args.store.now) (alone c.args.function) c.in_ok-compiled.compiled.functions.items c.requires.few whole)
 
 pub returns : goal.returns
-returns c = ?
+returns c =
+    let store = contents_of c.args.store.now in
+    let f = c.args.function in
+    let fs = c.in_ok-compiled.compiled.functions.items in
+    let linked = c.in_ok-linked.linked in
+    let whole : AreWhole true store (alone f) fs =
+    subst (λ (es : List Export). AreWhole true store es fs) (c.deref.ensures.value ∙ c.in_ok-exports.ensures) c.in_ok-compiled.ensures.whole in
+    let text : IsLinkedText fs linked =
+    subst (λ (xs : List Function). IsLinkedText xs linked) c.deref-2.ensures.value c.in_ok-linked.ensures in
+    let image : Image = record {
+      text = c.from_vec.result;
+      statics = c.from_vec-2.result;
+      entries = c.new.result;
+      memory = c.args.limits.memory;
+      heap = (1073741824 + c.len-2.result + 15) / 16 * 16;
+      private = 512 * linked.frame;
+      exports = c.from_vec-3.result;
+    } in
+    let memory : IsMemorySize image.memory =
+    (c.requires.limits.whole_kib, c.requires.limits.least_memory, c.requires.limits.most_memory) in
+    let start : c.start_of-start.result ≡ (image_of fs f).at =
+    c.start_of-start.ensures
+    ∙ ap (λ ids. start_among ids c.deref-3.result.now f) c.in_ok-compiled.ensures.ids
+    ∙ ap (start_among (map id_of fs)) (c.deref-3.ensures.value ∙ text.starts)
+    ∙ starts-are fs text_address f in
+    let count : c.len.result ≡ length linked.words.items = search rules in
+    let text-is : image.text ≡ linked.words.items ++ map word_of (units_given c.args.units (text_end linked) (image_of fs f).at) =
+    c.from_vec.ensures ∙ c.in_ok-push_units.ensures
+    ∙ ap (λ n. linked.words.items ++ map word_of (units_given c.args.units (65536 + 4 * n) c.start_of-start.result)) count
+    ∙ ap (λ at. linked.words.items ++ map word_of (units_given c.args.units (text_end linked) at)) start in
+    let symbols : image.exports ≡ symbol_of store (text_end linked) (export_of f) ∷ [] =
+    c.from_vec-3.ensures ∙ c.in_ok-push.ensures.items
+    ∙ ap (λ xs. xs ++ c.in_ok-symbol.symbol ∷ []) c.new-symbols.ensures.items
+    ∙ ap (λ s. s ∷ []) (c.in_ok-symbol.ensures ∙ ap (λ n. symbol_of store (65536 + 4 * n) (export_of f)) count) in
+    let long : c.len-2.result ≡ length c.in_ok-statics.statics.items = search rules in
+    let heap : image.heap ≡ heap_start (length image.statics) = ap heap_start (long ∙ sym (ap length c.from_vec-2.ensures)) in
+    let words : (k : ℕ) → slice_index image.text k < 2 ^ 32 =
+    λ k. subst (λ (xs : List ℕ). slice_index xs k < 2 ^ 32) (c.deref-4.ensures.value ∙ sym c.from_vec.ensures) (c.are_words.ensures k) in
+    let bytes : (k : ℕ) → slice_index image.statics k < 2 ^ 8 =
+    λ k. subst (λ (xs : List ℕ). slice_index xs k < 2 ^ 8) (c.deref-5.ensures.value ∙ sym c.from_vec-2.ensures) (c.are_bytes.ensures k) in
+    compiled-counted store f c.args.units fs linked image c.requires.typed.0 c.requires.typed.1
+    (subst AreTypes c.types.ensures c.are_types.ensures) memory c.requires.half c.requires.outward c.requires.few whole text
+    (c.from_vec-2.ensures ∙ c.in_ok-statics.ensures) text-is c.new.ensures heap refl c.ranges.units symbols words bytes
