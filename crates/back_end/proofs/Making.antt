@@ -296,6 +296,7 @@ module _ (store : Contents) (exports : List Export) (functions : List Function) 
     rising = rising;
     text = text_is ∙ text.words;
     symbols = symbols ∙ ap (λ s. symbols_of store ids s exports) text.starts;
+    entries = no_entries;
     private = room ∙ ap (λ n. 512 * n) text.frame;
   }
 

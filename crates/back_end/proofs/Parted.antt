@@ -201,6 +201,7 @@ module _ (store : Contents) (exports : List Export) (part : Contents) (is : IsTy
     rising = l.rising;
     text = l.text;
     symbols = l.symbols ∙ sym (symbols-part fs (starts_in text_address l.code) exports exported-same);
+    entries = l.entries;
     private = l.private;
   }
 

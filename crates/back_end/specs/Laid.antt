@@ -1,5 +1,5 @@
 -- How an image is laid out: the functions' code in its text, one behind the other in order of their numbers, and its private memory.
-use Rattle.std.specs.Prelude.{◌≡◌, ℕ, ◌*◌, ◌<◌, List, map, Some, slice_get}
+use Rattle.std.specs.Prelude.{◌≡◌, ℕ, ◌*◌, ◌<◌, List, [], map, Some, slice_get}
 use Rattle.tl_base.specs.declared.ids.FnId.{FnId}
 use Rattle.tl_base.specs.declared.limits.TheConstants.{MAX_CALLS}
 use Rattle.elf_image.specs.declared.image.Image.{Image}
@@ -16,8 +16,8 @@ abbrev pub AreRising : List FnId → Type 0
 AreRising fs = (i j : ℕ) (f g : FnId) → slice_get fs i ≡ Some f → slice_get fs j ≡ Some g → i < j → f.0 < g.0
 
 -- The text is the machine code of these functions, in order of their numbers: one behind the other from 0x10000 on, with nothing before it,
--- between or behind. A symbol has the address at which its function's code begins. Private memory has room for as many frames as there may
--- be calls, each as large as the largest, and no more.
+-- between or behind. A symbol has the address at which its function's code begins. No function stands as a value, so there are no entries.
+-- Private memory has room for as many frames as there may be calls, each as large as the largest, and no more.
 pub record IsLaidOut (store : Contents) (functions : List FnId) (exports : List Export) (image : Image) : Type 0 where
   pub code : List Function
   pub made : AreFunctions store code
@@ -25,4 +25,5 @@ pub record IsLaidOut (store : Contents) (functions : List FnId) (exports : List 
   pub rising : AreRising functions
   pub text : image.text ≡ text_of code
   pub symbols : image.exports ≡ symbols_of store functions (starts_in text_address code) exports
+  pub entries : image.entries ≡ []
   pub private : image.private ≡ MAX_CALLS * most_frame code

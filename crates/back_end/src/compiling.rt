@@ -56,12 +56,14 @@ pub fn compile(
     )?;
     let statics = static_bytes(store)?;
     let end = REGION_ADDRESS + statics.len() as u64;
+    // No source makes function values so far.
+    let entries = Entries::new(alloc);
     are_words(&linked.words);
     are_bytes(&statics);
     Ok(Image {
         text: Words::from_vec(linked.words),
         statics: Bytes::from_vec(statics),
-        entries: Entries::new(alloc),
+        entries,
         memory: limits.memory,
         heap: (end + 15) / 16 * 16,
         private: MAX_CALLS * linked.frame,

@@ -47,7 +47,7 @@ returns c =
     let image : Image = record {
       text = c.from_vec.result;
       statics = c.from_vec-2.result;
-      entries = c.new.result;
+      entries = c.new-entries.result;
       memory = c.args.limits.memory;
       heap = (1073741824 + c.len.result + 15) / 16 * 16;
       private = 512 * c.in_ok-linked.linked.frame;
@@ -74,7 +74,7 @@ returns c =
     let can : IsLawful image =
     lawful (contents_of c.args.store.now) c.args.exports.now c.in_ok-compiled.compiled.functions.items c.in_ok-linked.linked c.requires.exports
     c.requires.names c.requires.few c.in_ok-compiled.ensures.whole text image c.from_vec.ensures (c.from_vec-2.ensures ∙ c.in_ok-statics.ensures) memory
-    c.requires.half heap refl c.new.ensures symbols words bytes in
+    c.requires.half heap refl c.new-entries.ensures symbols words bytes in
     let store = contents_of c.args.store.now in
     let part = c.requires.typed.0 in
     let is = c.requires.typed.1 in
@@ -85,7 +85,7 @@ returns c =
     (subst (λ (bytes : List ℕ). length bytes ≤ c.args.limits.memory / 2) (sym is.statics) c.requires.half)
     (outward-part store c.args.exports.now part is c.requires.exports)
     (whole-part store c.args.exports.now part is fs c.in_ok-compiled.ensures.whole) text can
-    (c.from_vec-2.ensures ∙ c.in_ok-statics.ensures ∙ sym is.statics) c.from_vec.ensures c.new.ensures refl
+    (c.from_vec-2.ensures ∙ c.in_ok-statics.ensures ∙ sym is.statics) c.from_vec.ensures c.new-entries.ensures refl
     c.in_ok-compiled.ensures.rising
     (symbols ∙ symbols-part store c.args.exports.now part is (map id_of fs) c.in_ok-linked.linked.starts.items c.args.exports.now
     (exported-same store c.args.exports.now part is)))
