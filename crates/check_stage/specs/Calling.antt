@@ -1,6 +1,7 @@
 -- Calls of Terra functions by Lua code.
 use Rattle.tl_base.specs.declared.place.Place.{Place}
 use Rattle.tl_base.specs.Layer.{State, Meaning}
+use Rattle.lua_ops.specs.declared.fault.Fault.{Fault}
 use Rattle.lua_ops.specs.declared.fault.Fault.TheVariants.{CallsTerra}
 use Rattle.lua_ops.specs.Faults.{fault_text}
 use Rattle.lua_base.specs.Calls as base
@@ -11,10 +12,10 @@ use Rattle.check_stage.specs.declared.jobs.Job.{Job}
 use Rattle.check_stage.specs.declared.jobs.JobEnd.{JobEnd}
 use Rattle.check_stage.specs.Asking.{end_seen}
 
--- Lua code can't call Terra code. That is raised at the place of the call, and paid for, as Lua code raises it of a primitive.
-abbrev pub refused : State StageState → Place → Turned
-refused s place = on_heap s (λ h. base.raised h place (fault_text CallsTerra))
+-- a fault of Lua code, which is raised with its place before its text, and paid for
+abbrev pub raised : State StageState → Place → Fault → Turned
+raised s place fault = on_heap s (λ h. base.raised h place (fault_text fault))
 
--- what it means to be asked to call a Terra function at a place: it ends at once
+-- what it means to be asked to call a Terra function at a place: Lua code can't call it, which is raised as of a primitive
 abbrev pub refusing : Place → Meaning StageState Job CheckAnswer JobEnd
-refusing place first later = let left = refused first.state place in end_seen left.turn left.left
+refusing place first later = let left = raised first.state place CallsTerra in end_seen left.turn left.left

@@ -1,11 +1,12 @@
 // Calls of Terra functions by Lua code.
 
-ghost use Rattle.std.specs.Prelude.{◌≡◌, ◌≤◌, List, [], IfOk, OnOk};
+ghost use Rattle.std.specs.Prelude.{◌≡◌, ◌≤◌, List, [], length, IfOk, OnOk};
 ghost use Rattle.tl_base.specs.Layer.{Given, given, state, seen, OnAsk, UnlessAsk};
+ghost use Rattle.lua_ops.specs.Faults.{fault_text};
 ghost use Rattle.exotype.specs.World.{StageState};
 ghost use Rattle.terra_lib.specs.Answers.{turned};
 ghost use Rattle.stage_library.specs.Keeping.{KeepsStaging};
-ghost use Rattle.check_stage.specs.Calling.{refused, refusing};
+ghost use Rattle.check_stage.specs.Calling.{raised, refusing};
 
 use crate::asking::end_of;
 use crate::jobs::{Job, JobEnd};
@@ -30,17 +31,23 @@ pub fn refuse_call(
     ensures kept { OnOk result (KeepsStaging world.old world.new) }
     ensures paid { OnOk result (budget.new ≤ budget.old) }
 {
-    let turn = refuse(world, budget, place)?;
+    let turn = raise(world, budget, place, Fault::CallsTerra)?;
     Ok(end_of(&world.heap, turn))
 }
 
-/// The answer that Lua code can't call Terra code.
-fn refuse(world: &mut World, budget: &mut Budget, place: Place) -> Result<LibTurn, NoMemory>
+/// Raises a fault of Lua code, with its place before its text, which is paid for.
+fn raise(
+    world: &mut World,
+    budget: &mut Budget,
+    place: Place,
+    fault: Fault,
+) -> Result<LibTurn, NoMemory>
+    requires { length (fault_text fault) ≤ 1000 }
     ensures does { IfOk result (λ turn.
-        turned turn (state world.new budget.new) ≡ refused (state world.old budget.old) place) }
+        turned turn (state world.new budget.new) ≡ raised (state world.old budget.old) place fault) }
     ensures kept { OnOk result (KeepsStaging world.old world.new) }
     ensures paid { OnOk result (budget.new ≤ budget.old) }
 {
-    let text = Fault::CallsTerra.text(world.heap.allocator())?;
+    let text = fault.text(world.heap.allocator())?;
     lua_base::raise(&mut world.heap, budget, place, text.as_bytes())
 }

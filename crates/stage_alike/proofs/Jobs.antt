@@ -20,6 +20,7 @@ use Rattle.spec_model.specs.Meaning.{spec}
 use Rattle.spec_model.specs.declared.question.SpecQuestion.{SpecQuestion}
 use Rattle.spec_model.specs.declared.question.SpecQuestion.TheVariants as spec_questions
 use Rattle.exotype.specs.World.{StageState}
+use Rattle.lua_ops.specs.declared.fault.Fault.TheVariants.{CallsTerra}
 use Rattle.lua_table.specs.declared.call.LibCall.{LibCall}
 use Rattle.lua_table.specs.declared.call.LibNext.{LibNext}
 use Rattle.lua_table.specs.declared.call.LibTurn.{LibTurn}
@@ -57,7 +58,7 @@ use Rattle.check_stage.specs.declared.asking.Asker.TheVariants as begins
 use Rattle.check_stage.specs.Asking as of_asking
 use Rattle.check_stage.specs.Asking.{called, exporting}
 use Rattle.check_stage.specs.Results.{result_meaning}
-use Rattle.check_stage.specs.Calling.{refused, refusing}
+use Rattle.check_stage.specs.Calling.{raised, refusing}
 use Rattle.check_stage.specs.Layers.{stage_fitting, asking_fitting, body_fitting, result_fitting, check_fitting, layout_fitting}
 use Rattle.check_stage.specs.Layers.{stage_asks, body_asks, check_asks, layout_asks, job_of, job_meaning, asked_meaning, check_stage}
 
@@ -227,7 +228,7 @@ job-same items other alike (jobs.Layout t at) proper =
 -- a call of a Terra function reads no tree
 refusing-same : (items other : Items) (place : Place) → MeanSame (IsJob items other) (refusing place) (refusing place)
 refusing-same items other place first later =
-    (refl, asking-turn-only items other place (asks.Turn (refused first.state place).turn) (refused first.state place).left)
+    (refl, asking-turn-only items other place (asks.Turn (raised first.state place CallsTerra).turn) (raised first.state place CallsTerra).left)
 
 asked-same : (items other : Items) → AreAlike items other → (question : Asked) → IsJobAsked items other question
     → MeanSame (IsJobAsked items other) (asked_meaning items question) (asked_meaning other question)

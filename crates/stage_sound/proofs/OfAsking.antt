@@ -7,6 +7,7 @@ use Rattle.tl_base.specs.Layer.{State, Given, Meaning}
 use Rattle.stage_form.specs.Within.{given_part, within}
 use Rattle.tl_tree.specs.Code.{Items}
 use Rattle.lua_value.specs.declared.value.Value.{Value}
+use Rattle.lua_ops.specs.declared.fault.Fault.TheVariants.{CallsTerra}
 use Rattle.lua_table.specs.declared.call.LibCall.{LibCall}
 use Rattle.lua_table.specs.declared.call.LibTurn.{LibTurn}
 use Rattle.lua_table.specs.declared.call.LibTurn.TheVariants as turns
@@ -31,7 +32,7 @@ use Rattle.check_stage.specs.declared.jobs.JobEnd.TheVariants as ends
 use Rattle.check_stage.specs.declared.asking.Asker.{Asker}
 use Rattle.check_stage.specs.declared.asking.Asker.TheVariants as begins
 use Rattle.check_stage.specs.Asking.{begun, place_of, end_seen, turn_seen, asking_seen, asking_going}
-use Rattle.check_stage.specs.Calling.{refused, refusing}
+use Rattle.check_stage.specs.Calling.{raised, refusing}
 use Rattle.check_stage.specs.Layers.{check_stage, answer_of, with_stage, asking_fitting}
 use Rattle.stage_form.specs.Holding.{IsBackFor, Shows, Holds, Comes}
 use Rattle.stage_sound.specs.Jobs.{Begins, Says, Leaves}
@@ -207,7 +208,7 @@ module _ (items : Items) (k : LayersKeep items) where
   refusing-holds : (place : Place) (first : Given StageState CheckAnswer) → IsSound first.state.world →
       Holds IsAsked AskedBack (Ends first.state.world) (refusing place) first
   refusing-holds place first sound later all =
-      let left = refused first.state place in
+      let left = raised first.state place CallsTerra in
       end-shows first.state.world left.turn left.left (k.heaps first.state.world sound left.left.world.heap)
 
   terra-says : (f : FnId) (vs : List Value) (place : Place) (end : JobEnd) (v : StageState) → IsEnd end →

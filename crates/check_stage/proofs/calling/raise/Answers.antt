@@ -1,7 +1,7 @@
 use Rattle.std.proofs.Common.{refl}
 use Rattle.exotype.specs.contracts.world.World.{the_view}
 use Rattle.stage_library.proofs.Keeping.{heap_on}
-use Rattle.check_stage.proofs.calling.refuse.Goals as goal
+use Rattle.check_stage.proofs.calling.raise.Goals as goal
 
 pub returns-clause-kept : goal.returns-clause-kept
 returns-clause-kept c =
