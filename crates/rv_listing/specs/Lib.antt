@@ -1,0 +1,6 @@
+-- The texts of instructions and of words: a reader can stop behind them.
+pub mod Texts
+-- The texts that a line may have, and which lines are bad and why.
+pub mod Assembly
+-- How the code reads lines: what it makes is compared with the line.
+pub mod Reading

@@ -1,0 +1,91 @@
+// Lines read as words.
+
+ghost use Rattle.std.specs.Prelude.{◌≡◌, ◌<◌, ◌^◌, ◌+◌, ◌↔◌, ℕ, Ok, Err, IfOk, IfErr, drop, length, min};
+ghost use Rattle.rv_isa.specs.declared.instr.Instr.{Instr};
+ghost use Rattle.rv_listing.specs.Texts.{IsWordText};
+ghost use Rattle.rv_listing.specs.Assembly.{name_in, IsName, IsText, IsBad};
+ghost use Rattle.rv_listing.specs.Reading.{hex_all, hex_byte};
+
+use crate::names::Operation;
+use crate::operands::filled;
+use crate::printing::{Line, put_word};
+use crate::scan::scan;
+use rv_isa::encode;
+
+/// Why a line is no text of a word.
+#[derive(Clone, Copy, PartialEq, Eq, Debug)]
+pub enum AsmError {
+    /// What stands before the first space, or before the end, is neither the name of an instruction nor `word`.
+    BadName,
+    /// It is one of these, and no word has this text.
+    BadOperands,
+}
+
+/// The word of a text: `Ok` exactly where the line is the text of a word, which is then this word. It takes no memory.
+pub fn read_line(line: &[u8]) -> Result<u32, AsmError>
+    ensures text { IfOk result (λ w. IsWordText w line.now) }
+    ensures ok { (w : ℕ) → w < 2 ^ 32 → IsWordText w line.now → result ≡ Ok w }
+    ensures bad { IfErr result (λ e. IsBad e line.now) }
+{
+    let word = candidate(line)?;
+    let mut text = Line::new();
+    put_word(&mut text, word);
+    if text.as_slice() == line {
+        Ok(word)
+    } else {
+        Err(AsmError::BadOperands)
+    }
+}
+
+// The only word that can have this text.
+fn candidate(line: &[u8]) -> Result<u32, AsmError>
+    ensures only { (w : ℕ) → w < 2 ^ 32 → IsWordText w line.now → result ≡ Ok w }
+    ensures named { (result ≡ Err AsmError.BadName) ↔ (IsName (name_in line.now) → ⊥) }
+    ensures nameless { IfErr result (λ e. IsBad e line.now) }
+{
+    let at = name_length(line);
+    let name = &line[..at];
+    let operands = &line[at..];
+    if name == b"word".as_slice() {
+        return Ok(hex_number(operands));
+    }
+    let Some(operation) = Operation::named(name) else {
+        return Err(AsmError::BadName);
+    };
+    match filled(operation, scan(operands)) {
+        Some(i) => Ok(encode(i)),
+        None => Err(AsmError::BadOperands),
+    }
+}
+
+// How many bytes stand before the first space, or before the end.
+fn name_length(line: &[u8]) -> usize
+    ensures { result ≡ length (name_in line.now) }
+{
+    let mut at = 0;
+    while at < line.len() && line[at] != b' ' {
+        at += 1;
+    }
+    at
+}
+
+// The number that the hexadecimal digits of a text write, the last eight of them. All other bytes are passed over.
+fn hex_number(bytes: &[u8]) -> u32
+    ensures { result ≡ hex_all 0 bytes.now }
+{
+    let mut number = 0;
+    for byte in bytes {
+        number = hex_byte(number, *byte);
+    }
+    number
+}
+
+fn hex_byte(number: u32, byte: u8) -> u32
+    ensures { result ≡ hex_byte number byte }
+{
+    match byte {
+        b'0'..=b'9' => (number & 0xfff_ffff) * 16 + u32::from(byte - b'0'),
+        b'a'..=b'f' => (number & 0xfff_ffff) * 16 + u32::from(byte - b'a' + 10),
+        _ => number,
+    }
+}
