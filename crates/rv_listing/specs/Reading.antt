@@ -2,8 +2,9 @@
 -- compared with the line, so nothing here says which lines are texts: `Texts` does.
 use Rattle.std.specs.Prelude.{◌≡◌, ◌%◌, ◌^◌, ℕ, ◌+◌, ◌-◌, ◌*◌, ◌==◌, Bool, true, false, nat_lt, ℤ, pos, negsuc, suc, if◌then◌else◌}
 use Rattle.std.specs.Prelude.{List, [], ◌∷◌, codes, Option, Some, None}
-use Rattle.std.specs.List.{list_eq}
-use Rattle.std.specs.Char.{is_ascii_digit, is_in_range}
+use Rattle.std.specs.Str.{bytes_eq}
+use Rattle.std.specs.Char.{is_ascii_digit}
+use Rattle.std.specs.Int.{is_in_range}
 use Rattle.rv_isa.specs.declared.operand.Register.{Register}
 use Rattle.rv_isa.specs.declared.instr.Instr.{Instr}
 use Rattle.rv_isa.specs.declared.instr.Instr.TheVariants as instructions
@@ -53,7 +54,7 @@ operation_name operations.Ebreak = codes "ebreak"
 
 abbrev pub first_named : List Operation → List ℕ → Option Operation
 first_named [] name = None
-first_named (o ∷ os) name = if list_eq (λ (a b : ℕ). a == b) (operation_name o) name then Some o else first_named os name
+first_named (o ∷ os) name = if bytes_eq (operation_name o) name then Some o else first_named os name
 
 abbrev pub operation_named : List ℕ → Option Operation
 operation_named name = first_named OPERATIONS name
@@ -69,13 +70,13 @@ longer n digit = record { negative = n.negative; size = if nat_lt n.size 1000000
 
 -- no digits
 abbrev pub between : Scan → ℕ → Scan
-between s byte = record { first = s.first; second = s.second; third = s.third; open = false; minus = byte == 45 }
+between s byte = record { first = s.first; second = s.second; third = s.third; inside = false; minus = byte == 45 }
 
--- a digit of the number that is open, or of a new one
+-- a digit of the number that it stands in, or of a new one
 abbrev pub with_digit : Scan → ℕ → Scan
 with_digit s digit =
-    if s.open then record { first = s.first; second = s.second; third = longer s.third digit; open = true; minus = s.minus }
-    else record { first = s.second; second = s.third; third = record { negative = s.minus; size = digit }; open = true; minus = s.minus }
+    if s.inside then record { first = s.first; second = s.second; third = longer s.third digit; inside = true; minus = s.minus }
+    else record { first = s.second; second = s.third; third = record { negative = s.minus; size = digit }; inside = true; minus = s.minus }
 
 abbrev pub scan_byte : Scan → ℕ → Scan
 scan_byte s byte = if is_ascii_digit byte then with_digit s (byte - 48) else between s byte
@@ -88,7 +89,7 @@ abbrev pub zero_number : Number
 zero_number = record { negative = false; size = 0 }
 
 abbrev pub scan_start : Scan
-scan_start = record { first = zero_number; second = zero_number; third = zero_number; open = false; minus = false }
+scan_start = record { first = zero_number; second = zero_number; third = zero_number; inside = false; minus = false }
 
 -- the numbers of an instruction's operands, in the order of its text: a register has its number
 abbrev pub register_number : Register → Number
@@ -125,3 +126,8 @@ hex_byte n byte =
 abbrev pub hex_all : ℕ → List ℕ → ℕ
 hex_all n [] = n
 hex_all n (byte ∷ bytes) = hex_all (hex_byte n byte) bytes
+
+-- how many bytes stand before the first LF, or before the end
+abbrev pub line_length : List ℕ → ℕ
+line_length [] = 0
+line_length (b ∷ bs) = if b == 10 then 0 else suc (line_length bs)

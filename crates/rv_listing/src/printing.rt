@@ -1,6 +1,6 @@
 // Texts, written to a line that takes no memory.
 
-ghost use Rattle.std.specs.Prelude.{◌≡◌, ◌++◌, ◌+◌, ◌≤◌, ◌<◌, ℤ, pos, negsuc, ◌≤ℤ◌, length, decimal, IfOk, Some};
+ghost use Rattle.std.specs.Prelude.{◌≡◌, ◌++◌, ◌+◌, ◌≤◌, ◌<◌, ℕ, List, length, decimal, IfOk};
 ghost use Rattle.std.specs.Fmt.{signed_decimal};
 ghost use Rattle.arrayvec.specs.ArrayVec.{array_vec_len};
 ghost use Rattle.rv_isa.specs.Table.{word_of};
@@ -40,7 +40,7 @@ pub(crate) fn put_word(line: &mut Line, word: u32)
         Some(i) => put_instr(line, i),
         None => {
             put(line, b"word 0x");
-            put(line, &hexadecimal(word));
+            put(line, &hexadecimal(u64::from(word)));
         }
     }
 }
@@ -184,8 +184,8 @@ fn put_register(line: &mut Line, register: Register)
     put(line, buffer.format(register.number).as_bytes());
 }
 
-/// A number in eight hexadecimal digits.
-pub(crate) fn hexadecimal(n: u32) -> [u8; 8]
+/// The low 32 bits of a number in eight hexadecimal digits.
+pub(crate) fn hexadecimal(n: u64) -> [u8; 8]
     ensures { result ≡ hex8 n }
 {
     [
@@ -200,7 +200,7 @@ pub(crate) fn hexadecimal(n: u32) -> [u8; 8]
     ]
 }
 
-fn hex_digit(digit: u32) -> u8
+fn hex_digit(digit: u64) -> u8
     requires { digit < 16 }
     ensures { result ≡ hex_digit digit }
 {

@@ -9,11 +9,11 @@ ghost use Rattle.rv_listing.specs.Reading.{hex_all, hex_byte};
 use crate::names::Operation;
 use crate::operands::filled;
 use crate::printing::{Line, put_word};
-use crate::scan::scan;
+use crate::scan::numbers_of;
 use rv_isa::encode;
 
 /// Why a line is no text of a word.
-#[derive(Clone, Copy, PartialEq, Eq, Debug)]
+#[derive(Clone, Copy)]
 pub enum AsmError {
     /// What stands before the first space, or before the end, is neither the name of an instruction nor `word`.
     BadName,
@@ -52,7 +52,7 @@ fn candidate(line: &[u8]) -> Result<u32, AsmError>
     let Some(operation) = Operation::named(name) else {
         return Err(AsmError::BadName);
     };
-    match filled(operation, scan(operands)) {
+    match filled(operation, numbers_of(operands)) {
         Some(i) => Ok(encode(i)),
         None => Err(AsmError::BadOperands),
     }

@@ -20,7 +20,7 @@ pub(crate) struct Scan {
     /// The last number.
     pub(crate) third: Number,
     /// Whether the byte before was a digit of the last number.
-    pub(crate) open: bool,
+    pub(crate) inside: bool,
     /// Whether a minus stood before the digits, if any.
     pub(crate) minus: bool,
 }
@@ -29,7 +29,7 @@ pub(crate) struct Scan {
 const LARGE: u64 = 1_000_000_000;
 
 /// The last three numbers of a text. One that isn't there is 0.
-pub(crate) fn scan(bytes: &[u8]) -> Scan
+pub(crate) fn numbers_of(bytes: &[u8]) -> Scan
     ensures { result ≡ scan_all scan_start bytes.now }
 {
     let zero = Number {
@@ -40,7 +40,7 @@ pub(crate) fn scan(bytes: &[u8]) -> Scan
         first: zero,
         second: zero,
         third: zero,
-        open: false,
+        inside: false,
         minus: false,
     };
     for byte in bytes {
@@ -56,7 +56,7 @@ fn scan_byte(s: Scan, byte: u8) -> Scan
         with_digit(s, u64::from(byte - b'0'))
     } else {
         Scan {
-            open: false,
+            inside: false,
             minus: byte == b'-',
             ..s
         }
@@ -67,7 +67,7 @@ fn with_digit(s: Scan, digit: u64) -> Scan
     requires { digit < 10 }
     ensures { result ≡ with_digit s digit }
 {
-    if s.open {
+    if s.inside {
         Scan {
             third: longer(s.third, digit),
             ..s
@@ -80,7 +80,7 @@ fn with_digit(s: Scan, digit: u64) -> Scan
                 negative: s.minus,
                 size: digit,
             },
-            open: true,
+            inside: true,
             minus: s.minus,
         }
     }
