@@ -1,7 +1,7 @@
-// Instructions from an operation and the numbers of a text. Each function gives what has these numbers, where something has them, and
-// where nothing has them it gives None or anything: what is made is compared with the text.
+// Instructions from an operation and the numbers of a text. Each function gives what has these numbers, and where nothing has them it
+// gives anything: what is made is written and compared with the line.
 
-ghost use Rattle.std.specs.Prelude.{◌≡◌, ◌≤◌, ◌<◌, ◌^◌, ℤ, Some, unsigned_abs};
+ghost use Rattle.std.specs.Prelude.{◌≡◌, ◌≤◌, ◌<◌, ◌^◌, ℤ, unsigned_abs};
 ghost use Rattle.rv_isa.specs.declared.instr.Instr.{Instr};
 ghost use Rattle.rv_isa.specs.declared.operand.Register.{Register};
 ghost use Rattle.rv_isa.specs.declared.operand.Immediate.{Immediate};
@@ -21,174 +21,177 @@ use rv_isa::{
     WordShiftCount,
 };
 
-/// The instruction of an operation whose operands have these numbers, if there is one.
-pub(crate) fn filled(operation: Operation, s: Scan) -> Option<Instr>
-    ensures { (i : Instr) → operation_of i ≡ operation → Fills i s → result ≡ Some i }
+/// The instruction of an operation whose operands have these numbers, where there is one.
+pub(crate) fn filled(operation: Operation, s: Scan) -> Instr
+    ensures { (i : Instr) → operation_of i ≡ operation → Fills i s → result ≡ i }
 {
     match operation {
-        Operation::Lui => Some(Instr::Lui {
-            rd: register(s.second)?,
-            imm: upper(s.third)?,
-        }),
-        Operation::Auipc => Some(Instr::Auipc {
-            rd: register(s.second)?,
-            imm: upper(s.third)?,
-        }),
-        Operation::Jal => Some(Instr::Jal {
-            rd: register(s.second)?,
-            offset: jump_offset(s.third)?,
-        }),
-        Operation::Jalr => Some(Instr::Jalr {
-            rd: register(s.first)?,
-            rs1: register(s.third)?,
-            offset: immediate(s.second)?,
-        }),
-        Operation::Branch(condition) => Some(Instr::Branch {
+        Operation::Lui => Instr::Lui {
+            rd: register(s.second),
+            imm: upper(s.third),
+        },
+        Operation::Auipc => Instr::Auipc {
+            rd: register(s.second),
+            imm: upper(s.third),
+        },
+        Operation::Jal => Instr::Jal {
+            rd: register(s.second),
+            offset: jump_offset(s.third),
+        },
+        Operation::Jalr => Instr::Jalr {
+            rd: register(s.first),
+            rs1: register(s.third),
+            offset: immediate(s.second),
+        },
+        Operation::Branch(condition) => Instr::Branch {
             condition,
-            rs1: register(s.first)?,
-            rs2: register(s.second)?,
-            offset: branch_offset(s.third)?,
-        }),
-        Operation::Load(op) => Some(Instr::Load {
+            rs1: register(s.first),
+            rs2: register(s.second),
+            offset: branch_offset(s.third),
+        },
+        Operation::Load(op) => Instr::Load {
             op,
-            rd: register(s.first)?,
-            rs1: register(s.third)?,
-            offset: immediate(s.second)?,
-        }),
-        Operation::Store(op) => Some(Instr::Store {
+            rd: register(s.first),
+            rs1: register(s.third),
+            offset: immediate(s.second),
+        },
+        Operation::Store(op) => Instr::Store {
             op,
-            rs1: register(s.third)?,
-            rs2: register(s.first)?,
-            offset: immediate(s.second)?,
-        }),
-        Operation::RegisterImmediate(op) => Some(Instr::RegisterImmediate {
+            rs1: register(s.third),
+            rs2: register(s.first),
+            offset: immediate(s.second),
+        },
+        Operation::RegisterImmediate(op) => Instr::RegisterImmediate {
             op,
-            rd: register(s.first)?,
-            rs1: register(s.second)?,
-            imm: immediate(s.third)?,
-        }),
-        Operation::Shift(op) => Some(Instr::Shift {
+            rd: register(s.first),
+            rs1: register(s.second),
+            imm: immediate(s.third),
+        },
+        Operation::Shift(op) => Instr::Shift {
             op,
-            rd: register(s.first)?,
-            rs1: register(s.second)?,
-            count: shift_count(s.third)?,
-        }),
-        Operation::Addiw => Some(Instr::Addiw {
-            rd: register(s.first)?,
-            rs1: register(s.second)?,
-            imm: immediate(s.third)?,
-        }),
-        Operation::ShiftWord(op) => Some(Instr::ShiftWord {
+            rd: register(s.first),
+            rs1: register(s.second),
+            count: shift_count(s.third),
+        },
+        Operation::Addiw => Instr::Addiw {
+            rd: register(s.first),
+            rs1: register(s.second),
+            imm: immediate(s.third),
+        },
+        Operation::ShiftWord(op) => Instr::ShiftWord {
             op,
-            rd: register(s.first)?,
-            rs1: register(s.second)?,
-            count: word_shift_count(s.third)?,
-        }),
-        Operation::RegisterRegister(op) => Some(Instr::RegisterRegister {
+            rd: register(s.first),
+            rs1: register(s.second),
+            count: word_shift_count(s.third),
+        },
+        Operation::RegisterRegister(op) => Instr::RegisterRegister {
             op,
-            rd: register(s.first)?,
-            rs1: register(s.second)?,
-            rs2: register(s.third)?,
-        }),
-        Operation::RegisterRegisterWord(op) => Some(Instr::RegisterRegisterWord {
+            rd: register(s.first),
+            rs1: register(s.second),
+            rs2: register(s.third),
+        },
+        Operation::RegisterRegisterWord(op) => Instr::RegisterRegisterWord {
             op,
-            rd: register(s.first)?,
-            rs1: register(s.second)?,
-            rs2: register(s.third)?,
-        }),
-        Operation::Fence => Some(Instr::Fence {
-            rd: register(s.first)?,
-            rs1: register(s.second)?,
-            fields: fence_fields(s.third)?,
-        }),
-        Operation::Ecall => Some(Instr::Ecall),
-        Operation::Ebreak => Some(Instr::Ebreak),
+            rd: register(s.first),
+            rs1: register(s.second),
+            rs2: register(s.third),
+        },
+        Operation::Fence => Instr::Fence {
+            rd: register(s.first),
+            rs1: register(s.second),
+            fields: fence_fields(s.third),
+        },
+        Operation::Ecall => Instr::Ecall,
+        Operation::Ebreak => Instr::Ebreak,
     }
 }
 
-fn register(n: Number) -> Option<Register>
-    ensures { (a : Register) → n.size ≡ a.number → result ≡ Some a }
+fn register(n: Number) -> Register
+    ensures { (a : Register) → n.size ≡ a.number → result ≡ a }
 {
-    if n.size > 31 {
-        return None;
+    Register {
+        number: (n.size & 31) as u8,
     }
-    Register::new(n.size as u8)
 }
 
-fn upper(n: Number) -> Option<UpperImmediate>
-    ensures { (a : UpperImmediate) → n.size ≡ a.value → result ≡ Some a }
+fn upper(n: Number) -> UpperImmediate
+    ensures { (a : UpperImmediate) → n.size ≡ a.value → result ≡ a }
 {
-    if n.size > 0xfffff {
-        return None;
+    UpperImmediate {
+        value: (n.size & 0xf_ffff) as u32,
     }
-    UpperImmediate::new(n.size as u32)
 }
 
-fn shift_count(n: Number) -> Option<ShiftCount>
-    ensures { (a : ShiftCount) → n.size ≡ a.count → result ≡ Some a }
+fn shift_count(n: Number) -> ShiftCount
+    ensures { (a : ShiftCount) → n.size ≡ a.count → result ≡ a }
 {
-    if n.size > 63 {
-        return None;
+    ShiftCount {
+        count: (n.size & 63) as u8,
     }
-    ShiftCount::new(n.size as u8)
 }
 
-fn word_shift_count(n: Number) -> Option<WordShiftCount>
-    ensures { (a : WordShiftCount) → n.size ≡ a.count → result ≡ Some a }
+fn word_shift_count(n: Number) -> WordShiftCount
+    ensures { (a : WordShiftCount) → n.size ≡ a.count → result ≡ a }
 {
-    if n.size > 31 {
-        return None;
+    WordShiftCount {
+        count: (n.size & 31) as u8,
     }
-    WordShiftCount::new(n.size as u8)
 }
 
-fn immediate(n: Number) -> Option<Immediate>
-    ensures { (a : Immediate) → n ≡ number_of a.value → result ≡ Some a }
+fn immediate(n: Number) -> Immediate
+    ensures { (a : Immediate) → n ≡ number_of a.value → result ≡ a }
 {
-    Immediate::new(small(n)?)
-}
-
-fn branch_offset(n: Number) -> Option<BranchOffset>
-    ensures { (a : BranchOffset) → n ≡ number_of a.bytes → result ≡ Some a }
-{
-    BranchOffset::new(small(n)?)
-}
-
-fn jump_offset(n: Number) -> Option<JumpOffset>
-    ensures { (a : JumpOffset) → n ≡ number_of a.bytes → result ≡ Some a }
-{
-    JumpOffset::new(signed(n)?)
-}
-
-fn fence_fields(n: Number) -> Option<FenceFields>
-    ensures { (a : FenceFields) → n ≡ number_of (fence_value a) → result ≡ Some a }
-{
-    let value = small(n)?;
-    if value < -2048 || value > 2047 {
-        return None;
+    let value = signed(n);
+    if (-2048..=2047).contains(&value) {
+        Immediate {
+            value: value as i16,
+        }
+    } else {
+        Immediate { value: 0 }
     }
+}
+
+fn branch_offset(n: Number) -> BranchOffset
+    ensures { (a : BranchOffset) → n ≡ number_of a.bytes → result ≡ a }
+{
+    let bytes = signed(n);
+    if (-4096..=4094).contains(&bytes) && bytes.unsigned_abs() % 2 == 0 {
+        BranchOffset {
+            bytes: bytes as i16,
+        }
+    } else {
+        BranchOffset { bytes: 0 }
+    }
+}
+
+fn jump_offset(n: Number) -> JumpOffset
+    ensures { (a : JumpOffset) → n ≡ number_of a.bytes → result ≡ a }
+{
+    let bytes = signed(n);
+    if (-1048576..=1048574).contains(&bytes) && bytes.unsigned_abs() % 2 == 0 {
+        JumpOffset { bytes }
+    } else {
+        JumpOffset { bytes: 0 }
+    }
+}
+
+fn fence_fields(n: Number) -> FenceFields
+    ensures { (a : FenceFields) → n ≡ number_of (fence_value a) → result ≡ a }
+{
+    let value = signed(n);
     let bits = if value < 0 { value + 4096 } else { value };
-    FenceFields::new(bits as u16)
+    if (0..4096).contains(&bits) {
+        FenceFields { bits: bits as u16 }
+    } else {
+        FenceFields { bits: 0 }
+    }
 }
 
-// A number of at most 4096, or minus that.
-fn small(n: Number) -> Option<i16>
-    ensures { (z : ℤ) → unsigned_abs z ≤ 4096 → n ≡ number_of z → result ≡ Some z }
+// The number, or, where it is larger than any operand, another.
+fn signed(n: Number) -> i32
+    ensures number { (z : ℤ) → unsigned_abs z < 2 ^ 21 → n ≡ number_of z → result ≡ z }
+    ensures small { unsigned_abs result < 2 ^ 21 }
 {
-    if n.size > 4096 {
-        return None;
-    }
-    let size = n.size as i16;
-    if n.negative { Some(-size) } else { Some(size) }
-}
-
-// A number of at most 1048576, or minus that.
-fn signed(n: Number) -> Option<i32>
-    ensures { (z : ℤ) → unsigned_abs z ≤ 1048576 → n ≡ number_of z → result ≡ Some z }
-{
-    if n.size > 1_048_576 {
-        return None;
-    }
-    let size = n.size as i32;
-    if n.negative { Some(-size) } else { Some(size) }
+    let size = (n.size & 0x1f_ffff) as i32;
+    if n.negative { -size } else { size }
 }

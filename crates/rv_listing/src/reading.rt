@@ -1,6 +1,6 @@
 // Lines read as words.
 
-ghost use Rattle.std.specs.Prelude.{◌≡◌, ◌<◌, ◌^◌, ◌+◌, ◌↔◌, ℕ, Ok, Err, IfOk, IfErr, drop, length, min};
+ghost use Rattle.std.specs.Prelude.{◌≡◌, ◌<◌, ◌^◌, ◌+◌, ℕ, Ok, IfOk, IfErr, OnOk, drop, length, min};
 ghost use Rattle.rv_isa.specs.declared.instr.Instr.{Instr};
 ghost use Rattle.rv_listing.specs.Texts.{IsWordText};
 ghost use Rattle.rv_listing.specs.Assembly.{name_in, IsName, IsText, IsBad};
@@ -40,8 +40,8 @@ pub fn read_line(line: &[u8]) -> Result<u32, AsmError>
 // The only word that can have this text.
 fn candidate(line: &[u8]) -> Result<u32, AsmError>
     ensures only { (w : ℕ) → w < 2 ^ 32 → IsWordText w line.now → result ≡ Ok w }
-    ensures named { (result ≡ Err AsmError.BadName) ↔ (IsName (name_in line.now) → ⊥) }
-    ensures nameless { IfErr result (λ e. IsBad e line.now) }
+    ensures named { OnOk result (IsName (name_in line.now)) }
+    ensures bad { IfErr result (λ e. IsBad e line.now) }
 {
     let at = name_length(line);
     let name = &line[..at];
@@ -52,10 +52,7 @@ fn candidate(line: &[u8]) -> Result<u32, AsmError>
     let Some(operation) = Operation::named(name) else {
         return Err(AsmError::BadName);
     };
-    match filled(operation, numbers_of(operands)) {
-        Some(i) => Ok(encode(i)),
-        None => Err(AsmError::BadOperands),
-    }
+    Ok(encode(filled(operation, numbers_of(operands))))
 }
 
 // How many bytes stand before the first space, or before the end.

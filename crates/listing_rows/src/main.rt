@@ -1,0 +1,80 @@
+//! Lists and reads what the rows of standard input say, one row a line, and writes each row with what came out. What is expected in
+//! `stdout` is by hand from docs/LISTING.md.
+//!
+//! - `word W`: the text of a word, given by eight hexadecimal digits. The text is read again, and where that doesn't give the word, this is
+//!   the answer instead;
+//! - `line TEXT`: the word of a text, or why it has none;
+//! - `source TEXT`: the words of a source, or why it has none and at which line.
+//!
+//! In a text a percent sign and two hexadecimal digits stand for a byte.
+#![tactic(auto)]
+
+use row_words::{escaped, hexadecimal, unescaped};
+use rv_listing::{AsmError, AsmFault, AsmKind, assemble, read_line, word_text};
+use std::alloc::Global;
+use tl_base::NoMemory;
+
+fn main(rt: HostRuntime) -> anyhow::Result<()> {
+    let alloc = rt.alloc();
+    for line in rt.lines(alloc) {
+        let line = line?;
+        let row = line.as_str();
+        if row.is_empty() || row.starts_with("--") {
+            continue;
+        }
+        let answer = answer(alloc, row)?;
+        println!(rt; "{row} = {answer}")?;
+    }
+    Ok(())
+}
+
+fn answer(alloc: Global, row: &str) -> Result<String, NoMemory> {
+    match row.split_once(' ') {
+        Some(("word", word)) => word_answer(alloc, (hexadecimal(word) & 0xffff_ffff) as u32),
+        Some(("line", text)) => line_answer(alloc, unescaped(alloc, text)?.as_slice()),
+        Some(("source", text)) => source_answer(alloc, unescaped(alloc, text)?.as_slice()),
+        _ => Ok(String::from_str(alloc, "no such row")?),
+    }
+}
+
+fn word_answer(alloc: Global, word: u32) -> Result<String, NoMemory> {
+    let text = word_text(alloc, word)?;
+    match read_line(text.as_slice()) {
+        Ok(again) if again == word => escaped(alloc, text.as_slice(), b' '),
+        _ => line_answer(alloc, text.as_slice()),
+    }
+}
+
+fn line_answer(alloc: Global, line: &[u8]) -> Result<String, NoMemory> {
+    match read_line(line) {
+        Ok(word) => Ok(format!(in alloc; "{word:08x}")?),
+        Err(AsmError::BadName) => Ok(String::from_str(alloc, "BadName")?),
+        Err(AsmError::BadOperands) => Ok(String::from_str(alloc, "BadOperands")?),
+    }
+}
+
+fn source_answer(alloc: Global, source: &[u8]) -> Result<String, NoMemory> {
+    match assemble(alloc, source) {
+        Ok(words) => {
+            let mut answer = String::new(alloc);
+            for word in words.as_slice() {
+                let text = format!(in alloc; "{word:08x} ")?;
+                answer.push_str(&text)?;
+            }
+            Ok(answer)
+        }
+        Err(AsmFault::Refused { kind, line }) => {
+            let name = kind_name(kind);
+            Ok(format!(in alloc; "{name} at {line}")?)
+        }
+        Err(AsmFault::NoMemory) => Err(NoMemory),
+    }
+}
+
+fn kind_name(kind: AsmKind) -> &'static str {
+    match kind {
+        AsmKind::Empty => "Empty",
+        AsmKind::BadName => "BadName",
+        AsmKind::BadOperands => "BadOperands",
+    }
+}
