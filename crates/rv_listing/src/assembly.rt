@@ -87,11 +87,12 @@ fn line_length(source: &[u8]) -> usize
     ensures length { result ≡ line_length source.now }
     ensures within { result ≤ length source.now }
 {
-    let mut at = 0;
-    while at < source.len() && source[at] != b'\n' {
-        at += 1;
+    for (i, byte) in source.iter().enumerate() {
+        if *byte == b'\n' {
+            return i;
+        }
     }
-    at
+    source.len()
 }
 
 // What stands behind the line of so many bytes and its LF.

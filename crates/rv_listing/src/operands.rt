@@ -110,7 +110,7 @@ fn register(n: Number) -> Register
     ensures { (a : Register) → n.size ≡ a.number → result ≡ a }
 {
     Register {
-        number: (n.size & 31) as u8,
+        number: (n.size % 32) as u8,
     }
 }
 
@@ -118,7 +118,7 @@ fn upper(n: Number) -> UpperImmediate
     ensures { (a : UpperImmediate) → n.size ≡ a.value → result ≡ a }
 {
     UpperImmediate {
-        value: (n.size & 0xf_ffff) as u32,
+        value: (n.size % (1 << 20)) as u32,
     }
 }
 
@@ -126,7 +126,7 @@ fn shift_count(n: Number) -> ShiftCount
     ensures { (a : ShiftCount) → n.size ≡ a.count → result ≡ a }
 {
     ShiftCount {
-        count: (n.size & 63) as u8,
+        count: (n.size % 64) as u8,
     }
 }
 
@@ -134,7 +134,7 @@ fn word_shift_count(n: Number) -> WordShiftCount
     ensures { (a : WordShiftCount) → n.size ≡ a.count → result ≡ a }
 {
     WordShiftCount {
-        count: (n.size & 31) as u8,
+        count: (n.size % 32) as u8,
     }
 }
 
@@ -178,12 +178,21 @@ fn jump_offset(n: Number) -> JumpOffset
 fn fence_fields(n: Number) -> FenceFields
     ensures { (a : FenceFields) → n ≡ number_of (fence_value a) → result ≡ a }
 {
-    let value = signed(n);
+    FenceFields {
+        bits: fence_bits(signed(n)),
+    }
+}
+
+fn fence_bits(value: i32) -> u16
+    requires { unsigned_abs value < 2 ^ 21 }
+    ensures bits { (a : FenceFields) → value ≡ fence_value a → result ≡ a.bits }
+    ensures within { result < 2 ^ 12 }
+{
     let bits = if value < 0 { value + 4096 } else { value };
     if (0..4096).contains(&bits) {
-        FenceFields { bits: bits as u16 }
+        bits as u16
     } else {
-        FenceFields { bits: 0 }
+        0
     }
 }
 

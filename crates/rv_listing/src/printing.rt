@@ -95,7 +95,7 @@ fn fence_value(fields: FenceFields) -> i16
 
 fn put_upper(line: &mut Line, rd: Register, value: u32)
     requires room { array_vec_len line.old ≤ 70 }
-    ensures short { array_vec_len line.new ≤ array_vec_len line.old + 16 }
+    ensures short { array_vec_len line.new ≤ array_vec_len line.old + 17 }
     ensures text { line.new.items ≡ line.old.items ++ one_register rd (decimal value) }
 {
     put(line, b" ");

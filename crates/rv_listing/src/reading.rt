@@ -59,11 +59,12 @@ fn candidate(line: &[u8]) -> Result<u32, AsmError>
 fn name_length(line: &[u8]) -> usize
     ensures { result ≡ length (name_in line.now) }
 {
-    let mut at = 0;
-    while at < line.len() && line[at] != b' ' {
-        at += 1;
+    for (i, byte) in line.iter().enumerate() {
+        if *byte == b' ' {
+            return i;
+        }
     }
-    at
+    line.len()
 }
 
 // The number that the hexadecimal digits of a text write, the last eight of them. All other bytes are passed over.

@@ -104,7 +104,7 @@ fn writes_to(i: Instr, call: u64) -> u32
 fn put_change(line: &mut Line, change: Option<(u32, u64)>)
     requires { length line.old.items ≤ 80 }
     ensures text { line.new.items ≡ line.old.items ++ change_text change }
-    ensures short { length line.new.items ≤ length line.old.items + 40 }
+    ensures short { length line.new.items ≤ length line.old.items + 48 }
 {
     if let Some((register, value)) = change {
         put(line, b" -> x");
