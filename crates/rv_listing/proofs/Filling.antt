@@ -24,7 +24,6 @@ use Rattle.rv_listing.specs.declared.scan.Scan.{Scan}
 use Rattle.rv_listing.specs.Texts.{fence_value}
 use Rattle.rv_listing.specs.Reading.{operation_of, number_of, Fills}
 
-
 pub lui : (s : Scan) (rd : Register) (imm : UpperImmediate) (i : Instr)
     → ((a : Register) → s.second.size ≡ a.number → rd ≡ a)
     → ((a : UpperImmediate) → s.third.size ≡ a.value → imm ≡ a)

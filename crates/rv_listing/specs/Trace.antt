@@ -86,4 +86,4 @@ Trace program words s n zero = []
 Trace program words s n (suc steps) =
     if nat_eq s.pc 0 then []
     else traced (fetch program s.pc) (slice_index words ((s.pc - TEXT_ADDRESS) / 4)) n s
-        (λ next. Trace program words next (n + 1) steps)
+    (λ next. Trace program words next (n + 1) steps)

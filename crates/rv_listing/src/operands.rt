@@ -23,7 +23,8 @@ use rv_isa::{
 
 /// The instruction of an operation whose operands have these numbers, where there is one.
 pub(crate) fn filled(operation: Operation, s: Scan) -> Instr
-    ensures { (i : Instr) → operation_of i ≡ operation → Fills i s → result ≡ i }
+    ensures filled { (i : Instr) → operation_of i ≡ operation → Fills i s → result ≡ i }
+    ensures operation { operation_of result ≡ operation }
 {
     match operation {
         Operation::Lui => Instr::Lui {

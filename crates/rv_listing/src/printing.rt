@@ -66,13 +66,22 @@ fn put_operands(line: &mut Line, i: Instr)
         Instr::Jal { rd, offset } => put_jump(line, rd, offset.bytes),
         Instr::Jalr { rd, rs1, offset } => put_based(line, rd, offset.value, rs1),
         Instr::Branch {
-            rs1, rs2, offset, ..
+            rs1,
+            rs2,
+            offset,
+            ..
         } => put_two_signed(line, rs1, rs2, offset.bytes),
         Instr::Load {
-            rd, rs1, offset, ..
+            rd,
+            rs1,
+            offset,
+            ..
         } => put_based(line, rd, offset.value, rs1),
         Instr::Store {
-            rs1, rs2, offset, ..
+            rs1,
+            rs2,
+            offset,
+            ..
         } => put_based(line, rs2, offset.value, rs1),
         Instr::RegisterImmediate { rd, rs1, imm, .. } => put_two_signed(line, rd, rs1, imm.value),
         Instr::Shift { rd, rs1, count, .. } => put_two_count(line, rd, rs1, count.count),
@@ -185,6 +194,7 @@ fn put_register(line: &mut Line, register: Register)
 }
 
 /// The low 32 bits of a number in eight hexadecimal digits.
+#[tactic(auto, unfolding(crate::specs::Texts::hex8))]
 pub(crate) fn hexadecimal(n: u64) -> [u8; 8]
     ensures { result ≡ hex8 n }
 {

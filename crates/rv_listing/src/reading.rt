@@ -1,6 +1,6 @@
 // Lines read as words.
 
-ghost use Rattle.std.specs.Prelude.{◌≡◌, ◌<◌, ◌^◌, ◌+◌, ℕ, Ok, IfOk, IfErr, OnOk, drop, length, min};
+ghost use Rattle.std.specs.Prelude.{◌≡◌, ◌<◌, ◌≤◌, ◌^◌, ◌+◌, ℕ, Ok, IfOk, IfErr, OnOk, drop, length, min};
 ghost use Rattle.rv_isa.specs.declared.instr.Instr.{Instr};
 ghost use Rattle.rv_listing.specs.Texts.{IsWordText};
 ghost use Rattle.rv_listing.specs.Assembly.{name_in, IsName, IsText, IsBad};
@@ -57,7 +57,8 @@ fn candidate(line: &[u8]) -> Result<u32, AsmError>
 
 // How many bytes stand before the first space, or before the end.
 fn name_length(line: &[u8]) -> usize
-    ensures { result ≡ length (name_in line.now) }
+    ensures length { result ≡ length (name_in line.now) }
+    ensures within { result ≤ length line.now }
 {
     for (i, byte) in line.iter().enumerate() {
         if *byte == b' ' {
