@@ -1,5 +1,5 @@
 //! Lists and reads what the rows of standard input say, one row a line, and writes each row with what came out. What is expected in
-//! `stdout` is by hand from docs/LISTING.md.
+//! `stdout` is by hand from the manual's encodings.
 //!
 //! - `word W`: the text of a word, given by eight hexadecimal digits. The text is read again, and where that doesn't give the word, this is
 //!   the answer instead;
