@@ -5,8 +5,8 @@
     python3 bench/listing/compare.py check ANSWERS       the answers against objdump (Debian's binutils-riscv64-linux-gnu)
 
 objdump writes some operands in another way, and these are put into ours: a branch's target is an address, LUI's and AUIPC's field is
-hexadecimal, a zero offset and JALR's x0 stay, and FENCE's sets are letters, so FENCE is compared by its name alone. A word that objdump has
-as an instruction of another extension is none to us; such words are compared by the tables of opcodes below.
+hexadecimal, counts of shifts are hexadecimal, and FENCE's sets are letters, so FENCE is compared by its name alone. A word that objdump has
+as an instruction of another extension is none to us; where it has one of our names for such a word, that is a difference.
 """
 import random
 import re
@@ -85,13 +85,16 @@ def check(path):
         if m:
             rows[int(m.group(1), 16)] = m.group(2)
     found = words()
-    lines = dumped(found)
+    # words of two bytes, and of six or more, would put objdump out of step: they are none to us, which is looked at below
+    shown = [word for word in found if word & 3 == 3 and word & 0x1C != 0x1C]
+    places = {word: 4 * k for k, word in enumerate(shown)}
+    lines = dumped(shown)
     same = other = none = 0
-    at = 0
     bad = []
-    for k, word in enumerate(found):
+    for word in found:
         text = rows.get(word)
-        there = lines.get(4 * k)
+        at = places.get(word)
+        there = lines.get(at)
         if text is None:
             bad.append((hex(word), "no answer"))
         elif text.startswith("word 0x"):
@@ -107,8 +110,8 @@ def check(path):
             bad.append((hex(word), text, there))
         elif text.startswith("fence"):
             other += 1
-        elif ours(4 * k, word, there[1]) != text:
-            bad.append((hex(word), text, ours(4 * k, word, there[1])))
+        elif ours(at, word, there[1]) != text:
+            bad.append((hex(word), text, ours(at, word, there[1])))
         else:
             same += 1
     print(f"{same} texts alike, {other} of FENCE by name, {none} words that are no instruction, {len(bad)} differ")

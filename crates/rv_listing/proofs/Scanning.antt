@@ -1,5 +1,5 @@
 -- The numbers of an operand's text are the operands.
-use Rattle.std.proofs.Common.{◌≡◌, ◌∙◌, ℕ, ◌+◌, ◌-◌, ◌*◌, ◌<◌, ◌≤◌, ◌^◌, ℤ, pos, negsuc, suc, true, false, nat_lt, List, [], ◌∷◌, ◌++◌, refl, sym, ap, arith}
+use Rattle.std.proofs.Common.{◌≡◌, ◌∙◌, ℕ, ◌+◌, ◌-◌, ◌*◌, ◌<◌, ◌≤◌, ◌^◌, ℤ, pos, negsuc, suc, true, false, nat_lt, List, [], ◌∷◌, ◌++◌, length, refl, sym, ap, arith}
 use Rattle.std.specs.Prelude.{decimal, unsigned_abs}
 use Rattle.std.specs.Fmt.{signed_decimal}
 use Rattle.std.specs.Char.{digit_value, is_ascii_digit}
@@ -39,3 +39,25 @@ digits_scan s n (d ∷ ds) all small =
     let value : n * 10 + (d - 48) ≡ n * 10 + digit_value d = omega (arith, digit_value_digit d h) in
     let now : n < 1000000000 = omega (arith, value_grows (n * 10 + digit_value d) ds) in
     ap (λ (t : Scan). scan_all t ds) (digit_step s n d h now ∙ ap (within s) value) ∙ digits_scan s (n * 10 + digit_value d) ds all.1 small
+
+first_step : (s : Scan) (d : ℕ) → IsInRange 48 57 d → s.inside ≡ false → scan_byte s d ≡ within s (d - 48)
+unfolding within
+first_step s d h out =
+    let digit : is_ascii_digit d ≡ true = grind arith in
+    simp (digit, out)
+
+first_scan : (s : Scan) (ds : List ℕ) (n : ℕ) → 0 < length ds → AllDigits 10 ds → digits_value 10 ds ≡ n → n < 1000000000 → s.inside ≡ false
+    → scan_all s ds ≡ within s n
+first_scan s [] n some all value small out = absurd (omega arith)
+first_scan s (d ∷ ds) n some all value small out =
+    let h = digit_from_value d all.0 in
+    let first : d - 48 ≡ 0 * 10 + digit_value d = omega (arith, digit_value_digit d h) in
+    let below : digits_value_after 10 (0 * 10 + digit_value d) ds < 1000000000 = omega (arith, value) in
+    ap (λ (t : Scan). scan_all t ds) (first_step s d h out ∙ ap (within s) first)
+    ∙ (digits_scan s (0 * 10 + digit_value d) ds all.1 below ∙ ap (within s) value)
+
+-- a number behind what is no digit
+pub number_scan : (s : Scan) (n : ℕ) → n < 1000000000 → s.inside ≡ false → scan_all s (decimal n) ≡ within s n
+number_scan s n small out =
+    let h = decimal_is_IsNumeral n (omega arith) in
+    first_scan s (decimal n) n h.0.0 h.0.1 h.1 small out
