@@ -1,6 +1,8 @@
 -- Names tell operations apart, and no name has a space.
-use Rattle.std.proofs.Common.{◌≡◌, ◌∙◌, ℕ, List, [], ◌∷◌, ◌++◌, Option, Some, None, refl, ap, sym}
-use Rattle.std.specs.Prelude.{codes}
+use Rattle.std.proofs.Common.{◌≡◌, ◌∙◌, ℕ, Bool, true, false, List, [], ◌∷◌, ◌++◌, Option, Some, None, refl, ap, sym}
+use Rattle.std.specs.Prelude.{codes, if◌then◌else◌}
+use Rattle.std.specs.Str.{bytes_eq}
+use Rattle.std.proofs.lemmas.Slice.Eq.{bytes_eq-Decides}
 use Rattle.rv_isa.specs.declared.operation.BranchCondition.TheVariants as branchconditions
 use Rattle.rv_isa.specs.declared.operation.ImmediateOp.TheVariants as immediateops
 use Rattle.rv_isa.specs.declared.operation.LoadOp.TheVariants as loadops
@@ -12,9 +14,10 @@ use Rattle.rv_isa.specs.declared.instr.Instr.{Instr}
 use Rattle.rv_isa.specs.declared.instr.Instr.TheVariants as instructions
 use Rattle.rv_listing.specs.declared.names.Operation.{Operation}
 use Rattle.rv_listing.specs.declared.names.Operation.TheVariants as operations
-use Rattle.rv_listing.specs.Texts.{name_of}
+use Rattle.rv_listing.specs.Texts.{name_of, instr_text}
 use Rattle.rv_listing.specs.Assembly.{name_in}
-use Rattle.rv_listing.specs.Reading.{operation_of, operation_name, operation_named}
+use Rattle.rv_listing.specs.Reading.{operation_of, operation_name, operation_named, first_named}
+use Rattle.rv_listing.specs.declared.names.TheConstants.{OPERATIONS}
 
 -- the operation of a name is the one that has it
 pub named_again : (o : Operation) → operation_named (operation_name o) ≡ Some o
@@ -170,3 +173,36 @@ name_of_operation (instructions.RegisterRegisterWord a b c d) = refl
 name_of_operation (instructions.Fence a b c) = refl
 name_of_operation instructions.Ecall = refl
 name_of_operation instructions.Ebreak = refl
+
+-- the text of an instruction begins with its name
+pub name_in_text : (i : Instr) → name_in (instr_text i) ≡ name_of i
+name_in_text (instructions.Lui a b) = refl
+name_in_text (instructions.Auipc a b) = refl
+name_in_text (instructions.Jal a b) = refl
+name_in_text (instructions.Jalr a b c) = refl
+name_in_text (instructions.Branch a b c d) = name_before_space (operations.Branch a) _
+name_in_text (instructions.Load a b c d) = name_before_space (operations.Load a) _
+name_in_text (instructions.Store a b c d) = name_before_space (operations.Store a) _
+name_in_text (instructions.RegisterImmediate a b c d) = name_before_space (operations.RegisterImmediate a) _
+name_in_text (instructions.Shift a b c d) = name_before_space (operations.Shift a) _
+name_in_text (instructions.Addiw a b c) = refl
+name_in_text (instructions.ShiftWord a b c d) = name_before_space (operations.ShiftWord a) _
+name_in_text (instructions.RegisterRegister a b c d) = name_before_space (operations.RegisterRegister a) _
+name_in_text (instructions.RegisterRegisterWord a b c d) = name_before_space (operations.RegisterRegisterWord a) _
+name_in_text (instructions.Fence a b c) = refl
+name_in_text instructions.Ecall = refl
+name_in_text instructions.Ebreak = refl
+
+-- what is found by a name has it
+first_has_name : (os : List Operation) (name : List ℕ) (o : Operation) → first_named os name ≡ Some o → operation_name o ≡ name
+first_has_name [] name o e = absurd cc
+first_has_name (p ∷ os) name o e =
+    let P : Bool → Type 0 = λ v. ((v ≡ true) → operation_name p ≡ name) → (if v then Some p else first_named os name) ≡ Some o → operation_name o ≡ name in
+    let both : P (bytes_eq (operation_name p) name) = elim (bytes_eq (operation_name p) name) as P [
+      | true ↦ λ (h : (true ≡ true) → operation_name p ≡ name) (same : Some p ≡ Some o). let is = h refl in cc
+      | false ↦ λ (h : (false ≡ true) → operation_name p ≡ name) (same : first_named os name ≡ Some o). first_has_name os name o same
+    ] in
+    both (bytes_eq-Decides (operation_name p) name).0 e
+
+pub named_has_name : (name : List ℕ) (o : Operation) → operation_named name ≡ Some o → operation_name o ≡ name
+named_has_name name o e = first_has_name OPERATIONS name o e

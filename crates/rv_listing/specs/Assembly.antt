@@ -69,3 +69,13 @@ IsFault text faults.NoMemory = Unit {0}
 -- the words of a source that has bytes
 abbrev pub Assembles : List ℕ → List ℕ → Type 0
 Assembles text words = (text ≢ []) × AreTexts words (lines_of text)
+
+-- the texts of words, each with its LF
+abbrev pub AreSource : List ℕ → List ℕ → Type 0
+AreSource [] text = text ≡ []
+AreSource (w ∷ ws) text =
+    (line : List ℕ) × (rest : List ℕ) × (w < 2 ^ 32) × IsWordText w line × AreSource ws rest × (text ≡ line ++ 10 ∷ rest)
+
+-- they are read as these words: so the texts of a listing give the words of its image
+abbrev pub TextsAssemble : Type 0
+TextsAssemble = (words text : List ℕ) → words ≢ [] → AreSource words text → Assembles text words

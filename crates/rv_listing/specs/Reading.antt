@@ -118,7 +118,7 @@ Fills instructions.Ecall s = Unit {0}
 Fills instructions.Ebreak s = Unit {0}
 
 -- a number of 32 bits after one more hexadecimal digit
-abbrev pub hex_byte : ℕ → ℕ → ℕ
+unfoldable pub hex_byte : ℕ → ℕ → ℕ
 hex_byte n byte =
     if is_in_range 48 57 byte then n % 2 ^ 28 * 16 + (byte - 48)
     else (if is_in_range 97 102 byte then n % 2 ^ 28 * 16 + (byte - 97 + 10) else n)

@@ -1,8 +1,9 @@
 // Sources of lines, read as words.
 
 ghost use Rattle.std.specs.Prelude.{◌≡◌, ◌<◌, ◌≤◌, ◌+◌, ℕ, List, [], length, drop, IfOk, IfErr};
-ghost use Rattle.rv_listing.specs.Assembly.{lines_of, IsFault, IsRefused, IsFirstBad, Assembles};
+ghost use Rattle.rv_listing.specs.Assembly.{lines_of, IsFault, IsRefused, IsFirstBad, Assembles, TextsAssemble};
 ghost use Rattle.rv_listing.specs.Reading.{line_length};
+ghost use Rattle.rv_listing.specs.declared.assembly.AsmFault.TheVariants as faults;
 
 use crate::reading::{AsmError, read_line};
 use std::alloc::{AllocFailed, Global};
@@ -29,12 +30,16 @@ pub enum AsmFault {
 }
 
 impl From<NoMemory> for AsmFault {
+    ghost from_gives = { λ _ e. e ≡ faults.NoMemory };
+
     fn from(_e: NoMemory) -> AsmFault {
         AsmFault::NoMemory
     }
 }
 
 impl<T: Drop> From<AllocFailed<T>> for AsmFault {
+    ghost from_gives = { λ _ e. e ≡ faults.NoMemory };
+
     fn from(_e: AllocFailed<T>) -> AsmFault {
         AsmFault::NoMemory
     }
@@ -72,6 +77,11 @@ pub fn assemble(alloc: Global, source: &[u8]) -> Result<List<u32>, AsmFault>
     }
     Ok(List::from_vec(words))
 }
+
+/// The law of listings: the texts of words, each with its LF, are a source of these words.
+pub fn texts_assemble()
+    ensures { TextsAssemble }
+{}
 
 fn kind_of(error: AsmError) -> AsmKind
     ensures { (source : List ℕ) (number : ℕ) → IsFirstBad (lines_of source) error number → IsRefused source result number }

@@ -21,7 +21,7 @@ pub mod reading;
 mod scan;
 mod trace;
 
-pub use assembly::{AsmFault, AsmKind, assemble};
+pub use assembly::{AsmFault, AsmKind, assemble, texts_assemble};
 pub use listings::listing;
 pub use printing::word_text;
 pub use reading::{AsmError, read_line};

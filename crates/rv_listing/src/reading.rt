@@ -24,6 +24,7 @@ pub enum AsmError {
 /// The word of a text: `Ok` exactly where the line is the text of a word, which is then this word. It takes no memory.
 pub fn read_line(line: &[u8]) -> Result<u32, AsmError>
     ensures text { IfOk result (λ w. IsWordText w line.now) }
+    ensures small { IfOk result (λ w. w < 2 ^ 32) }
     ensures ok { (w : ℕ) → w < 2 ^ 32 → IsWordText w line.now → result ≡ Ok w }
     ensures bad { IfErr result (λ e. IsBad e line.now) }
 {
@@ -40,6 +41,7 @@ pub fn read_line(line: &[u8]) -> Result<u32, AsmError>
 // The only word that can have this text.
 fn candidate(line: &[u8]) -> Result<u32, AsmError>
     ensures only { (w : ℕ) → w < 2 ^ 32 → IsWordText w line.now → result ≡ Ok w }
+    ensures small { IfOk result (λ w. w < 2 ^ 32) }
     ensures named { OnOk result (IsName (name_in line.now)) }
     ensures bad { IfErr result (λ e. IsBad e line.now) }
 {
@@ -79,6 +81,7 @@ fn hex_number(bytes: &[u8]) -> u32
     number
 }
 
+#[tactic(auto, unfolding(crate::specs::Reading::hex_byte))]
 fn hex_byte(number: u32, byte: u8) -> u32
     ensures { result ≡ hex_byte number byte }
 {
