@@ -109,7 +109,7 @@ progress_bad source left words line error p some bad = record {
 }
 
 -- the same as the code says it
-left_some : (left : List ℕ) (t : Bool) → t ≡ eqb (length left) 0 → t ≡ false → 0 < length left
+pub left_some : (left : List ℕ) (t : Bool) → t ≡ eqb (length left) 0 → t ≡ false → 0 < length left
 left_some left t is fails =
     let other : length left ≡ 0 → ⊥ = eqb-false (length left) 0 (sym is ∙ fails) in
     omega (arith, other)
@@ -143,3 +143,20 @@ progress_refused source left words line n t error p test fails at bad =
 pub wants_memory : {A : Type 0} (source : List ℕ) (r : Result A AsmFault) → IsErrAnd r (λ e. e ≡ faults.NoMemory) → IfErr r (λ fault. IsFault source fault)
 wants_memory source (Ok x) h = tt
 wants_memory source (Err e) h = subst (IsFault source) (sym h) tt
+
+texts_length : (ws : List ℕ) (lines : List (List ℕ)) → AreTexts ws lines → length ws ≡ length lines
+texts_length [] [] a = refl
+texts_length [] (l ∷ ls) a = absurd a
+texts_length (w ∷ ws) [] a = absurd a
+texts_length (w ∷ ws) (l ∷ ls) a = ap suc (texts_length ws ls a.2)
+
+-- a word for each line, and a byte for each word
+pub progress_count : (source left words : List ℕ) (line : ℕ) → Progress source left words line → length left ≡ 0 → 0 < length source
+    → (0 < length words) × (length words ≤ length source)
+progress_count source [] words line p none some =
+    let whole : lines_of source ≡ p.before = p.lines ∙ append-nil p.before in
+    let rest : List (List ℕ) = lines_of (drop (line_length source + 1) source) in
+    let longer : length p.before ≡ suc (length rest) = ap (λ (l : List (List ℕ)). length l) (sym whole ∙ lines_next source some) in
+    let same = texts_length words p.before p.texts in
+    (omega (arith, longer, same), omega (arith, p.room, p.count, same))
+progress_count source (b ∷ bs) words line p none some = absurd (omega arith)

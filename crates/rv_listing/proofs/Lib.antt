@@ -6,3 +6,5 @@ pub mod Hexadecimal
 pub mod Assembling
 pub mod Listed
 pub mod Feeds
+pub mod OneWordEach
+pub mod ShortText

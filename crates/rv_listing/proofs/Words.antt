@@ -46,7 +46,7 @@ front_is_name (b ∷ bs) =
     ]
 
 -- `word` is the name of no instruction
-word_unnamed : (i : Instr) → name_of i ≡ codes "word" → ⊥
+pub word_unnamed : (i : Instr) → name_of i ≡ codes "word" → ⊥
 word_unnamed i e =
     let is : operation_named (name_of i) ≡ Some (operation_of i) = ap operation_named (name_of_operation i) ∙ named_again (operation_of i) in
     let none : operation_named (codes "word") ≡ None = refl in

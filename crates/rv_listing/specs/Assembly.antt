@@ -79,3 +79,9 @@ AreSource (w ∷ ws) text =
 -- they are read as these words: so the texts of a listing give the words of its image
 abbrev pub TextsAssemble : Type 0
 TextsAssemble = (words text : List ℕ) → words ≢ [] → AreSource words text → Assembles text words
+
+-- a source has one answer: its words, or one fault at one line
+pub record OneAnswer (text : List ℕ) : Type 0 where
+  pub words : (one other : List ℕ) → Assembles text one → Assembles text other → one ≡ other
+  pub refused : (kind other : AsmKind) (m n : ℕ) → IsRefused text kind m → IsRefused text other n → (kind ≡ other) × (m ≡ n)
+  pub apart : (words : List ℕ) (kind : AsmKind) (n : ℕ) → Assembles text words → IsRefused text kind n → ⊥

@@ -1,8 +1,9 @@
 -- The listing of an image: its entries, and its words with their texts.
-use Rattle.std.specs.Prelude.{◌≡◌, ℕ, ◌+◌, List, [], ◌∷◌, ◌++◌, codes}
+use Rattle.std.specs.Prelude.{◌≡◌, ℕ, ◌+◌, ◌*◌, ◌≤◌, List, [], ◌∷◌, ◌++◌, length, codes}
 use Rattle.tl_base.specs.declared.limits.TheConstants.{TEXT_ADDRESS}
 use Rattle.elf_image.specs.declared.image.Symbol.{Symbol}
 use Rattle.elf_image.specs.declared.image.Image.{Image}
+use Rattle.elf_image.specs.Loads.{Loads}
 use Rattle.rv_listing.specs.Texts.{hex8, IsWordText}
 
 -- a line for an export
@@ -27,3 +28,11 @@ AreWordLines at (w ∷ ws) lines =
 abbrev pub Listing : Image → List ℕ → Type 0
 Listing image lines =
     (words : List ℕ) × AreWordLines TEXT_ADDRESS image.text words × (lines ≡ entry_lines image.exports ++ words)
+
+-- an image has one listing
+abbrev pub OneListing : Type 0
+OneListing = (image : Image) (one other : List ℕ) → Listing image one → Listing image other → one ≡ other
+
+-- the text of an image is no longer than the file that it is read from
+abbrev pub LoadedTextsAreShort : Type 0
+LoadedTextsAreShort = (bytes : List ℕ) (image : Image) → Loads bytes image → 4 * length image.text ≤ length bytes

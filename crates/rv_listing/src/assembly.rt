@@ -1,7 +1,7 @@
 // Sources of lines, read as words.
 
 ghost use Rattle.std.specs.Prelude.{◌≡◌, ◌<◌, ◌≤◌, ◌+◌, ℕ, List, [], length, drop, IfOk, IfErr};
-ghost use Rattle.rv_listing.specs.Assembly.{lines_of, IsFault, IsRefused, IsFirstBad, Assembles, TextsAssemble};
+ghost use Rattle.rv_listing.specs.Assembly.{lines_of, IsFault, IsRefused, IsFirstBad, Assembles, TextsAssemble, OneAnswer};
 ghost use Rattle.rv_listing.specs.Reading.{line_length};
 ghost use Rattle.rv_listing.specs.declared.assembly.AsmFault.TheVariants as faults;
 
@@ -51,6 +51,7 @@ pub fn assemble(alloc: Global, source: &[u8]) -> Result<List<u32>, AsmFault>
     ensures words { IfOk result (λ words. Assembles source.now words) }
     ensures all { (words : List ℕ) → Assembles source.now words → IfOk result (λ got. got ≡ words) }
     ensures fault { IfErr result (λ fault. IsFault source.now fault) }
+    ensures count { IfOk result (λ words. 0 < length words × length words ≤ length source.now) }
 {
     if source.is_empty() {
         return Err(AsmFault::Refused {
@@ -81,6 +82,11 @@ pub fn assemble(alloc: Global, source: &[u8]) -> Result<List<u32>, AsmFault>
 /// The law of listings: the texts of words, each with its LF, are a source of these words.
 pub fn texts_assemble()
     ensures { TextsAssemble }
+{}
+
+/// The law of answers: a source has one, its words or one fault.
+pub fn one_answer()
+    ensures { (text : List ℕ) → OneAnswer text }
 {}
 
 fn kind_of(error: AsmError) -> AsmKind

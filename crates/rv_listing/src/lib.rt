@@ -21,8 +21,8 @@ pub mod reading;
 mod scan;
 mod trace;
 
-pub use assembly::{AsmFault, AsmKind, assemble, texts_assemble};
-pub use listings::listing;
+pub use assembly::{AsmFault, AsmKind, assemble, one_answer, texts_assemble};
+pub use listings::{listing, loaded_texts_are_short, one_listing};
 pub use printing::word_text;
 pub use reading::{AsmError, read_line};
 pub use trace::{TraceLine, other_registers_stay, register_written};

@@ -3,7 +3,7 @@
 ghost use Rattle.std.specs.Prelude.{◌≡◌, ◌++◌, ◌+◌, ◌*◌, ◌≤◌, ◌<◌, ◌^◌, ℕ, List, length, IfOk, OnOk};
 ghost use Rattle.elf_image.specs.Lawful.{IsLawful};
 ghost use Rattle.rv_listing.specs.Texts.{IsWordText};
-ghost use Rattle.rv_listing.specs.Listing.{Listing, entry_line, entry_lines, word_line, AreWordLines};
+ghost use Rattle.rv_listing.specs.Listing.{Listing, entry_line, entry_lines, word_line, AreWordLines, OneListing, LoadedTextsAreShort};
 
 use crate::printing::{Line, hexadecimal, put, put_word};
 use elf_image::{Image, Symbol};
@@ -23,6 +23,16 @@ pub fn listing(alloc: Global, image: &Image) -> Result<Bytes, NoMemory>
     push_words(&mut out, image.text.as_slice())?;
     Ok(out)
 }
+
+/// The law of listings: an image has one.
+pub fn one_listing()
+    ensures { OneListing }
+{}
+
+/// The law of lengths: what [`elf_image::read`] gives for a file has no more bytes of text than the file.
+pub fn loaded_texts_are_short()
+    ensures { LoadedTextsAreShort }
+{}
 
 fn push_entries(out: &mut Bytes, exports: &[Symbol]) -> Result<(), NoMemory>
     ensures { OnOk result (out.new ≡ out.old ++ entry_lines exports.now) }

@@ -1,5 +1,5 @@
-use Rattle.std.proofs.Common.{◌∙◌, ◌+◌, true, false}
-use Rattle.rv_listing.proofs.Assembling.{progress_step, progress_only, progress_refused, left_none, wants_memory}
+use Rattle.std.proofs.Common.{◌∙◌, ℕ, ◌+◌, ◌<◌, ◌≤◌, List, length, sym, subst}
+use Rattle.rv_listing.proofs.Assembling.{progress_step, progress_only, progress_refused, left_none, left_some, progress_count, wants_memory}
 use Rattle.rv_listing.proofs.assembly.assemble.Goals as goal
 
 pub returns-in_err-push-in-Ok-clause-fault : goal.returns-in_err-push-in-Ok-clause-fault
@@ -22,3 +22,10 @@ pub returns-clause-all : goal.returns-clause-all
 returns-clause-all c words are =
     c.from_vec.ensures ∙ progress_only c.args.source.now c.loop-left.left.now c.loop-left.words.items c.loop-left.line c.loop-left.invariant
     (left_none c.loop-left.left.now c.is_empty-in-loop-left.result c.is_empty-in-loop-left.ensures c.loop-left-test.false) words are.1
+
+pub returns-clause-count : goal.returns-clause-count
+returns-clause-count c =
+    let counted = progress_count c.args.source.now c.loop-left.left.now c.loop-left.words.items c.loop-left.line c.loop-left.invariant
+    (left_none c.loop-left.left.now c.is_empty-in-loop-left.result c.is_empty-in-loop-left.ensures c.loop-left-test.false)
+    (left_some c.args.source.now c.is_empty.result c.is_empty.ensures c.if-is_empty.false) in
+    subst (λ (l : List ℕ). (0 < length l) × (length l ≤ length c.args.source.now)) (sym c.from_vec.ensures) counted
