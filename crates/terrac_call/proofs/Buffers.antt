@@ -2,7 +2,7 @@
 use Rattle.std.proofs.Common.{◌≡◌, ℕ, ◌+◌, ◌≤◌, List, [], ◌++◌, length, Option, Some, None, refl, sym, ap, ◌∙◌, append_assoc}
 use Rattle.std.proofs.Common.{arith, length-append}
 use Rattle.tl_base.specs.Outside.{with_front}
-use Rattle.terrac_call.specs.Answer.{TookAtMost}
+use Rattle.terrac_call.specs.Reading.{TookAtMost}
 use Rattle.terrac_call.specs.Delivery.{Gathered}
 
 -- nothing stood before what is left

@@ -1,18 +1,13 @@
 pub mod Answering
 pub mod ArgumentSteps
 pub mod Asking
-pub mod Both
 pub mod Buffers
 pub mod Calls
-pub mod Compiling
 pub mod Deliveries
 pub mod DueMeaning
-pub mod Endings
-pub mod Executing
 pub mod FaultPlaces
 pub mod Faults
 pub mod Headline
-pub mod Jobs
 pub mod Meant
 pub mod Numbers
 pub mod OneDue
@@ -20,7 +15,6 @@ pub mod OneReading
 pub mod Pieces
 pub mod Placed
 pub mod Refusing
-pub mod Running
 pub mod Saying
 pub mod Statuses
 pub mod Telling

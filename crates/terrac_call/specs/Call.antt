@@ -2,9 +2,11 @@
 use Rattle.std.specs.Prelude.{ℕ, ◌≡◌, ◌≢◌, List, Option, Some, None}
 use Rattle.terrac_call.specs.declared.status.Status.{Status}
 use Rattle.terrac_call.specs.declared.status.Status.TheVariants as statuses
-use Rattle.terrac_call.specs.Words.{Job, Run, Emit, Exec, Check, Terms, Rename, Gen, job_of}
+use Rattle.terrac_call.specs.Words.{Job, Make, Stage, Exec, Task, job_of}
 use Rattle.terrac_call.specs.Due.{Due}
-use Rattle.terrac_call.specs.Answer.{IsDue, GivesDue}
+use Rattle.terrac_call.specs.Staged.{Compiles}
+use Rattle.terrac_call.specs.Writing.{GivesDue}
+use Rattle.terrac_call.specs.Answer.{IsDue}
 
 -- the status and the bytes are those of something that is due
 pub record AnswersDue
@@ -23,16 +25,12 @@ AnswersExactly words left RoseSource RoseOut RoseNotes status out_old out_new no
     (RoseSource → ⊥) → (RoseOut → ⊥) → (RoseNotes → ⊥) → status ≢ statuses.NoMemory →
     AnswersDue words bytes status out_old out_new notes_old notes_new
 
--- the jobs that run no compiled code: of those that do, images may differ, and so how far a run comes within its steps
+-- the jobs that compile nothing: of those that do, images may differ, and so how far a run comes within its steps
 abbrev pub CompilesNothing : Option Job → Type 0
 CompilesNothing None = ⊥
-CompilesNothing (Some (Run call running)) = ⊥
-CompilesNothing (Some (Emit limits)) = ⊥
+CompilesNothing (Some (Make what)) = Unit {0}
+CompilesNothing (Some (Stage task)) = Compiles task → ⊥
 CompilesNothing (Some (Exec call steps)) = Unit {0}
-CompilesNothing (Some (Check limits)) = Unit {0}
-CompilesNothing (Some (Terms limits)) = Unit {0}
-CompilesNothing (Some Rename) = Unit {0}
-CompilesNothing (Some (Gen count running)) = ⊥
 
 -- Such a job on some bytes has one thing due. Of words that name none the text of `clap` is open.
 abbrev pub OneDue : Type 0

@@ -19,8 +19,8 @@ use Rattle.stage_image.specs.Emitted.{defined_count}
 use Rattle.terrac_call.specs.Arguments.{Good, arguments_of}
 use Rattle.terrac_call.specs.Due.{Due, after, noting}
 use Rattle.terrac_call.specs.Exec.{due_of_stop, shown_file}
-use Rattle.terrac_call.specs.Run.{Asking, IsImageDue, front_of, manner_of}
-use Rattle.terrac_call.specs.Staged.{bytes_of}
+use Rattle.terrac_call.specs.Words.{Asking}
+use Rattle.terrac_call.specs.Run.{IsImageDue, front_of, manner_of, memory_of}
 
 -- A run of so many steps at most, by what the function means at each count, where a count takes no more than so many steps.
 pub record TellsMeaning (Same : End → Ran → Type 0) (source : ℕ → Run) (steps most : ℕ) (ran : Ran) : Type 0 where
@@ -62,7 +62,7 @@ pub record IsMeantDue (it : Asking) (w : StageState) (image : Image) (values : L
   -- a run tells what it means of them
   pub ran : Ran
   pub tells : TellsMeaning (λ end machine. SameEnd (contents_of w.store).types function.body.result end machine.stop)
-      (λ n. meaning (contents_of w.store) [] (bytes_of it.running.limits.memory) n e.function (map word values)) it.running.steps
+      (λ n. meaning (contents_of w.store) [] (memory_of it) n e.function (map word values)) it.running.steps
       (length image.text) ran
   -- what the run printed is due, and how it ended, with a result as the function's type says, behind the image's file where that is shown
   pub due_is : due ≡ noting (shown_file (manner_of it (defined_count w.store)) image) (after ran.output

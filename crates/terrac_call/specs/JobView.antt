@@ -6,7 +6,11 @@ use Rattle.terrac_call.specs.Statuses.{text_of}
 use Rattle.terrac_call.specs.declared.words.Call.{Call as CallValue}
 use Rattle.terrac_call.specs.declared.words.Limits.{Limits as LimitsValue}
 use Rattle.terrac_call.specs.declared.words.Running.{Running as RunningValue}
-use Rattle.terrac_call.specs.declared.run.Asking.{Asking as AskingValue}
+use Rattle.terrac_call.specs.declared.words.Asking.{Asking as AskingValue}
+use Rattle.terrac_call.specs.declared.words.Making.{Making as MakingValue}
+use Rattle.terrac_call.specs.declared.words.Making.TheVariants as makings
+use Rattle.terrac_call.specs.declared.words.Task.{Task as TaskValue}
+use Rattle.terrac_call.specs.declared.words.Task.TheVariants as tasks
 use Rattle.terrac_call.specs.declared.exec.Manner.{Manner as MannerValue}
 use Rattle.terrac_call.specs.declared.words.Job.{Job as JobValue}
 use Rattle.terrac_call.specs.declared.words.Job.TheVariants as jobs
@@ -14,11 +18,10 @@ use Rattle.terrac_call.specs.declared.words.Asked.{Asked}
 use Rattle.terrac_call.specs.declared.words.Asked.TheVariants as asked
 use Rattle.terrac_call.specs.declared.arguments.Arguments.{Arguments as ArgumentsValue}
 use Rattle.terrac_call.specs.declared.arguments.Arguments.TheVariants as values
-use Rattle.terrac_call.specs.Words.{Call, Limits, Running, Job, Run, Emit, Exec, Check, Terms, Rename, Gen}
+use Rattle.terrac_call.specs.Words.{Call, Limits, Running, Asking, Making, Rename, Task, Check, Terms, Emit, Run, Job, Make, Stage, Exec}
 use Rattle.terrac_call.specs.Arguments.{Arguments, Good, Bad}
 use Rattle.terrac_call.specs.Due.{line}
 use Rattle.terrac_call.specs.Exec.{Manner}
-use Rattle.terrac_call.specs.Run.{Asking}
 
 -- the bytes of texts
 abbrev pub texts_of : List (Bor (List ℕ)) → List (List ℕ)
@@ -39,14 +42,19 @@ shown_asking it = record { call = shown_call it.call; running = shown_running it
 abbrev pub shown_manner : MannerValue → Manner
 shown_manner manner = record { steps = manner.steps; front = manner.front.now; shows = manner.shows }
 
+abbrev pub shown_making : MakingValue → Making
+shown_making makings.Rename = Rename
+
+abbrev pub shown_task : TaskValue → Task
+shown_task (tasks.Check limits) = Check (shown_limits limits)
+shown_task (tasks.Terms limits) = Terms (shown_limits limits)
+shown_task (tasks.Emit limits) = Emit (shown_limits limits)
+shown_task (tasks.Run asking) = Run (shown_asking asking)
+
 abbrev pub shown_job : JobValue → Job
-shown_job (jobs.Run call running) = Run (shown_call call) (shown_running running)
-shown_job (jobs.Emit limits) = Emit (shown_limits limits)
+shown_job (jobs.Make what) = Make (shown_making what)
+shown_job (jobs.Stage task) = Stage (shown_task task)
 shown_job (jobs.Exec call steps) = Exec (shown_call call) steps
-shown_job (jobs.Check limits) = Check (shown_limits limits)
-shown_job (jobs.Terms limits) = Terms (shown_limits limits)
-shown_job jobs.Rename = Rename
-shown_job (jobs.Gen count running) = Gen count (shown_running running)
 
 -- the job that was asked for, if the words name one
 abbrev pub shown_asked : Asked → Option Job

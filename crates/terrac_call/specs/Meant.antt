@@ -23,8 +23,9 @@ use Rattle.terrac_call.specs.Arguments.{Arguments, Good, Bad}
 use Rattle.terrac_call.specs.Values.{value_text, values_said}
 use Rattle.terrac_call.specs.Due.{Due, after, due_of_bad_argument, due_of_no_entry, given, line, noting, refused}
 use Rattle.terrac_call.specs.Exec.{due_of_fault, shown_file}
-use Rattle.terrac_call.specs.Run.{Asking, IsImageDue, IsTreeDue, front_of, manner_of}
-use Rattle.terrac_call.specs.Staged.{bytes_of}
+use Rattle.terrac_call.specs.Words.{Asking, Run}
+use Rattle.terrac_call.specs.Run.{IsImageDue, front_of, manner_of, memory_of}
+use Rattle.terrac_call.specs.Staged.{IsTreeDue}
 
 -- ---- how an export ends
 
@@ -84,7 +85,7 @@ pub data IsCallMeant (it : Asking) (w : StageState) (image : Image) (most : ℕ)
   -- an export has it, and the words are values of its parameters' types: what it means of them is due
   IsMeant : (x : Named it w) (values : List ℕ) → arguments_said it w x ≡ Good values
       → AreValues (contents_of w.store).types x.function.body.parameters (map word values)
-      → IsMeaningSaid (λ n. meaning (contents_of w.store) [] (bytes_of it.running.limits.memory) n x.e.function (map word values))
+      → IsMeaningSaid (λ n. meaning (contents_of w.store) [] (memory_of it) n x.e.function (map word values))
       (form_at (contents_of w.store).types x.function.body.result) it.running.steps most
       (shown_file (manner_of it (defined_count w.store)) image) (front_of it.generated (defined_count w.store)) due
       → IsCallMeant it w image most due
@@ -109,12 +110,12 @@ pub record RefusesExactly (it : Asking) (w : StageState) (due : Due) : Type 0 wh
 -- An image of the exports of a staging, and a call that is due as they mean.
 pub record IsDoneMeant (it : Asking) (w : StageState) (due : Due) : Type 0 where
   pub image : Image
-  pub compiled : IsCompiled (contents_of w.store) (bytes_of it.running.limits.memory) w.exports.list image
+  pub compiled : IsCompiled (contents_of w.store) (memory_of it) w.exports.list image
   pub meant : IsCallMeant it w image (length image.text) due
   pub exact : RefusesExactly it w due
 
 -- So it is, behind what was printed, for each source whose staging is done.
 abbrev pub SourcesAreMeant : Type 0
 SourcesAreMeant =
-    (it : Asking) (items : Items) (finish : Place) (due : Due) (x : IsTreeDue it items finish due) → x.ending.end ≡ Done →
-    IsDoneMeant it x.ending.left.world.stage x.is_due.rest
+    (it : Asking) (items : Items) (finish : Place) (due : Due) (x : IsTreeDue (Run it) items finish due) → x.ending.end ≡ Done →
+    IsDoneMeant it x.ending.left.world.stage x.rest

@@ -1,53 +1,111 @@
--- What is due for a source that is staged: what its staging printed, and then lines, or how it ended.
-use Rattle.std.specs.Prelude.{ℕ, ◌≡◌, ◌*◌, nat_lt, List, [], Some, if◌then◌else◌}
+-- What is due for a source that is staged: what its staging printed, and behind that what its task makes of it, or the line of how it ended.
+use Rattle.std.specs.Prelude.{ℕ, ◌≡◌, ◌⊎◌, ◌*◌, List, Some}
 use Rattle.tl_base.specs.declared.place.Place.{Place}
-use Rattle.tl_base.specs.declared.limits.TheConstants.Limits.{MAX_BUDGET, MEMORY_UNIT}
+use Rattle.tl_base.specs.declared.limits.TheConstants.Limits.{MEMORY_UNIT}
 use Rattle.tl_tree.specs.Code.{Items}
-use Rattle.tl_tree.specs.Nodes.{lay}
+use Rattle.elf_image.specs.declared.image.Image.{Image}
+use Rattle.elf_image.specs.Written as files
+use Rattle.terra_term.specs.Stores.{contents_of}
+use Rattle.exotype.specs.World.{StageState}
+use Rattle.stage_text.specs.Terms.{terms_text}
+use Rattle.spec_sound.specs.Sound.{ArePlaced}
 use Rattle.check_stage.specs.declared.staging.End.{End}
 use Rattle.check_stage.specs.declared.staging.End.TheVariants.{Done, Raised, Spent}
-use Rattle.check_stage.specs.declared.staging.Mode.TheVariants.{Exports}
+use Rattle.check_stage.specs.declared.staging.Mode.{Mode}
+use Rattle.check_stage.specs.declared.staging.Mode.TheVariants.{CheckAll, Exports}
 use Rattle.check_stage.specs.Staging.{Ending, outcome}
+use Rattle.check_stage.specs.Texts.{checks_text}
+use Rattle.back_end.specs.Compiled.{IsCompiled}
 use Rattle.terrac_call.specs.declared.status.Status.TheVariants as statuses
-use Rattle.terrac_call.specs.Words.{Limits}
-use Rattle.terrac_call.specs.Due.{Due, Reading, IsRefused, IsTree, IsReadAs, refused, given, after}
+use Rattle.terrac_call.specs.Words.{Limits, Task, Check, Terms, Emit, Run}
+use Rattle.terrac_call.specs.Due.{Due, refused, given, after, noting, IsDueOfSource}
+use Rattle.terrac_call.specs.Run.{IsImageDue}
 
--- a number, or the end of a range that it lies beyond
-abbrev pub within : (least most : ℕ) → ℕ → ℕ
-within least most number = if nat_lt number least then least else (if nat_lt number most then number else most)
+-- ---- how a task stages a source
 
--- the bytes of a memory of so many KiB; words that are taken name from 64 to 65,536
+-- the bytes of a memory of so many KiB
 abbrev pub bytes_of : ℕ → ℕ
-bytes_of memory = within 64 65536 memory * MEMORY_UNIT
+bytes_of memory = memory * MEMORY_UNIT
 
--- the units of a budget; words that are taken name from 1 to 4,000,000
-abbrev pub units_of : ℕ → ℕ
-units_of budget = within 1 MAX_BUDGET budget
+abbrev pub limits_of : Task → Limits
+limits_of (Check limits) = limits
+limits_of (Terms limits) = limits
+limits_of (Emit limits) = limits
+limits_of (Run asking) = asking.running.limits
 
--- what a staging that ends so owes behind what was printed: these lines, or the line of the refusal
-abbrev pub due_of_end : End → List ℕ → Due
-due_of_end Done lines = given lines
-due_of_end (Raised text place) lines = refused (statuses.Raised text place)
-due_of_end Spent lines = refused statuses.BudgetSpent
+-- each function that is defined is checked, or exports are made
+abbrev pub mode_of : Task → Mode
+mode_of (Check limits) = CheckAll
+mode_of (Terms limits) = Exports
+mode_of (Emit limits) = Exports
+mode_of (Run asking) = Exports
 
--- whatever the end, what was printed, and then that
-abbrev pub due_of_staging : (printed : List ℕ) → End → (lines : List ℕ) → Due
-due_of_staging printed end lines = after printed (due_of_end end lines)
+-- what is due behind what was printed, with that: it goes to `out`, and to `notes` where `out` takes an image
+abbrev pub told : Task → List ℕ → Due → Due
+told (Check limits) printed rest = after printed rest
+told (Terms limits) printed rest = after printed rest
+told (Emit limits) printed rest = noting printed rest
+told (Run asking) printed rest = after printed rest
 
--- ---- where memory runs out behind a staging
+-- ---- what is due where a staging is done
 
--- the staging of a tree of these nodes printed this, whatever its end
-pub record IsTreePrinted (limits : Limits) (items : Items) (finish : Place) (printed : List ℕ) : Type 0 where
+-- the file of an image that compiling may give of the exports
+pub record IsFileDue (limits : Limits) (w : StageState) (due : Due) : Type 0 where
+  pub image : Image
+  pub compiled : IsCompiled (contents_of w.store) (bytes_of limits.memory) w.exports.list image
+  pub is : due ≡ given (files.bytes_of image)
+
+-- a line for each check; the exports with their terms; the image's file; or a call of the image
+abbrev pub IsDone : Task → Ending → Due → Type 0
+IsDone (Check limits) it due = due ≡ given (checks_text it.left.world.stage it.lines)
+IsDone (Terms limits) it due = due ≡ given (terms_text it.left.world.stage.store it.left.world.stage.exports.list)
+IsDone (Emit limits) it due = IsFileDue limits it.left.world.stage due
+IsDone (Run asking) it due = IsImageDue asking it.left.world.stage due
+
+-- whatever the end, that or the line of the refusal
+abbrev pub IsEndDue : Task → Ending → End → Due → Type 0
+IsEndDue task it Done due = IsDone task it due
+IsEndDue task it (Raised text place) due = due ≡ refused (statuses.Raised text place)
+IsEndDue task it Spent due = due ≡ refused statuses.BudgetSpent
+
+-- ---- what is due for a source
+
+-- For a tree of these nodes, whose text ends at this place: its staging comes to an ending, for which this is due behind what was printed.
+-- The places of the nodes have numbers of 32 bits.
+pub record IsTreeDueBy (IsRest : Task → Ending → Due → Type 0) (task : Task) (items : Items) (finish : Place) (due : Due) : Type 0 where
+  pub placed : ArePlaced items
   pub n : ℕ
   pub ending : Ending
-  pub comes : outcome items finish Exports n (units_of limits.budget) (bytes_of limits.memory) ≡ Some ending
-  pub is : printed ≡ ending.left.world.stage.heap.printed
+  pub comes : outcome items finish (mode_of task) n (limits_of task).budget (bytes_of (limits_of task).memory) ≡ Some ending
+  pub rest : Due
+  pub rest_is : IsRest task ending rest
+  pub is : due ≡ told task ending.left.world.stage.heap.printed rest
 
--- that of a source that reads so
-abbrev pub IsReadingPrinted : Limits → Reading → List ℕ → Type 0
-IsReadingPrinted limits (IsRefused kind place) printed = ⊥
-IsReadingPrinted limits (IsTree tree finish) printed = IsTreePrinted limits (lay tree []) finish printed
+abbrev pub IsRestDue : Task → Ending → Due → Type 0
+IsRestDue task it rest = IsEndDue task it it.end rest
 
--- that of the bytes of a source
-abbrev pub IsPrinted : Limits → List ℕ → List ℕ → Type 0
-IsPrinted limits bytes printed = (reading : Reading) × IsReadAs bytes reading × IsReadingPrinted limits reading printed
+abbrev pub IsTreeDue : Task → Items → Place → Due → Type 0
+IsTreeDue task items finish due = IsTreeDueBy IsRestDue task items finish due
+
+-- for the bytes of a source
+abbrev pub IsSourceDue : Task → List ℕ → Due → Type 0
+IsSourceDue task bytes due = IsDueOfSource (IsTreeDue task) bytes due
+
+-- ---- where memory runs out
+
+-- the tasks that compile what a source exports
+abbrev pub Compiles : Task → Type 0
+Compiles (Check limits) = ⊥
+Compiles (Terms limits) = ⊥
+Compiles (Emit limits) = Unit {0}
+Compiles (Run asking) = Unit {0}
+
+-- memory may run out behind the staging of a source that is compiled, where what was printed is told; the line then says so
+abbrev pub IsRestOwed : Task → Ending → Due → Type 0
+IsRestOwed task it rest = IsRestDue task it rest ⊎ (Compiles task × (rest ≡ refused statuses.NoMemory))
+
+abbrev pub IsTreeOwed : Task → Items → Place → Due → Type 0
+IsTreeOwed task items finish due = IsTreeDueBy IsRestOwed task items finish due
+
+abbrev pub IsSourceOwed : Task → List ℕ → Due → Type 0
+IsSourceOwed task bytes due = IsDueOfSource (IsTreeOwed task) bytes due

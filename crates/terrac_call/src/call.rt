@@ -3,15 +3,16 @@
 ghost use Rattle.std.specs.Prelude.{◌≡◌, ◌≢◌, ◌<◌, ◌⊎◌, None, map, string_bytes};
 ghost use Rattle.tl_base.specs.Outside.{IsRisen};
 ghost use Rattle.terrac_call.specs.Words.{job_of, AreTaken};
-ghost use Rattle.terrac_call.specs.Answer.{Answers, TookAtMost, most_read};
-ghost use Rattle.terrac_call.specs.Answer.{Delivers};
+ghost use Rattle.terrac_call.specs.Writing.{Delivers};
+ghost use Rattle.terrac_call.specs.Answer.{Answers};
+ghost use Rattle.terrac_call.specs.Reading.{TookAtMost, most_read};
 ghost use Rattle.terrac_call.specs.Call.{AnswersExactly, OneDue};
 ghost use Rattle.terrac_call.specs.Due.{due_of_unread};
 ghost use Rattle.terrac_call.specs.DueView.{shown_due};
 ghost use Rattle.terrac_call.specs.declared.status.Status.TheVariants as statuses;
 
-use crate::delivery::{deliver, write_fault};
-use crate::due::{Due, Ended};
+use crate::delivery::{carry_out, deliver};
+use crate::due::Due;
 use crate::lines::{bare_usage_due, no_memory_due};
 use crate::status::Status;
 use crate::work::work;
@@ -35,10 +36,12 @@ pub fn terrac<S: Source, K: Sink, N: Sink>(
         (IsRisen (N.faults notes.old) (N.faults notes.new))
         result (K.taken out.old) (K.taken out.new) (N.taken notes.old) (N.taken notes.new) }
 
-    // Whatever the source and the sinks do, the sinks took what was owed, or fronts of it and of the line of a write fault; `out`
-    // isn't called where nothing is due to it, and `notes` isn't where a result is due and nothing to it.
+    // Whatever the source and the sinks do, the sinks took what was owed, or fronts of it and then of the line of a write fault, all of
+    // that unless `notes` failed at it; `out` isn't called where nothing is due to it, and `notes` isn't where a result is due and
+    // nothing to it.
     ensures answers { Answers (map string_bytes words.now) (S.left source.old) (IsRisen (S.faults source.old) (S.faults source.new))
         result (K.taken out.old) (K.taken out.new) (N.taken notes.old) (N.taken notes.new)
+        (K.faults out.old) (K.faults out.new) (N.faults notes.old) (N.faults notes.new)
         (out.new ≡ out.old) (notes.new ≡ notes.old) }
 
     // A fault comes only where that object's count rose.
@@ -59,15 +62,14 @@ pub fn terrac<S: Source, K: Sink, N: Sink>(
     // No more than one byte past the limit of a source or an image is read.
     ensures bound { TookAtMost (most_read (job_of (map string_bytes words.now))) (S.left source.old) (S.left source.new) }
 {
-    match work(alloc, words, source, out, notes) {
-        Ended::Due(due) => deliver(due, out, notes),
-        Ended::WriteFault => write_fault(notes),
-    }
+    let work = work(alloc, words, source);
+    carry_out(work, out, notes)
 }
 
 /// What [`terrac`] would do where the program's words can't be collected, by the kind of the error.
 pub fn refuse_unread<K: Sink, N: Sink>(kind: ErrorKind, out: &mut K, notes: &mut N) -> Status
-    ensures delivers { Delivers (due_of_unread kind) result (K.taken out.old) (K.taken out.new) (N.taken notes.old) (N.taken notes.new) }
+    ensures delivers { Delivers (due_of_unread kind) result (K.taken out.old) (K.taken out.new) (N.taken notes.old) (N.taken notes.new)
+        (K.faults out.old) (K.faults out.new) (N.faults notes.old) (N.faults notes.new) }
     ensures fault { result ≡ statuses.WriteFault →
         IsRisen (K.faults out.old) (K.faults out.new) ⊎ IsRisen (N.faults notes.old) (N.faults notes.new) }
 {
@@ -76,8 +78,7 @@ pub fn refuse_unread<K: Sink, N: Sink>(kind: ErrorKind, out: &mut K, notes: &mut
 
 /// What is due where the words could not be collected: memory ran out, or a word is no UTF-8, which names nothing.
 fn unread_words_due(kind: ErrorKind) -> Due
-    ensures due { shown_due result ≡ due_of_unread kind }
-    ensures status { result.status ≢ statuses.WriteFault }
+    ensures { shown_due result ≡ due_of_unread kind }
 {
     match kind {
         ErrorKind::OutOfMemory => no_memory_due(),

@@ -1,48 +1,86 @@
-// What is due goes out.
+// What is due goes out. No memory is asked for from here on.
 
-ghost use Rattle.std.specs.Prelude.{◌≡◌, ◌≢◌, ◌<◌, ◌≤◌, ◌⊎◌, ℕ, List, [], Option};
-ghost use Rattle.tl_base.specs.Outside.{IsRisen};
-ghost use Rattle.terrac_call.specs.Statuses.{text_of};
-ghost use Rattle.terrac_call.specs.Answer.{Delivers, TakesFront};
-ghost use Rattle.terrac_call.specs.Due.{line};
-ghost use Rattle.terrac_call.specs.DueView.{due_with, shown_due};
+ghost use Rattle.std.specs.Prelude.{◌≡◌, ◌≢◌, ◌<◌};
+ghost use Rattle.rv_machine.specs.declared.stops.Stop.TheVariants as stops;
+ghost use Rattle.terrac_call.specs.Delivery.{Delivered, IsSaid};
+ghost use Rattle.terrac_call.specs.DueView.{due_of_ready, due_of_rest, due_of_run, due_of_work, due_with, shown_due};
 ghost use Rattle.terrac_call.specs.declared.status.Status.TheVariants as statuses;
 
-use crate::due::Due;
+use crate::due::{Due, Ready, Rest, Stream, Work};
+use crate::ends::stop_due;
 use crate::status::Status;
 use crate::writing::write_piece;
+use rv_machine::Stop;
 use tl_base::{Failed, Sink};
+
+/// Writes what work comes to, what a staging printed before the rest, and answers its status.
+pub(crate) fn carry_out<K: Sink, N: Sink>(work: Work, out: &mut K, notes: &mut N) -> Status
+    ensures { Delivered (due_of_work work) result (K.taken out.old) (K.taken out.new) (N.taken notes.old) (N.taken notes.new)
+        (K.faults out.old) (K.faults out.new) (N.faults notes.old) (N.faults notes.new) (out.new ≡ out.old) (notes.new ≡ notes.old) }
+{
+    let Work { printed, to, rest } = work;
+    match to {
+        Stream::Out => match write_piece(out, printed.as_slice()) {
+            Ok(()) => finish(rest, out, notes),
+            Err(Failed) => write_fault(notes),
+        },
+        Stream::Notes => match write_piece(notes, printed.as_slice()) {
+            Ok(()) => finish(rest, out, notes),
+            Err(Failed) => write_fault(notes),
+        },
+    }
+}
+
+/// Writes what is due behind what was printed.
+fn finish<K: Sink, N: Sink>(rest: Rest, out: &mut K, notes: &mut N) -> Status
+    ensures { Delivered (due_of_rest rest) result (K.taken out.old) (K.taken out.new) (N.taken notes.old) (N.taken notes.new)
+        (K.faults out.old) (K.faults out.new) (N.faults notes.old) (N.faults notes.new) (out.new ≡ out.old) (notes.new ≡ notes.old) }
+{
+    match rest {
+        Rest::Due(due) => deliver(due, out, notes),
+        Rest::Run(ready) => match write_piece(notes, &ready.file) {
+            Ok(()) => run(ready, out, notes),
+            Err(Failed) => write_fault(notes),
+        },
+    }
+}
+
+/// Runs a machine, whose program writes to `out`, and writes the line of its end.
+fn run<K: Sink, N: Sink>(ready: Ready, out: &mut K, notes: &mut N) -> Status
+    ensures { Delivered (due_of_run ready) result (K.taken out.old) (K.taken out.new) (N.taken notes.old) (N.taken notes.new)
+        (K.faults out.old) (K.faults out.new) (N.faults notes.old) (N.faults notes.new) (out.new ≡ out.old) (notes.new ≡ notes.old) }
+{
+    let Ready {
+        mut machine,
+        steps,
+        front,
+        code,
+        line,
+        ..
+    } = ready;
+    match machine.run(steps, out) {
+        Stop::WriteFault => write_fault(notes),
+        stop => deliver(stop_due(front.as_str(), code, stop, line), out, notes),
+    }
+}
 
 /// Writes what is due, and answers its status. Where a write fails, the line `write fault` is tried once, and the status takes the
 /// place of the one that was due.
 pub(crate) fn deliver<K: Sink, N: Sink>(due: Due, out: &mut K, notes: &mut N) -> Status
-    requires { due.status ≢ statuses.WriteFault }
-    ensures delivers { Delivers (shown_due due) result (K.taken out.old) (K.taken out.new) (N.taken notes.old) (N.taken notes.new) }
-    ensures fault { result ≡ statuses.WriteFault →
-        IsRisen (K.faults out.old) (K.faults out.new) ⊎ IsRisen (N.faults notes.old) (N.faults notes.new) }
-    ensures out_rose { K.faults out.old < K.faults out.new → result ≡ statuses.WriteFault }
-    ensures notes_rose { N.faults notes.old < N.faults notes.new → result ≡ statuses.WriteFault }
-    ensures quiet_out { (shown_due due).out ≡ [] → out.new ≡ out.old }
-    ensures kept { (result ≡ due.status) ⊎ (result ≡ statuses.WriteFault) }
-    ensures quiet_notes { result ≡ statuses.Ok → notes.new ≡ notes.old }
+    ensures { Delivered (shown_due due) result (K.taken out.old) (K.taken out.new) (N.taken notes.old) (N.taken notes.new)
+        (K.faults out.old) (K.faults out.new) (N.faults notes.old) (N.faults notes.new) (out.new ≡ out.old) (notes.new ≡ notes.old) }
 {
     let Due { status, line } = due;
     match status {
         Status::Ok => deliver_result(line.as_bytes(), out, notes),
-        status => deliver_refusal(status, line.as_bytes(), notes),
+        status => deliver_refusal(status, line.as_bytes(), out, notes),
     }
 }
 
 /// Writes the result line to `out`, if there is one.
 fn deliver_result<K: Sink, N: Sink>(line: &[u8], out: &mut K, notes: &mut N) -> Status
-    ensures delivers { Delivers (due_with statuses.Ok line.now) result
-        (K.taken out.old) (K.taken out.new) (N.taken notes.old) (N.taken notes.new) }
-    ensures fault { result ≡ statuses.WriteFault → IsRisen (K.faults out.old) (K.faults out.new) }
-    ensures out_rose { K.faults out.old < K.faults out.new → result ≡ statuses.WriteFault }
-    ensures notes_rose { N.faults notes.old < N.faults notes.new → result ≡ statuses.WriteFault }
-    ensures ends { (result ≡ statuses.Ok) ⊎ (result ≡ statuses.WriteFault) }
-    ensures quiet_out { line.now ≡ [] → out.new ≡ out.old }
-    ensures quiet_notes { result ≡ statuses.Ok → notes.new ≡ notes.old }
+    ensures { Delivered (due_with statuses.Ok line.now) result (K.taken out.old) (K.taken out.new) (N.taken notes.old) (N.taken notes.new)
+        (K.faults out.old) (K.faults out.new) (N.faults notes.old) (N.faults notes.new) (out.new ≡ out.old) (notes.new ≡ notes.old) }
 {
     match write_piece(out, line) {
         Ok(()) => Status::Ok,
@@ -51,15 +89,16 @@ fn deliver_result<K: Sink, N: Sink>(line: &[u8], out: &mut K, notes: &mut N) -> 
 }
 
 /// Writes the line of a refusal to `notes`. `out` stays as it is.
-fn deliver_refusal<N: Sink>(status: Status, line: &[u8], notes: &mut N) -> Status
+fn deliver_refusal<K: Sink, N: Sink>(
+    status: Status,
+    line: &[u8],
+    out: &mut K,
+    notes: &mut N,
+) -> Status
     requires refusal { status ≢ statuses.Ok }
     requires other { status ≢ statuses.WriteFault }
-    ensures delivers { (out : Option (List ℕ)) →
-        Delivers (due_with status line.now) result out out (N.taken notes.old) (N.taken notes.new) }
-    ensures fault { result ≡ statuses.WriteFault → IsRisen (N.faults notes.old) (N.faults notes.new) }
-    ensures no_result { result ≢ statuses.Ok }
-    ensures kept { (result ≡ status) ⊎ (result ≡ statuses.WriteFault) }
-    ensures notes_rose { N.faults notes.old < N.faults notes.new → result ≡ statuses.WriteFault }
+    ensures { Delivered (due_with status line.now) result (K.taken out.old) (K.taken out.new) (N.taken notes.old) (N.taken notes.new)
+        (K.faults out.old) (K.faults out.new) (N.faults notes.old) (N.faults notes.new) (out.new ≡ out.old) (notes.new ≡ notes.old) }
 {
     match write_piece(notes, line) {
         Ok(()) => status,
@@ -68,10 +107,9 @@ fn deliver_refusal<N: Sink>(status: Status, line: &[u8], notes: &mut N) -> Statu
 }
 
 /// Tries the line `write fault`, once.
-pub(crate) fn write_fault<N: Sink>(notes: &mut N) -> Status
+fn write_fault<N: Sink>(notes: &mut N) -> Status
     ensures status { result ≡ statuses.WriteFault }
-    ensures front { TakesFront (line (text_of statuses.WriteFault)) (N.taken notes.old) (N.taken notes.new) }
-    ensures never_falls { N.faults notes.old ≤ N.faults notes.new }
+    ensures said { IsSaid (N.taken notes.old) (N.taken notes.new) (N.faults notes.old) (N.faults notes.new) }
 {
     match write_piece(notes, b"write fault\n") {
         Ok(()) | Err(Failed) => Status::WriteFault,

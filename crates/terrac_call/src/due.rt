@@ -1,10 +1,14 @@
-// What is due to the caller.
+// What is due to the caller, and the work that a job comes to.
 
-ghost use Rattle.std.specs.Prelude.{◌≡◌};
-ghost use Rattle.terrac_call.specs.DueView.{line_bytes};
+ghost use Rattle.std.specs.Prelude.{◌≡◌, ◌≢◌, ◌+◌, ◌≤◌, [], length, string_bytes, vec_capacity};
+ghost use Rattle.terrac_call.specs.declared.status.Status.TheVariants as statuses;
 
 use crate::status::Status;
+use rv_machine::Machine;
 use tl_base::Bytes;
+
+/// How many bytes the line of a run's end has at most, beside what stands before the result.
+pub(crate) const LONGEST_END: usize = 64;
 
 /// A line, with its line end; or the file of an image.
 #[derive(Drop)]
@@ -15,30 +19,54 @@ pub(crate) enum Line {
     Bytes(Bytes),
 }
 
-impl Line {
-    pub(crate) fn as_bytes(&self) -> &[u8]
-        ensures { result.now ≡ line_bytes self.now }
-    {
-        match self {
-            Line::Fixed(text) => text.as_bytes(),
-            Line::Made(text) => text.as_bytes(),
-            Line::Bytes(text) => text.as_slice(),
-        }
-    }
-}
-
-/// The status that is due and its line: the result for [`Status::Ok`], if there is one, and the line on `notes` for every other.
+/// The status that is due and its line: the result for [`Status::Ok`], if there is one, and the line on `notes` for every other. That of a
+/// write that failed is due to no job.
 #[derive(Drop)]
 pub(crate) struct Due {
     pub status: Status,
     pub line: Line,
+    ghost other: { status ≢ statuses.WriteFault },
 }
 
-/// How a command ends.
+/// One of the two sinks.
+#[derive(Clone, Copy, Drop)]
+pub(crate) enum Stream {
+    Out,
+    Notes,
+}
+
+/// What a job comes to, before anything of it is written. All memory that it takes was found.
 #[derive(Drop)]
-pub(crate) enum Ended {
-    /// What the sinks took is a front of what is due, and this is the rest.
+pub(crate) struct Work {
+    /// What its staging printed, which goes first; nothing where it has none.
+    pub printed: Bytes,
+    /// Where that goes.
+    pub to: Stream,
+    pub rest: Rest,
+}
+
+/// What is due behind what was printed.
+#[derive(Drop)]
+pub(crate) enum Rest {
     Due(Due),
-    /// A sink failed.
-    WriteFault,
+    /// What a run writes, and the line of its end.
+    Run(Ready),
+}
+
+/// A machine that stands at the begin of a run.
+#[derive(Drop)]
+pub(crate) struct Ready {
+    pub machine: Machine,
+    /// How many instructions are executed at most.
+    pub steps: u64,
+    /// The file of the image where that is shown, and nothing else.
+    pub file: Vec<u8>,
+    /// What stands before the line of the result, on that line.
+    pub front: String,
+    /// The code of the result's type.
+    pub code: u8,
+    /// Room for the line of each end.
+    pub line: Vec<u8>,
+    ghost empty: { (line.items ≡ []) },
+    ghost room: { length (string_bytes front) + LONGEST_END ≤ vec_capacity line },
 }

@@ -6,21 +6,17 @@
 
 mod arguments;
 pub mod call;
-mod check;
 mod delivery;
 mod due;
-mod emit;
+mod ends;
 mod exec;
-mod generating;
 mod laws;
 mod lines;
+mod making;
 mod parsing;
 mod reading;
-mod rename;
-mod run;
-mod staged;
+mod source;
 pub mod status;
-mod terms;
 mod words;
 mod work;
 mod writing;

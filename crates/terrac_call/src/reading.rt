@@ -2,7 +2,7 @@
 
 ghost use Rattle.std.specs.Prelude.{◌≡◌, ◌+◌, ◌<◌, ◌≤◌, ◌⊎◌, length, Ok, IfOk, OnOk, OnErr, Err};
 ghost use Rattle.tl_base.specs.Outside.{with_front, IsAtEnd, IsRisen};
-ghost use Rattle.terrac_call.specs.Answer.{TookAtMost};
+ghost use Rattle.terrac_call.specs.Reading.{TookAtMost};
 ghost use Rattle.terrac_call.specs.Delivery.{Gathered};
 ghost use Rattle.terrac_call.specs.declared.reading.ReadError.TheVariants as errors;
 

@@ -6,10 +6,10 @@ ghost use Rattle.terrac_call.specs.Words.{entry_rule, arguments_rule, count_rule
 ghost use Rattle.clap.specs.declared.builder.command.Command.{out-Command};
 ghost use Rattle.terrac_call.specs.Words.{image_rule, run_command, emit_command, exec_command, check_command};
 ghost use Rattle.terrac_call.specs.Words.{terms_command, rename_command, gen_command};
-ghost use Rattle.terrac_call.specs.Words.{command_line, call_of, limits_of, running_of, number_found, number_or_zero};
+ghost use Rattle.terrac_call.specs.Words.{command_line, call_of, limits_of, running_of, run_of, gen_of, number_found, number_or_zero};
 ghost use Rattle.terrac_call.specs.Words.{text_or_none, job_of, job_of_command, AreTaken};
-ghost use Rattle.terrac_call.specs.JobView.{texts_of, shown_call, shown_limits, shown_running, shown_job, shown_asked, HasUsageLine};
-ghost use Rattle.terrac_call.specs.JobView.{IsUsageText};
+ghost use Rattle.terrac_call.specs.JobView.{texts_of, shown_call, shown_limits, shown_running, shown_asking, shown_job, shown_asked};
+ghost use Rattle.terrac_call.specs.JobView.{HasUsageLine, IsUsageText};
 
 use clap::builder::ValueParser;
 use clap::error::ErrorKind;
@@ -43,23 +43,44 @@ pub(crate) struct Running {
     pub shows: bool,
 }
 
+/// Which function of a source is called, and how the source is run.
+#[derive(Drop)]
+pub(crate) struct Asking<'a> {
+    pub call: Call<'a>,
+    pub running: Running,
+    /// Of a generated source, how many functions were asked for.
+    pub generated: Option<u64>,
+}
+
+/// What is made of bytes, with nothing written before it.
+#[derive(Clone, Copy, Drop)]
+pub(crate) enum Making {
+    /// A source with its locals renamed.
+    Rename,
+}
+
+/// What a source is staged for.
+#[derive(Drop)]
+pub(crate) enum Task<'a> {
+    /// A line for the check of each function that it defines.
+    Check(Limits),
+    /// The terms of what it exports.
+    Terms(Limits),
+    /// The image of what it exports.
+    Emit(Limits),
+    /// A call of what it exports.
+    Run(Asking<'a>),
+}
+
 /// What the words ask for.
 #[derive(Drop)]
 pub(crate) enum Job<'a> {
-    /// To run an entry of a source.
-    Run(Call<'a>, Running),
-    /// To write the image of what a source exports, within these limits.
-    Emit(Limits),
+    /// To make something of bytes.
+    Make(Making),
+    /// To stage a source.
+    Stage(Task<'a>),
     /// To run an entry of an image for at most so many steps.
     Exec(Call<'a>, u64),
-    /// To check a source within these limits.
-    Check(Limits),
-    /// To write the terms of what a source exports, within these limits.
-    Terms(Limits),
-    /// To write a source with its locals renamed.
-    Rename,
-    /// To generate a source of so many functions, and to run it.
-    Gen(u64, Running),
 }
 
 /// The job that words name, or the line `usage` and `clap`'s own text where they name none.
@@ -101,10 +122,7 @@ fn job_of_matches<'a>(alloc: Global, matches: &ArgMatches<'a>) -> Result<Job<'a>
 {
     match matches.subcommand() {
         Some((name, found)) => job_named(alloc, name, found),
-        None => Ok(Job::Emit(Limits {
-            budget: 0,
-            memory: 0,
-        })),
+        None => Ok(Job::Make(Making::Rename)),
     }
 }
 
@@ -113,21 +131,45 @@ fn job_named<'a>(alloc: Global, name: &str, found: &ArgMatches<'a>) -> Result<Jo
     ensures { IfOk result (λ job. shown_job job ≡ job_of_command (Some (name.now, rows_of (found_of found.now)))) }
 {
     if name == "run" {
-        let call = call_of(alloc, found)?;
-        Ok(Job::Run(call, running_of(found)))
+        Ok(Job::Stage(Task::Run(run_of(alloc, found)?)))
     } else if name == "exec" {
-        let call = call_of(alloc, found)?;
-        Ok(Job::Exec(call, number_found(found, "steps")))
+        Ok(Job::Exec(call_of(alloc, found)?, number_found(found, "steps")))
     } else if name == "check" {
-        Ok(Job::Check(limits_of(found)))
+        Ok(Job::Stage(Task::Check(limits_of(found))))
     } else if name == "terms" {
-        Ok(Job::Terms(limits_of(found)))
+        Ok(Job::Stage(Task::Terms(limits_of(found))))
     } else if name == "rename" {
-        Ok(Job::Rename)
+        Ok(Job::Make(Making::Rename))
     } else if name == "gen" {
-        Ok(Job::Gen(number_found(found, "N"), running_of(found)))
+        Ok(Job::Stage(Task::Run(gen_of(alloc, found))))
     } else {
-        Ok(Job::Emit(limits_of(found)))
+        Ok(Job::Stage(Task::Emit(limits_of(found))))
+    }
+}
+
+// The call of a source that was found.
+fn run_of<'a>(alloc: Global, found: &ArgMatches<'a>) -> Result<Asking<'a>, AllocError>
+    ensures { IfOk result (λ asking. shown_asking asking ≡ run_of (rows_of (found_of found.now))) }
+{
+    let call = call_of(alloc, found)?;
+    Ok(Asking {
+        call,
+        running: running_of(found),
+        generated: None,
+    })
+}
+
+// The call of a generated source that was found.
+fn gen_of<'a>(alloc: Global, found: &ArgMatches<'a>) -> Asking<'a>
+    ensures { shown_asking result ≡ gen_of (rows_of (found_of found.now)) }
+{
+    Asking {
+        call: Call {
+            entry: "main",
+            arguments: Vec::new(alloc),
+        },
+        running: running_of(found),
+        generated: Some(number_found(found, "N")),
     }
 }
 

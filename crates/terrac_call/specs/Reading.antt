@@ -1,0 +1,32 @@
+-- What is read of a source.
+use Rattle.std.specs.Prelude.{ℕ, ◌≡◌, ◌+◌, ◌≤◌, List, length, Option, Some, None}
+use Rattle.tl_base.specs.Outside.{with_front}
+use Rattle.terrac_call.specs.Words.{Job, Make, Stage, Exec, Task, Check, Terms, Emit, Run}
+use Rattle.terrac_call.specs.Due.{longest}
+use Rattle.terrac_call.specs.Exec.{longest_image}
+
+-- the bytes of a source, where it tells them
+abbrev pub IsToldAs : Option (List ℕ) → List ℕ → Type 0
+IsToldAs None bytes = Unit {0}
+IsToldAs (Some whole) bytes = whole ≡ bytes
+
+-- at most so many bytes were taken from the source
+abbrev pub TookAtMost : ℕ → Option (List ℕ) → Option (List ℕ) → Type 0
+TookAtMost most old new = (front : List ℕ) × (length front ≤ most) × (old ≡ with_front front new)
+
+-- how many bytes are read of a source at most: one more than it may have, which tells that it has too many; and none of a generated one
+abbrev pub most_of_source : Option ℕ → ℕ
+most_of_source None = longest + 1
+most_of_source (Some count) = 0
+
+abbrev pub most_of_task : Task → ℕ
+most_of_task (Check limits) = longest + 1
+most_of_task (Terms limits) = longest + 1
+most_of_task (Emit limits) = longest + 1
+most_of_task (Run asking) = most_of_source asking.generated
+
+abbrev pub most_read : Option Job → ℕ
+most_read None = 0
+most_read (Some (Make what)) = longest + 1
+most_read (Some (Stage task)) = most_of_task task
+most_read (Some (Exec call steps)) = longest_image + 1
