@@ -70,6 +70,7 @@ out_short due piece more status oo on nb nn o0 o1 n0 n1 SameOut SameNotes begins
   };
   out_rose = λ _. is;
   notes_rose = λ _. is;
+  fault = λ _. inl short.rose;
   quiet_out = λ none. absurd (some (front_none piece more (sym begins ∙ none)));
   quiet_notes = λ ok _. absurd (no_result status is ok);
 }
@@ -100,6 +101,7 @@ notes_short due piece status out nb nm nn o n0 n1 n2 SameOut SameNotes within la
   };
   out_rose = λ _. is;
   notes_rose = λ _. is;
+  fault = λ _. inr (omega (arith, short.rose, said.tried.later));
   quiet_out = λ _. same;
   quiet_notes = λ ok _. absurd (no_result status is ok);
 }
@@ -133,6 +135,7 @@ behind_out printed due status oo om on nb nn o0 o1 o2 n0 n1 SameMid SameOut Same
   };
   out_rose = λ rose. d.out_rose (omega (arith, quiet, rose));
   notes_rose = d.notes_rose;
+  fault = λ e. elim (d.fault e) [ inl rose ↦ inl (rose_from o0 o1 o2 quiet rose) | inr rose ↦ inr rose ];
   quiet_out = λ none. same (front_none printed due.out none) (d.quiet_out (back_none printed due.out none));
   quiet_notes = d.quiet_notes;
 }
@@ -182,6 +185,7 @@ behind_notes noted due status oo on nb nm nn o0 o1 n0 n1 n2 SameOut SameMid Same
   };
   out_rose = d.out_rose;
   notes_rose = λ rose. d.notes_rose (omega (arith, quiet, rose));
+  fault = λ e. elim (d.fault e) [ inl rose ↦ inl rose | inr rose ↦ inr (rose_from n0 n1 n2 quiet rose) ];
   quiet_out = d.quiet_out;
   quiet_notes = λ ok none. same (front_none noted due.noted none) (d.quiet_notes ok (back_none noted due.noted none));
 }
@@ -252,6 +256,7 @@ result_whole bytes oo on notes o0 o1 n SameOut SameNotes took quiet same_out sam
   };
   out_rose = λ rose. absurd (omega (arith, quiet, rose));
   notes_rose = λ rose. absurd (omega (arith, rose));
+  fault = λ e. absurd (no_result statuses.Ok e refl);
   quiet_out = same_out;
   quiet_notes = λ _ _. same_notes;
 }
@@ -263,9 +268,9 @@ result_short bytes status oo on nb nn o0 o1 n0 n1 SameOut SameNotes some short i
     out_short (due_with statuses.Ok bytes) bytes [] status oo on nb nn o0 o1 n0 n1 SameOut SameNotes (sym (append-nil bytes)) some short is said
 
 pub refusal_whole : (status : Status) (bytes : List ℕ) (out nb nn : Option (List ℕ)) (o n0 n1 : ℕ) (SameOut SameNotes : Type 0)
-    → status ≢ statuses.Ok → nn ≡ with_back nb bytes → n1 ≡ n0 → SameOut
+    → status ≢ statuses.Ok → status ≢ statuses.WriteFault → nn ≡ with_back nb bytes → n1 ≡ n0 → SameOut
     → Delivered (due_with status bytes) status out out nb nn o o n0 n1 SameOut SameNotes
-refusal_whole status bytes out nb nn o n0 n1 SameOut SameNotes other took quiet same = rw (refusal_is status bytes other) (record {
+refusal_whole status bytes out nb nn o n0 n1 SameOut SameNotes other fine took quiet same = rw (refusal_is status bytes other) (record {
   delivers = record {
     out = [];
     notes = bytes;
@@ -275,6 +280,7 @@ refusal_whole status bytes out nb nn o n0 n1 SameOut SameNotes other took quiet 
   };
   out_rose = λ rose. absurd (omega (arith, rose));
   notes_rose = λ rose. absurd (omega (arith, quiet, rose));
+  fault = λ e. absurd (fine e);
   quiet_out = λ _. same;
   quiet_notes = λ ok _. absurd (other ok);
 })

@@ -4,6 +4,7 @@ pub mod Asking
 pub mod Buffers
 pub mod Calls
 pub mod Deliveries
+pub mod Found
 pub mod DueMeaning
 pub mod FaultPlaces
 pub mod Faults
@@ -14,8 +15,10 @@ pub mod OneDue
 pub mod OneReading
 pub mod Pieces
 pub mod Placed
+pub mod Ranges
 pub mod Refusing
 pub mod Saying
+pub mod Sources
 pub mod Statuses
 pub mod Telling
 pub mod Top

@@ -4,7 +4,8 @@ use Rattle.tl_tree.specs.Code.{Items}
 use Rattle.tl_tree.specs.Nodes.{lay}
 use Rattle.tl_base.specs.declared.place.Place.{Place}
 use Rattle.check_stage.specs.declared.staging.Mode.{Mode}
-use Rattle.check_stage.specs.declared.staging.Mode.TheVariants.{Exports, CheckAll}
+use Rattle.check_stage.specs.declared.staging.End.{End}
+use Rattle.check_stage.specs.declared.staging.End.TheVariants.{Done, Raised, Spent}
 use Rattle.check_stage.specs.Staging.{Ending, outcome}
 use Rattle.elf_image.specs.declared.error.ImageError.{ImageError}
 use Rattle.elf_image.specs.declared.image.Image.{Image}
@@ -14,14 +15,12 @@ use Rattle.elf_image.specs.Loads.{Loads, BadBytes}
 use Rattle.rv_machine.specs.Machine.{Ran}
 use Rattle.rv_machine.proofs.ImageRuns.{one_run}
 use Rattle.terrac_call.specs.declared.status.ImageFault.TheVariants.{Refused}
-use Rattle.terrac_call.specs.Words.{Call, Limits, Job, Run, Emit, Exec, Check, Terms, Rename, Gen, job_of}
+use Rattle.terrac_call.specs.Words.{Call, Job, Make, Stage, Exec, Task, Check, Terms, Emit, Run, Rename, job_of, text_of}
 use Rattle.terrac_call.specs.Arguments.{Arguments, Good, Bad, arguments_of}
 use Rattle.terrac_call.specs.Due.{Due, Reading, IsReadingDue, IsRefused, IsTree, after, noting}
 use Rattle.terrac_call.specs.Exec.{Manner, plain, shown_file, due_of_bad_image, due_of_stop, IsRunDue, IsCallDue, IsExecDue, IsLong}
 use Rattle.terrac_call.specs.Exec.{IsBad, IsImage}
-use Rattle.terrac_call.specs.Staged.{bytes_of}
-use Rattle.terrac_call.specs.Check as checks
-use Rattle.terrac_call.specs.Terms as terms
+use Rattle.terrac_call.specs.Staged.{Compiles, IsDone, IsEndDue, IsRestDue, IsTreeDue, bytes_of, limits_of, mode_of, told}
 use Rattle.terrac_call.specs.Rename as renames
 use Rattle.terrac_call.specs.Answer.{IsDue}
 use Rattle.terrac_call.specs.Call.{CompilesNothing, OneDue}
@@ -80,23 +79,29 @@ one_ending settled items place mode n m units memory one other p q =
     ∙ settled items place mode m (n + m) units memory other q (omega arith) in
     cc
 
-one_of_check : Settled → (limits : Limits) (reading : Reading) (one other : Due) → IsReadingDue (checks.IsTreeDue limits) reading one
-    → IsReadingDue (checks.IsTreeDue limits) reading other → one ≡ other
-one_of_check settled limits (IsRefused kind place) one other p q = p ∙ sym q
-one_of_check settled limits (IsTree tree finish) one other p q =
-    p.is
-    ∙ ap checks.due_of_ending
-    (one_ending settled (lay tree []) finish CheckAll p.n q.n limits.budget (bytes_of limits.memory) p.ending q.ending p.comes q.comes)
-    ∙ sym q.is
+one_done : (task : Task) (it : Ending) (one other : Due) → (Compiles task → ⊥) → IsDone task it one → IsDone task it other → one ≡ other
+one_done (Check limits) it one other none p q = p ∙ sym q
+one_done (Terms limits) it one other none p q = p ∙ sym q
+one_done (Emit limits) it one other none p q = absurd (none tt)
+one_done (Run asking) it one other none p q = absurd (none tt)
 
-one_of_terms : Settled → (limits : Limits) (reading : Reading) (one other : Due) → IsReadingDue (terms.IsTreeDue limits) reading one
-    → IsReadingDue (terms.IsTreeDue limits) reading other → one ≡ other
-one_of_terms settled limits (IsRefused kind place) one other p q = p ∙ sym q
-one_of_terms settled limits (IsTree tree finish) one other p q =
-    p.is
-    ∙ ap terms.due_of_ending
-    (one_ending settled (lay tree []) finish Exports p.n q.n limits.budget (bytes_of limits.memory) p.ending q.ending p.comes q.comes)
-    ∙ sym q.is
+one_end : (task : Task) (it : Ending) (end : End) (one other : Due) → (Compiles task → ⊥) → IsEndDue task it end one
+    → IsEndDue task it end other → one ≡ other
+one_end task it Done one other none p q = one_done task it one other none p q
+one_end task it (Raised text place) one other none p q = p ∙ sym q
+one_end task it Spent one other none p q = p ∙ sym q
+
+one_of_reading : Settled → (task : Task) → (Compiles task → ⊥) → (reading : Reading) (one other : Due)
+    → IsReadingDue (IsTreeDue task) reading one → IsReadingDue (IsTreeDue task) reading other → one ≡ other
+one_of_reading settled task none (IsRefused kind place) one other p q = p ∙ sym q
+one_of_reading settled task none (IsTree tree finish) one other p q =
+    let same : q.ending ≡ p.ending =
+    one_ending settled (lay tree []) finish (mode_of task) q.n p.n (limits_of task).budget (bytes_of (limits_of task).memory) q.ending p.ending
+    q.comes p.comes in
+    let rests : p.rest ≡ q.rest =
+    one_end task p.ending p.ending.end p.rest q.rest none p.rest_is (subst (λ (e : Ending). IsRestDue task e q.rest) same q.rest_is) in
+    p.is ∙ ap (told task p.ending.left.world.stage.heap.printed) rests
+    ∙ ap (λ (e : Ending). told task e.left.world.stage.heap.printed q.rest) (sym same) ∙ sym q.is
 
 one_of_rename : (bytes : List ℕ) (reading : Reading) (one other : Due) → IsReadingDue (renames.IsTreeDue bytes) reading one
     → IsReadingDue (renames.IsTreeDue bytes) reading other → one ≡ other
@@ -106,17 +111,11 @@ one_of_rename bytes (IsTree tree finish) one other p q = p ∙ sym q
 one_of_job : Settled → (job : Option Job) (bytes : List ℕ) (one other : Due) → CompilesNothing job → IsDue job bytes one
     → IsDue job bytes other → one ≡ other
 one_of_job settled None bytes one other none p q = absurd none
-one_of_job settled (Some (Run call running)) bytes one other none p q = absurd none
-one_of_job settled (Some (Emit limits)) bytes one other none p q = absurd none
-one_of_job settled (Some (Gen count running)) bytes one other none p q = absurd none
 one_of_job settled (Some (Exec call steps)) bytes one other none p q = one_of_exec call steps bytes one other p q
-one_of_job settled (Some (Check limits)) bytes one other none p q =
-    one_of_check settled limits p.0 one other p.2
-    (subst (λ (r : Reading). IsReadingDue (checks.IsTreeDue limits) r other) (one_reading bytes q.0 p.0 q.1 p.1) q.2)
-one_of_job settled (Some (Terms limits)) bytes one other none p q =
-    one_of_terms settled limits p.0 one other p.2
-    (subst (λ (r : Reading). IsReadingDue (terms.IsTreeDue limits) r other) (one_reading bytes q.0 p.0 q.1 p.1) q.2)
-one_of_job settled (Some Rename) bytes one other none p q =
+one_of_job settled (Some (Stage task)) bytes one other none p q =
+    one_of_reading settled task none p.0 one other p.2
+    (subst (λ (r : Reading). IsReadingDue (IsTreeDue task) r other) (one_reading (text_of task bytes) q.0 p.0 q.1 p.1) q.2)
+one_of_job settled (Some (Make Rename)) bytes one other none p q =
     one_of_rename bytes p.0 one other p.2
     (subst (λ (r : Reading). IsReadingDue (renames.IsTreeDue bytes) r other) (one_reading bytes q.0 p.0 q.1 p.1) q.2)
 

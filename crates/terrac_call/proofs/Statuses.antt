@@ -1,28 +1,24 @@
 -- No job that is done ends as a refusal of the words, or as a read that failed.
-use Rattle.std.proofs.Common.{◌≡◌, ◌≢◌, ℕ, Bool, true, false, List, [], Option, Some, None, refl, sym, ap, ◌∙◌}
+use Rattle.std.proofs.Common.{◌≡◌, ◌≢◌, ◌⊎◌, inl, inr, ℕ, Bool, true, false, List, [], Option, Some, None, refl, sym, ap, ◌∙◌}
 use Rattle.std.specs.Prelude.{IsSome}
 use Rattle.elf_image.specs.declared.image.Image.{Image}
 use Rattle.elf_image.specs.declared.image.Symbol.{Symbol}
 use Rattle.elf_image.specs.Calls.{symbol_named}
 use Rattle.rv_machine.specs.declared.stops.Stop.{Stop}
 use Rattle.rv_machine.specs.declared.stops.Stop.TheVariants as stops
+use Rattle.check_stage.specs.Staging.{Ending}
 use Rattle.check_stage.specs.declared.staging.End.{End}
 use Rattle.check_stage.specs.declared.staging.End.TheVariants.{Done, Raised, Spent}
 use Rattle.terrac_call.specs.declared.status.Status.{Status}
 use Rattle.terrac_call.specs.declared.status.Status.TheVariants as statuses
-use Rattle.terrac_call.specs.Words.{Call, Limits, Job, Run, Emit, Exec, Check, Terms, Rename, Gen}
+use Rattle.terrac_call.specs.Words.{Call, Job, Make, Stage, Exec, Task, Check, Terms, Emit, Run, Rename, text_of}
 use Rattle.terrac_call.specs.Arguments.{Arguments, Good, Bad, arguments_of}
 use Rattle.terrac_call.specs.Due.{Due, Reading, IsReadingDue, IsRefused, IsTree}
 use Rattle.terrac_call.specs.Exec.{Manner, due_of_stop, plain, IsRunDue, IsCallDue, IsExecDue, IsLong, IsBad, IsImage}
-use Rattle.terrac_call.specs.Staged.{due_of_end}
-use Rattle.exotype.specs.World.{StageState}
-use Rattle.terrac_call.specs.Run as runs
-use Rattle.terrac_call.specs.Emit as emits
-use Rattle.terrac_call.specs.Gen.{of_gen}
-use Rattle.terrac_call.specs.Check as checks
-use Rattle.terrac_call.specs.Terms as terms
+use Rattle.terrac_call.specs.Staged.{IsDone, IsEndDue, IsRestOwed, IsTreeOwed}
 use Rattle.terrac_call.specs.Rename as renames
-use Rattle.terrac_call.specs.Answer.{IsDue, IsDueOrCut, IsWhole, IsCut, IsMade, IsUnmade, IsOwed, Owed, Answered, Unread, OutOfMemory}
+use Rattle.terrac_call.specs.Answer.{Answered, IsOwed, OutOfMemory, Owed, Unread}
+use Rattle.terrac_call.proofs.Answering.{told_status}
 
 -- the statuses with which a job may end
 abbrev ends_job : Status → Bool
@@ -70,86 +66,56 @@ of_exec call steps bytes due (IsBad error few bad is) = as_that due _ is refl
 of_exec call steps bytes due (IsImage image few loads is) = of_call image call (plain steps [])
     (symbol_named call.entry image.exports) due is
 
-of_ending : (end : End) (lines : List ℕ) → EndsJob (due_of_end end lines)
-of_ending Done lines = refl
-of_ending (Raised text place) lines = refl
-of_ending Spent lines = refl
-
-of_check : (limits : Limits) (reading : Reading) (due : Due) → IsReadingDue (checks.IsTreeDue limits) reading due → EndsJob due
-of_check limits (IsRefused kind place) due is = as_that due _ is refl
-of_check limits (IsTree tree finish) due is = as_that due _ is.is (of_ending is.ending.end _)
-
-of_terms : (limits : Limits) (reading : Reading) (due : Due) → IsReadingDue (terms.IsTreeDue limits) reading due → EndsJob due
-of_terms limits (IsRefused kind place) due is = as_that due _ is refl
-of_terms limits (IsTree tree finish) due is = as_that due _ is.is (of_ending is.ending.end _)
-
 of_rename : (bytes : List ℕ) (reading : Reading) (due : Due) → IsReadingDue (renames.IsTreeDue bytes) reading due → EndsJob due
 of_rename bytes (IsRefused kind place) due is = as_that due _ is refl
 of_rename bytes (IsTree tree finish) due is = as_that due _ is refl
 
-of_end_run : (it : runs.Asking) (w : StageState) (end : End) (due : Due) → runs.IsEndDue it w end due → EndsJob due
-of_end_run it w Done due is = of_call is.image it.call _ (symbol_named it.call.entry is.image.exports) due is.due_is
-of_end_run it w (Raised text place) due is = as_that due _ is refl
-of_end_run it w Spent due is = as_that due _ is refl
+of_done : (task : Task) (it : Ending) (due : Due) → IsDone task it due → EndsJob due
+of_done (Check limits) it due is = as_that due _ is refl
+of_done (Terms limits) it due is = as_that due _ is refl
+of_done (Emit limits) it due is = as_that due _ is.is refl
+of_done (Run asking) it due is = of_call is.image asking.call _ (symbol_named asking.call.entry is.image.exports) due is.due_is
 
-of_run_reading : (it : runs.Asking) (reading : Reading) (due : Due) → IsReadingDue (runs.IsTreeDue it) reading due → EndsJob due
-of_run_reading it (IsRefused kind place) due is = as_that due _ is refl
-of_run_reading it (IsTree tree finish) due is =
-    as_that due _ is.is_due.is (of_end_run it is.ending.left.world.stage is.ending.end is.is_due.rest is.is_due.rest_is)
+of_end : (task : Task) (it : Ending) (end : End) (due : Due) → IsEndDue task it end due → EndsJob due
+of_end task it Done due is = of_done task it due is
+of_end task it (Raised text place) due is = as_that due _ is refl
+of_end task it Spent due is = as_that due _ is refl
 
-of_end_emit : (limits : Limits) (w : StageState) (end : End) (due : Due) → emits.IsEndDue limits w end due → EndsJob due
-of_end_emit limits w Done due is = as_that due _ is.is refl
-of_end_emit limits w (Raised text place) due is = as_that due _ is refl
-of_end_emit limits w Spent due is = as_that due _ is refl
+of_rest : (task : Task) (it : Ending) (due : Due) → IsRestOwed task it due → EndsJob due
+of_rest task it due (inl is) = of_end task it it.end due is
+of_rest task it due (inr none) = as_that due _ none.1 refl
 
-of_emit_reading : (limits : Limits) (reading : Reading) (due : Due) → IsReadingDue (emits.IsTreeDue limits) reading due → EndsJob due
-of_emit_reading limits (IsRefused kind place) due is = as_that due _ is refl
-of_emit_reading limits (IsTree tree finish) due is =
-    as_that due _ is.is_due.is (of_end_emit limits is.ending.left.world.stage is.ending.end is.is_due.rest is.is_due.rest_is)
-
-of_cut : (Is : Due → Type 0) → ((due : Due) → Is due → EndsJob due) → (due : Due) → IsDueOrCut Is due → EndsJob due
-of_cut Is ends due (IsWhole is) = ends due is
-of_cut Is ends due (IsCut whole is front short noted memory notes) = ap ends_job memory
+of_reading : (task : Task) (reading : Reading) (due : Due) → IsReadingDue (IsTreeOwed task) reading due → EndsJob due
+of_reading task (IsRefused kind place) due is = as_that due _ is refl
+of_reading task (IsTree tree finish) due is =
+    ap ends_job (ap (λ (d : Due). d.status) is.is ∙ told_status task is.ending.left.world.stage.heap.printed is.rest)
+    ∙ of_rest task is.ending is.rest is.rest_is
 
 of_owed : (job : Job) (bytes : List ℕ) (due : Due) → IsOwed (Some job) bytes due → EndsJob due
-of_owed (Run call running) bytes due (IsMade is) = of_cut _ (λ d i. of_run_reading (runs.of_run call running) i.0 d i.2) due is
-of_owed (Run call running) bytes due (IsUnmade printed done is) = as_that due _ is refl
-of_owed (Emit limits) bytes due (IsMade is) = of_emit_reading limits is.0 due is.2
-of_owed (Emit limits) bytes due (IsUnmade printed done is) = as_that due _ is refl
-of_owed (Gen count running) bytes due (IsMade is) = of_cut _ (λ d i. of_run_reading (of_gen count running) i.0 d i.2) due is
-of_owed (Gen count running) bytes due (IsUnmade printed done is) = as_that due _ is refl
-of_owed (Exec call steps) bytes due is = of_cut _ (λ d i. of_exec call steps bytes d i) due is
-of_owed (Check limits) bytes due is = of_cut _ (λ d i. of_check limits i.0 d i.2) due is
-of_owed (Terms limits) bytes due is = of_cut _ (λ d i. of_terms limits i.0 d i.2) due is
-of_owed Rename bytes due is = of_cut _ (λ d i. of_rename bytes i.0 d i.2) due is
+of_owed (Make Rename) bytes due is = of_rename bytes is.0 due is.2
+of_owed (Stage task) bytes due is = of_reading task is.0 due is.2
+of_owed (Exec call steps) bytes due is = of_exec call steps bytes due is
 
-no_usage : (due : Due) → EndsJob due → due.status ≢ statuses.Usage
-no_usage due ends is = let bad : true ≡ false = sym ends ∙ ap ends_job is in absurd cc
-
-no_read_fault : (due : Due) → EndsJob due → due.status ≢ statuses.ReadFault
-no_read_fault due ends is = let bad : true ≡ false = sym ends ∙ ap ends_job is in absurd cc
+not_ending : (due : Due) (status : Status) → ends_job status ≡ false → EndsJob due → due.status ≢ status
+not_ending due status no ends is = let bad : true ≡ false = sym ends ∙ ap ends_job is ∙ no in absurd cc
 
 -- a job isn't refused as bad usage
 pub job_no_usage : (job : Option Job) (left : Option (List ℕ)) (Rose : Type 0) (due : Due) → IsSome job → Owed job left Rose due
     → due.status ≢ statuses.Usage
 job_no_usage None left Rose due some owed = let bad : false ≡ true = some in absurd cc
-job_no_usage (Some job) left Rose due some (Answered bytes told is) = no_usage due (of_owed job bytes due is)
+job_no_usage (Some job) left Rose due some (Answered bytes told is) = not_ending due statuses.Usage refl (of_owed job bytes due is)
 job_no_usage (Some job) left Rose due some (Unread named rose is) = λ e. let bad : statuses.ReadFault ≡ statuses.Usage =
     sym (ap (λ (d : Due). d.status) is) ∙ e in absurd cc
 job_no_usage (Some job) left Rose due some (OutOfMemory is) = λ e. let bad : statuses.NoMemory ≡ statuses.Usage =
     sym (ap (λ (d : Due). d.status) is) ∙ e in absurd cc
 
-none_no_read_fault : (bytes : List ℕ) (due : Due) → IsDueOrCut (IsDue None bytes) due → due.status ≢ statuses.ReadFault
-none_no_read_fault bytes due (IsWhole is) = λ e. let bad : statuses.Usage ≡ statuses.ReadFault = sym (ap (λ (d : Due). d.status) is.1)
-    ∙ e in absurd cc
-none_no_read_fault bytes due (IsCut whole is front short noted memory notes) = λ e. let bad : statuses.NoMemory ≡ statuses.ReadFault =
-    sym memory ∙ e in absurd cc
-
 -- a read that failed is told only where the source's count of faults rose
 pub read_fault_rose : (job : Option Job) (left : Option (List ℕ)) (Rose : Type 0) (due : Due) → Owed job left Rose due
     → due.status ≡ statuses.ReadFault → Rose
-read_fault_rose None left Rose due (Answered bytes told is) fault = absurd (none_no_read_fault bytes due is fault)
-read_fault_rose (Some job) left Rose due (Answered bytes told is) fault = absurd (no_read_fault due (of_owed job bytes due is) fault)
+read_fault_rose None left Rose due (Answered bytes told is) fault = let bad : statuses.Usage ≡ statuses.ReadFault =
+    sym (ap (λ (d : Due). d.status) is.1) ∙ fault in absurd cc
+read_fault_rose (Some job) left Rose due (Answered bytes told is) fault =
+    absurd (not_ending due statuses.ReadFault refl (of_owed job bytes due is) fault)
 read_fault_rose job left Rose due (Unread named rose is) fault = rose
 read_fault_rose job left Rose due (OutOfMemory is) fault = let bad : statuses.NoMemory ≡ statuses.ReadFault =
     sym (ap (λ (d : Due). d.status) is) ∙ fault in absurd cc

@@ -1,16 +1,46 @@
--- What was read tells how the whole source reads.
-use Rattle.std.proofs.Common.{◌≡◌, ◌⊎◌, inl, inr, ◌+◌, ◌≤◌, ℕ, List, ◌++◌, length, sym, subst, arith, length-append}
-use Rattle.terrac_call.specs.Words.{Limits}
-use Rattle.terrac_call.specs.Due.{Due, Reading, IsReadAs, IsTooLong, IsNotUtf8, IsText, IsReadingDue, longest}
-use Rattle.terrac_call.specs.Staged.{IsPrinted}
-use Rattle.terrac_call.specs.Run.{Asking, IsSourceDue}
-use Rattle.terrac_call.specs.Emit.{IsEmitDue}
-use Rattle.terrac_call.specs.Answer.{IsMade, IsUnmade, IsRunOwed, IsEmitOwed}
-use Rattle.terrac_call.proofs.Endings.{cut_into}
-use Rattle.terrac_call.specs.Check.{IsCheckDue}
-use Rattle.terrac_call.specs.Terms.{IsTermsDue}
+-- What was read of a source tells what is owed for the whole of it.
+use Rattle.std.proofs.Common.{◌≡◌, ◌⊎◌, inl, inr, ◌+◌, ◌≤◌, ℕ, List, [], ◌++◌, length, Option, Some, None, refl, sym, ap, subst, ◌∙◌, arith}
+use Rattle.std.proofs.Common.{append-nil, length-append}
+use Rattle.tl_base.specs.declared.place.Place.{Place}
+use Rattle.tl_base.specs.Outside.{with_front, IsAtEnd}
+use Rattle.tl_tree.specs.Code.{Items}
+use Rattle.terrac_call.specs.Words.{Call, Job, Make, Stage, Exec, Task, Check, Terms, Emit, Run, Rename, source_of}
+use Rattle.terrac_call.specs.Due.{Due, IsDueOfSource, IsNotUtf8, IsReadAs, IsReadingDue, IsText, IsTooLong, Reading, longest}
+use Rattle.terrac_call.specs.Exec.{IsBad, IsExecDue, IsImage, IsLong, longest_image}
+use Rattle.terrac_call.specs.Staged.{IsSourceOwed, IsTreeOwed}
 use Rattle.terrac_call.specs.Rename.{IsRenameDue}
 use Rattle.terrac_call.specs.Rename as renames
+use Rattle.terrac_call.specs.Reading.{IsToldAs, most_of_source, most_of_task, most_read}
+use Rattle.terrac_call.specs.Answer.{Answered, IsOwed, Owed}
+
+-- what was read of a source: all of it, or more than it may have
+pub record IsEnough (most : ℕ) (text : List ℕ) (old new : Option (List ℕ)) : Type 0 where
+  pub front : old ≡ with_front text new
+  pub ends : (length text ≡ most) ⊎ IsAtEnd new
+
+-- that is the whole, or as much of it as is read at most
+abbrev IsRead : ℕ → List ℕ → List ℕ → Type 0
+IsRead most text bytes = (text ≡ bytes) ⊎ ((most ≤ length text) × ((back : List ℕ) × (bytes ≡ text ++ back)))
+
+-- the bytes of a source, of which that was read
+record Whole (most : ℕ) (text : List ℕ) (old : Option (List ℕ)) : Type 0 where
+  bytes : List ℕ
+  told : IsToldAs old bytes
+  read : IsRead most text bytes
+
+whole_of : (most : ℕ) (text : List ℕ) (new : Option (List ℕ)) → (length text ≡ most) ⊎ IsAtEnd new → Whole most text (with_front text new)
+whole_of most text None ends = record { bytes = text; told = tt; read = inl refl }
+whole_of most text (Some rest) (inl long) = record { bytes = text ++ rest; told = refl; read = inr (omega arith, (rest, refl)) }
+whole_of most text (Some rest) (inr over) = record {
+  bytes = text;
+  told = ap (λ back. text ++ back) over ∙ append-nil text;
+  read = inl refl;
+}
+
+whole : (most : ℕ) (text : List ℕ) (old new : Option (List ℕ)) → IsEnough most text old new → Whole most text old
+whole most text old new enough = subst (Whole most text) (sym enough.front) (whole_of most text new enough.ends)
+
+-- ---- a source
 
 -- a source is too long that has a front that is
 longer : (text rest : List ℕ) (reading : Reading) → longest + 1 ≤ length text → IsReadAs text reading → IsReadAs (text ++ rest) reading
@@ -18,54 +48,11 @@ longer text rest _ long (IsTooLong l) = IsTooLong (omega (arith, length-append t
 longer text rest _ long (IsNotUtf8 l n) = absurd (omega arith)
 longer text rest _ long (IsText r l u p) = absurd (omega arith)
 
--- what was read is the whole, or longer than a source may be
-abbrev IsRead : List ℕ → List ℕ → Type 0
-IsRead text bytes = (text ≡ bytes) ⊎ ((longest + 1 ≤ length text) × ((back : List ℕ) × (bytes ≡ text ++ back)))
-
--- what is due for what was read is due for the whole
-pub source_whole : (it : Asking) (text bytes : List ℕ) (due : Due) → IsRead text bytes → IsSourceDue it text due → IsSourceDue it bytes due
-source_whole it text bytes due (inl same) is = subst (λ (b : List ℕ). IsSourceDue it b due) same is
-source_whole it text bytes due (inr long) is =
-    subst (λ (b : List ℕ). IsSourceDue it b due) (sym long.1.1) (is.0, longer text long.1.0 is.0 long.0 is.1, is.2)
-
-emit_whole : (limits : Limits) (text bytes : List ℕ) (due : Due) → IsRead text bytes → IsEmitDue limits text due
-    → IsEmitDue limits bytes due
-emit_whole limits text bytes due (inl same) is = subst (λ (b : List ℕ). IsEmitDue limits b due) same is
-emit_whole limits text bytes due (inr long) is =
-    subst (λ (b : List ℕ). IsEmitDue limits b due) (sym long.1.1) (is.0, longer text long.1.0 is.0 long.0 is.1, is.2)
-
-printed_whole : (limits : Limits) (text bytes printed : List ℕ) → IsRead text bytes → IsPrinted limits text printed
-    → IsPrinted limits bytes printed
-printed_whole limits text bytes printed (inl same) is = subst (λ (b : List ℕ). IsPrinted limits b printed) same is
-printed_whole limits text bytes printed (inr long) is =
-    subst (λ (b : List ℕ). IsPrinted limits b printed) (sym long.1.1) (is.0, longer text long.1.0 is.0 long.0 is.1, is.2)
-
-pub run_owed_whole : (it : Asking) (text bytes : List ℕ) (due : Due) → IsRead text bytes → IsRunOwed it text due → IsRunOwed it bytes due
-run_owed_whole it text bytes due read (IsMade is) =
-    IsMade (cut_into (IsSourceDue it text) (IsSourceDue it bytes) (λ d i. source_whole it text bytes d read i) due is)
-run_owed_whole it text bytes due read (IsUnmade printed done is) =
-    IsUnmade printed (printed_whole it.running.limits text bytes printed read done) is
-
-pub emit_owed_whole : (limits : Limits) (text bytes : List ℕ) (due : Due) → IsRead text bytes → IsEmitOwed limits text due
-    → IsEmitOwed limits bytes due
-emit_owed_whole limits text bytes due read (IsMade is) =
-    IsMade (emit_whole limits text bytes due read is)
-emit_owed_whole limits text bytes due read (IsUnmade printed done is) =
-    IsUnmade printed (printed_whole limits text bytes printed read done) is
-
-pub check_whole : (limits : Limits) (text bytes : List ℕ) (due : Due) → (text ≡ bytes)
-    ⊎ ((longest + 1 ≤ length text) × ((back : List ℕ) × (bytes ≡ text ++ back))) →
-    IsCheckDue limits text due → IsCheckDue limits bytes due
-check_whole limits text bytes due (inl same) is = subst (λ (b : List ℕ). IsCheckDue limits b due) same is
-check_whole limits text bytes due (inr long) is =
-    subst (λ (b : List ℕ). IsCheckDue limits b due) (sym long.1.1) (is.0, longer text long.1.0 is.0 long.0 is.1, is.2)
-
-pub terms_whole : (limits : Limits) (text bytes : List ℕ) (due : Due)
-    → (text ≡ bytes) ⊎ ((longest + 1 ≤ length text) × ((back : List ℕ) × (bytes ≡ text ++ back)))
-    → IsTermsDue limits text due → IsTermsDue limits bytes due
-terms_whole limits text bytes due (inl same) is = subst (λ (b : List ℕ). IsTermsDue limits b due) same is
-terms_whole limits text bytes due (inr long) is =
-    subst (λ (b : List ℕ). IsTermsDue limits b due) (sym long.1.1) (is.0, longer text long.1.0 is.0 long.0 is.1, is.2)
+source_whole : (IsTree : Items → Place → Due → Type 0) (text bytes : List ℕ) (due : Due) → IsRead (longest + 1) text bytes
+    → IsDueOfSource IsTree text due → IsDueOfSource IsTree bytes due
+source_whole IsTree text bytes due (inl same) is = subst (λ (b : List ℕ). IsDueOfSource IsTree b due) same is
+source_whole IsTree text bytes due (inr long) is =
+    subst (λ (b : List ℕ). IsDueOfSource IsTree b due) (sym long.1.1) (is.0, longer text long.1.0 is.0 long.0 is.1, is.2)
 
 -- a text that is too long is refused, whatever stands in it
 too_long_renamed : (text other : List ℕ) (reading : Reading) (due : Due) → longest + 1 ≤ length text → IsReadAs text reading
@@ -74,11 +61,50 @@ too_long_renamed text other _ due long (IsTooLong l) is = is
 too_long_renamed text other _ due long (IsNotUtf8 l n) is = is
 too_long_renamed text other _ due long (IsText r l u p) is = absurd (omega arith)
 
-pub rename_whole : (text bytes : List ℕ) (due : Due)
-    → (text ≡ bytes) ⊎ ((longest + 1 ≤ length text) × ((back : List ℕ) × (bytes ≡ text ++ back)))
-    → IsRenameDue text due → IsRenameDue bytes due
+rename_whole : (text bytes : List ℕ) (due : Due) → IsRead (longest + 1) text bytes → IsRenameDue text due → IsRenameDue bytes due
 rename_whole text bytes due (inl same) is = subst (λ (b : List ℕ). IsRenameDue b due) same is
 rename_whole text bytes due (inr long) is =
-    let whole = text ++ long.1.0 in
     subst (λ (b : List ℕ). IsRenameDue b due) (sym long.1.1)
-    (is.0, longer text long.1.0 is.0 long.0 is.1, too_long_renamed text whole is.0 due long.0 is.1 is.2)
+    (is.0, longer text long.1.0 is.0 long.0 is.1, too_long_renamed text (text ++ long.1.0) is.0 due long.0 is.1 is.2)
+
+-- what is owed for a source that is read, or generated
+run_whole : (task : Task) (generated : Option ℕ) (text bytes : List ℕ) (due : Due) → IsRead (most_of_source generated) text bytes
+    → IsSourceOwed task (source_of generated text) due → IsSourceOwed task (source_of generated bytes) due
+run_whole task None text bytes due read is = source_whole (IsTreeOwed task) text bytes due read is
+run_whole task (Some count) text bytes due read is = is
+
+task_whole : (task : Task) (text bytes : List ℕ) (due : Due) → IsRead (most_of_task task) text bytes → IsOwed (Some (Stage task)) text due
+    → IsOwed (Some (Stage task)) bytes due
+task_whole (Check limits) text bytes due read is = source_whole (IsTreeOwed (Check limits)) text bytes due read is
+task_whole (Terms limits) text bytes due read is = source_whole (IsTreeOwed (Terms limits)) text bytes due read is
+task_whole (Emit limits) text bytes due read is = source_whole (IsTreeOwed (Emit limits)) text bytes due read is
+task_whole (Run asking) text bytes due read is = run_whole (Run asking) asking.generated text bytes due read is
+
+-- ---- an image
+
+exec_longer : (call : Call) (steps : ℕ) (text rest : List ℕ) (due : Due) → longest_image + 1 ≤ length text
+    → IsExecDue call steps text due → IsExecDue call steps (text ++ rest) due
+exec_longer call steps text rest due long (IsLong more is) = IsLong (omega (arith, length-append text rest)) is
+exec_longer call steps text rest due long (IsBad error few bad is) = absurd (omega arith)
+exec_longer call steps text rest due long (IsImage image few loads is) = absurd (omega arith)
+
+exec_whole : (call : Call) (steps : ℕ) (text bytes : List ℕ) (due : Due) → IsRead (longest_image + 1) text bytes
+    → IsExecDue call steps text due → IsExecDue call steps bytes due
+exec_whole call steps text bytes due (inl same) is = subst (λ (b : List ℕ). IsExecDue call steps b due) same is
+exec_whole call steps text bytes due (inr long) is =
+    subst (λ (b : List ℕ). IsExecDue call steps b due) (sym long.1.1) (exec_longer call steps text long.1.0 due long.0 is)
+
+-- ---- a job
+
+job_whole : (job : Job) (text bytes : List ℕ) (due : Due) → IsRead (most_read (Some job)) text bytes → IsOwed (Some job) text due
+    → IsOwed (Some job) bytes due
+job_whole (Make Rename) text bytes due read is = rename_whole text bytes due read is
+job_whole (Stage task) text bytes due read is = task_whole task text bytes due read is
+job_whole (Exec call steps) text bytes due read is = exec_whole call steps text bytes due read is
+
+-- what is owed on what was read is owed for what the source has left
+pub owed_read : (job : Job) (left new : Option (List ℕ)) (Rose : Type 0) (text : List ℕ) (due : Due)
+    → IsEnough (most_read (Some job)) text left new → IsOwed (Some job) text due → Owed (Some job) left Rose due
+owed_read job left new Rose text due enough is =
+    let w = whole (most_read (Some job)) text left new enough in
+    Answered w.bytes w.told (job_whole job text w.bytes due w.read is)

@@ -1,5 +1,5 @@
 -- What one piece does to a sink, and what all of them do; and one read to what was read.
-use Rattle.std.specs.Prelude.{ℕ, ◌≡◌, ◌<◌, ◌≤◌, List, [], ◌++◌, length, Option}
+use Rattle.std.specs.Prelude.{ℕ, ◌≡◌, ◌<◌, ◌≤◌, ◌⊎◌, List, [], ◌++◌, length, Option}
 use Rattle.tl_base.specs.Outside.{with_front, with_back, IsRisen, IsFront}
 use Rattle.terrac_call.specs.declared.status.Status.{Status}
 use Rattle.terrac_call.specs.declared.status.Status.TheVariants as statuses
@@ -26,6 +26,7 @@ pub record Delivered
   pub delivers : Delivers due status out_old out_new notes_old notes_new o0 o1 n0 n1
   pub out_rose : o0 < o1 → status ≡ statuses.WriteFault
   pub notes_rose : n0 < n1 → status ≡ statuses.WriteFault
+  pub fault : status ≡ statuses.WriteFault → IsRisen o0 o1 ⊎ IsRisen n0 n1
   pub quiet_out : due.out ≡ [] → SameOut
   pub quiet_notes : status ≡ statuses.Ok → due.noted ≡ [] → SameNotes
 

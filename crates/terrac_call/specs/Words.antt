@@ -222,8 +222,8 @@ job_of_command (Some found) =
     else (if bytes_eq found.0 (codes "exec") then Exec (call_of found.1) (number_found (codes "steps") found.1)
     else (if bytes_eq found.0 (codes "check") then Stage (Check (limits_of found.1))
     else (if bytes_eq found.0 (codes "terms") then Stage (Terms (limits_of found.1))
-    else (if bytes_eq found.0 (codes "rename") then Make Rename
-    else (if bytes_eq found.0 (codes "gen") then Stage (Run (gen_of found.1)) else Stage (Emit (limits_of found.1)))))))
+    else (if bytes_eq found.0 (codes "emit") then Stage (Emit (limits_of found.1))
+    else (if bytes_eq found.0 (codes "gen") then Stage (Run (gen_of found.1)) else Make Rename)))))
 
 -- the job that the words name, the program's own name first: none exactly where `clap` refuses them
 unfoldable pub job_of : List Text → Option Job

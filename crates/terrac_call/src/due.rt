@@ -2,6 +2,7 @@
 
 ghost use Rattle.std.specs.Prelude.{◌≡◌, ◌≢◌, ◌+◌, ◌≤◌, [], length, string_bytes, vec_capacity};
 ghost use Rattle.terrac_call.specs.declared.status.Status.TheVariants as statuses;
+ghost use Rattle.terrac_call.specs.declared.due.TheConstants.{LONGEST_END};
 
 use crate::status::Status;
 use rv_machine::Machine;

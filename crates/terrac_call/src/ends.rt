@@ -1,6 +1,6 @@
 // The line of a run's end, written where room was made for it before the run began, so that no memory is asked for.
 
-ghost use Rattle.std.specs.Prelude.{◌≡◌, ◌≢◌, ◌+◌, ◌%◌, ◌≤◌, [], ◌++◌, length, codes, vec_len, vec_capacity};
+ghost use Rattle.std.specs.Prelude.{◌≡◌, ◌≢◌, ◌+◌, ◌%◌, ◌≤◌, [], ◌++◌, length, codes, vec_len, vec_capacity, if◌then◌else◌};
 ghost use Rattle.std.specs.Fmt.{decimal};
 ghost use Rattle.elf_image.specs.Calls.{number_text, result_text, span};
 ghost use Rattle.rv_machine.specs.declared.stops.Stop.TheVariants as stops;

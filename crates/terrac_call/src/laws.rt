@@ -2,6 +2,7 @@
 
 ghost use Rattle.terrac_call.specs.Headline.{DueTellsMeaning, RunsTellMeaning};
 ghost use Rattle.terrac_call.specs.Meant.{CallsAreMeant, SourcesAreMeant};
+ghost use Rattle.terrac_call.specs.Ranges.{AreWorked, JobsAreLawful};
 
 /// The run of an export of a compiled image ends, prints and fails only as the function that it is means, and isn't over only where that
 /// isn't over in time.
@@ -26,4 +27,14 @@ pub fn calls_are_meant()
 /// So it is for each source whose staging is done, behind what the staging printed.
 pub fn sources_are_meant()
     ensures { SourcesAreMeant }
+{}
+
+/// The numbers of each job that words name are in their ranges: limits, steps, and how many functions are generated.
+pub fn jobs_are_lawful()
+    ensures { JobsAreLawful }
+{}
+
+/// What some words name, worked out.
+pub fn words_are_worked()
+    ensures { AreWorked }
 {}

@@ -22,5 +22,8 @@ mod work;
 mod writing;
 
 pub use call::{one_due, refuse_unread, terrac};
-pub use laws::{calls_are_meant, runs_tell_meaning, sources_are_meant};
+pub use laws::{
+    calls_are_meant, due_tells_meaning, jobs_are_lawful, runs_tell_meaning, sources_are_meant,
+    words_are_worked,
+};
 pub use status::{FaultKind, ImageFault, Status};

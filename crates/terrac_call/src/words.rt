@@ -138,12 +138,12 @@ fn job_named<'a>(alloc: Global, name: &str, found: &ArgMatches<'a>) -> Result<Jo
         Ok(Job::Stage(Task::Check(limits_of(found))))
     } else if name == "terms" {
         Ok(Job::Stage(Task::Terms(limits_of(found))))
-    } else if name == "rename" {
-        Ok(Job::Make(Making::Rename))
+    } else if name == "emit" {
+        Ok(Job::Stage(Task::Emit(limits_of(found))))
     } else if name == "gen" {
         Ok(Job::Stage(Task::Run(gen_of(alloc, found))))
     } else {
-        Ok(Job::Stage(Task::Emit(limits_of(found))))
+        Ok(Job::Make(Making::Rename))
     }
 }
 

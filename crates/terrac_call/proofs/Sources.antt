@@ -1,0 +1,130 @@
+-- What is owed for a source: from what its staging was made to, up to its bytes.
+use Rattle.std.proofs.Common.{◌≡◌, ◌⊎◌, inl, inr, ℕ, List, [], ◌++◌, Some, refl, sym, ap, ap₂, subst, ◌∙◌, append_assoc}
+use Rattle.tl_base.specs.declared.place.Place.{Place}
+use Rattle.tl_tree.specs.Code.{Items}
+use Rattle.tl_tree.specs.Nodes.{lay}
+use Rattle.tl_tree.specs.Tree.{Tree}
+use Rattle.elf_image.specs.declared.image.Image.{Image}
+use Rattle.elf_image.specs.Calls.{symbol_named}
+use Rattle.elf_image.specs.Written as files
+use Rattle.terra_term.specs.Stores.{contents_of}
+use Rattle.exotype.specs.World.{StageState}
+use Rattle.spec_sound.specs.Sound.{ArePlaced}
+use Rattle.check_stage.specs.declared.staging.End.{End}
+use Rattle.check_stage.specs.declared.staging.End.TheVariants as staged
+use Rattle.check_stage.specs.Staging.{Ending, outcome}
+use Rattle.back_end.specs.Compiled.{IsCompiled}
+use Rattle.stage_image.specs.declared.emitting.Made.{Made}
+use Rattle.stage_image.specs.declared.emitting.Made.TheVariants as made
+use Rattle.stage_image.specs.Emitted.{IsMade, defined_count}
+use Rattle.terrac_call.specs.declared.status.Status.TheVariants as statuses
+use Rattle.terrac_call.specs.Words.{Asking, Emit, Limits, Run, Task}
+use Rattle.terrac_call.specs.Due.{Due, IsReadAs, IsTree, given, refused}
+use Rattle.terrac_call.specs.Exec.{IsCallDue}
+use Rattle.terrac_call.specs.Run.{manner_of}
+use Rattle.terrac_call.specs.Staged.{IsDone, IsEndDue, IsRestOwed, IsSourceOwed, IsTreeOwed, bytes_of, limits_of, mode_of, told}
+use Rattle.terrac_call.specs.EndView.{due_of_end}
+use Rattle.terrac_call.specs.MadeView.{IsLawfulMade}
+
+-- five pieces, joined from the right
+pub five_joined : (a b c d e : List ℕ) → a ++ (b ++ (c ++ (d ++ e))) ≡ a ++ b ++ c ++ d ++ e
+five_joined a b c d e =
+    sym (append_assoc (a ++ b ++ c) d e ∙ append_assoc (a ++ b) c (d ++ e) ∙ append_assoc a b (c ++ (d ++ e)))
+
+-- ---- what a staging was made to
+
+-- an image that compiling gave is lawful
+pub lawful_made : (w : StageState) (memory : ℕ) (end : End) (it : Made) → IsMade w memory end it → IsLawfulMade it
+lawful_made w memory staged.Done (made.Image image) is = is.lawful
+lawful_made w memory staged.Done (made.Raised text place) is = absurd is
+lawful_made w memory staged.Done made.Spent is = absurd is
+lawful_made w memory staged.Done made.Unmade is = tt
+lawful_made w memory (staged.Raised text place) it is = subst IsLawfulMade (sym is) tt
+lawful_made w memory staged.Spent it is = subst IsLawfulMade (sym is) tt
+
+refused_same : (text other : List ℕ) (place at : Place) → ◌≡◌ {A = Made} (made.Raised text place) (made.Raised other at)
+    → refused (statuses.Raised text place) ≡ refused (statuses.Raised other at)
+refused_same text other place at same =
+    let texts : text ≡ other = cc in
+    let places : place ≡ at = cc in
+    ap₂ (λ t p. refused (statuses.Raised t p)) texts places
+
+module _ (task : Task) (it : Ending) (memory : ℕ) where
+  -- an image comes of a staging that is done
+  pub image_end : (end : End) (image : Image) (rest : Due) → IsMade it.left.world.stage memory end (made.Image image)
+      → (IsCompiled (contents_of it.left.world.stage.store) memory it.left.world.stage.exports.list image → IsDone task it rest)
+      → IsEndDue task it end rest
+  image_end staged.Done image rest is done = done is
+  image_end (staged.Raised text place) image rest is done = absurd cc
+  image_end staged.Spent image rest is done = absurd cc
+
+  -- a staging that raised an error owes its line
+  pub raised_end : (end : End) (text : List ℕ) (place : Place) → IsMade it.left.world.stage memory end (made.Raised text place)
+      → IsEndDue task it end (refused (statuses.Raised text place))
+  raised_end staged.Done text place is = absurd is
+  raised_end (staged.Raised other at) text place is = refused_same text other place at is
+  raised_end staged.Spent text place is = absurd cc
+
+  -- and so does one whose budget was spent
+  pub spent_end : (end : End) → IsMade it.left.world.stage memory end made.Spent → IsEndDue task it end (refused statuses.BudgetSpent)
+  spent_end staged.Done is = absurd is
+  spent_end (staged.Raised text place) is = absurd cc
+  spent_end staged.Spent is = refl
+
+  -- lines that are due where it is done are due with each end
+  pub lines_end : (end : End) (lines : List ℕ) → IsDone task it (given lines) → IsEndDue task it end (due_of_end end lines)
+  lines_end staged.Done lines done = done
+  lines_end (staged.Raised text place) lines done = refl
+  lines_end staged.Spent lines done = refl
+
+-- the file of an image that was compiled
+pub file_done : (limits : Limits) (it : Ending) (image : Image) (rest : Due)
+    → IsCompiled (contents_of it.left.world.stage.store) (bytes_of limits.memory) it.left.world.stage.exports.list image
+    → rest ≡ given (files.bytes_of image) → IsDone (Emit limits) it rest
+file_done limits it image rest compiled is = record { image = image; compiled = compiled; is = is }
+
+-- and a call of it
+pub call_done : (asking : Asking) (it : Ending) (functions : ℕ) (image : Image) (rest : Due)
+    → functions ≡ defined_count it.left.world.stage.store
+    → IsCompiled (contents_of it.left.world.stage.store) (bytes_of asking.running.limits.memory) it.left.world.stage.exports.list image
+    → IsCallDue image asking.call (manner_of asking functions) (symbol_named asking.call.entry image.exports) rest
+    → IsDone (Run asking) it rest
+call_done asking it functions image rest count compiled is = record {
+  image = image;
+  compiled = compiled;
+  due_is =
+      subst (λ (n : ℕ). IsCallDue image asking.call (manner_of asking n) (symbol_named asking.call.entry image.exports) rest) count is;
+}
+
+-- ---- for the nodes of a tree, and for the bytes that read as it
+
+-- what is owed behind what a staging printed
+pub tree_owed : (task : Task) (items : Items) (finish : Place) (n units memory : ℕ) (it : Ending) (printed : List ℕ) (rest due : Due)
+    → ArePlaced items → outcome items finish (mode_of task) n units memory ≡ Some it → units ≡ (limits_of task).budget
+    → memory ≡ bytes_of (limits_of task).memory → printed ≡ it.left.world.stage.heap.printed → IsRestOwed task it rest
+    → due ≡ told task printed rest → IsTreeOwed task items finish due
+tree_owed task items finish n units memory it printed rest due placed comes same_units same_memory same_printed owed is = record {
+  placed = placed;
+  n = n;
+  ending = it;
+  comes =
+      subst (λ (m : ℕ). outcome items finish (mode_of task) n (limits_of task).budget m ≡ Some it) same_memory
+      (subst (λ (u : ℕ). outcome items finish (mode_of task) n u memory ≡ Some it) same_units comes);
+  rest = rest;
+  rest_is = owed;
+  is = is ∙ ap (λ (p : List ℕ). told task p rest) same_printed;
+}
+
+-- lines that stagings give
+pub written_owed : (task : Task) (items : Items) (finish : Place) (n units memory : ℕ) (it : Ending) (printed lines : List ℕ) (end : End)
+    (due : Due) → ArePlaced items → outcome items finish (mode_of task) n units memory ≡ Some it → units ≡ (limits_of task).budget
+    → memory ≡ bytes_of (limits_of task).memory → printed ≡ it.left.world.stage.heap.printed → end ≡ it.end
+    → IsDone task it (given lines) → due ≡ told task printed (due_of_end end lines) → IsTreeOwed task items finish due
+written_owed task items finish n units memory it printed lines end due placed comes same_units same_memory same_printed same_end done is =
+    tree_owed task items finish n units memory it printed (due_of_end it.end lines) due placed comes same_units same_memory same_printed
+    (inl (lines_end task it memory it.end lines done)) (is ∙ ap (λ (e : End). told task printed (due_of_end e lines)) same_end)
+
+pub source_owed : (task : Task) (bytes : List ℕ) (tree : Tree) (finish : Place) (items : Items) (due : Due)
+    → IsReadAs bytes (IsTree tree finish) → items ≡ lay tree [] → IsTreeOwed task items finish due → IsSourceOwed task bytes due
+source_owed task bytes tree finish items due reads laid is =
+    (IsTree tree finish, reads, subst (λ (xs : Items). IsTreeOwed task xs finish due) laid is)
