@@ -5,7 +5,7 @@ use Rattle.tl_tree.specs.Nodes.{lay}
 use Rattle.tl_tree.specs.Binding.{Alike}
 use Rattle.tl_renaming.specs.Call.{IsRenaming}
 use Rattle.renaming_alike.specs.Renamed.{HaveShortNames}
-use Rattle.terrac_call.specs.Words.{Job, Run, Emit, Exec, Check, Terms, Rename, Gen, job_of}
+use Rattle.terrac_call.specs.Words.{Job, Make, Stage, Exec, generated_of, job_of}
 use Rattle.terrac_call.specs.Due.{Due, longest}
 use Rattle.terrac_call.specs.Answer.{IsDue}
 use Rattle.terrac_call.specs.Call.{CompilesNothing}
@@ -21,13 +21,9 @@ pub record AreAlikeSources (a b : List ℕ) : Type 0 where
 -- the jobs that stage the source that they read
 abbrev pub StagesSource : Option Job → Type 0
 StagesSource None = ⊥
-StagesSource (Some (Run call running)) = Unit {0}
-StagesSource (Some (Emit limits)) = Unit {0}
+StagesSource (Some (Make what)) = ⊥
+StagesSource (Some (Stage task)) = generated_of task ≡ None
 StagesSource (Some (Exec call steps)) = ⊥
-StagesSource (Some (Check limits)) = Unit {0}
-StagesSource (Some (Terms limits)) = Unit {0}
-StagesSource (Some Rename) = ⊥
-StagesSource (Some (Gen count running)) = ⊥
 
 -- What is due for the one is due for the other, and no more: of `run` and `emit` on either the same images, of the same exports.
 abbrev pub AlikeSourcesAreDueAlike : Type 0

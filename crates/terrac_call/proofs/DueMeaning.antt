@@ -27,8 +27,8 @@ use Rattle.terrac_call.specs.Arguments.{size_of, then_arguments}
 use Rattle.terrac_call.specs.Due.{Due, after, noting}
 use Rattle.terrac_call.specs.Exec.{IsCallDue, IsGoodDue, IsRunDue, Manner, due_of_stop, shown_file}
 use Rattle.terrac_call.specs.Headline.{DueTellsMeaning}
-use Rattle.terrac_call.specs.Run.{Asking, manner_of}
-use Rattle.terrac_call.specs.Staged.{bytes_of}
+use Rattle.terrac_call.specs.Words.{Asking}
+use Rattle.terrac_call.specs.Run.{manner_of, memory_of}
 use Rattle.terrac_call.proofs.Calls.{both, is_true_or_false, scalar_params}
 use Rattle.terrac_call.proofs.Headline.{runs_tell_meaning}
 
@@ -231,7 +231,7 @@ due_tells_meaning it w due x symbol values named read =
       read = reads;
       are_values = are;
       ran = good.0;
-      tells = runs_tell_meaning store (bytes_of it.running.limits.memory) w.exports.list x.image x.compiled at.0 export.0 symbol is.function
+      tells = runs_tell_meaning store (memory_of it) w.exports.list x.image x.compiled at.0 export.0 symbol is.function
           values it.running.steps good.0 export.1 at.1 is.is are good.1;
       due_is = good.2 ∙ ap told is.result;
     }

@@ -16,6 +16,7 @@ pub mod OneReading
 pub mod Pieces
 pub mod Placed
 pub mod Ranges
+pub mod Readies
 pub mod Refusing
 pub mod Saying
 pub mod Sources

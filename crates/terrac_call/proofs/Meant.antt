@@ -35,8 +35,8 @@ use Rattle.terrac_call.specs.Headline.{TellsMeaning}
 use Rattle.terrac_call.specs.Meant.{CallsAreMeant, IsBadWord, IsCallMeant, IsEndSaid, IsMeaningSaid, IsMeant, IsNoExport, IsOver}
 use Rattle.terrac_call.specs.Meant.{IsUnfinished}
 use Rattle.terrac_call.specs.Meant.{Named, arguments_said, fault_said}
-use Rattle.terrac_call.specs.Run.{Asking, IsImageDue, front_of, manner_of}
-use Rattle.terrac_call.specs.Staged.{bytes_of}
+use Rattle.terrac_call.specs.Words.{Asking}
+use Rattle.terrac_call.specs.Run.{IsImageDue, front_of, manner_of, memory_of}
 use Rattle.terrac_call.proofs.Calls.{is_true_or_false, scalar_params}
 use Rattle.terrac_call.proofs.DueMeaning.{are_of_types, export_at, good_due, named_at}
 use Rattle.terrac_call.proofs.FaultPlaces.{export_placed}
@@ -193,8 +193,8 @@ module _ (it : Asking) (w : StageState) (due : Due) (x : IsImageDue it w due) (h
         (subst (λ (codes : List ℕ). list_all (allows param_rule) codes ≡ true) export.2.params
         (scalar_params x.image it.call.entry symbol x.compiled.lawful (sym found)))
         (subst (λ (codes : List ℕ). arguments_of codes 1 it.call.arguments ≡ Good values) export.2.params good) in
-        let source : ℕ → Run = λ n. meaning store [] (bytes_of it.running.limits.memory) n export.0.function (map word values) in
-        let tells = runs_tell_meaning store (bytes_of it.running.limits.memory) w.exports.list x.image x.compiled at.0 export.0 symbol
+        let source : ℕ → Run = λ n. meaning store [] (memory_of it) n export.0.function (map word values) in
+        let tells = runs_tell_meaning store (memory_of it) w.exports.list x.image x.compiled at.0 export.0 symbol
         function values it.running.steps ran export.1 at.1 export.2.is are runs in
         let few : IsFewStop ran.stop =
         subst (λ (r : Ran). IsFewStop r.stop) runs.runs
@@ -204,7 +204,7 @@ module _ (it : Asking) (w : StageState) (due : Due) (x : IsImageDue it w due) (h
         let is : IsMeaningSaid source form it.running.steps most (shown_file manner x.image) front
         (noting (shown_file manner x.image) (after ran.output (due_of_stop front (type_code form) ran.stop))) =
         meaning_said store.types function.body.result source
-        (λ n. export_placed store w.exports.list has ready at.0 export.0 export.1 (bytes_of it.running.limits.memory) n (map word values))
+        (λ n. export_placed store w.exports.list has ready at.0 export.0 export.1 (memory_of it) n (map word values))
         it.running.steps most (shown_file manner x.image) front ran few tells in
         let told : ℕ → Due = λ code. noting (shown_file manner x.image) (after ran.output (due_of_stop front code ran.stop)) in
         IsMeant named values (sym said ∙ good) are

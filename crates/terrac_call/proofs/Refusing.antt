@@ -13,7 +13,7 @@ use Rattle.terrac_call.specs.Arguments.{Arguments, Good, Bad}
 use Rattle.terrac_call.specs.Due.{Due}
 use Rattle.terrac_call.specs.Meant.{HasNone, IsBadWord, IsCallMeant, IsEndSaid, IsMeaningSaid, IsMeant, IsNoExport, IsOver, IsUnfinished}
 use Rattle.terrac_call.specs.Meant.{Named, RefusesExactly, arguments_said}
-use Rattle.terrac_call.specs.Run.{Asking}
+use Rattle.terrac_call.specs.Words.{Asking}
 use Rattle.terrac_call.specs.Values.{values_said}
 
 -- the refusals of a call

@@ -4,13 +4,13 @@ use Rattle.std.proofs.Common.{append-nil, length-append}
 use Rattle.tl_base.specs.declared.place.Place.{Place}
 use Rattle.tl_base.specs.Outside.{with_front, IsAtEnd}
 use Rattle.tl_tree.specs.Code.{Items}
-use Rattle.terrac_call.specs.Words.{Call, Job, Make, Stage, Exec, Task, Check, Terms, Emit, Run, Rename, source_of}
+use Rattle.terrac_call.specs.Words.{Call, Job, Make, Stage, Exec, Task, Rename, generated_of, source_of}
 use Rattle.terrac_call.specs.Due.{Due, IsDueOfSource, IsNotUtf8, IsReadAs, IsReadingDue, IsText, IsTooLong, Reading, longest}
 use Rattle.terrac_call.specs.Exec.{IsBad, IsExecDue, IsImage, IsLong, longest_image}
 use Rattle.terrac_call.specs.Staged.{IsSourceOwed, IsTreeOwed}
 use Rattle.terrac_call.specs.Rename.{IsRenameDue}
 use Rattle.terrac_call.specs.Rename as renames
-use Rattle.terrac_call.specs.Reading.{IsToldAs, most_of_source, most_of_task, most_read}
+use Rattle.terrac_call.specs.Reading.{IsToldAs, most_of_source, most_read}
 use Rattle.terrac_call.specs.Answer.{Answered, IsOwed, Owed}
 
 -- what was read of a source: all of it, or more than it may have
@@ -73,13 +73,6 @@ run_whole : (task : Task) (generated : Option ℕ) (text bytes : List ℕ) (due 
 run_whole task None text bytes due read is = source_whole (IsTreeOwed task) text bytes due read is
 run_whole task (Some count) text bytes due read is = is
 
-task_whole : (task : Task) (text bytes : List ℕ) (due : Due) → IsRead (most_of_task task) text bytes → IsOwed (Some (Stage task)) text due
-    → IsOwed (Some (Stage task)) bytes due
-task_whole (Check limits) text bytes due read is = source_whole (IsTreeOwed (Check limits)) text bytes due read is
-task_whole (Terms limits) text bytes due read is = source_whole (IsTreeOwed (Terms limits)) text bytes due read is
-task_whole (Emit limits) text bytes due read is = source_whole (IsTreeOwed (Emit limits)) text bytes due read is
-task_whole (Run asking) text bytes due read is = run_whole (Run asking) asking.generated text bytes due read is
-
 -- ---- an image
 
 exec_longer : (call : Call) (steps : ℕ) (text rest : List ℕ) (due : Due) → longest_image + 1 ≤ length text
@@ -99,7 +92,7 @@ exec_whole call steps text bytes due (inr long) is =
 job_whole : (job : Job) (text bytes : List ℕ) (due : Due) → IsRead (most_read (Some job)) text bytes → IsOwed (Some job) text due
     → IsOwed (Some job) bytes due
 job_whole (Make Rename) text bytes due read is = rename_whole text bytes due read is
-job_whole (Stage task) text bytes due read is = task_whole task text bytes due read is
+job_whole (Stage task) text bytes due read is = run_whole task (generated_of task) text bytes due read is
 job_whole (Exec call steps) text bytes due read is = exec_whole call steps text bytes due read is
 
 -- what is owed on what was read is owed for what the source has left

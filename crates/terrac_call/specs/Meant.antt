@@ -24,6 +24,7 @@ use Rattle.terrac_call.specs.Values.{value_text, values_said}
 use Rattle.terrac_call.specs.Due.{Due, after, due_of_bad_argument, due_of_no_entry, given, line, noting, refused}
 use Rattle.terrac_call.specs.Exec.{due_of_fault, shown_file}
 use Rattle.terrac_call.specs.Words.{Asking, Run}
+use Rattle.terrac_call.specs.Ranges.{AreLimits}
 use Rattle.terrac_call.specs.Run.{IsImageDue, front_of, manner_of, memory_of}
 use Rattle.terrac_call.specs.Staged.{IsTreeDue}
 
@@ -114,8 +115,8 @@ pub record IsDoneMeant (it : Asking) (w : StageState) (due : Due) : Type 0 where
   pub meant : IsCallMeant it w image (length image.text) due
   pub exact : RefusesExactly it w due
 
--- So it is, behind what was printed, for each source whose staging is done.
+-- So it is, behind what was printed, for each source whose staging is done, within limits as words name them.
 abbrev pub SourcesAreMeant : Type 0
 SourcesAreMeant =
-    (it : Asking) (items : Items) (finish : Place) (due : Due) (x : IsTreeDue (Run it) items finish due) → x.ending.end ≡ Done →
+    (it : Asking) → AreLimits it.running.limits → (items : Items) (finish : Place) (due : Due) (x : IsTreeDue (Run it) items finish due) → x.ending.end ≡ Done →
     IsDoneMeant it x.ending.left.world.stage x.rest

@@ -1,7 +1,7 @@
 -- What is read of a source.
 use Rattle.std.specs.Prelude.{ℕ, ◌≡◌, ◌+◌, ◌≤◌, List, length, Option, Some, None}
 use Rattle.tl_base.specs.Outside.{with_front}
-use Rattle.terrac_call.specs.Words.{Job, Make, Stage, Exec, Task, Check, Terms, Emit, Run}
+use Rattle.terrac_call.specs.Words.{Job, Make, Stage, Exec, generated_of}
 use Rattle.terrac_call.specs.Due.{longest}
 use Rattle.terrac_call.specs.Exec.{longest_image}
 
@@ -19,14 +19,8 @@ abbrev pub most_of_source : Option ℕ → ℕ
 most_of_source None = longest + 1
 most_of_source (Some count) = 0
 
-abbrev pub most_of_task : Task → ℕ
-most_of_task (Check limits) = longest + 1
-most_of_task (Terms limits) = longest + 1
-most_of_task (Emit limits) = longest + 1
-most_of_task (Run asking) = most_of_source asking.generated
-
 abbrev pub most_read : Option Job → ℕ
 most_read None = 0
 most_read (Some (Make what)) = longest + 1
-most_read (Some (Stage task)) = most_of_task task
+most_read (Some (Stage task)) = most_of_source (generated_of task)
 most_read (Some (Exec call steps)) = longest_image + 1

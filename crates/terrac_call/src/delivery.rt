@@ -58,9 +58,10 @@ fn run<K: Sink, N: Sink>(ready: Ready, out: &mut K, notes: &mut N) -> Status
         line,
         ..
     } = ready;
-    match machine.run(steps, out) {
+    let stop = machine.run(steps, out);
+    match stop {
         Stop::WriteFault => write_fault(notes),
-        stop => deliver(stop_due(front.as_str(), code, stop, line), out, notes),
+        _ => deliver(stop_due(front.as_str(), code, stop, line), out, notes),
     }
 }
 

@@ -1,7 +1,8 @@
 // How a source reads.
 
-ghost use Rattle.std.specs.Prelude.{◌≤◌, length, IfOk};
-ghost use Rattle.terrac_call.specs.Due.{IsReadAs, IsTextReadAs};
+ghost use Rattle.std.specs.Prelude.{◌≡◌, ◌≤◌, length, IfOk, IfErr};
+ghost use Rattle.std.specs.Str.{IsUtf8};
+ghost use Rattle.terrac_call.specs.Due.{IsReadAs, IsRefused, IsTextReadAs, nowhere};
 ghost use Rattle.terrac_call.specs.ParsedView.{Shows};
 
 use std::alloc::Global;
@@ -11,7 +12,7 @@ use tl_parse::{SyntaxError, parse};
 use tl_tree::Tree;
 
 /// The place of what concerns a whole source.
-const NOWHERE: Place = Place { line: 0, word: 0 };
+pub(crate) const NOWHERE: Place = Place { line: 0, word: 0 };
 
 /// What a source reads as.
 #[derive(Drop)]
@@ -33,15 +34,28 @@ fn parse_text<'a>(alloc: Global, text: &'a str) -> Result<Parsed<'a>, NoMemory>
     }
 }
 
+/// The text of a source, or why it has none.
+pub(crate) fn source_text(source: &[u8]) -> Result<&str, SyntaxKind>
+    ensures same { IfOk result (λ text. text.now ≡ source.now) }
+    ensures short { IfOk result (λ text. length text.now ≤ LONGEST_TEXT) }
+    ensures utf8 { IfOk result (λ text. IsUtf8 source.now) }
+    ensures refused { IfErr result (λ kind. IsReadAs source.now (IsRefused kind nowhere)) }
+{
+    if source.len() > LONGEST_TEXT {
+        return Err(SyntaxKind::TooLong);
+    }
+    match str::from_utf8(source) {
+        Ok(text) => Ok(text),
+        Err(_) => Err(SyntaxKind::NotUtf8),
+    }
+}
+
 /// How a source reads.
 pub(crate) fn parse_source<'a>(alloc: Global, source: &'a [u8]) -> Result<Parsed<'a>, NoMemory>
     ensures { IfOk result (λ parsed. Shows (IsReadAs source.now) parsed) }
 {
-    if source.len() > LONGEST_TEXT {
-        return Ok(Parsed::Refused(SyntaxKind::TooLong, NOWHERE));
-    }
-    match str::from_utf8(source) {
+    match source_text(source) {
         Ok(text) => parse_text(alloc, text),
-        Err(_) => Ok(Parsed::Refused(SyntaxKind::NotUtf8, NOWHERE)),
+        Err(kind) => Ok(Parsed::Refused(kind, NOWHERE)),
     }
 }

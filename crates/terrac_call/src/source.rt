@@ -41,15 +41,12 @@ pub(crate) fn stage(alloc: Global, task: &Task<'_>, bytes: &[u8]) -> Result<Work
     requires { IsLawfulTask (shown_task task.now) }
     ensures { IfOk result (λ work. IsSourceOwed (shown_task task.now) (text_of (shown_task task.now) bytes.now) (due_of_work work)) }
 {
-    match task {
-        Task::Run(Asking {
-            generated: Some(count),
-            ..
-        }) => {
-            let text = generate(alloc, *count)?;
+    match task.generated() {
+        Some(count) => {
+            let text = generate(alloc, count)?;
             stage_source(alloc, task, text.as_bytes())
         }
-        _ => stage_source(alloc, task, bytes),
+        None => stage_source(alloc, task, bytes),
     }
 }
 

@@ -7,9 +7,9 @@ ghost use Rattle.clap.specs.declared.builder.command.Command.{out-Command};
 ghost use Rattle.terrac_call.specs.Words.{image_rule, run_command, emit_command, exec_command, check_command};
 ghost use Rattle.terrac_call.specs.Words.{terms_command, rename_command, gen_command};
 ghost use Rattle.terrac_call.specs.Words.{command_line, call_of, limits_of, running_of, run_of, gen_of, number_found, number_or_zero};
-ghost use Rattle.terrac_call.specs.Words.{text_or_none, job_of, job_of_command, AreTaken};
+ghost use Rattle.terrac_call.specs.Words.{text_or_none, generated_of, job_of, job_of_command, AreTaken};
 ghost use Rattle.terrac_call.specs.JobView.{texts_of, shown_call, shown_limits, shown_running, shown_asking, shown_job, shown_asked};
-ghost use Rattle.terrac_call.specs.JobView.{HasUsageLine, IsUsageText};
+ghost use Rattle.terrac_call.specs.JobView.{HasUsageLine, IsUsageText, shown_task};
 
 use clap::builder::ValueParser;
 use clap::error::ErrorKind;
@@ -70,6 +70,18 @@ pub(crate) enum Task<'a> {
     Emit(Limits),
     /// A call of what it exports.
     Run(Asking<'a>),
+}
+
+impl Task<'_> {
+    /// How many functions its source has, where that is generated.
+    pub(crate) fn generated(&self) -> Option<u64>
+        ensures { result ≡ generated_of (shown_task self.now) }
+    {
+        match self {
+            Task::Run(asking) => asking.generated,
+            _ => None,
+        }
+    }
 }
 
 /// What the words ask for.

@@ -17,7 +17,7 @@ use crate::lines::{no_memory_due, read_fault_due, usage_due};
 use crate::making::make;
 use crate::reading::{ReadError, read_source};
 use crate::source::stage;
-use crate::words::{Asked, Asking, Job, Task, job_of};
+use crate::words::{Asked, Job, job_of};
 use elf_image::LONGEST_IMAGE;
 use std::alloc::Global;
 use tl_base::{Bytes, NoMemory, Source};
@@ -97,10 +97,11 @@ fn most_read(job: &Job<'_>) -> usize
     ensures { result ≡ most_read (Some (shown_job job.now)) }
 {
     match job {
-        Job::Stage(Task::Run(Asking {
-            generated: Some(_), ..
-        })) => 0,
-        Job::Make(_) | Job::Stage(_) => LONGEST_TEXT + 1,
+        Job::Make(_) => LONGEST_TEXT + 1,
+        Job::Stage(task) => match task.generated() {
+            None => LONGEST_TEXT + 1,
+            Some(_) => 0,
+        },
         Job::Exec(_, _) => LONGEST_IMAGE + 1,
     }
 }

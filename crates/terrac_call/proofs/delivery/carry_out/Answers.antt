@@ -1,0 +1,23 @@
+use Rattle.std.proofs.Common.{◌≡◌, List, ℕ, ap, refl, subst, ◌∙◌}
+use Rattle.tl_base.specs.Outside.{with_back}
+use Rattle.terrac_call.specs.Due.{Due}
+use Rattle.terrac_call.specs.DueView.{due_of_rest, told_to}
+use Rattle.terrac_call.specs.Delivery.{Delivered, StopsShort}
+use Rattle.terrac_call.specs.declared.due.Stream.{Stream}
+use Rattle.terrac_call.proofs.Deliveries.{behind_notes, behind_out, noted_short, out_short}
+use Rattle.terrac_call.proofs.delivery.carry_out.Goals as goal
+
+pub returns-in-Ok-in-Out : goal.returns-in-Ok-in-Out
+returns-in-Ok-in-Out g c =
+    let printed = c.args.work.printed in
+    let rest = due_of_rest c.args.work.rest in
+    let same = c.as_slice-in-Out.ensures in
+    let goes = behind_out printed rest c.finish-in-Out.result (g.K.Sink.taken c.args.out.now)
+    (g.K.Sink.taken c.write_piece-in-Out.new.sink) (g.K.Sink.taken c.finish-in-Out.new.out) (g.N.Sink.taken c.args.notes.now)
+    (g.N.Sink.taken c.finish-in-Out.new.notes) (g.K.Sink.faults c.args.out.now) (g.K.Sink.faults c.write_piece-in-Out.new.sink)
+    (g.K.Sink.faults c.finish-in-Out.new.out) (g.N.Sink.faults c.args.notes.now) (g.N.Sink.faults c.finish-in-Out.new.notes)
+    (c.finish-in-Out.new.out ≡ c.write_piece-in-Out.new.sink) (c.finish-in-Out.new.out ≡ c.args.out.now)
+    (c.finish-in-Out.new.notes ≡ c.args.notes.now)
+    (c.in-Ok-in-Out.ensures.whole ∙ ap (with_back (g.K.Sink.taken c.args.out.now)) same) c.in-Ok-in-Out.ensures.quiet
+    (λ none mid. mid ∙ c.write_piece-in-Out.ensures.empty (same ∙ none)) c.finish-in-Out.ensures in
+    rw c.in-Out.is goes

@@ -1,0 +1,19 @@
+use Rattle.std.proofs.Common.{Err, ap, subst}
+use Rattle.std.proofs.lemmas.Result.{IfOk-weaker}
+use Rattle.tl_parse.specs.declared.error.SyntaxError.{SyntaxError}
+use Rattle.tl_renaming.specs.Call.{ComesOf}
+use Rattle.tl_tree.specs.Tokens.{finish_of}
+use Rattle.terrac_call.specs.Due.{HasNone, HasTree, IsRefused, IsTree, given}
+use Rattle.terrac_call.proofs.making.rename_text.Goals as goal
+
+pub returns-in-Ok : goal.returns-in-Ok
+returns-in-Ok c =
+    let comes = c.in-Ok.ensures.only in
+    (IsTree comes.tree (finish_of c.args.text.now), HasTree comes.tree comes.reads, ap given comes.is)
+
+pub returns-in-Err-Refused : goal.returns-in-Err-Refused
+returns-in-Err-Refused c =
+    let kind = c.in-Err-Refused.kind in
+    let place = c.in-Err-Refused.place in
+    let refuses = subst (λ (e : SyntaxError). ComesOf c.args.text.now (Err e)) c.in-Err-Refused.field-0-is c.in-Err-Refused.ensures.only in
+    IfOk-weaker c.syntax_due.result _ _ (λ due h. (IsRefused kind place, HasNone kind place refuses, h)) c.syntax_due.ensures
