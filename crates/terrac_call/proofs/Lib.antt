@@ -9,6 +9,7 @@ pub mod DueMeaning
 pub mod FaultPlaces
 pub mod Faults
 pub mod Headline
+pub mod Jobs
 pub mod Meant
 pub mod Numbers
 pub mod OneDue

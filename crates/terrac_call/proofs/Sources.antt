@@ -12,14 +12,19 @@ use Rattle.exotype.specs.World.{StageState}
 use Rattle.spec_sound.specs.Sound.{ArePlaced}
 use Rattle.check_stage.specs.declared.staging.End.{End}
 use Rattle.check_stage.specs.declared.staging.End.TheVariants as staged
+use Rattle.check_stage.specs.declared.staging.Mode.{Mode}
+use Rattle.check_stage.specs.declared.staging.Mode.TheVariants.{Exports}
+use Rattle.check_stage.specs.declared.texts.Written.{Written}
 use Rattle.check_stage.specs.Staging.{Ending, outcome}
+use Rattle.check_stage.specs.Texts.{AreChecks, AreTerms}
 use Rattle.back_end.specs.Compiled.{IsCompiled}
 use Rattle.stage_image.specs.declared.emitting.Made.{Made}
 use Rattle.stage_image.specs.declared.emitting.Made.TheVariants as made
-use Rattle.stage_image.specs.Emitted.{IsMade, defined_count}
+use Rattle.stage_image.specs.declared.emitting.Emitted.{Emitted}
+use Rattle.stage_image.specs.Emitted.{IsEmitted, IsMade, defined_count}
 use Rattle.terrac_call.specs.declared.status.Status.TheVariants as statuses
-use Rattle.terrac_call.specs.Words.{Asking, Emit, Limits, Run, Task}
-use Rattle.terrac_call.specs.Due.{Due, IsReadAs, IsTree, given, refused}
+use Rattle.terrac_call.specs.Words.{Asking, Check, Emit, Limits, Run, Task, Terms}
+use Rattle.terrac_call.specs.Due.{Due, IsReadAs, IsTree, after, given, refused}
 use Rattle.terrac_call.specs.Exec.{IsCallDue}
 use Rattle.terrac_call.specs.Run.{manner_of}
 use Rattle.terrac_call.specs.Staged.{IsDone, IsEndDue, IsRestOwed, IsSourceOwed, IsTreeOwed, bytes_of, limits_of, mode_of, told}
@@ -128,3 +133,43 @@ pub source_owed : (task : Task) (bytes : List ℕ) (tree : Tree) (finish : Place
     → IsReadAs bytes (IsTree tree finish) → items ≡ lay tree [] → IsTreeOwed task items finish due → IsSourceOwed task bytes due
 source_owed task bytes tree finish items due reads laid is =
     (IsTree tree finish, reads, subst (λ (xs : Items). IsTreeOwed task xs finish due) laid is)
+
+-- ---- what the calls of the staging give
+
+module _ (shown : Task) (items : Items) (finish : Place) (units memory : ℕ) (placed : ArePlaced items)
+    (same_units : units ≡ (limits_of shown).budget) (same_memory : memory ≡ bytes_of (limits_of shown).memory) where
+  abbrev Owes : Due → Task → Type 0
+  Owes due task = units ≡ (limits_of task).budget → memory ≡ bytes_of (limits_of task).memory → IsTreeOwed task items finish due
+
+  -- the lines of checks
+  pub checks_owed : (limits : Limits) (it : Written) (due : Due) → shown ≡ Check limits → AreChecks items finish units memory it
+      → due ≡ after it.printed (due_of_end it.end it.lines) → IsTreeOwed shown items finish due
+  checks_owed limits it due same are is =
+      subst (Owes due) (sym same)
+      (λ u m. written_owed (Check limits) items finish are.n units memory are.ending it.printed it.lines it.end due placed are.comes u m
+      are.printed are.end (ap given are.lines) is)
+      same_units same_memory
+
+  -- those of exports and their terms
+  pub terms_owed : (limits : Limits) (it : Written) (due : Due) → shown ≡ Terms limits → AreTerms items finish units memory it
+      → due ≡ after it.printed (due_of_end it.end it.lines) → IsTreeOwed shown items finish due
+  terms_owed limits it due same are is =
+      subst (Owes due) (sym same)
+      (λ u m. written_owed (Terms limits) items finish are.n units memory are.ending it.printed it.lines it.end due placed are.comes u m
+      are.printed are.end (ap given are.lines) is)
+      same_units same_memory
+
+  -- what is made of an image
+  pub emitted_owed : (it : Emitted) (due : Due) → mode_of shown ≡ Exports
+      → (are : IsEmitted items finish (record { budget = units; memory = memory }) it)
+      → ((e : Ending) → it.functions ≡ defined_count e.left.world.stage.store
+      → IsMade e.left.world.stage (bytes_of (limits_of shown).memory) e.end it.end
+      → (rest : Due) × IsRestOwed shown e rest × (due ≡ told shown it.printed rest))
+      → IsTreeOwed shown items finish due
+  emitted_owed it due exports are gives =
+      let made : IsMade are.ending.left.world.stage (bytes_of (limits_of shown).memory) are.ending.end it.end =
+      subst (λ (m : ℕ). IsMade are.ending.left.world.stage m are.ending.end it.end) same_memory are.end in
+      let given_rest = gives are.ending are.functions made in
+      tree_owed shown items finish are.n units memory are.ending it.printed given_rest.0 due placed
+      (subst (λ (mode : Mode). outcome items finish mode are.n units memory ≡ Some are.ending) (sym exports) are.comes)
+      same_units same_memory are.printed given_rest.1 given_rest.2

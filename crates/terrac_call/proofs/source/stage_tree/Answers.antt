@@ -1,0 +1,29 @@
+use Rattle.std.proofs.Common.{◌≡◌, ap, refl, sym, subst}
+use Rattle.std.proofs.lemmas.Result.{IfOk-weaker}
+use Rattle.tl_tree.specs.Arena.{items_of, end_of}
+use Rattle.check_stage.specs.declared.staging.Mode.TheVariants.{Exports}
+use Rattle.stage_image.specs.declared.emitting.Emitted.{Emitted}
+use Rattle.terrac_call.specs.DueView.{due_of_work}
+use Rattle.terrac_call.specs.JobView.{shown_asking, shown_limits, shown_task}
+use Rattle.terrac_call.specs.Staged.{mode_of}
+use Rattle.terrac_call.specs.Words.{Task}
+use Rattle.terrac_call.proofs.Sources.{checks_owed, emitted_owed, lawful_made, terms_owed}
+use Rattle.terrac_call.proofs.source.stage_tree.Goals as goal
+
+pub returns-in_ok-written-in-Check : goal.returns-in_ok-written-in-Check
+returns-in_ok-written-in-Check c =
+    IfOk-weaker c.written_work-in-Check.result _ _
+    (λ work is. checks_owed (shown_task c.args.task.now) (items_of c.args.tree.now) (end_of c.args.tree.now) c.limits_of.result.budget
+    c.limits_of.result.memory c.places_fit.ensures c.limits_of.ensures.budget c.limits_of.ensures.memory
+    (shown_limits c.in-Check.field-0.now) c.in_ok-written-in-Check.written (due_of_work work) (ap shown_task c.in-Check.is)
+    c.in_ok-written-in-Check.ensures is)
+    c.written_work-in-Check.ensures
+
+pub returns-in_ok-written-in-Terms : goal.returns-in_ok-written-in-Terms
+returns-in_ok-written-in-Terms c =
+    IfOk-weaker c.written_work-in-Terms.result _ _
+    (λ work is. terms_owed (shown_task c.args.task.now) (items_of c.args.tree.now) (end_of c.args.tree.now) c.limits_of.result.budget
+    c.limits_of.result.memory c.places_fit.ensures c.limits_of.ensures.budget c.limits_of.ensures.memory
+    (shown_limits c.in-Terms.field-0.now) c.in_ok-written-in-Terms.written (due_of_work work) (ap shown_task c.in-Terms.is)
+    c.in_ok-written-in-Terms.ensures is)
+    c.written_work-in-Terms.ensures
