@@ -93,22 +93,46 @@ run_sub : IsLawfulSub (sub run_command.top)
 unfolding clap_on_literals
 run_sub words fault = (
   limits_in (sub run_command.top) words
-  (record {
-    ones = (λ e. refl, λ e. absurd (no e), λ e. absurd (no e), λ e. absurd (no e), λ e. absurd (no e), λ e. absurd (no e),
-        λ e. absurd (no e), tt);
-    has = inl refl;
-  })
-  (record {
-    ones = (λ e. absurd (no e), λ e. refl, λ e. absurd (no e), λ e. absurd (no e), λ e. absurd (no e), λ e. absurd (no e),
-        λ e. absurd (no e), tt);
-    has = inr (inl refl);
-  }) fault,
+      (record {
+        ones = (
+          λ e. refl,
+          λ e. absurd (no e),
+          λ e. absurd (no e),
+          λ e. absurd (no e),
+          λ e. absurd (no e),
+          λ e. absurd (no e),
+          λ e. absurd (no e),
+          tt,
+        );
+        has = inl refl;
+      })
+      (record {
+        ones = (
+          λ e. absurd (no e),
+          λ e. refl,
+          λ e. absurd (no e),
+          λ e. absurd (no e),
+          λ e. absurd (no e),
+          λ e. absurd (no e),
+          λ e. absurd (no e),
+          tt,
+        );
+        has = inr (inl refl);
+      }) fault,
   steps_in (sub run_command.top) words
-  (record {
-    ones = (λ e. absurd (no e), λ e. absurd (no e), λ e. refl, λ e. absurd (no e), λ e. absurd (no e), λ e. absurd (no e),
-        λ e. absurd (no e), tt);
-    has = inr (inr (inl refl));
-  }) fault,
+      (record {
+        ones = (
+          λ e. absurd (no e),
+          λ e. absurd (no e),
+          λ e. refl,
+          λ e. absurd (no e),
+          λ e. absurd (no e),
+          λ e. absurd (no e),
+          λ e. absurd (no e),
+          tt,
+        );
+        has = inr (inr (inl refl));
+      }) fault,
   tt,
 )
 
@@ -154,24 +178,24 @@ gen_sub : IsLawfulSub (sub gen_command.top)
 unfolding clap_on_literals
 gen_sub words fault = (
   limits_in (sub gen_command.top) words
-  (record {
-    ones = (λ e. refl, λ e. absurd (no e), λ e. absurd (no e), λ e. absurd (no e), λ e. absurd (no e), tt);
-    has = inl refl;
-  })
-  (record {
-    ones = (λ e. absurd (no e), λ e. refl, λ e. absurd (no e), λ e. absurd (no e), λ e. absurd (no e), tt);
-    has = inr (inl refl);
-  }) fault,
+      (record {
+        ones = (λ e. refl, λ e. absurd (no e), λ e. absurd (no e), λ e. absurd (no e), λ e. absurd (no e), tt);
+        has = inl refl;
+      })
+      (record {
+        ones = (λ e. absurd (no e), λ e. refl, λ e. absurd (no e), λ e. absurd (no e), λ e. absurd (no e), tt);
+        has = inr (inl refl);
+      }) fault,
   steps_in (sub gen_command.top) words
-  (record {
-    ones = (λ e. absurd (no e), λ e. absurd (no e), λ e. refl, λ e. absurd (no e), λ e. absurd (no e), tt);
-    has = inr (inr (inl refl));
-  }) fault,
+      (record {
+        ones = (λ e. absurd (no e), λ e. absurd (no e), λ e. refl, λ e. absurd (no e), λ e. absurd (no e), tt);
+        has = inr (inr (inl refl));
+      }) fault,
   count_in (sub gen_command.top) words
-  (record {
-    ones = (λ e. absurd (no e), λ e. absurd (no e), λ e. absurd (no e), λ e. refl, λ e. absurd (no e), tt);
-    has = inr (inr (inr (inl refl)));
-  }) refl fault,
+      (record {
+        ones = (λ e. absurd (no e), λ e. absurd (no e), λ e. absurd (no e), λ e. refl, λ e. absurd (no e), tt);
+        has = inr (inr (inr (inl refl)));
+      }) refl fault,
 )
 
 subs_lawful : All IsLawfulSub (built command_line).subs

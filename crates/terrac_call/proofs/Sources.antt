@@ -101,6 +101,27 @@ call_done asking it functions image rest count compiled is = record {
       subst (λ (n : ℕ). IsCallDue image asking.call (manner_of asking n) (symbol_named asking.call.entry image.exports) rest) count is;
 }
 
+-- as the task says
+abbrev Makes : Ending → Image → Due → Task → Type 0
+Makes it image rest task =
+    IsCompiled (contents_of it.left.world.stage.store) (bytes_of (limits_of task).memory) it.left.world.stage.exports.list image
+    → IsDone task it rest
+
+pub file_rest : (shown : Task) (limits : Limits) (it : Ending) (image : Image) (rest : Due) → shown ≡ Emit limits
+    → rest ≡ given (files.bytes_of image)
+    → IsCompiled (contents_of it.left.world.stage.store) (bytes_of (limits_of shown).memory) it.left.world.stage.exports.list image
+    → IsDone shown it rest
+file_rest shown limits it image rest same is compiled =
+    subst (Makes it image rest) (sym same) (λ made. file_done limits it image rest made is) compiled
+
+pub call_rest : (shown : Task) (asking : Asking) (it : Ending) (functions : ℕ) (image : Image) (rest : Due) → shown ≡ Run asking
+    → functions ≡ defined_count it.left.world.stage.store
+    → IsCallDue image asking.call (manner_of asking functions) (symbol_named asking.call.entry image.exports) rest
+    → IsCompiled (contents_of it.left.world.stage.store) (bytes_of (limits_of shown).memory) it.left.world.stage.exports.list image
+    → IsDone shown it rest
+call_rest shown asking it functions image rest same count is compiled =
+    subst (Makes it image rest) (sym same) (λ made. call_done asking it functions image rest count made is) compiled
+
 -- ---- for the nodes of a tree, and for the bytes that read as it
 
 -- what is owed behind what a staging printed

@@ -53,10 +53,10 @@ fn run<K: Sink, N: Sink>(ready: Ready, out: &mut K, notes: &mut N) -> Status
     let Ready {
         mut machine,
         steps,
+        file: _,
         front,
         code,
         line,
-        ..
     } = ready;
     let stop = machine.run(steps, out);
     match stop {

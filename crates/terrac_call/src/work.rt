@@ -54,11 +54,7 @@ pub(crate) fn work<S: Source>(alloc: Global, words: &[String], source: &mut S) -
 }
 
 /// The work for the words, with what may cut it off.
-fn work_asked<S: Source>(
-    alloc: Global,
-    words: &[String],
-    source: &mut S,
-) -> Result<Work, ReadError>
+fn work_asked<S: Source>(alloc: Global, words: &[String], source: &mut S) -> Result<Work, ReadError>
     ensures owed { IfOk result (λ work. Owed (job_of (map string_bytes words.now)) (S.left source.old)
         (IsRisen (S.faults source.old) (S.faults source.new)) (due_of_work work)) }
     ensures unread { result ≡ Err errors.Unread →
@@ -75,11 +71,7 @@ fn work_asked<S: Source>(
 }
 
 /// The work for a job, with the read that it takes.
-fn read_and_work<S: Source>(
-    alloc: Global,
-    job: &Job<'_>,
-    source: &mut S,
-) -> Result<Work, ReadError>
+fn read_and_work<S: Source>(alloc: Global, job: &Job<'_>, source: &mut S) -> Result<Work, ReadError>
     requires { IsLawfulJob (shown_job job.now) }
     ensures owed { IfOk result (λ work. Owed (Some (shown_job job.now)) (S.left source.old)
         (IsRisen (S.faults source.old) (S.faults source.new)) (due_of_work work)) }

@@ -43,9 +43,9 @@ returns-clause-taken g c = λ are.
 pub returns-clause-source_rose : goal.returns-clause-source_rose
 returns-clause-source_rose g c = λ rose.
     elim (status_kept (due_of_work c.work.result) c.carry_out.result (g.K.Sink.taken c.args.out.now) (g.K.Sink.taken c.carry_out.new.out)
-        (g.N.Sink.taken c.args.notes.now) (g.N.Sink.taken c.carry_out.new.notes) (g.K.Sink.faults c.args.out.now)
-        (g.K.Sink.faults c.carry_out.new.out) (g.N.Sink.faults c.args.notes.now) (g.N.Sink.faults c.carry_out.new.notes)
-        c.carry_out.ensures.delivers) [
+    (g.N.Sink.taken c.args.notes.now) (g.N.Sink.taken c.carry_out.new.notes) (g.K.Sink.faults c.args.out.now)
+    (g.K.Sink.faults c.carry_out.new.out) (g.N.Sink.faults c.args.notes.now) (g.N.Sink.faults c.carry_out.new.notes)
+    c.carry_out.ensures.delivers) [
       | inl same ↦ inl (same ∙ c.work.ensures.rose rose)
       | inr fault ↦ inr fault
     ]

@@ -27,3 +27,8 @@ returns-in_ok-written-in-Terms c =
     (shown_limits c.in-Terms.field-0.now) c.in_ok-written-in-Terms.written (due_of_work work) (ap shown_task c.in-Terms.is)
     c.in_ok-written-in-Terms.ensures is)
     c.written_work-in-Terms.ensures
+
+pub emitted_work-requires-clause-made : goal.emitted_work-requires-clause-made
+emitted_work-requires-clause-made c =
+    let are = c.in_ok-emitted.ensures in
+    lawful_made are.ending.left.world.stage c.limits_of.result.memory are.ending.end c.in_ok-emitted.emitted.end are.end
