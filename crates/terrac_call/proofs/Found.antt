@@ -577,7 +577,7 @@ module _ (k : Text) where
               subst (λ (o : Option Row). IsIn (number_or_zero (text_or_none (option_and_then (λ r. slice_get r.values 0) o))))
               (sym (first_only rows)) (by (only rows) good full)
             where
-              abbrev IsIn : ℕ → Type 0
+              IsIn : ℕ → Type 0
               IsIn n = (least ≤ n) × (n ≤ most)
 
               number : (text : Text) → IsUnsignedIn least most text → IsIn (number_or_zero text)

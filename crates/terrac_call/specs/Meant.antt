@@ -23,7 +23,8 @@ use Rattle.terrac_call.specs.Arguments.{Arguments, Good, Bad}
 use Rattle.terrac_call.specs.Values.{value_text, values_said}
 use Rattle.terrac_call.specs.Due.{Due, after, due_of_bad_argument, due_of_no_entry, given, line, noting, refused}
 use Rattle.terrac_call.specs.Exec.{due_of_fault, shown_file}
-use Rattle.terrac_call.specs.Words.{Asking, Run}
+use Rattle.terrac_call.specs.Words.{Asking}
+use Rattle.terrac_call.specs.Words as words
 use Rattle.terrac_call.specs.Ranges.{AreLimits}
 use Rattle.terrac_call.specs.Run.{IsImageDue, front_of, manner_of, memory_of}
 use Rattle.terrac_call.specs.Staged.{IsTreeDue}
@@ -118,5 +119,5 @@ pub record IsDoneMeant (it : Asking) (w : StageState) (due : Due) : Type 0 where
 -- So it is, behind what was printed, for each source whose staging is done, within limits as words name them.
 abbrev pub SourcesAreMeant : Type 0
 SourcesAreMeant =
-    (it : Asking) → AreLimits it.running.limits → (items : Items) (finish : Place) (due : Due) (x : IsTreeDue (Run it) items finish due) → x.ending.end ≡ Done →
+    (it : Asking) → AreLimits it.running.limits → (items : Items) (finish : Place) (due : Due) (x : IsTreeDue (words.Run it) items finish due) → x.ending.end ≡ Done →
     IsDoneMeant it x.ending.left.world.stage x.rest

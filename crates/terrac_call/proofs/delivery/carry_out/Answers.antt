@@ -7,43 +7,43 @@ use Rattle.terrac_call.specs.declared.due.Stream.{Stream}
 use Rattle.terrac_call.proofs.Deliveries.{behind_notes, behind_out, noted_short, out_short}
 use Rattle.terrac_call.proofs.delivery.carry_out.Goals as goal
 
-pub returns-in-Ok-in-Out : goal.returns-in-Ok-in-Out
-returns-in-Ok-in-Out g c =
+pub returns-in-Ok : goal.returns-in-Ok
+returns-in-Ok g c =
     let printed = c.args.work.printed in
     let rest = due_of_rest c.args.work.rest in
-    let same = c.as_slice-in-Out.ensures in
-    subst (λ (to : Stream). Delivered (told_to to printed rest) c.finish-in-Out.result (g.K.Sink.taken c.args.out.now)
-    (g.K.Sink.taken c.finish-in-Out.new.out) (g.N.Sink.taken c.args.notes.now) (g.N.Sink.taken c.finish-in-Out.new.notes)
-    (g.K.Sink.faults c.args.out.now) (g.K.Sink.faults c.finish-in-Out.new.out) (g.N.Sink.faults c.args.notes.now)
-    (g.N.Sink.faults c.finish-in-Out.new.notes) (c.finish-in-Out.new.out ≡ c.args.out.now) (c.finish-in-Out.new.notes ≡ c.args.notes.now))
+    let same = c.as_slice.ensures in
+    subst (λ (to : Stream). Delivered (told_to to printed rest) c.finish.result (g.K.Sink.taken c.args.out.now)
+    (g.K.Sink.taken c.finish.new.out) (g.N.Sink.taken c.args.notes.now) (g.N.Sink.taken c.finish.new.notes)
+    (g.K.Sink.faults c.args.out.now) (g.K.Sink.faults c.finish.new.out) (g.N.Sink.faults c.args.notes.now)
+    (g.N.Sink.faults c.finish.new.notes) (c.finish.new.out ≡ c.args.out.now) (c.finish.new.notes ≡ c.args.notes.now))
     (sym c.in-Out.is)
-    (behind_out printed rest c.finish-in-Out.result (g.K.Sink.taken c.args.out.now) (g.K.Sink.taken c.write_piece-in-Out.new.sink)
-    (g.K.Sink.taken c.finish-in-Out.new.out) (g.N.Sink.taken c.args.notes.now) (g.N.Sink.taken c.finish-in-Out.new.notes)
-    (g.K.Sink.faults c.args.out.now) (g.K.Sink.faults c.write_piece-in-Out.new.sink) (g.K.Sink.faults c.finish-in-Out.new.out)
-    (g.N.Sink.faults c.args.notes.now) (g.N.Sink.faults c.finish-in-Out.new.notes)
-    (c.finish-in-Out.new.out ≡ c.write_piece-in-Out.new.sink) (c.finish-in-Out.new.out ≡ c.args.out.now)
-    (c.finish-in-Out.new.notes ≡ c.args.notes.now)
-    (c.in-Ok-in-Out.ensures.whole ∙ ap (with_back (g.K.Sink.taken c.args.out.now)) same) c.in-Ok-in-Out.ensures.quiet
-    (λ none mid. mid ∙ c.write_piece-in-Out.ensures.empty (same ∙ none)) c.finish-in-Out.ensures)
+    (behind_out printed rest c.finish.result (g.K.Sink.taken c.args.out.now) (g.K.Sink.taken c.write_piece.new.sink)
+    (g.K.Sink.taken c.finish.new.out) (g.N.Sink.taken c.args.notes.now) (g.N.Sink.taken c.finish.new.notes)
+    (g.K.Sink.faults c.args.out.now) (g.K.Sink.faults c.write_piece.new.sink) (g.K.Sink.faults c.finish.new.out)
+    (g.N.Sink.faults c.args.notes.now) (g.N.Sink.faults c.finish.new.notes)
+    (c.finish.new.out ≡ c.write_piece.new.sink) (c.finish.new.out ≡ c.args.out.now)
+    (c.finish.new.notes ≡ c.args.notes.now)
+    (c.in-Ok.ensures.whole ∙ ap (with_back (g.K.Sink.taken c.args.out.now)) same) c.in-Ok.ensures.quiet
+    (λ none mid. mid ∙ c.write_piece.ensures.empty (same ∙ none)) c.finish.ensures)
 
-pub returns-in-Err-in-Out : goal.returns-in-Err-in-Out
-returns-in-Err-in-Out g c =
+pub returns-in-Out : goal.returns-in-Out
+returns-in-Out g c =
     let printed = c.args.work.printed in
     let rest = due_of_rest c.args.work.rest in
-    let same = c.as_slice-in-Out.ensures in
+    let same = c.as_slice.ensures in
     let oo = g.K.Sink.taken c.args.out.now in
-    let on = g.K.Sink.taken c.write_piece-in-Out.new.sink in
+    let on = g.K.Sink.taken c.write_piece.new.sink in
     let o0 = g.K.Sink.faults c.args.out.now in
-    let o1 = g.K.Sink.faults c.write_piece-in-Out.new.sink in
+    let o1 = g.K.Sink.faults c.write_piece.new.sink in
     let short : StopsShort printed oo on o0 o1 =
-    subst (λ (p : List ℕ). StopsShort p oo on o0 o1) same c.in-Err-in-Out.ensures.short in
-    subst (λ (to : Stream). Delivered (told_to to printed rest) c.write_fault-in-Out.result oo on (g.N.Sink.taken c.args.notes.now)
-    (g.N.Sink.taken c.write_fault-in-Out.new.notes) o0 o1 (g.N.Sink.faults c.args.notes.now)
-    (g.N.Sink.faults c.write_fault-in-Out.new.notes) (c.write_piece-in-Out.new.sink ≡ c.args.out.now)
-    (c.write_fault-in-Out.new.notes ≡ c.args.notes.now))
+    subst (λ (p : List ℕ). StopsShort p oo on o0 o1) same c.in-Err.ensures.short in
+    subst (λ (to : Stream). Delivered (told_to to printed rest) c.write_fault.result oo on (g.N.Sink.taken c.args.notes.now)
+    (g.N.Sink.taken c.write_fault.new.notes) o0 o1 (g.N.Sink.faults c.args.notes.now)
+    (g.N.Sink.faults c.write_fault.new.notes) (c.write_piece.new.sink ≡ c.args.out.now)
+    (c.write_fault.new.notes ≡ c.args.notes.now))
     (sym c.in-Out.is)
-    (out_short (after printed rest) printed rest.out c.write_fault-in-Out.result oo on (g.N.Sink.taken c.args.notes.now)
-    (g.N.Sink.taken c.write_fault-in-Out.new.notes) o0 o1 (g.N.Sink.faults c.args.notes.now)
-    (g.N.Sink.faults c.write_fault-in-Out.new.notes) (c.write_piece-in-Out.new.sink ≡ c.args.out.now)
-    (c.write_fault-in-Out.new.notes ≡ c.args.notes.now) refl (λ none. c.in-Err-in-Out.ensures.some (same ∙ none)) short
-    c.write_fault-in-Out.ensures.status c.write_fault-in-Out.ensures.said)
+    (out_short (after printed rest) printed rest.out c.write_fault.result oo on (g.N.Sink.taken c.args.notes.now)
+    (g.N.Sink.taken c.write_fault.new.notes) o0 o1 (g.N.Sink.faults c.args.notes.now)
+    (g.N.Sink.faults c.write_fault.new.notes) (c.write_piece.new.sink ≡ c.args.out.now)
+    (c.write_fault.new.notes ≡ c.args.notes.now) refl (λ none. c.in-Err.ensures.some (same ∙ none)) short
+    c.write_fault.ensures.status c.write_fault.ensures.said)

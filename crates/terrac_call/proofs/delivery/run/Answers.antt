@@ -16,8 +16,8 @@ returns-in-WriteFault g c =
     (g.N.Sink.faults c.write_fault.new.notes) (c.run-stop.new.out ≡ c.args.out.now) (c.run-stop.ensures.fault c.in-WriteFault.is)
     c.run-stop.ensures.counted c.in-WriteFault.is c.write_fault.ensures.status c.write_fault.ensures.said
 
-pub returns-in_default : goal.returns-in_default
-returns-in_default g c =
+pub returns : goal.returns
+returns g c =
     let ready = c.args.ready in
     let other = c.in_default.not-WriteFault in
     run_whole (program_of ready.machine) (state_of ready.machine) ready.steps (string_bytes ready.front) ready.code c.run-stop.result
