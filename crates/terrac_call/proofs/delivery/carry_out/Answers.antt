@@ -47,3 +47,18 @@ returns-in-Out g c =
     (g.N.Sink.faults c.write_fault.new.notes) (c.write_piece.new.sink ≡ c.args.out.now)
     (c.write_fault.new.notes ≡ c.args.notes.now) refl (λ none. c.in-Err.ensures.some (same ∙ none)) short
     c.write_fault.ensures.status c.write_fault.ensures.said)
+
+pub returns-in-Ok-write_piece : goal.returns-in-Ok-write_piece
+returns-in-Ok-write_piece g c =
+    let printed = c.args.work.printed in
+    let rest = due_of_rest c.args.work.rest in
+    let same = c.as_slice-in-Notes.ensures in
+    let done = c.finish-in-Ok-write_piece in
+    subst (λ (to : Stream). Delivered (told_to to printed rest) done.result _ _ _ _ _ _ _ _ _ _) (sym c.in-Notes.is)
+    (behind_notes printed rest done.result (g.K.Sink.taken c.args.out.now) (g.K.Sink.taken done.new.out)
+    (g.N.Sink.taken c.args.notes.now) (g.N.Sink.taken c.write_piece-in-Notes.new.sink) (g.N.Sink.taken done.new.notes)
+    (g.K.Sink.faults c.args.out.now) (g.K.Sink.faults done.new.out) (g.N.Sink.faults c.args.notes.now)
+    (g.N.Sink.faults c.write_piece-in-Notes.new.sink) (g.N.Sink.faults done.new.notes) (done.new.out ≡ c.args.out.now)
+    (done.new.notes ≡ c.write_piece-in-Notes.new.sink) (done.new.notes ≡ c.args.notes.now)
+    (c.in-Ok-write_piece.ensures.whole ∙ ap (with_back (g.N.Sink.taken c.args.notes.now)) same) c.in-Ok-write_piece.ensures.quiet
+    (λ none mid. mid ∙ c.write_piece-in-Notes.ensures.empty (same ∙ none)) done.ensures)
