@@ -95,6 +95,7 @@ fn fault_text(kind: FaultKind) -> &'static str
         FaultKind::StackFull => "StackFull",
         FaultKind::CallDepth => "CallDepth",
         FaultKind::NoReturn => "NoReturn",
+        FaultKind::BadCall => "BadCall",
     }
 }
 
@@ -111,7 +112,7 @@ fn machine_fault_text(kind: MachineKind) -> &'static str
     }
 }
 
-/// The kind of a fault by its number, which is from 1 to 5.
+/// The kind of a fault by its number, which is from 1 to 6.
 fn fault_kind(number: u64) -> FaultKind
     ensures { result ≡ fault_kind number }
 {
@@ -120,7 +121,8 @@ fn fault_kind(number: u64) -> FaultKind
         2 => FaultKind::DivZero,
         3 => FaultKind::StackFull,
         4 => FaultKind::CallDepth,
-        _ => FaultKind::NoReturn,
+        5 => FaultKind::NoReturn,
+        _ => FaultKind::BadCall,
     }
 }
 
