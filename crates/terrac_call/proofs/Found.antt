@@ -1,12 +1,14 @@
 -- What `clap` finds for an argument with one number: the number passed the argument's parser, since a walk has a fault where one doesn't.
-use Rattle.std.proofs.Common.{◌≡◌, ◌≢◌, ◌⊎◌, inl, inr, ℕ, zero, suc, ◌<◌, ◌≤◌, Bool, true, false, cond, not, ◌&&◌, List, [], ◌∷◌, ◌++◌}
-use Rattle.std.proofs.Common.{length, drop, fold, find, All, Option, Some, None, is_some, option_map, option_and_then, slice_get, refl, sym, ap}
-use Rattle.std.proofs.Common.{subst, ◌∙◌, arith, if◌then◌else◌, ◌==◌, nat_lt, bytes_eq, encode_utf8, chars}
+use Rattle.std.proofs.Common.{◌≡◌, ◌≢◌, ◌⊎◌, inl, inr, ℕ, zero, suc, ◌<◌, ◌≤◌, Bool, true, false, cond, not, ◌&&◌, ◌||◌, List, [], ◌∷◌, ◌++◌}
+use Rattle.std.proofs.Common.{length, drop, fold, find, Decides, Option, Some, None, is_some, option_map, option_and_then, slice_get, refl, sym, ap}
+use Rattle.std.proofs.Common.{subst, ◌∙◌, arith, ◌+◌, min, if◌then◌else◌, ◌==◌, nat_lt, bytes_eq, encode_utf8, chars}
 use Rattle.std.specs.List.{list_any}
 use Rattle.std.specs.Option.{option_map_or}
 use Rattle.std.specs.Str.Parse.{digits_value, without_leading_plus}
+use Rattle.std.proofs.lemmas.Bool.{ne_eqb}
 use Rattle.std.proofs.lemmas.Slice.Eq.{bytes_eq-Decides}
 use Rattle.clap.specs.Lexer.{long_of, short_of}
+use Rattle.clap.specs.Matches.{count_text}
 use Rattle.clap.specs.Facts.{parser_of_value, unwrap_or_range, explicit_source}
 use Rattle.clap.specs.Values.{IsUnsignedIn, refused_kind}
 use Rattle.clap.specs.ValueTests.{accepts}
@@ -14,7 +16,7 @@ use Rattle.clap.specs.Kinds.{Kinds, check_kinds, or_else, range_kinds, value_kin
 use Rattle.clap.specs.Takes.{is_given}
 use Rattle.clap.specs.Walk.{Held, Names, Outcome, Row, Rule, Step, Text, Waiting, Walk, action_of, after_flag, after_step, arg_by_id}
 use Rattle.clap.specs.Walk.{arg_by_index, arg_by_long, arg_by_short, at_row, attached_value, bundle, bundle_met, bundle_step, counted}
-use Rattle.clap.specs.Walk.{default_rows, done, finished, first_of, flag_met, has_row, idle, is_pending, long_met, long_or_other, more_values}
+use Rattle.clap.specs.Walk.{default_rows, done, finished, first_of, flag_met, has_row, idle, is_pending, count_of, new_count, stronger, long_met, long_or_other, more_values}
 use Rattle.clap.specs.Walk.{most_values, next, nothing_held, option, option_met, option_word, plain, plain_word, positional, positional_held}
 use Rattle.clap.specs.Walk.{pushed, reacted, reading_by, refused, row_text, settled, settled_rows, short_met, short_or_plain, subcommand}
 use Rattle.clap.specs.Walk.{subcommand_met, subcommand_or_other, takes_several, takes_values, to_positional, trailing, used, used_as, used_by_id, value}
@@ -43,16 +45,21 @@ same_text : (s t : Text) → bytes_eq s t ≡ true → s ≡ t
 same_text s t e = by (bytes_eq s t) e (bytes_eq-Decides s t)
   where
     by : (b : Bool) → b ≡ true → Decides b (s ≡ t) → s ≡ t
-    by true _ d = d
+    by true _ d = d.0 refl
     by false e d = absurd cc
 
-pub all_found : {X : Type 0} (P : X → Type 0) (test : X → Bool) (xs : List X) (x : X) → All P xs → find test xs ≡ Some x → P x
+-- each of a list is so
+abbrev pub Each : {X : Type 0} (P : X → Type 0) → List X → Type 0
+Each P [] = Unit {0}
+Each P (x ∷ xs) = P x × Each P xs
+
+pub all_found : {X : Type 0} (P : X → Type 0) (test : X → Bool) (xs : List X) (x : X) → Each P xs → find test xs ≡ Some x → P x
 all_found P test [] x all found = absurd cc
-all_found P test (y ∷ ys) x all found = by (test y) found
+all_found P test (y ∷ ys) x all found = by (test y) (λ e. all_found P test ys x all.1 e) found
   where
-    by : (b : Bool) → cond b (Some y) (find test ys) ≡ Some x → P x
-    by true e = let same : y ≡ x = cc in subst P same all.0
-    by false e = all_found P test ys x all.1 e
+    by : (b : Bool) → (find test ys ≡ Some x → P x) → cond b (Some y) (find test ys) ≡ Some x → P x
+    by true later e = let same : y ≡ x = cc in subst P same all.0
+    by false later e = later e
 
 pub or_both : (a b : Kinds) → or_else a b ≡ [] → (a ≡ []) × (b ≡ [])
 or_both [] b e = (refl, e)
@@ -61,7 +68,11 @@ or_both (x ∷ a) b e = absurd cc
 one_value : (n : ℕ) → range_kinds 1 1 n ≡ [] → n ≡ 1
 one_value zero e = absurd cc
 one_value (suc zero) e = refl
-one_value (suc (suc n)) e = absurd cc
+one_value (suc (suc n)) e =
+    let not_zero : (suc (suc n) == 0) ≡ false = ne_eqb (suc (suc n)) 0 (λ e. omega arith) in
+    let not_one : (1 == suc (suc n)) ≡ false = ne_eqb 1 (suc (suc n)) (λ e. omega arith) in
+    let bad : kind.WrongNumberOfValues ∷ [] ≡ [] = rw (not_zero, not_one) at e in
+    absurd cc
 
 passes : (ic : Bool) (p : ValueParser) (v : Text) → value_kinds ic p v ≡ [] → accepts ic p v ≡ true
 passes ic p v e = by (accepts ic p v) e
@@ -109,13 +120,14 @@ module _ (k : Text) where
       → ((r : Row) (rs : List Row) → bytes_eq r.id k ≡ false → only (change r ++ rs) ≡ only rs) → only missing ≡ []
       → only (at_row id change missing rows) ≡ only rows
   at_other id change missing [] other keeps none = none
-  at_other id change missing (r ∷ rs) other keeps none = by (bytes_eq r.id id) refl
+  at_other id change missing (r ∷ rs) other keeps none = by (bytes_eq r.id id) refl (at_other id change missing rs other keeps none)
     where
-      by : (b : Bool) → bytes_eq r.id id ≡ b → only (if b then change r ++ rs else r ∷ at_row id change missing rs) ≡ only (r ∷ rs)
-      by true e =
+      by : (b : Bool) → bytes_eq r.id id ≡ b → only (at_row id change missing rs) ≡ only rs
+          → only (if b then change r ++ rs else r ∷ at_row id change missing rs) ≡ only (r ∷ rs)
+      by true e later =
           let far : bytes_eq r.id k ≡ false = subst (λ (t : Text). bytes_eq t k ≡ false) (sym (same_text r.id id e)) other in
           keeps r rs far ∙ sym (skip r rs far)
-      by false e = ap (λ (xs : List Row). cond (bytes_eq r.id k) (r ∷ xs) xs) (at_other id change missing rs other keeps none)
+      by false e later = ap (λ (xs : List Row). cond (bytes_eq r.id k) (r ∷ xs) xs) later
 
   gone_other : (id : Text) (rows : List Row) → bytes_eq id k ≡ false → only (without id rows) ≡ only rows
   gone_other id rows other = at_other id (λ _. []) [] rows other (λ r rs far. refl) refl
@@ -127,7 +139,16 @@ module _ (k : Text) where
 
   count_other : (id : Text) (how : Reading) (s : ValueSource) (n : ℕ) (rows : List Row) → bytes_eq id k ≡ false
       → only (with_count id how s n rows) ≡ only rows
-  count_other id how s n rows other = at_other id _ _ rows other (λ r rs far. skip _ rs far) (skip _ [] other)
+  count_other id how s n rows other =
+      at_other id (new_count s n) _ rows other
+      (λ r rs far. skip (record {
+        id = r.id;
+        values = r.values ++ (count_text n ∷ []);
+        count = Some n;
+        source = Some (stronger r.source s);
+        reading = r.reading;
+      }) rs far)
+      (skip _ [] other)
 
   as_other : (x : ArgAction) (id : Text) (how : Reading) (values : List Text) (rows : List Row) → bytes_eq id k ≡ false
       → only (used_as x id how values rows) ≡ only rows
@@ -138,7 +159,8 @@ module _ (k : Text) where
   as_other action.SetFalse id how values rows other =
       values_other id how CommandLine values (without id rows) other ∙ gone_other id rows other
   as_other action.Append id how values rows other = values_other id how CommandLine values rows other
-  as_other action.Count id how [] rows other = count_other id how CommandLine _ (without id rows) other ∙ gone_other id rows other
+  as_other action.Count id how [] rows other = count_other id how CommandLine (min (count_of id rows + 1) 255) (without id rows) other
+      ∙ gone_other id rows other
   as_other action.Count id how (v ∷ vs) rows other =
       values_other id how CommandLine (v ∷ vs) (without id rows) other ∙ gone_other id rows other
   as_other action.Help id how values rows other = refl
@@ -149,28 +171,30 @@ module _ (k : Text) where
   -- where there are none of the id, a change leaves what is put at the end
   at_none : (change : Row → List Row) (missing rows : List Row) → only rows ≡ [] → only (at_row k change missing rows) ≡ only missing
   at_none change missing [] none = refl
-  at_none change missing (r ∷ rs) none = by (bytes_eq r.id k) refl
+  at_none change missing (r ∷ rs) none = by (bytes_eq r.id k) refl (λ e. at_none change missing rs e)
     where
-      by : (b : Bool) → bytes_eq r.id k ≡ b → only (if b then change r ++ rs else r ∷ at_row k change missing rs) ≡ only missing
-      by true e = let some : r ∷ only rs ≡ [] = sym (keep r rs e) ∙ none in absurd cc
-      by false e = skip r (at_row k change missing rs) e ∙ at_none change missing rs (sym (skip r rs e) ∙ none)
+      by : (b : Bool) → bytes_eq r.id k ≡ b → (only rs ≡ [] → only (at_row k change missing rs) ≡ only missing)
+          → only (if b then change r ++ rs else r ∷ at_row k change missing rs) ≡ only missing
+      by true e later = let some : r ∷ only rs ≡ [] = sym (keep r rs e) ∙ none in absurd cc
+      by false e later = skip r (at_row k change missing rs) e ∙ later (sym (skip r rs e) ∙ none)
 
   none_here : (rows : List Row) → has_row k rows ≡ false → only rows ≡ []
   none_here [] e = refl
-  none_here (r ∷ rs) e = by (bytes_eq r.id k) e
+  none_here (r ∷ rs) e = by (bytes_eq r.id k) (λ e. none_here rs e) e
     where
-      by : (b : Bool) → cond b true (has_row k rs) ≡ false → cond b (r ∷ only rs) (only rs) ≡ []
-      by true e = absurd cc
-      by false e = none_here rs e
+      by : (b : Bool) → (has_row k rs ≡ false → only rs ≡ []) → (b || has_row k rs) ≡ false → cond b (r ∷ only rs) (only rs) ≡ []
+      by true later e = absurd cc
+      by false later e = later e
 
   -- what a search finds is the first of them
   first_only : (rows : List Row) → find (λ r. bytes_eq r.id k) rows ≡ slice_get (only rows) 0
   first_only [] = refl
-  first_only (r ∷ rs) = by (bytes_eq r.id k)
+  first_only (r ∷ rs) = by (bytes_eq r.id k) (first_only rs)
     where
-      by : (b : Bool) → cond b (Some r) (find (λ x. bytes_eq x.id k) rs) ≡ slice_get (cond b (r ∷ only rs) (only rs)) 0
-      by true = refl
-      by false = first_only rs
+      by : (b : Bool) → find (λ x. bytes_eq x.id k) rs ≡ slice_get (only rs) 0
+          → cond b (Some r) (find (λ x. bytes_eq x.id k) rs) ≡ slice_get (cond b (r ∷ only rs) (only rs)) 0
+      by true later = refl
+      by false later = later
 
   -- there is one
   abbrev Full : List Row → Type 0
@@ -179,11 +203,11 @@ module _ (k : Text) where
 
   some_here : (rows : List Row) → has_row k rows ≡ true → Full (only rows)
   some_here [] e = absurd cc
-  some_here (r ∷ rs) e = by (bytes_eq r.id k) e
+  some_here (r ∷ rs) e = by (bytes_eq r.id k) (λ e. some_here rs e) e
     where
-      by : (b : Bool) → cond b true (has_row k rs) ≡ true → Full (cond b (r ∷ only rs) (only rs))
-      by true e = tt
-      by false e = some_here rs e
+      by : (b : Bool) → (has_row k rs ≡ true → Full (only rs)) → (b || has_row k rs) ≡ true → Full (cond b (r ∷ only rs) (only rs))
+      by true later e = tt
+      by false later e = later e
 
   given_here : (rows : List Row) → is_given k rows ≡ true → Full (only rows)
   given_here rows e =
@@ -211,7 +235,7 @@ module _ (k : Text) where
     AtMost (r ∷ []) = IsFound r
     AtMost (r ∷ s ∷ rs) = ⊥
 
-    Good : List Row → Type 0
+    abbrev Good : List Row → Type 0
     Good rows = AtMost (only rows)
 
     single : (r : Row) (rs : List Row) → AtMost (r ∷ rs) → rs ≡ []
@@ -220,11 +244,12 @@ module _ (k : Text) where
 
     gone : (rows : List Row) → AtMost (only rows) → only (without k rows) ≡ []
     gone [] h = refl
-    gone (r ∷ rs) h = by (bytes_eq r.id k) refl
+    gone (r ∷ rs) h = by (bytes_eq r.id k) refl (λ h. gone rs h)
       where
-        by : (b : Bool) → bytes_eq r.id k ≡ b → only (if b then [] ++ rs else r ∷ at_row k (λ _. []) [] rs) ≡ []
-        by true e = single r (only rs) (subst AtMost (keep r rs e) h)
-        by false e = skip r (without k rs) e ∙ gone rs (subst AtMost (skip r rs e) h)
+        by : (b : Bool) → bytes_eq r.id k ≡ b → (AtMost (only rs) → only (without k rs) ≡ [])
+            → only (if b then [] ++ rs else r ∷ at_row k (λ _. []) [] rs) ≡ []
+        by true e later = single r (only rs) (subst AtMost (keep r rs e) h)
+        by false e later = skip r (without k rs) e ∙ later (subst AtMost (skip r rs e) h)
 
     -- one number for it, where there was none
     put_one : (how : Reading) (s : ValueSource) (v : Text) (rows : List Row) → only rows ≡ [] → bytes_eq k k ≡ true → IsUnsignedIn least most v
@@ -282,7 +307,7 @@ module _ (k : Text) where
 
       -- ---- the walk, of a command whose arguments these are
 
-      module _ (s : Shape) (ones : All (IsOne k b) s.rules) where
+      module _ (s : Shape) (ones : Each (IsOne k b) s.rules) where
         found : (test : Rule → Bool) (a : Rule) → find test s.rules ≡ Some a → IsOne k b a
         found test a e = all_found (IsOne k b) test s.rules a ones e
 
@@ -346,18 +371,23 @@ module _ (k : Text) where
             → Good (bundle_met s.rules n flags pass so_far h).0.rows
         unfolding flags_fault bundle_met
         bundle_good zero flags pass so_far h fault good = good
-        bundle_good (suc n) flags pass so_far h fault good = by (slice_get (chars flags) 0) pass fault
+        bundle_good (suc n) flags pass so_far h fault good =
+            by (slice_get (chars flags) 0) pass
+            (λ flags pass so_far h fault good. bundle_good n flags pass so_far h fault good) fault
           where
             by : (o : Option ℕ) (pass : ℕ)
+                → ((flags : Text) (pass : ℕ) (so_far : Outcome) (h : Held)
+                → flags_fault s.rules s.args_override_self n flags pass h ≡ [] → Good h.rows
+                → Good (bundle_met s.rules n flags pass so_far h).0.rows)
                 → bundle_step_fault s.rules s.args_override_self o flags pass h (flags_fault s.rules s.args_override_self n) ≡ []
                 → Good (bundle_step s.rules o flags pass so_far h (bundle_met s.rules n)).0.rows
-            by None pass fault = good
-            by (Some x) zero fault =
+            by None pass later fault = good
+            by (Some x) zero later fault =
                 let rest = drop (length (encode_utf8 x)) flags in
                 short_good (arg_by_short s.rules x) rest h (bundle_met s.rules n rest 0 done)
                 (flags_fault s.rules s.args_override_self n rest 0) (λ a e. found _ a e)
-                (λ after fault good. bundle_good n rest 0 done after fault good) fault good
-            by (Some x) (suc pass) fault = bundle_good n (drop (length (encode_utf8 x)) flags) pass so_far h fault good
+                (λ after fault good. later rest 0 done after fault good) fault good
+            by (Some x) (suc pass) later fault = later (drop (length (encode_utf8 x)) flags) pass so_far h fault good
 
         option_word_good : (o : Option Rule) (id word : Text) (h : Held) → Good h.rows → Good (option_word o id word h).0.rows
         option_word_good None id word h good = good
@@ -486,7 +516,7 @@ module _ (k : Text) where
               by true e = subst (λ (r : Rule). Good (with_default rows r)) (sym (one e)) (with_own rows good)
               by false e = subst AtMost (sym (default_other a rows e)) good
 
-          defaults_good : (rules : List Rule) (rows : List Row) → All (IsOne k b) rules → Good rows → Good (fold with_default rows rules)
+          defaults_good : (rules : List Rule) (rows : List Row) → Each (IsOne k b) rules → Good rows → Good (fold with_default rows rules)
           defaults_good [] rows ones good = good
           defaults_good (a ∷ rules) rows ones good = defaults_good rules (with_default rows a) ones.1 (default_good a rows ones.0 good)
 
@@ -521,12 +551,12 @@ module _ (k : Text) where
               by true e = subst (λ (r : Rule). Full (only (with_default rows r))) (sym (one e)) (full_kept rows full)
               by false e = subst Full (sym (default_other a rows e)) full
 
-          fulls : (rules : List Rule) (rows : List Row) → All (IsOne k b) rules → Full (only rows)
+          fulls : (rules : List Rule) (rows : List Row) → Each (IsOne k b) rules → Full (only rows)
               → Full (only (fold with_default rows rules))
           fulls [] rows ones full = full
           fulls (a ∷ rules) rows ones full = fulls rules (with_default rows a) ones.1 (full_step a rows ones.0 full)
 
-          full_default : (rules : List Rule) (rows : List Row) → All (IsOne k b) rules → HasId rules → HasDefault b.defaults
+          full_default : (rules : List Rule) (rows : List Row) → Each (IsOne k b) rules → HasId rules → HasDefault b.defaults
               → Full (only (fold with_default rows rules))
           full_default [] rows ones has some = absurd has
           full_default (a ∷ rules) rows ones (inl e) some =
@@ -535,10 +565,11 @@ module _ (k : Text) where
           full_default (a ∷ rules) rows ones (inr has) some = full_default rules (with_default rows a) ones.1 has some
 
           -- one that is required was given
-          wanted : (rows : List Row) (rules : List Rule) → All (IsOne k b) rules → HasId rules → b.required ≡ true
+          wanted : (rows : List Row) (rules : List Rule) → Each (IsOne k b) rules → HasId rules → b.required ≡ true
               → list_any (λ a. a.required && not (is_given a.id rows)) rules ≡ false → is_given k rows ≡ true
           wanted rows [] ones has required none = absurd has
-          wanted rows (a ∷ rules) ones has required none = by (a.required && not (is_given a.id rows)) refl none has
+          wanted rows (a ∷ rules) ones has required none =
+              by (a.required && not (is_given a.id rows)) refl (λ far none. wanted rows rules ones.1 far required none) none has
             where
               given : (x y : Bool) → x ≡ true → (x && not y) ≡ false → y ≡ true
               given true true e f = refl
@@ -546,15 +577,16 @@ module _ (k : Text) where
               given false y e f = absurd cc
 
               by : (x : Bool) → (a.required && not (is_given a.id rows)) ≡ x
-                  → cond x true (list_any (λ r. r.required && not (is_given r.id rows)) rules) ≡ false → HasId (a ∷ rules)
+                  → (HasId rules → list_any (λ r. r.required && not (is_given r.id rows)) rules ≡ false → is_given k rows ≡ true)
+                  → (x || list_any (λ r. r.required && not (is_given r.id rows)) rules) ≡ false → HasId (a ∷ rules)
                   → is_given k rows ≡ true
-              by true e none has = absurd cc
-              by false e none (inl near) =
+              by true e later none has = absurd cc
+              by false e later none (inl near) =
                   let same : a ≡ b = ones.0 near in
                   let here : (b.required && not (is_given b.id rows)) ≡ false =
                   subst (λ (r : Rule). (r.required && not (is_given r.id rows)) ≡ false) same e in
                   subst (λ (t : Text). is_given t rows ≡ true) id_is (given b.required (is_given b.id rows) required here)
-              by false e none (inr far) = wanted rows rules ones.1 far required none
+              by false e later none (inr far) = later far none
 
           third : (x y z : Bool) → check_kinds x y z ≡ [] → z ≡ false
           third true y z e = absurd cc
@@ -580,8 +612,8 @@ module _ (k : Text) where
               IsIn : ℕ → Type 0
               IsIn n = (least ≤ n) × (n ≤ most)
 
-              number : (text : Text) → IsUnsignedIn least most text → IsIn (number_or_zero text)
-              number text ok =
+              reads : (text : Text) → IsUnsignedIn least most text → IsIn (number_or_zero text)
+              reads text ok =
                   subst IsIn (number_read text (digits_value 10 (without_leading_plus text)) (ok.0, ok.1) refl) (ok.2, ok.3)
 
               by : (rs : List Row) → AtMost rs → Full rs
@@ -590,7 +622,7 @@ module _ (k : Text) where
               by (r ∷ t ∷ rs) good full = absurd good
               by (r ∷ []) good full =
                   subst (λ (vs : List Text). IsIn (number_or_zero (text_or_none (slice_get vs 0)))) (sym good.is)
-                  (number good.text good.passed)
+                  (reads good.text good.passed)
 
           -- what is found of a level of words without a fault
           pub number_in : (words : List Text) → level_fault s [] nothing_held words false [] ≡ [] → HasId s.rules

@@ -1,6 +1,7 @@
 -- What the words name is in its range.
-use Rattle.std.proofs.Common.{◌≡◌, inl, inr, ℕ, ◌≤◌, Bool, true, false, List, [], ◌∷◌, length, find, All, Option, Some, None, refl, sym, ap}
-use Rattle.std.proofs.Common.{subst, codes, option_map}
+use Rattle.std.proofs.Common.{◌≡◌, inl, inr, ℕ, ◌≤◌, Bool, true, false, List, [], ◌∷◌, length, find, Option, Some, None, refl, sym, ap}
+use Rattle.std.proofs.Common.{subst, codes, option_map, ◌∙◌, arith}
+use Rattle.std.proofs.lemmas.Bool.{ne_eqb}
 use Rattle.std.specs.Option.{option_map_or}
 use Rattle.std.specs.Prelude.{if◌then◌else◌}
 use Rattle.clap.specs.Words.{Rule, Row, Text, Shape, fault_of, subcommand_of}
@@ -16,7 +17,7 @@ use Rattle.terrac_call.specs.Words.{budget_rule, memory_rule, steps_rule, count_
 use Rattle.terrac_call.specs.Words.{job_of_command, limits_of, number_found, check_command, emit_command, exec_command, gen_command}
 use Rattle.terrac_call.specs.Words.{rename_command, run_command, terms_command}
 use Rattle.terrac_call.specs.Ranges.{AreLimits, AreSteps, AreWorked, IsCount, IsLawfulJob, JobsAreLawful}
-use Rattle.terrac_call.proofs.Found.{HasId, IsDefault, IsNumber, IsOne, all_found, number_in, or_both}
+use Rattle.terrac_call.proofs.Found.{Each, HasId, IsDefault, IsNumber, IsOne, all_found, number_in, or_both}
 
 no : false ≡ true → ⊥
 no e = absurd cc
@@ -38,7 +39,7 @@ rows_of s words = rows_after s.rules [] words
 -- ---- the numbers
 
 record HasOne (k : Text) (b : Rule) (s : Shape) : Type 0 where
-  ones : All (IsOne k b) s.rules
+  ones : Each (IsOne k b) s.rules
   has : HasId k s.rules
 
 budget_in : (s : Shape) (words : List Text) → HasOne (codes "budget") (filled budget_rule) s → Takes s words
@@ -94,43 +95,16 @@ unfolding clap_on_literals
 run_sub words fault = (
   limits_in (sub run_command.top) words
       (record {
-        ones = (
-          λ e. refl,
-          λ e. absurd (no e),
-          λ e. absurd (no e),
-          λ e. absurd (no e),
-          λ e. absurd (no e),
-          λ e. absurd (no e),
-          λ e. absurd (no e),
-          tt,
-        );
+        ones = (λ e. refl, (λ e. absurd (no e), (λ e. absurd (no e), (λ e. absurd (no e), (λ e. absurd (no e), (λ e. absurd (no e), (λ e. absurd (no e), tt)))))));
         has = inl refl;
       })
       (record {
-        ones = (
-          λ e. absurd (no e),
-          λ e. refl,
-          λ e. absurd (no e),
-          λ e. absurd (no e),
-          λ e. absurd (no e),
-          λ e. absurd (no e),
-          λ e. absurd (no e),
-          tt,
-        );
+        ones = (λ e. absurd (no e), (λ e. refl, (λ e. absurd (no e), (λ e. absurd (no e), (λ e. absurd (no e), (λ e. absurd (no e), (λ e. absurd (no e), tt)))))));
         has = inr (inl refl);
       }) fault,
   steps_in (sub run_command.top) words
       (record {
-        ones = (
-          λ e. absurd (no e),
-          λ e. absurd (no e),
-          λ e. refl,
-          λ e. absurd (no e),
-          λ e. absurd (no e),
-          λ e. absurd (no e),
-          λ e. absurd (no e),
-          tt,
-        );
+        ones = (λ e. absurd (no e), (λ e. absurd (no e), (λ e. refl, (λ e. absurd (no e), (λ e. absurd (no e), (λ e. absurd (no e), (λ e. absurd (no e), tt)))))));
         has = inr (inr (inl refl));
       }) fault,
   tt,
@@ -143,13 +117,13 @@ unfolding clap_on_literals
 staging_sub s same words fault =
     limits_in s words
     (record {
-      ones = subst (λ (rules : List Rule). All (IsOne (codes "budget") (filled budget_rule)) rules) (sym same)
-          (λ e. refl, λ e. absurd (no e), λ e. absurd (no e), tt);
+      ones = subst (λ (rules : List Rule). Each (IsOne (codes "budget") (filled budget_rule)) rules) (sym same)
+          (λ e. refl, (λ e. absurd (no e), (λ e. absurd (no e), tt)));
       has = subst (HasId (codes "budget")) (sym same) (inl refl);
     })
     (record {
-      ones = subst (λ (rules : List Rule). All (IsOne (codes "memory") (filled memory_rule)) rules) (sym same)
-          (λ e. absurd (no e), λ e. refl, λ e. absurd (no e), tt);
+      ones = subst (λ (rules : List Rule). Each (IsOne (codes "memory") (filled memory_rule)) rules) (sym same)
+          (λ e. absurd (no e), (λ e. refl, (λ e. absurd (no e), tt)));
       has = subst (HasId (codes "memory")) (sym same) (inr (inl refl));
     }) fault
 
@@ -170,7 +144,7 @@ unfolding clap_on_literals
 exec_sub words fault =
     steps_in (sub exec_command.top) words
     (record {
-      ones = (λ e. refl, λ e. absurd (no e), λ e. absurd (no e), λ e. absurd (no e), tt);
+      ones = (λ e. refl, (λ e. absurd (no e), (λ e. absurd (no e), (λ e. absurd (no e), tt))));
       has = inl refl;
     }) fault
 
@@ -179,28 +153,28 @@ unfolding clap_on_literals
 gen_sub words fault = (
   limits_in (sub gen_command.top) words
       (record {
-        ones = (λ e. refl, λ e. absurd (no e), λ e. absurd (no e), λ e. absurd (no e), λ e. absurd (no e), tt);
+        ones = (λ e. refl, (λ e. absurd (no e), (λ e. absurd (no e), (λ e. absurd (no e), (λ e. absurd (no e), tt)))));
         has = inl refl;
       })
       (record {
-        ones = (λ e. absurd (no e), λ e. refl, λ e. absurd (no e), λ e. absurd (no e), λ e. absurd (no e), tt);
+        ones = (λ e. absurd (no e), (λ e. refl, (λ e. absurd (no e), (λ e. absurd (no e), (λ e. absurd (no e), tt)))));
         has = inr (inl refl);
       }) fault,
   steps_in (sub gen_command.top) words
       (record {
-        ones = (λ e. absurd (no e), λ e. absurd (no e), λ e. refl, λ e. absurd (no e), λ e. absurd (no e), tt);
+        ones = (λ e. absurd (no e), (λ e. absurd (no e), (λ e. refl, (λ e. absurd (no e), (λ e. absurd (no e), tt)))));
         has = inr (inr (inl refl));
       }) fault,
   count_in (sub gen_command.top) words
       (record {
-        ones = (λ e. absurd (no e), λ e. absurd (no e), λ e. absurd (no e), λ e. refl, λ e. absurd (no e), tt);
+        ones = (λ e. absurd (no e), (λ e. absurd (no e), (λ e. absurd (no e), (λ e. refl, (λ e. absurd (no e), tt)))));
         has = inr (inr (inr (inl refl)));
       }) refl fault,
 )
 
-subs_lawful : All IsLawfulSub (built command_line).subs
+subs_lawful : Each IsLawfulSub (built command_line).subs
 unfolding clap_on_literals
-subs_lawful = (run_sub, emit_sub, exec_sub, check_sub, terms_sub, λ words fault. tt, gen_sub, λ words fault. tt, tt)
+subs_lawful = (run_sub, (emit_sub, (exec_sub, (check_sub, (terms_sub, (λ words fault. tt, (gen_sub, (λ words fault. tt, tt))))))))
 
 -- ---- the job
 
@@ -219,7 +193,7 @@ found_lawful (Some p) fault = by (find (λ s. answers_to p.0 (label_of s)) (buil
 
 nothing : (kinds : List ErrorKind) → is_empty kinds ≡ true → kinds ≡ []
 nothing [] e = refl
-nothing (k ∷ ks) e = absurd (no e)
+nothing (k ∷ ks) e = absurd (no (sym (ne_eqb (length (k ∷ ks)) 0 (λ e. omega arith)) ∙ e))
 
 pub jobs_are_lawful : JobsAreLawful
 unfolding job_of

@@ -97,7 +97,7 @@ of_owed (Stage task) bytes due is = of_reading task is.0 due is.2
 of_owed (Exec call steps) bytes due is = of_exec call steps bytes due is
 
 not_ending : (due : Due) (status : Status) → ends_job status ≡ false → EndsJob due → due.status ≢ status
-not_ending due status no ends is = let bad : true ≡ false = sym ends ∙ ap ends_job is ∙ no in absurd cc
+not_ending due status never ends is = let bad : true ≡ false = sym ends ∙ ap ends_job is ∙ never in absurd cc
 
 -- a job isn't refused as bad usage
 pub job_no_usage : (job : Option Job) (left : Option (List ℕ)) (Rose : Type 0) (due : Due) → IsSome job → Owed job left Rose due

@@ -54,7 +54,10 @@ returns-in-Ok-write_piece g c =
     let rest = due_of_rest c.args.work.rest in
     let same = c.as_slice-in-Notes.ensures in
     let done = c.finish-in-Ok-write_piece in
-    subst (λ (to : Stream). Delivered (told_to to printed rest) done.result _ _ _ _ _ _ _ _ _ _) (sym c.in-Notes.is)
+    subst (λ (to : Stream). Delivered (told_to to printed rest) done.result (g.K.Sink.taken c.args.out.now) (g.K.Sink.taken done.new.out)
+    (g.N.Sink.taken c.args.notes.now) (g.N.Sink.taken done.new.notes) (g.K.Sink.faults c.args.out.now)
+    (g.K.Sink.faults done.new.out) (g.N.Sink.faults c.args.notes.now) (g.N.Sink.faults done.new.notes)
+    (done.new.out ≡ c.args.out.now) (done.new.notes ≡ c.args.notes.now)) (sym c.in-Notes.is)
     (behind_notes printed rest done.result (g.K.Sink.taken c.args.out.now) (g.K.Sink.taken done.new.out)
     (g.N.Sink.taken c.args.notes.now) (g.N.Sink.taken c.write_piece-in-Notes.new.sink) (g.N.Sink.taken done.new.notes)
     (g.K.Sink.faults c.args.out.now) (g.K.Sink.faults done.new.out) (g.N.Sink.faults c.args.notes.now)
@@ -62,3 +65,24 @@ returns-in-Ok-write_piece g c =
     (done.new.notes ≡ c.write_piece-in-Notes.new.sink) (done.new.notes ≡ c.args.notes.now)
     (c.in-Ok-write_piece.ensures.whole ∙ ap (with_back (g.N.Sink.taken c.args.notes.now)) same) c.in-Ok-write_piece.ensures.quiet
     (λ none mid. mid ∙ c.write_piece-in-Notes.ensures.empty (same ∙ none)) done.ensures)
+
+pub returns : goal.returns
+returns g c =
+    let printed = c.args.work.printed in
+    let rest = due_of_rest c.args.work.rest in
+    let same = c.as_slice-in-Notes.ensures in
+    let failed = c.write_fault-in-Err-write_piece in
+    let nb = g.N.Sink.taken c.args.notes.now in
+    let nm = g.N.Sink.taken c.write_piece-in-Notes.new.sink in
+    let n0 = g.N.Sink.faults c.args.notes.now in
+    let n1 = g.N.Sink.faults c.write_piece-in-Notes.new.sink in
+    let short : StopsShort printed nb nm n0 n1 =
+    subst (λ (p : List ℕ). StopsShort p nb nm n0 n1) same c.in-Err-write_piece.ensures.short in
+    subst (λ (to : Stream). Delivered (told_to to printed rest) failed.result (g.K.Sink.taken c.args.out.now)
+    (g.K.Sink.taken c.args.out.now) nb (g.N.Sink.taken failed.new.notes) (g.K.Sink.faults c.args.out.now)
+    (g.K.Sink.faults c.args.out.now) n0 (g.N.Sink.faults failed.new.notes) (c.args.out.now ≡ c.args.out.now)
+    (failed.new.notes ≡ c.args.notes.now))
+    (sym c.in-Notes.is)
+    (noted_short rest printed failed.result (g.K.Sink.taken c.args.out.now) nb nm (g.N.Sink.taken failed.new.notes)
+    (g.K.Sink.faults c.args.out.now) n0 n1 (g.N.Sink.faults failed.new.notes) (c.args.out.now ≡ c.args.out.now)
+    (failed.new.notes ≡ c.args.notes.now) refl short failed.ensures.status failed.ensures.said)

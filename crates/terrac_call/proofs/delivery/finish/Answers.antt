@@ -10,7 +10,10 @@ pub returns-in-Ok : goal.returns-in-Ok
 returns-in-Ok g c =
     let ready = c.in-Run.ready in
     let same = c.deref.ensures.value in
-    subst (λ (r : Rest). Delivered (due_of_rest r) c.run.result _ _ _ _ _ _ _ _ _ _) (sym c.in-Run.is)
+    subst (λ (r : Rest). Delivered (due_of_rest r) c.run.result (g.K.Sink.taken c.args.out.now) (g.K.Sink.taken c.run.new.out)
+    (g.N.Sink.taken c.args.notes.now) (g.N.Sink.taken c.run.new.notes) (g.K.Sink.faults c.args.out.now)
+    (g.K.Sink.faults c.run.new.out) (g.N.Sink.faults c.args.notes.now) (g.N.Sink.faults c.run.new.notes)
+    (c.run.new.out ≡ c.args.out.now) (c.run.new.notes ≡ c.args.notes.now)) (sym c.in-Run.is)
     (behind_notes ready.file.items (due_of_run ready) c.run.result (g.K.Sink.taken c.args.out.now) (g.K.Sink.taken c.run.new.out)
     (g.N.Sink.taken c.args.notes.now) (g.N.Sink.taken c.write_piece.new.sink) (g.N.Sink.taken c.run.new.notes)
     (g.K.Sink.faults c.args.out.now) (g.K.Sink.faults c.run.new.out) (g.N.Sink.faults c.args.notes.now)
@@ -26,8 +29,11 @@ returns-in-Err g c =
     (g.N.Sink.faults c.args.notes.now) (g.N.Sink.faults c.write_piece.new.sink) =
     subst (λ (p : List ℕ). StopsShort p (g.N.Sink.taken c.args.notes.now) (g.N.Sink.taken c.write_piece.new.sink)
     (g.N.Sink.faults c.args.notes.now) (g.N.Sink.faults c.write_piece.new.sink)) c.deref.ensures.value c.in-Err.ensures.short in
-    subst (λ (r : Rest). Delivered (due_of_rest r) c.write_fault.result _ _ _ _ _ _ _ _ _ _) (sym c.in-Run.is)
+    subst (λ (r : Rest). Delivered (due_of_rest r) c.write_fault.result (g.K.Sink.taken c.args.out.now) (g.K.Sink.taken c.args.out.now)
+    (g.N.Sink.taken c.args.notes.now) (g.N.Sink.taken c.write_fault.new.notes) (g.K.Sink.faults c.args.out.now)
+    (g.K.Sink.faults c.args.out.now) (g.N.Sink.faults c.args.notes.now) (g.N.Sink.faults c.write_fault.new.notes)
+    (c.args.out.now ≡ c.args.out.now) (c.write_fault.new.notes ≡ c.args.notes.now)) (sym c.in-Run.is)
     (noted_short (due_of_run ready) ready.file.items c.write_fault.result (g.K.Sink.taken c.args.out.now) (g.N.Sink.taken c.args.notes.now)
     (g.N.Sink.taken c.write_piece.new.sink) (g.N.Sink.taken c.write_fault.new.notes) (g.K.Sink.faults c.args.out.now)
-    (g.N.Sink.faults c.args.notes.now) (g.N.Sink.faults c.write_piece.new.sink) (g.N.Sink.faults c.write_fault.new.notes) _ _ refl short
-    c.write_fault.ensures.status c.write_fault.ensures.said)
+    (g.N.Sink.faults c.args.notes.now) (g.N.Sink.faults c.write_piece.new.sink) (g.N.Sink.faults c.write_fault.new.notes)
+    (c.args.out.now ≡ c.args.out.now) (c.write_fault.new.notes ≡ c.args.notes.now) refl short c.write_fault.ensures.status c.write_fault.ensures.said)
