@@ -34,15 +34,6 @@ returns-in-Good c =
     IfOk-weaker c.ready.result _ _
     (λ rest is. call_some image call (shown_manner c.args.manner.now) symbol (Good values) (due_of_rest rest) named same is) c.ready.ensures
 
-pub returns-in_ok-due-in_default : goal.returns-in_ok-due-in_default
-returns-in_ok-due-in_default c =
-    let image = c.args.image.now in
-    let call = shown_call c.args.call.now in
-    let none : None ≡ symbol_named call.entry image.exports =
-    sym (ap (option_map (λ s. s.now)) c.in_default.is) ∙ c.find.ensures
-    ∙ ap (λ (n : List ℕ). symbol_named n image.exports) c.as_bytes.ensures.value in
-    call_none image call (shown_manner c.args.manner.now) (shown_due c.in_ok-due-in_default.due) none c.in_ok-due-in_default.ensures
-
 pub returns-in_ok-due-in-Bad : goal.returns-in_ok-due-in-Bad
 returns-in_ok-due-in-Bad c =
     let image = c.args.image.now in

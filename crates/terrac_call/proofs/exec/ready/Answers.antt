@@ -8,4 +8,4 @@ returns c =
     ready_due c.args.image.now c.args.symbol.now c.args.values.now (shown_manner c.args.manner.now) c.requires.few
     (program_of c.in_ok-machine.machine) (program_of c.start.new.self) (heap_of c.in_ok-machine.machine)
     (state_of c.in_ok-machine.machine) (state_of c.start.new.self) c.in_ok-machine.ensures.program c.in_ok-machine.ensures.heap
-    c.in_ok-machine.ensures.state c.start.ensures.program c.start.ensures.state _ _ c.in_ok-file.ensures c.in_ok-front.ensures
+    c.in_ok-machine.ensures.state c.start.ensures.program c.start.ensures.state _ _ c.in_ok-file.ensures c.in_ok-front.ensures.ok
