@@ -1,7 +1,6 @@
-use Rattle.std.proofs.Common.{Err, ap, subst}
+use Rattle.std.proofs.Common.{ap}
 use Rattle.std.proofs.lemmas.Result.{IfOk-weaker}
-use Rattle.tl_parse.specs.declared.error.SyntaxError.{SyntaxError}
-use Rattle.tl_renaming.specs.Call.{ComesOf}
+use Rattle.tl_tree.specs.Texts.{Refuses}
 use Rattle.tl_tree.specs.Tokens.{finish_of}
 use Rattle.terrac_call.specs.Due.{HasNone, HasTree, IsRefused, IsTree, given}
 use Rattle.terrac_call.proofs.making.rename_text.Goals as goal
@@ -15,5 +14,5 @@ pub returns-in-Err-Refused : goal.returns-in-Err-Refused
 returns-in-Err-Refused c =
     let kind = c.in-Err-Refused.kind in
     let place = c.in-Err-Refused.place in
-    let refuses = subst (λ (e : SyntaxError). ComesOf c.args.text.now (Err e)) c.in-Err-Refused.field-0-is c.in-Err-Refused.ensures.only in
+    let refuses : Refuses c.args.text.now kind place = rw c.in-Err-Refused.field-0-is at c.in-Err-Refused.ensures.only in
     IfOk-weaker c.syntax_due.result _ _ (λ due h. (IsRefused kind place, HasNone kind place refuses, h)) c.syntax_due.ensures

@@ -7,13 +7,13 @@ use Rattle.terrac_call.proofs.source.image_rest.Goals as goal
 
 pub returns-in_ok-due-in-Emit : goal.returns-in_ok-due-in-Emit
 returns-in_ok-due-in-Emit c = λ it count compiled.
-    file_rest (shown_task c.args.task.now) (shown_limits c.in-Emit.field-0.now) it c.args.image.now (shown_due c.in_ok-due-in-Emit.due)
+    file_rest (shown_task c.args.task.now) (shown_limits c.in-Emit.field-0) it c.args.image.now (shown_due c.in_ok-due-in-Emit.due)
     (ap shown_task c.in-Emit.is) c.in_ok-due-in-Emit.ensures compiled
 
 pub returns-in-Run : goal.returns-in-Run
 returns-in-Run c =
     IfOk-weaker c.call_exported.result _ _
     (λ rest is. λ it count compiled.
-    call_rest (shown_task c.args.task.now) (shown_asking c.in-Run.asking.now) it c.args.functions c.args.image.now (due_of_rest rest)
+    call_rest (shown_task c.args.task.now) (shown_asking c.in-Run.asking) it c.args.functions c.args.image.now (due_of_rest rest)
     (ap shown_task c.in-Run.is) count is compiled)
     c.call_exported.ensures

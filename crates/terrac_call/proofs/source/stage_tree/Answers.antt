@@ -12,23 +12,23 @@ use Rattle.terrac_call.proofs.source.stage_tree.Goals as goal
 
 pub returns-in_ok-written-in-Check : goal.returns-in_ok-written-in-Check
 returns-in_ok-written-in-Check c =
-    IfOk-weaker c.written_work-in-Check.result _ _
-    (λ work is. checks_owed (shown_task c.args.task.now) (items_of c.args.tree.now) (end_of c.args.tree.now) c.limits_of.result.budget
-    c.limits_of.result.memory c.places_fit.ensures c.limits_of.ensures.budget c.limits_of.ensures.memory
-    (shown_limits c.in-Check.field-0.now) c.in_ok-written-in-Check.written (due_of_work work) (ap shown_task c.in-Check.is)
+    IfOk-weaker c.written_work.result _ _
+    (λ work is. checks_owed (shown_task c.args.task.now) (items_of c.args.tree.now) (end_of c.args.tree.now) c.limits_of-limits.result.budget
+    c.limits_of-limits.result.memory c.places_fit.ensures c.limits_of-limits.ensures.budget c.limits_of-limits.ensures.memory
+    (shown_limits c.in-Check.field-0) c.in_ok-written-in-Check.written (due_of_work work) (ap shown_task c.in-Check.is)
     c.in_ok-written-in-Check.ensures is)
-    c.written_work-in-Check.ensures
+    c.written_work.ensures
 
 pub returns-in_ok-written-in-Terms : goal.returns-in_ok-written-in-Terms
 returns-in_ok-written-in-Terms c =
     IfOk-weaker c.written_work-in-Terms.result _ _
-    (λ work is. terms_owed (shown_task c.args.task.now) (items_of c.args.tree.now) (end_of c.args.tree.now) c.limits_of.result.budget
-    c.limits_of.result.memory c.places_fit.ensures c.limits_of.ensures.budget c.limits_of.ensures.memory
-    (shown_limits c.in-Terms.field-0.now) c.in_ok-written-in-Terms.written (due_of_work work) (ap shown_task c.in-Terms.is)
+    (λ work is. terms_owed (shown_task c.args.task.now) (items_of c.args.tree.now) (end_of c.args.tree.now) c.limits_of-limits.result.budget
+    c.limits_of-limits.result.memory c.places_fit.ensures c.limits_of-limits.ensures.budget c.limits_of-limits.ensures.memory
+    (shown_limits c.in-Terms.field-0) c.in_ok-written-in-Terms.written (due_of_work work) (ap shown_task c.in-Terms.is)
     c.in_ok-written-in-Terms.ensures is)
     c.written_work-in-Terms.ensures
 
 pub emitted_work-requires-clause-made : goal.emitted_work-requires-clause-made
 emitted_work-requires-clause-made c =
-    let are = c.in_ok-emitted.ensures in
-    lawful_made are.ending.left.world.stage c.limits_of.result.memory are.ending.end c.in_ok-emitted.emitted.end are.end
+    let are = c.in_ok-emitted-in-Emit.ensures in
+    lawful_made are.ending.left.world.stage c.limits_of-limits.result.memory are.ending.end c.in_ok-emitted-in-Emit.emitted.end are.end
