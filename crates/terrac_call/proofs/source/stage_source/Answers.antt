@@ -14,7 +14,7 @@ pub returns-in_ok-due-in-Refused : goal.returns-in_ok-due-in-Refused
 returns-in_ok-due-in-Refused c =
     let shows : Shows (IsReadAs c.args.bytes.now) (parsed.Refused c.in-Refused.kind c.in-Refused.place) =
     subst (λ (p : Parsed). Shows (IsReadAs c.args.bytes.now) p) c.in-Refused.is c.in_ok-parsed.ensures in
-    (IsRefused c.in-Refused.kind c.in-Refused.place, shows, c.of-in-Refused.ensures ∙ c.in_ok-due-in-Refused.ensures)
+    (IsRefused c.in-Refused.kind c.in-Refused.place, shows, c.of.ensures ∙ c.in_ok-due-in-Refused.ensures)
 
 pub returns-in-Tree : goal.returns-in-Tree
 returns-in-Tree c =

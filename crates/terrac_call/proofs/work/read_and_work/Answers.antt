@@ -8,8 +8,8 @@ use Rattle.std.specs.Prelude.{Some}
 use Rattle.terrac_call.proofs.Telling.{IsEnough, owed_read}
 use Rattle.terrac_call.proofs.work.read_and_work.Goals as goal
 
-pub returns-in_ok-work-clause-owed : goal.returns-in_ok-work-clause-owed
-returns-in_ok-work-clause-owed g c =
+pub returns-clause-owed : goal.returns-clause-owed
+returns-clause-owed g c =
     let job : Job = shown_job c.args.job.now in
     let old = g.S.Source.left c.args.source.now in
     let new = g.S.Source.left c.read_source.new.source in
