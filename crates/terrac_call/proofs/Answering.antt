@@ -1,16 +1,16 @@
 -- From what is owed and delivered to what is answered.
-use Rattle.std.proofs.Common.{◌≡◌, ◌≢◌, ◌⊎◌, inl, inr, ℕ, List, [], Option, Some, None, refl, sym, ap, subst, ◌∙◌}
+use Rattle.std.proofs.Common.{◌≡◌, ◌≢◌, ◌⊎◌, inl, inr, ℕ, List, Option, Some, None, refl, sym, ap, subst, ◌∙◌}
 use Rattle.tl_base.specs.declared.place.Place.{Place}
 use Rattle.tl_base.specs.Outside.{with_back, IsRisen}
 use Rattle.tl_tree.specs.Code.{Items}
 use Rattle.terrac_call.specs.declared.status.Status.{Status}
 use Rattle.terrac_call.specs.declared.status.Status.TheVariants as statuses
 use Rattle.terrac_call.specs.Words.{Job, Make, Stage, Exec, Task, Check, Terms, Emit, Run, job_of, text_of}
-use Rattle.terrac_call.specs.Due.{Due, IsReadingDue, IsRefused, IsTree, Reading, refused}
-use Rattle.terrac_call.specs.Staged.{Compiles, IsRestDue, IsRestOwed, IsSourceDue, IsSourceOwed, IsTreeDue, IsTreeOwed, told}
+use Rattle.terrac_call.specs.Due.{Due, IsReadingDue, IsRefused, IsTree, Reading}
+use Rattle.terrac_call.specs.Staged.{IsRestDue, IsRestOwed, IsSourceDue, IsSourceOwed, IsTreeDue, IsTreeOwed, told}
 use Rattle.terrac_call.specs.Reading.{IsToldAs}
 use Rattle.terrac_call.specs.Answer.{Answered, Answers, IsDue, IsOwed, OutOfMemory, Owed, Unread}
-use Rattle.terrac_call.specs.Call.{AnswersDue, AnswersExactly}
+use Rattle.terrac_call.specs.Call.{AnswersExactly}
 
 -- what is due behind what was printed has its status
 pub told_status : (task : Task) (printed : List ℕ) (rest : Due) → (told task printed rest).status ≡ rest.status

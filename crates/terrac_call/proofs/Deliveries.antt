@@ -1,5 +1,5 @@
 -- What is due goes out, piece by piece: whole, or up to a write that fails.
-use Rattle.std.proofs.Common.{◌≡◌, ◌≢◌, ◌⊎◌, inl, inr, ℕ, ◌-◌, ◌≤◌, List, [], ◌∷◌, ◌++◌, take, drop, Option, refl, sym, ap, subst, ◌∙◌}
+use Rattle.std.proofs.Common.{◌≡◌, ◌≢◌, ◌⊎◌, inl, inr, ℕ, ◌-◌, List, [], ◌∷◌, ◌++◌, take, drop, Option, refl, sym, ap, subst, ◌∙◌}
 use Rattle.std.proofs.Common.{append_assoc, append-nil, arith}
 use Rattle.tl_base.specs.Outside.{with_back, IsFront, IsRisen}
 use Rattle.rv_isa.specs.declared.instr.Instr.{Instr}
@@ -15,7 +15,7 @@ use Rattle.terrac_call.specs.declared.status.Status.TheVariants as statuses
 use Rattle.terrac_call.specs.Due.{Due, after, noting, all_notes}
 use Rattle.terrac_call.specs.Exec.{due_of_stop}
 use Rattle.terrac_call.specs.DueView.{due_of_ran, due_with}
-use Rattle.terrac_call.specs.Writing.{Delivers, IsCutOff, IsWritten}
+use Rattle.terrac_call.specs.Writing.{IsCutOff, IsWritten}
 use Rattle.terrac_call.specs.Delivery.{Delivered, IsSaid, StopsShort}
 
 -- ---- fronts

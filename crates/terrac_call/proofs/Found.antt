@@ -1,7 +1,7 @@
 -- What `clap` finds for an argument with one number: the number passed the argument's parser, since a walk has a fault where one doesn't.
-use Rattle.std.proofs.Common.{◌≡◌, ◌≢◌, ◌⊎◌, inl, inr, ℕ, zero, suc, ◌<◌, ◌≤◌, Bool, true, false, cond, not, ◌&&◌, ◌||◌, List, [], ◌∷◌, ◌++◌}
-use Rattle.std.proofs.Common.{length, drop, fold, find, Decides, Option, Some, None, is_some, option_map, option_and_then, slice_get, refl, sym, ap}
-use Rattle.std.proofs.Common.{subst, ◌∙◌, arith, ◌+◌, min, if◌then◌else◌, ◌==◌, nat_lt, bytes_eq, encode_utf8, chars}
+use Rattle.std.proofs.Common.{◌≡◌, ◌⊎◌, inl, inr, ℕ, zero, suc, ◌≤◌, Bool, true, false, cond, not, ◌&&◌, ◌||◌, List, [], ◌∷◌, ◌++◌}
+use Rattle.std.proofs.Common.{length, drop, fold, find, Decides, Option, Some, None, is_some, option_and_then, slice_get, refl, sym, ap}
+use Rattle.std.proofs.Common.{subst, ◌∙◌, arith, ◌+◌, min, if◌then◌else◌, ◌==◌, bytes_eq, encode_utf8, chars}
 use Rattle.std.specs.List.{list_any}
 use Rattle.std.specs.Option.{option_map_or}
 use Rattle.std.specs.Str.Parse.{digits_value, without_leading_plus}
@@ -15,17 +15,17 @@ use Rattle.clap.specs.ValueTests.{accepts}
 use Rattle.clap.specs.Kinds.{Kinds, check_kinds, or_else, range_kinds, value_kinds}
 use Rattle.clap.specs.Takes.{is_given}
 use Rattle.clap.specs.Walk.{Held, Names, Outcome, Row, Rule, Step, Text, Waiting, Walk, action_of, after_flag, after_step, arg_by_id}
-use Rattle.clap.specs.Walk.{arg_by_index, arg_by_long, arg_by_short, at_row, attached_value, bundle, bundle_met, bundle_step, counted}
-use Rattle.clap.specs.Walk.{default_rows, done, finished, first_of, flag_met, has_row, idle, is_pending, count_of, new_count, stronger, long_met, long_or_other, more_values}
-use Rattle.clap.specs.Walk.{most_values, next, nothing_held, option, option_met, option_word, plain, plain_word, positional, positional_held}
-use Rattle.clap.specs.Walk.{pushed, reacted, reading_by, refused, row_text, settled, settled_rows, short_met, short_or_plain, subcommand}
+use Rattle.clap.specs.Walk.{arg_by_index, arg_by_long, arg_by_short, at_row, attached_value, bundle, bundle_met, bundle_step}
+use Rattle.clap.specs.Walk.{default_rows, done, finished, flag_met, has_row, idle, is_pending, count_of, new_count, stronger, long_met, long_or_other, more_values}
+use Rattle.clap.specs.Walk.{next, nothing_held, option, option_met, option_word, plain, plain_word, positional}
+use Rattle.clap.specs.Walk.{reacted, reading_by, refused, settled, settled_rows, short_met, short_or_plain, subcommand}
 use Rattle.clap.specs.Walk.{subcommand_met, subcommand_or_other, takes_several, takes_values, to_positional, trailing, used, used_as, used_by_id, value}
 use Rattle.clap.specs.Walk.{rows_after, values_or_missing, waits, walk, walk_from, walked, walked_from, with_count, with_default, with_values, without}
 use Rattle.clap.specs.Walk.{word_met}
 use Rattle.clap.specs.Simple.{Shape}
-use Rattle.clap.specs.Faults.{action_fault, bundle_fault, bundle_step_fault, check_fault, defaults_fault, flag_word_fault, flags_fault}
-use Rattle.clap.specs.Faults.{level_fault, long_fault, option_fault, other_fault, positional_fault, react_fault, repeat_fault, set_fault}
-use Rattle.clap.specs.Faults.{settle_fault, short_fault, step_fault, stray_fault, turn_fault, use_fault, values_fault, walk_fault, word_fault}
+use Rattle.clap.specs.Faults.{action_fault, bundle_fault, bundle_step_fault, check_fault, flag_word_fault, flags_fault}
+use Rattle.clap.specs.Faults.{level_fault, long_fault, option_fault, other_fault, positional_fault, react_fault, set_fault}
+use Rattle.clap.specs.Faults.{settle_fault, short_fault, step_fault, stray_fault, turn_fault, use_fault, walk_fault, word_fault}
 use Rattle.clap.specs.declared.builder.action.ArgAction.{ArgAction}
 use Rattle.clap.specs.declared.error.kind.ErrorKind.TheVariants as kind
 use Rattle.clap.specs.declared.builder.action.ArgAction.TheVariants as action

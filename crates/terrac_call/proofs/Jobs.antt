@@ -1,9 +1,8 @@
 -- What is owed for the words as a whole: where they name no job, and where a read fails or memory isn't found.
 use Rattle.std.proofs.Common.{◌≡◌, ℕ, List, [], Option, Some, None, refl, ap, subst, ◌∙◌}
-use Rattle.std.specs.Prelude.{IsSome}
 use Rattle.terrac_call.specs.declared.status.Status.TheVariants as statuses
 use Rattle.terrac_call.specs.Words.{Job}
-use Rattle.terrac_call.specs.Due.{Due, refused}
+use Rattle.terrac_call.specs.Due.{Due}
 use Rattle.terrac_call.specs.JobView.{HasUsageLine}
 use Rattle.terrac_call.specs.Reading.{IsToldAs, TookAtMost, most_read}
 use Rattle.terrac_call.specs.Answer.{Answered, IsDue, Owed}

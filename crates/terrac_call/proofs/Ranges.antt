@@ -1,11 +1,11 @@
 -- What the words name is in its range.
-use Rattle.std.proofs.Common.{◌≡◌, inl, inr, ℕ, ◌≤◌, Bool, true, false, List, [], ◌∷◌, length, find, Option, Some, None, refl, sym, ap}
+use Rattle.std.proofs.Common.{◌≡◌, inl, inr, ◌≤◌, Bool, true, false, List, [], ◌∷◌, length, find, Option, Some, None, refl, sym}
 use Rattle.std.proofs.Common.{subst, codes, option_map, ◌∙◌, arith}
 use Rattle.std.proofs.lemmas.Bool.{ne_eqb}
 use Rattle.std.specs.Option.{option_map_or}
 use Rattle.std.specs.Prelude.{if◌then◌else◌}
 use Rattle.clap.specs.Words.{Rule, Row, Text, Shape, fault_of, subcommand_of}
-use Rattle.clap.specs.Simple.{argument_words, built, built_leaf, entered, filled, help_shape, inherited, label_of, marked_built, names_of, on_top, rows_at}
+use Rattle.clap.specs.Simple.{argument_words, built, built_leaf, entered, filled, inherited, label_of, marked_built, names_of, on_top, rows_at}
 use Rattle.clap.specs.Simple.{with_index, with_leaf_noted}
 use Rattle.clap.specs.Walk.{answers_to, is_empty, nothing_held, rows_after, stop_after}
 use Rattle.clap.specs.Faults.{entered_fault, level_fault}
@@ -15,7 +15,7 @@ use Rattle.clap.proofs.OnLiterals.{clap_on_literals}
 use Rattle.clap.proofs.ValueTestLemmas.{accepts-Accepts}
 use Rattle.terrac_call.specs.Words.{budget_rule, memory_rule, steps_rule, count_rule, command_line, job_of}
 use Rattle.terrac_call.specs.Words.{job_of_command, limits_of, number_found, check_command, emit_command, exec_command, gen_command}
-use Rattle.terrac_call.specs.Words.{rename_command, run_command, terms_command}
+use Rattle.terrac_call.specs.Words.{run_command, terms_command}
 use Rattle.terrac_call.specs.Ranges.{AreLimits, AreSteps, AreWorked, IsCount, IsLawfulJob, JobsAreLawful}
 use Rattle.terrac_call.proofs.Found.{Each, HasId, IsDefault, IsNumber, IsOne, all_found, number_in, or_both}
 

@@ -1,5 +1,5 @@
 -- A machine that is ready to run an image.
-use Rattle.std.proofs.Common.{◌≡◌, ◌≤◌, ℕ, List, length, Option, refl, sym, ap, ap₂, subst, ◌∙◌}
+use Rattle.std.proofs.Common.{◌≡◌, ◌≤◌, ℕ, List, length, Option, sym, ap, ap₂, subst, ◌∙◌}
 use Rattle.elf_image.specs.declared.image.Image.{Image}
 use Rattle.elf_image.specs.declared.image.Symbol.{Symbol}
 use Rattle.rv_isa.specs.declared.instr.Instr.{Instr}

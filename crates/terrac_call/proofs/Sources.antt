@@ -1,5 +1,5 @@
 -- What is owed for a source: from what its staging was made to, up to its bytes.
-use Rattle.std.proofs.Common.{◌≡◌, ◌⊎◌, inl, inr, ℕ, List, [], ◌++◌, Some, refl, sym, ap, ap₂, subst, ◌∙◌, append_assoc}
+use Rattle.std.proofs.Common.{◌≡◌, inl, ℕ, List, [], ◌++◌, Some, refl, sym, ap, ap₂, subst, ◌∙◌, append_assoc}
 use Rattle.tl_base.specs.declared.place.Place.{Place}
 use Rattle.tl_tree.specs.Code.{Items}
 use Rattle.tl_tree.specs.Nodes.{lay}

@@ -2,7 +2,7 @@
 use Rattle.std.specs.Prelude.{ℕ, ◌≡◌, ◌≢◌, List, Option, Some, None}
 use Rattle.terrac_call.specs.declared.status.Status.{Status}
 use Rattle.terrac_call.specs.declared.status.Status.TheVariants as statuses
-use Rattle.terrac_call.specs.Words.{Job, Make, Stage, Exec, Task, job_of}
+use Rattle.terrac_call.specs.Words.{Job, Make, Stage, Exec, job_of}
 use Rattle.terrac_call.specs.Due.{Due}
 use Rattle.terrac_call.specs.Staged.{Compiles}
 use Rattle.terrac_call.specs.Writing.{GivesDue}

@@ -1,6 +1,6 @@
 use Rattle.std.proofs.Common.{◌≡◌, List, ℕ, ap, refl, sym, subst, ◌∙◌}
 use Rattle.tl_base.specs.Outside.{with_back}
-use Rattle.terrac_call.specs.Due.{Due, after}
+use Rattle.terrac_call.specs.Due.{after}
 use Rattle.terrac_call.specs.DueView.{due_of_rest, told_to}
 use Rattle.terrac_call.specs.Delivery.{Delivered, StopsShort}
 use Rattle.terrac_call.specs.declared.due.Stream.{Stream}

@@ -1,11 +1,11 @@
-use Rattle.std.proofs.Common.{◌≡◌, ◌≤◌, ℕ, List, length, Some, None, option_map, sym, ap, subst, ◌∙◌, arith}
+use Rattle.std.proofs.Common.{◌≡◌, ◌≤◌, ℕ, List, length, Some, option_map, sym, ap, subst, ◌∙◌, arith}
 use Rattle.std.proofs.lemmas.Bool.{leb-true}
 use Rattle.std.proofs.lemmas.Result.{IfOk-weaker}
 use Rattle.elf_image.specs.Calls.{symbol_named}
 use Rattle.terrac_call.specs.Arguments.{Good, Bad, arguments_of}
 use Rattle.terrac_call.specs.DueView.{due_of_rest, shown_due}
 use Rattle.terrac_call.specs.JobView.{HasCount, shown_arguments, shown_call, shown_manner, texts_of}
-use Rattle.terrac_call.proofs.Calls.{call_none, call_some, few_params}
+use Rattle.terrac_call.proofs.Calls.{call_some, few_params}
 use Rattle.terrac_call.proofs.exec.call_image.Goals as goal
 
 pub ready-requires-clause-few : goal.ready-requires-clause-few

@@ -1,6 +1,6 @@
 use Rattle.std.proofs.Common.{List, ℕ, ◌≤◌, length, subst}
 use Rattle.std.proofs.lemmas.Result.{IfOk-weaker}
-use Rattle.terrac_call.specs.Due.{IsReadAs, IsReadingDue, IsRefused, IsText, IsTextReadAs, longest, nowhere}
+use Rattle.terrac_call.specs.Due.{IsReadingDue, IsRefused, IsText, IsTextReadAs, longest, nowhere}
 use Rattle.terrac_call.specs.DueView.{shown_due}
 use Rattle.terrac_call.specs.Rename.{IsTreeDue}
 use Rattle.terrac_call.proofs.making.rename_source.Goals as goal

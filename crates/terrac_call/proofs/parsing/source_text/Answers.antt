@@ -1,4 +1,4 @@
-use Rattle.std.proofs.Common.{◌≡◌, List, ℕ, arith}
+use Rattle.std.proofs.Common.{arith}
 use Rattle.terrac_call.specs.Due.{IsTooLong, IsNotUtf8}
 use Rattle.terrac_call.proofs.parsing.source_text.Goals as goal
 

@@ -1,13 +1,9 @@
-use Rattle.std.proofs.Common.{◌≡◌, ap, refl, sym, subst}
+use Rattle.std.proofs.Common.{ap}
 use Rattle.std.proofs.lemmas.Result.{IfOk-weaker}
 use Rattle.tl_tree.specs.Arena.{items_of, end_of}
-use Rattle.check_stage.specs.declared.staging.Mode.TheVariants.{Exports}
-use Rattle.stage_image.specs.declared.emitting.Emitted.{Emitted}
 use Rattle.terrac_call.specs.DueView.{due_of_work}
-use Rattle.terrac_call.specs.JobView.{shown_asking, shown_limits, shown_task}
-use Rattle.terrac_call.specs.Staged.{mode_of}
-use Rattle.terrac_call.specs.Words.{Task}
-use Rattle.terrac_call.proofs.Sources.{checks_owed, emitted_owed, lawful_made, terms_owed}
+use Rattle.terrac_call.specs.JobView.{shown_limits, shown_task}
+use Rattle.terrac_call.proofs.Sources.{checks_owed, lawful_made, terms_owed}
 use Rattle.terrac_call.proofs.source.stage_tree.Goals as goal
 
 pub returns-in_ok-written-in-Check : goal.returns-in_ok-written-in-Check

@@ -1,8 +1,8 @@
-use Rattle.std.proofs.Common.{◌≡◌, ◌+◌, List, ℕ, sym, subst}
+use Rattle.std.proofs.Common.{List, ℕ, sym, subst}
 use Rattle.tl_base.specs.Outside.{IsRisen}
 use Rattle.terrac_call.specs.DueView.{due_of_work}
 use Rattle.terrac_call.specs.JobView.{shown_job}
-use Rattle.terrac_call.specs.Reading.{TookAtMost, most_read}
+use Rattle.terrac_call.specs.Reading.{most_read}
 use Rattle.terrac_call.specs.Words.{Job}
 use Rattle.std.specs.Prelude.{Some}
 use Rattle.terrac_call.proofs.Telling.{IsEnough, owed_read}

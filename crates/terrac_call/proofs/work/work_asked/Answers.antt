@@ -1,4 +1,4 @@
-use Rattle.std.proofs.Common.{◌≡◌, None, Some, map, string_bytes, sym, ap, subst, ◌∙◌}
+use Rattle.std.proofs.Common.{map, string_bytes, sym, ap, subst, ◌∙◌}
 use Rattle.tl_base.specs.Outside.{IsRisen}
 use Rattle.terrac_call.specs.DueView.{due_of_work}
 use Rattle.terrac_call.specs.JobView.{IsUsageText, shown_asked, shown_job}
