@@ -1,5 +1,5 @@
 -- No text has a line feed, so a source of texts is read line by line.
-use Rattle.std.proofs.Common.{◌≡◌, ◌≢◌, ◌∙◌, ℕ, ◌+◌, ◌-◌, ◌*◌, ◌/◌, ◌%◌, ◌<◌, ◌≤◌, ◌^◌, ℤ, pos, negsuc, suc, Bool, true, false, cond, eqb, List, [], ◌∷◌, ◌++◌, Option, Some, None, refl, sym, ap, subst, arith}
+use Rattle.std.proofs.Common.{◌≡◌, ◌≢◌, ◌∙◌, ℕ, ◌+◌, ◌/◌, ◌%◌, ◌<◌, ◌^◌, ℤ, pos, negsuc, suc, Bool, true, false, cond, eqb, List, [], ◌∷◌, ◌++◌, Option, Some, None, refl, sym, ap, subst, arith}
 use Rattle.std.specs.Prelude.{decimal, nat_lt}
 use Rattle.std.specs.Fmt.{signed_decimal}
 use Rattle.std.specs.Str.Parse.{AllDigits}
@@ -18,7 +18,7 @@ use Rattle.rv_isa.specs.declared.instr.Instr.{Instr}
 use Rattle.rv_isa.specs.declared.instr.Instr.TheVariants as instructions
 use Rattle.rv_listing.specs.declared.names.Operation.{Operation}
 use Rattle.rv_listing.specs.declared.names.Operation.TheVariants as operations
-use Rattle.rv_listing.specs.Texts.{name_of, one_register, two_registers, based, operands_of, register_text, instr_text, fence_value, hex_digit, hex8, text_in, IsWordText}
+use Rattle.rv_listing.specs.Texts.{name_of, one_register, two_registers, based, operands_of, register_text, instr_text, fence_value, hex_digit, hex8, text_in}
 use Rattle.rv_listing.specs.Assembly.{before_first, lines_of, AreTexts, AreSource, TextsAssemble}
 use Rattle.rv_listing.specs.Reading.{operation_of, operation_name}
 use Rattle.rv_listing.proofs.Operations.{name_of_operation}

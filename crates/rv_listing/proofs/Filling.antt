@@ -17,7 +17,7 @@ use Rattle.rv_isa.specs.declared.operand.WordShiftCount.{WordShiftCount}
 use Rattle.rv_isa.specs.declared.operand.FenceFields.{FenceFields}
 use Rattle.rv_isa.specs.declared.instr.Instr.{Instr}
 use Rattle.rv_isa.specs.declared.instr.Instr.TheVariants.{Lui, Auipc, Jal, Jalr, Branch, Load, Store, RegisterImmediate, Shift, Addiw}
-use Rattle.rv_isa.specs.declared.instr.Instr.TheVariants.{ShiftWord, RegisterRegister, RegisterRegisterWord, Fence, Ecall, Ebreak}
+use Rattle.rv_isa.specs.declared.instr.Instr.TheVariants.{ShiftWord, RegisterRegister, RegisterRegisterWord, Fence}
 use Rattle.rv_listing.specs.declared.names.Operation.TheVariants as operations
 use Rattle.rv_listing.specs.declared.scan.Number.{Number}
 use Rattle.rv_listing.specs.declared.scan.Scan.{Scan}

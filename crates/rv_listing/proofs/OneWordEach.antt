@@ -1,10 +1,9 @@
 -- A text has one word, a source one answer, and an image one listing.
-use Rattle.std.proofs.Common.{◌≡◌, ◌∙◌, ℕ, ◌+◌, ◌-◌, ◌<◌, ◌^◌, ℤ, pos, negsuc, suc, Bool, true, false, cond, List, [], ◌∷◌, ◌++◌, length, drop, Option, Some, None, refl, sym, ap, subst, arith}
-use Rattle.std.specs.Prelude.{codes, nat_lt}
+use Rattle.std.proofs.Common.{◌≡◌, ◌∙◌, ℕ, ◌+◌, ◌-◌, ◌<◌, ◌^◌, ℤ, pos, negsuc, suc, true, false, cond, List, [], ◌∷◌, ◌++◌, length, drop, Option, Some, None, refl, sym, ap, subst, arith}
+use Rattle.std.specs.Prelude.{nat_lt}
 use Rattle.std.proofs.lemmas.Bool.{false≢true}
 use Rattle.std.proofs.Math.Seq.{drop-append_seam}
 use Rattle.tl_base.specs.declared.limits.TheConstants.{TEXT_ADDRESS}
-use Rattle.elf_image.specs.declared.image.Image.{Image}
 use Rattle.rv_isa.specs.Finds.{Finds}
 use Rattle.rv_isa.specs.Formats.{twos_complement}
 use Rattle.rv_isa.specs.Table.{word_of}
@@ -29,7 +28,7 @@ use Rattle.rv_listing.specs.declared.assembly.AsmKind.{AsmKind}
 use Rattle.rv_listing.specs.declared.assembly.AsmKind.TheVariants as kinds
 use Rattle.rv_listing.specs.Texts.{name_of, operands_of, instr_text, fence_value, hex8, text_in, IsWordText}
 use Rattle.rv_listing.specs.Assembly.{name_in, IsText, IsBad, AreTexts, lines_of, IsFirstBad, IsRefused, Assembles, OneAnswer}
-use Rattle.rv_listing.specs.Listing.{AreWordLines, word_line, Listing, entry_lines, OneListing}
+use Rattle.rv_listing.specs.Listing.{AreWordLines, word_line, entry_lines, OneListing}
 use Rattle.rv_listing.specs.Reading.{operation_of, operation_named, number_of, register_number, scan_all, scan_start, hex_all, Fills}
 use Rattle.rv_listing.proofs.Filling as filling
 use Rattle.rv_listing.proofs.Operations.{named_again, name_of_operation, name_in_text}

@@ -1,6 +1,6 @@
 -- The numbers of an operand's text are the operands.
-use Rattle.std.proofs.Common.{◌≡◌, ◌∙◌, ℕ, ◌+◌, ◌-◌, ◌*◌, ◌<◌, ◌≤◌, ◌^◌, ℤ, pos, negsuc, suc, true, false, nat_lt, List, [], ◌∷◌, ◌++◌, length, refl, sym, ap, arith}
-use Rattle.std.specs.Prelude.{decimal, unsigned_abs}
+use Rattle.std.proofs.Common.{◌≡◌, ◌∙◌, ℕ, ◌+◌, ◌-◌, ◌*◌, ◌<◌, ◌≤◌, ℤ, pos, negsuc, suc, true, false, nat_lt, List, [], ◌∷◌, ◌++◌, length, refl, sym, ap, arith}
+use Rattle.std.specs.Prelude.{decimal}
 use Rattle.std.specs.Fmt.{signed_decimal}
 use Rattle.std.specs.Char.{digit_value, is_ascii_digit}
 use Rattle.std.specs.Int.{IsInRange}
@@ -18,7 +18,7 @@ use Rattle.rv_isa.specs.declared.operand.FenceFields.{FenceFields}
 use Rattle.rv_isa.specs.declared.instr.Instr.{Instr}
 use Rattle.rv_isa.specs.declared.instr.Instr.TheVariants as instructions
 use Rattle.rv_listing.specs.Texts.{one_register, two_registers, based, operands_of, register_text, fence_value}
-use Rattle.rv_listing.specs.Reading.{number_of, longer, with_digit, scan_byte, scan_all, scan_start, zero_number, register_number, Fills}
+use Rattle.rv_listing.specs.Reading.{number_of, scan_byte, scan_all, scan_start, zero_number, register_number, Fills}
 
 pub scan_append : (s : Scan) (before behind : List ℕ) → scan_all s (before ++ behind) ≡ scan_all (scan_all s before) behind
 scan_append s [] behind = refl

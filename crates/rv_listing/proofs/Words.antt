@@ -1,5 +1,5 @@
 -- Words and their texts: a word has one text, and what is read of a text is its word.
-use Rattle.std.proofs.Common.{◌≡◌, ◌∙◌, ℕ, ◌<◌, ◌≤◌, ◌^◌, ◌+◌, ◌-◌, Result, Ok, length-drop, take_all, arith, Bool, true, false, cond, eqb, List, [], ◌∷◌, ◌++◌, length, take, drop, Option, Some, None, refl, sym, ap, subst, inl, inr}
+use Rattle.std.proofs.Common.{◌≡◌, ◌∙◌, ℕ, ◌<◌, ◌≤◌, ◌^◌, ◌-◌, Result, Ok, length-drop, take_all, arith, Bool, true, false, cond, eqb, List, [], ◌∷◌, ◌++◌, length, take, drop, Option, Some, None, refl, sym, ap, subst, inl, inr}
 use Rattle.std.specs.Prelude.{codes}
 use Rattle.std.specs.Str.{bytes_eq}
 use Rattle.std.proofs.lemmas.Slice.Eq.{bytes_eq-Decides}
@@ -12,7 +12,7 @@ use Rattle.rv_isa.specs.declared.instr.Instr.{Instr}
 use Rattle.rv_isa.proofs.OneWord.{word_of-same}
 use Rattle.rv_listing.specs.declared.names.Operation.{Operation}
 use Rattle.rv_listing.specs.Texts.{name_of, operands_of, instr_text, hex8, text_in, IsWordText}
-use Rattle.rv_listing.specs.Assembly.{name_in, IsName, IsText}
+use Rattle.rv_listing.specs.Assembly.{name_in, IsName}
 use Rattle.rv_listing.specs.Reading.{operation_of, operation_name, operation_named, hex_all, scan_all, scan_start, Fills}
 use Rattle.rv_listing.proofs.Operations.{named_again, name_of_operation, name_in_text, named_has_name}
 use Rattle.rv_listing.proofs.Scanning.{fills_again}

@@ -74,7 +74,8 @@ Assembles text words = (text ≢ []) × AreTexts words (lines_of text)
 abbrev pub AreSource : List ℕ → List ℕ → Type 0
 AreSource [] text = text ≡ []
 AreSource (w ∷ ws) text =
-    (line : List ℕ) × (rest : List ℕ) × (w < 2 ^ 32) × IsWordText w line × AreSource ws rest × (text ≡ line ++ 10 ∷ rest)
+    (line : List ℕ) × (rest : List ℕ) × (w < 2 ^ 32) × IsWordText w line × AreSource ws rest
+    × (text ≡ line ++ 10 ∷ rest)
 
 -- they are read as these words: so the texts of a listing give the words of its image
 abbrev pub TextsAssemble : Type 0
@@ -83,5 +84,6 @@ TextsAssemble = (words text : List ℕ) → words ≢ [] → AreSource words tex
 -- a source has one answer: its words, or one fault at one line
 pub record OneAnswer (text : List ℕ) : Type 0 where
   pub words : (one other : List ℕ) → Assembles text one → Assembles text other → one ≡ other
-  pub refused : (kind other : AsmKind) (m n : ℕ) → IsRefused text kind m → IsRefused text other n → (kind ≡ other) × (m ≡ n)
+  pub refused : (kind other : AsmKind) (m n : ℕ) → IsRefused text kind m → IsRefused text other n
+      → (kind ≡ other) × (m ≡ n)
   pub apart : (words : List ℕ) (kind : AsmKind) (n : ℕ) → Assembles text words → IsRefused text kind n → ⊥

@@ -22,7 +22,8 @@ word_line at w text = hex8 at ++ (codes ": " ++ (hex8 w ++ (codes " " ++ (text +
 abbrev pub AreWordLines : ℕ → List ℕ → List ℕ → Type 0
 AreWordLines at [] lines = lines ≡ []
 AreWordLines at (w ∷ ws) lines =
-    (text : List ℕ) × (rest : List ℕ) × IsWordText w text × AreWordLines (at + 4) ws rest × (lines ≡ word_line at w text ++ rest)
+    (text : List ℕ) × (rest : List ℕ) × IsWordText w text × AreWordLines (at + 4) ws rest
+    × (lines ≡ word_line at w text ++ rest)
 
 -- the listing of an image
 abbrev pub Listing : Image → List ℕ → Type 0

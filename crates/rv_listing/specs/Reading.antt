@@ -1,7 +1,7 @@
--- How the code reads a line: the operation of its name, and the last three numbers that stand in its operands. What is read is printed and
--- compared with the line, so nothing here says which lines are texts: `Texts` does.
-use Rattle.std.specs.Prelude.{◌≡◌, ◌%◌, ◌^◌, ℕ, ◌+◌, ◌-◌, ◌*◌, ◌==◌, Bool, true, false, nat_lt, ℤ, pos, negsuc, suc, if◌then◌else◌}
-use Rattle.std.specs.Prelude.{List, [], ◌∷◌, codes, Option, Some, None}
+-- How the code reads a line: the operation of its name, and the last three numbers that stand in its operands. What
+-- is read is printed and compared with the line, so nothing here says which lines are texts: `Texts` does.
+use Rattle.std.specs.Prelude.{◌≡◌, ◌%◌, ◌^◌, ℕ, ◌+◌, ◌-◌, ◌*◌, ◌==◌, true, false, nat_lt}
+use Rattle.std.specs.Prelude.{ℤ, pos, negsuc, suc, if◌then◌else◌, List, [], ◌∷◌, codes, Option, Some, None}
 use Rattle.std.specs.Str.{bytes_eq}
 use Rattle.std.specs.Char.{is_ascii_digit}
 use Rattle.std.specs.Int.{is_in_range}
@@ -66,7 +66,8 @@ number_of (negsuc n) = record { negative = true; size = suc n }
 
 -- a number after one more digit. One that is far too large for an operand stays as it is
 abbrev pub longer : Number → ℕ → Number
-longer n digit = record { negative = n.negative; size = if nat_lt n.size 1000000000 then n.size * 10 + digit else n.size }
+longer n digit =
+    record { negative = n.negative; size = if nat_lt n.size 1000000000 then n.size * 10 + digit else n.size }
 
 -- no digits
 abbrev pub between : Scan → ℕ → Scan
@@ -75,8 +76,15 @@ between s byte = record { first = s.first; second = s.second; third = s.third; i
 -- a digit of the number that it stands in, or of a new one
 abbrev pub with_digit : Scan → ℕ → Scan
 with_digit s digit =
-    if s.inside then record { first = s.first; second = s.second; third = longer s.third digit; inside = true; minus = s.minus }
-    else record { first = s.second; second = s.third; third = record { negative = s.minus; size = digit }; inside = true; minus = s.minus }
+    if s.inside
+    then record { first = s.first; second = s.second; third = longer s.third digit; inside = true; minus = s.minus }
+    else record {
+      first = s.second;
+      second = s.third;
+      third = record { negative = s.minus; size = digit };
+      inside = true;
+      minus = s.minus;
+    }
 
 abbrev pub scan_byte : Scan → ℕ → Scan
 scan_byte s byte = if is_ascii_digit byte then with_digit s (byte - 48) else between s byte

@@ -1,8 +1,8 @@
--- The texts of instructions: a name in lower case, a space, and operands with a comma and a space between. A register is `x` and its
--- number. Immediates and offsets are decimal numbers with a minus where they are negative, as the manual's assembler listings write them:
--- RISC-V Unprivileged ISA, chapter "RISC-V Assembly Programmer's Handbook".
-use Rattle.std.specs.Prelude.{◌≡◌, ℕ, ◌+◌, ◌-◌, ◌/◌, ◌%◌, ◌^◌, ℤ, pos, negsuc, nat_lt, if◌then◌else◌, List, [], ◌∷◌, ◌++◌, codes, decimal}
-use Rattle.std.specs.Prelude.{Option, Some, None}
+-- The texts of instructions: a name in lower case, a space, and operands with a comma and a space between. A register
+-- is `x` and its number. Immediates and offsets are decimal numbers with a minus where they are negative, as the
+-- manual's assembler listings write them: RISC-V Unprivileged ISA, chapter "RISC-V Assembly Programmer's Handbook".
+use Rattle.std.specs.Prelude.{◌≡◌, ℕ, ◌+◌, ◌-◌, ◌/◌, ◌%◌, ◌^◌, ℤ, pos, negsuc, nat_lt}
+use Rattle.std.specs.Prelude.{if◌then◌else◌, List, [], ◌∷◌, ◌++◌, codes, decimal, Option, Some, None}
 use Rattle.std.specs.Fmt.{signed_decimal}
 use Rattle.rv_isa.specs.Finds.{Finds}
 use Rattle.rv_isa.specs.Table.{word_of}
@@ -141,7 +141,9 @@ two_registers a b last = codes " " ++ (register_text a ++ (codes ", " ++ (regist
 -- a register, and an address as an offset from a register
 abbrev pub based : Register → ℤ → Register → List ℕ
 based a offset base =
-    codes " " ++ (register_text a ++ (codes ", " ++ (signed_decimal offset ++ (codes "(" ++ (register_text base ++ codes ")")))))
+    codes " "
+    ++ (register_text a
+    ++ (codes ", " ++ (signed_decimal offset ++ (codes "(" ++ (register_text base ++ codes ")")))))
 
 -- the operands, with the space before the first
 abbrev pub operands_of : Instr → List ℕ
@@ -172,8 +174,9 @@ hex_digit digit = if nat_lt digit 10 then 48 + digit else 87 + digit
 -- the low 32 bits of a number in eight hexadecimal digits
 unfoldable pub hex8 : ℕ → List ℕ
 hex8 w =
-    hex_digit (w / 2 ^ 28 % 16) ∷ hex_digit (w / 2 ^ 24 % 16) ∷ hex_digit (w / 2 ^ 20 % 16) ∷ hex_digit (w / 2 ^ 16 % 16)
-    ∷ hex_digit (w / 2 ^ 12 % 16) ∷ hex_digit (w / 2 ^ 8 % 16) ∷ hex_digit (w / 2 ^ 4 % 16) ∷ hex_digit (w % 16) ∷ []
+    hex_digit (w / 2 ^ 28 % 16) ∷ hex_digit (w / 2 ^ 24 % 16) ∷ hex_digit (w / 2 ^ 20 % 16)
+    ∷ hex_digit (w / 2 ^ 16 % 16) ∷ hex_digit (w / 2 ^ 12 % 16) ∷ hex_digit (w / 2 ^ 8 % 16)
+    ∷ hex_digit (w / 2 ^ 4 % 16) ∷ hex_digit (w % 16) ∷ []
 
 -- the text of a word: that of its instruction, or, where it is none, the word itself
 abbrev pub text_in : ℕ → Option Instr → List ℕ

@@ -1,14 +1,17 @@
 -- The trace of a run: a line for each step that fetched a word, with the register that it wrote.
-use Rattle.std.specs.Prelude.{◌≡◌, ◌≢◌, ℕ, zero, suc, ◌+◌, ◌-◌, ◌/◌, nat_eq, if◌then◌else◌, List, [], ◌∷◌, ◌++◌, codes, decimal}
-use Rattle.std.specs.Prelude.{slice_index, Option, Some, None}
+use Rattle.std.specs.Prelude.{◌≡◌, ◌≢◌, ℕ, zero, suc, ◌+◌, ◌-◌, ◌/◌, nat_eq, if◌then◌else◌, List, [], ◌∷◌, ◌++◌}
+use Rattle.std.specs.Prelude.{codes, decimal, slice_index, Option, Some, None}
 use Rattle.tl_base.specs.declared.limits.TheConstants.{TEXT_ADDRESS}
 use Rattle.rv_isa.specs.declared.instr.Instr.{Instr}
-use Rattle.rv_isa.specs.declared.instr.Instr.TheVariants.{Lui, Auipc, Jal, Jalr, Branch, Load, Store, RegisterImmediate, Shift, Addiw}
-use Rattle.rv_isa.specs.declared.instr.Instr.TheVariants.{ShiftWord, RegisterRegister, RegisterRegisterWord, Fence, Ecall, Ebreak}
+use Rattle.rv_isa.specs.declared.instr.Instr.TheVariants.{Lui, Auipc, Jal, Jalr, Branch, Load, Store}
+use Rattle.rv_isa.specs.declared.instr.Instr.TheVariants.{RegisterImmediate, Shift, Addiw, ShiftWord}
+use Rattle.rv_isa.specs.declared.instr.Instr.TheVariants.{RegisterRegister, RegisterRegisterWord, Fence}
+use Rattle.rv_isa.specs.declared.instr.Instr.TheVariants.{Ecall, Ebreak}
 use Rattle.rv_machine.specs.Machine.{State, Moved, GoesOn, Writes, Faults, Throws, register_at, act, fetch, obeys}
 use Rattle.rv_listing.specs.Texts.{hex8, text_in}
 
--- the register that an instruction writes where it doesn't stop the run, or 0. ECALL puts the number of bytes that it wrote into x10
+-- the register that an instruction writes where it doesn't stop the run, or 0. ECALL puts the number of bytes that it
+-- wrote into x10
 abbrev pub writes_to : Instr → State → ℕ
 writes_to (Lui rd imm) s = rd.number
 writes_to (Auipc rd imm) s = rd.number
@@ -55,7 +58,8 @@ abbrev pub change_text : Option (ℕ × ℕ) → List ℕ
 change_text None = []
 change_text (Some (number, value)) = codes " -> x" ++ (decimal number ++ (codes " = " ++ decimal value))
 
--- what a line says of a step: the register that it wrote, with its value behind the step. Where the step stops the run it writes none
+-- what a line says of a step: the register that it wrote, with its value behind the step. Where the step stops the
+-- run it writes none
 abbrev pub change_of : ℕ → Moved → List ℕ
 change_of number (GoesOn next) = register_change number (register_at next number)
 change_of number (Writes next bytes) = register_change number (register_at next number)
@@ -80,7 +84,8 @@ traced (Some found) w n s go =
     trace_line n s.pc (text_in w found) (change_of (written_by found s) (obeys (Some found) s))
     ∷ after_move (obeys (Some found) s) go
 
--- the lines of at most that many steps of a program, which is that of the words, from a state on; the first step has number n
+-- the lines of at most that many steps of a program, which is that of the words, from a state on; the first step has
+-- number n
 abbrev pub Trace : List (Option Instr) → List ℕ → State → ℕ → ℕ → List (List ℕ)
 Trace program words s n zero = []
 Trace program words s n (suc steps) =

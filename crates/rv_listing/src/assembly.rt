@@ -1,7 +1,8 @@
 // Sources of lines, read as words.
 
 ghost use Rattle.std.specs.Prelude.{◌≡◌, ◌<◌, ◌≤◌, ◌+◌, ℕ, List, [], length, drop, IfOk, IfErr};
-ghost use Rattle.rv_listing.specs.Assembly.{lines_of, IsFault, IsRefused, IsFirstBad, Assembles, TextsAssemble, OneAnswer};
+ghost use Rattle.rv_listing.specs.Assembly.{lines_of, IsFault, IsRefused, IsFirstBad, Assembles};
+ghost use Rattle.rv_listing.specs.Assembly.{TextsAssemble, OneAnswer};
 ghost use Rattle.rv_listing.specs.Reading.{line_length};
 ghost use Rattle.rv_listing.specs.declared.assembly.AsmFault.TheVariants as faults;
 
@@ -45,8 +46,9 @@ impl<T: Drop> From<AllocFailed<T>> for AsmFault {
     }
 }
 
-/// The words of a source, a text of a word in each line. The last line may do without its LF. `Ok` exactly where the source has bytes
-/// and each line is the text of a word; else the fault says which line is the first that isn't, and why.
+/// The words of a source, a text of a word in each line. The last line may do without its LF. `Ok` exactly where the
+/// source has bytes and each line is the text of a word; else the fault says which line is the first that isn't, and
+/// why.
 pub fn assemble(alloc: Global, source: &[u8]) -> Result<List<u32>, AsmFault>
     ensures words { IfOk result (λ words. Assembles source.now words) }
     ensures all { (words : List ℕ) → Assembles source.now words → IfOk result (λ got. got ≡ words) }
@@ -90,7 +92,8 @@ pub fn one_answer()
 {}
 
 fn kind_of(error: AsmError) -> AsmKind
-    ensures { (source : List ℕ) (number : ℕ) → IsFirstBad (lines_of source) error number → IsRefused source result number }
+    ensures { (source : List ℕ) (number : ℕ) →
+        IsFirstBad (lines_of source) error number → IsRefused source result number }
 {
     match error {
         AsmError::BadName => AsmKind::BadName,

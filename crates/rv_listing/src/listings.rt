@@ -3,7 +3,8 @@
 ghost use Rattle.std.specs.Prelude.{◌≡◌, ◌++◌, ◌+◌, ◌*◌, ◌≤◌, ◌<◌, ◌^◌, ℕ, List, length, IfOk, OnOk};
 ghost use Rattle.elf_image.specs.Lawful.{IsLawful};
 ghost use Rattle.rv_listing.specs.Texts.{IsWordText};
-ghost use Rattle.rv_listing.specs.Listing.{Listing, entry_line, entry_lines, word_line, AreWordLines, OneListing, LoadedTextsAreShort};
+ghost use Rattle.rv_listing.specs.Listing.{Listing, entry_line, entry_lines, word_line, AreWordLines};
+ghost use Rattle.rv_listing.specs.Listing.{OneListing, LoadedTextsAreShort};
 
 use crate::printing::{Line, hexadecimal, put, put_word};
 use elf_image::{Image, Symbol};
@@ -11,8 +12,9 @@ use std::alloc::Global;
 use tl_base::limits::TEXT_ADDRESS;
 use tl_base::{Bytes, NoMemory};
 
-/// The listing of an image: a line for each export, and a line for each word of text. Its one error is want of memory. An image that
-/// [`elf_image::read`] gives has at most 268,435,456 bytes of text, so its addresses have eight digits.
+/// The listing of an image: a line for each export, and a line for each word of text. Its one error is want of
+/// memory. An image that [`elf_image::read`] gives has at most 268,435,456 bytes of text, so its addresses have eight
+/// digits.
 pub fn listing(alloc: Global, image: &Image) -> Result<Bytes, NoMemory>
     requires lawful { IsLawful image.now }
     requires short { 4 * length image.now.text ≤ 268435456 }
@@ -55,7 +57,8 @@ fn push_entry(out: &mut Bytes, symbol: &Symbol) -> Result<(), NoMemory>
 
 fn push_words(out: &mut Bytes, words: &[u32]) -> Result<(), NoMemory>
     requires { 4 * length words.now ≤ 268435456 }
-    ensures { OnOk result ((lines : List ℕ) × AreWordLines TEXT_ADDRESS words.now lines × (out.new ≡ out.old ++ lines)) }
+    ensures { OnOk result ((lines : List ℕ) × AreWordLines TEXT_ADDRESS words.now lines
+        × (out.new ≡ out.old ++ lines)) }
 {
     let mut address = TEXT_ADDRESS as u32;
     for word in words {
@@ -66,7 +69,8 @@ fn push_words(out: &mut Bytes, words: &[u32]) -> Result<(), NoMemory>
 }
 
 fn push_word(out: &mut Bytes, address: u32, word: u32) -> Result<(), NoMemory>
-    ensures { OnOk result ((text : List ℕ) × IsWordText word text × (out.new ≡ out.old ++ word_line address word text)) }
+    ensures { OnOk result ((text : List ℕ) × IsWordText word text
+        × (out.new ≡ out.old ++ word_line address word text)) }
 {
     let mut line = Line::new();
     put(&mut line, &hexadecimal(u64::from(address)));

@@ -1,8 +1,8 @@
 // Operations: what an instruction is but for its operands, and their names.
 
 ghost use Rattle.std.specs.Prelude.{◌≡◌, ◌≤◌, length};
-ghost use Rattle.rv_listing.specs.Texts.{branch_name, load_name, store_name, immediate_name, shift_name, shift_word_name};
-ghost use Rattle.rv_listing.specs.Texts.{register_name, register_word_name};
+ghost use Rattle.rv_listing.specs.Texts.{branch_name, load_name, store_name, immediate_name, shift_name};
+ghost use Rattle.rv_listing.specs.Texts.{shift_word_name, register_name, register_word_name};
 ghost use Rattle.rv_listing.specs.Reading.{operation_of, operation_name, operation_named, first_named};
 
 use rv_isa::{

@@ -1,5 +1,5 @@
-// Instructions from an operation and the numbers of a text. Each function gives what has these numbers, and where nothing has them it
-// gives anything: what is made is written and compared with the line.
+// Instructions from an operation and the numbers of a text. Each function gives what has these numbers, and where
+// nothing has them it gives anything: what is made is written and compared with the line.
 
 ghost use Rattle.std.specs.Prelude.{◌≡◌, ◌≤◌, ◌<◌, ◌^◌, ℤ, unsigned_abs};
 ghost use Rattle.rv_isa.specs.declared.instr.Instr.{Instr};

@@ -5,8 +5,8 @@ ghost use Rattle.std.specs.Fmt.{signed_decimal};
 ghost use Rattle.arrayvec.specs.ArrayVec.{array_vec_len};
 ghost use Rattle.rv_isa.specs.Table.{word_of};
 ghost use Rattle.rv_isa.specs.Finds.{Finds};
-ghost use Rattle.rv_listing.specs.Texts.{register_text, one_register, two_registers, based, operands_of, instr_text, hex_digit, hex8, text_in};
-ghost use Rattle.rv_listing.specs.Texts.{fence_value, IsWordText};
+ghost use Rattle.rv_listing.specs.Texts.{register_text, one_register, two_registers, based, operands_of, instr_text};
+ghost use Rattle.rv_listing.specs.Texts.{hex_digit, hex8, text_in, fence_value, IsWordText};
 
 use crate::names::Operation;
 use arrayvec::ArrayVec;

@@ -1,6 +1,7 @@
 // Lines of traces.
 
-ghost use Rattle.std.specs.Prelude.{◌≡◌, ◌++◌, ◌+◌, ◌≤◌, ◌<◌, ◌^◌, ◌%◌, ℕ, List, [], length, codes, decimal, Option, Some, None, map};
+ghost use Rattle.std.specs.Prelude.{◌≡◌, ◌++◌, ◌+◌, ◌≤◌, ◌<◌, ◌^◌, ◌%◌, ℕ, List, [], length, codes, decimal};
+ghost use Rattle.std.specs.Prelude.{Option, Some, None, map};
 ghost use Rattle.rv_isa.specs.Finds.{Finds};
 ghost use Rattle.rv_isa.specs.Table.{word_of};
 ghost use Rattle.rv_isa.specs.declared.instr.Instr.{Instr};
@@ -35,8 +36,8 @@ impl TraceLine {
         TraceLine { line: Line::new() }
     }
 
-    /// Writes the line of step `number`, which fetched `word` at `address`; `change` is the register that it wrote, with the value behind
-    /// the step, where it wrote one other than x0.
+    /// Writes the line of step `number`, which fetched `word` at `address`; `change` is the register that it wrote,
+    /// with the value behind the step, where it wrote one other than x0.
     pub fn write(&mut self, number: u64, address: u64, word: u32, change: Option<(u32, u64)>)
         ensures { (text : List ℕ) × IsWordText word text
             × (self.new ≡ trace_line number address text (change_text change)) }
@@ -62,7 +63,8 @@ impl TraceLine {
 
 /// The register that a word writes where it doesn't stop the run, or 0 where it writes none; `call` is x17.
 pub fn register_written(word: u32, call: u64) -> u32
-    ensures register { (found : Option Instr) (s : State) → Finds word_of word found → s.registers 17 ≡ call → result ≡ written_by found s }
+    ensures register { (found : Option Instr) (s : State) → Finds word_of word found → s.registers 17 ≡ call →
+        result ≡ written_by found s }
     ensures most { result ≤ 31 }
 {
     match decode(word) {

@@ -1,4 +1,4 @@
-use Rattle.std.proofs.Common.{◌≡◌, ◌++◌, ◌+◌, length, drop}
+use Rattle.std.proofs.Common.{◌≡◌, ◌+◌, drop}
 use Rattle.rv_listing.specs.Reading.{line_length}
 use Rattle.rv_listing.proofs.assembly.line_length.Given as goal
 

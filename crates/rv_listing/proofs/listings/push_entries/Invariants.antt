@@ -1,4 +1,4 @@
-use Rattle.std.proofs.Common.{◌≡◌, ◌++◌, ◌+◌, length, drop}
+use Rattle.std.proofs.Common.{◌≡◌, ◌++◌, drop}
 use Rattle.rv_listing.specs.Listing.{entry_lines}
 use Rattle.rv_listing.proofs.listings.push_entries.Given as goal
 

@@ -1,4 +1,4 @@
-use Rattle.std.proofs.Common.{◌≡◌, ◌++◌, ◌+◌, length, drop}
+use Rattle.std.proofs.Common.{◌≡◌, drop}
 use Rattle.rv_listing.specs.Reading.{first_named}
 use Rattle.rv_listing.proofs.names.first_named.Given as goal
 

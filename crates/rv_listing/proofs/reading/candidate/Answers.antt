@@ -1,8 +1,6 @@
-use Rattle.std.proofs.Common.{◌≡◌, ◌∙◌, ℕ, ◌-◌, true, false, List, length, take, drop, Option, Some, None, refl, sym, ap, subst, Ok}
+use Rattle.std.proofs.Common.{◌≡◌, ◌∙◌, ℕ, ◌-◌, List, length, take, drop, Some, None, sym, ap, subst, Ok}
 use Rattle.std.specs.Prelude.{codes}
 use Rattle.rv_isa.specs.declared.instr.Instr.{Instr}
-use Rattle.rv_listing.specs.declared.names.Operation.{Operation}
-use Rattle.rv_listing.specs.Texts.{IsWordText}
 use Rattle.rv_listing.specs.Assembly.{name_in, IsName}
 use Rattle.rv_listing.specs.Reading.{operation_of, operation_named, scan_all, scan_start, Fills}
 use Rattle.rv_listing.proofs.Words.{name_taken, operands_taken, is_word, is_no_word, none_from, unnamed, operation_names, word_read, instruction_read}

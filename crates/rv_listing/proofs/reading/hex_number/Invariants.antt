@@ -1,4 +1,4 @@
-use Rattle.std.proofs.Common.{◌≡◌, ◌++◌, ◌+◌, length, drop}
+use Rattle.std.proofs.Common.{◌≡◌, drop}
 use Rattle.rv_listing.specs.Reading.{hex_all}
 use Rattle.rv_listing.proofs.reading.hex_number.Given as goal
 

@@ -1,4 +1,4 @@
-use Rattle.std.proofs.Common.{◌≡◌, ◌++◌, ◌+◌, length, drop}
+use Rattle.std.proofs.Common.{◌≡◌, ◌+◌, length, drop}
 use Rattle.rv_listing.specs.Assembly.{name_in}
 use Rattle.rv_listing.proofs.reading.name_length.Given as goal
 

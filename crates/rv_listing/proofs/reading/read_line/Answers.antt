@@ -1,4 +1,4 @@
-use Rattle.std.proofs.Common.{◌≡◌, ℕ}
+use Rattle.std.proofs.Common.{◌≡◌}
 use Rattle.rv_listing.proofs.Words.{same_word, not_its_text}
 use Rattle.rv_listing.proofs.reading.read_line.Goals as goal
 

@@ -1,4 +1,4 @@
-use Rattle.std.proofs.Common.{◌≡◌, ◌++◌, ◌+◌, length, drop}
+use Rattle.std.proofs.Common.{◌≡◌, drop}
 use Rattle.rv_listing.specs.Reading.{scan_all, scan_start}
 use Rattle.rv_listing.proofs.scan.numbers_of.Given as goal
 
