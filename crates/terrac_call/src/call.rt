@@ -16,7 +16,7 @@ use crate::due::Due;
 use crate::lines::{bare_usage_due, no_memory_due};
 use crate::status::Status;
 use crate::work::work;
-use check_stage::staging::larger_changes_nothing;
+use stage_model::larger_changes_nothing;
 use std::alloc::Global;
 use std::io::ErrorKind;
 use tl_base::{Sink, Source};

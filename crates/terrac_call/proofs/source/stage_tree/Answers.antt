@@ -27,4 +27,4 @@ returns-in_ok-written-in-Terms c =
 pub emitted_work-requires-clause-made : goal.emitted_work-requires-clause-made
 emitted_work-requires-clause-made c =
     let are = c.in_ok-emitted-in-Emit.ensures in
-    lawful_made are.ending.left.world.stage c.limits_of-limits.result.memory are.ending.end c.in_ok-emitted-in-Emit.emitted.end are.end
+    lawful_made are.ending.left.world.typing.stage c.limits_of-limits.result.memory are.ending.end c.in_ok-emitted-in-Emit.emitted.end are.end

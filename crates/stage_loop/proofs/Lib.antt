@@ -1,0 +1,4 @@
+pub mod Holding
+pub mod Lines
+pub mod Sound
+pub mod Turning
