@@ -1,4 +1,3 @@
-pub mod Holding
 pub mod Lines
 pub mod Sound
 pub mod Turning

@@ -1,5 +1,5 @@
 -- The worlds in which the runs of a staging begin and end are sound.
-use Rattle.std.proofs.Common.{◌≡◌, true, false}
+use Rattle.std.proofs.Common.{◌≡◌, true}
 use Rattle.stage_form.specs.declared.staging.Outcome.{Outcome}
 use Rattle.stage_form.specs.declared.staging.Outcome.TheVariants.{Ends, Spent}
 use Rattle.stage_form.specs.Holding.{OnEnds}

@@ -134,7 +134,7 @@ impl<'a> Stages for Stagings<'a> {
     ghost use Rattle.check_stage.specs.Layers.{ends_follow};
     ghost use Rattle.stage_model.specs.Stage.{stage};
     ghost use Rattle.stage_sound.specs.Jobs.{Begun, Left};
-    ghost use Rattle.stage_loop.proofs.Holding.{stages_hold};
+    ghost use Rattle.stage_sound.proofs.Promises.{stages_hold_sound};
 
     type World = Staging;
 
@@ -152,7 +152,7 @@ impl<'a> Stages for Stagings<'a> {
 
     ghost leaves = { λ stages question w end v. Left question w end v };
 
-    ghost layers_hold = { λ stages. stages_hold (items_of stages.inner.inner.tree.now) stages.placed };
+    ghost layers_hold = { λ stages. stages_hold_sound (items_of stages.inner.inner.tree.now) stages.placed };
 
     ghost ends_follow = { λ stages question asked now end kept paid left. ends_follow end };
 

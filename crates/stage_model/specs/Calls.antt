@@ -15,7 +15,6 @@ use Rattle.terra_words.specs.declared.words.FaultKind.{FaultKind}
 use Rattle.terra_words.specs.declared.words.FaultKind.TheVariants as faults
 use Rattle.terra_words.specs.Runs as runs
 use Rattle.terra_words.specs.Runs.{Run, Over, More, word, number}
-use Rattle.terra_term.specs.declared.refusal.Refusal.{Refusal}
 use Rattle.terra_term.specs.declared.refusal.RefusalKind.TheVariants.{TooLarge}
 use Rattle.terra_term.specs.Stores.{Callable, contents_of, callable_of}
 use Rattle.terra_term.specs.TypedTerms.{Body}
@@ -35,7 +34,7 @@ use Rattle.check_stage.specs.declared.jobs.JobEnd.{JobEnd}
 use Rattle.check_stage.specs.declared.jobs.JobEnd.TheVariants as ends
 use Rattle.check_stage.specs.Layers.{with_stage}
 use Rattle.stage_model.specs.Places.{place_text}
-use Rattle.stage_model.specs.World.{TerraRun, StagingState}
+use Rattle.stage_model.specs.World.{StagingState}
 use Rattle.stage_model.specs.Words.{Taken, Words, Bad, is_callable, taken, values_of}
 
 abbrev pub CallSeen : Type 0

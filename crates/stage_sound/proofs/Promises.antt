@@ -42,8 +42,8 @@ pub jobs-keep-sound : JobsKeepSound
 jobs-keep-sound items placed n question s end t begin is =
     question-leaves items (layers-keep items placed) n question s end t begin is
 
-pub stages-hold-sound : StagesHoldSound
-stages-hold-sound items placed = layers-hold items (layers-keep items placed)
+pub stages_hold_sound : StagesHoldSound
+stages_hold_sound items placed = layers-hold items (layers-keep items placed)
 
 -- the world with which a source begins
 pub opened-sound : (memory : ℕ) → memory ≤ MAX_MEMORY → IsSound (opened memory)

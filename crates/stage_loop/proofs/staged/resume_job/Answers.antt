@@ -7,6 +7,7 @@ use Rattle.terra_stage.proofs.Turning.{goes_on}
 use Rattle.check_stage.specs.declared.jobs.Asked.{Asked}
 use Rattle.check_stage.specs.declared.jobs.JobEnd.{JobEnd}
 use Rattle.check_stage.specs.Layers.{rest as job_rest}
+use Rattle.stage_library.specs.Keeping.{KeepsStaging}
 use Rattle.check_stage.proofs.Showing.{asks_more}
 use Rattle.stage_model.specs.Stage.{StagingState, checking_fitting}
 use Rattle.stage_loop.specs.contracts.world.Staging.{the_view}
@@ -36,3 +37,7 @@ pub returns-clause-fits_next : goal.returns-clause-fits_next
 returns-clause-fits_next c =
     asks_more c.in_ok-turn.turn _ _ (λ q fits next other. fits (given_part checking_fitting next) other)
     c.in_ok-turn.ensures.fits_next
+
+pub returns-clause-kept : goal.returns-clause-kept
+returns-clause-kept c =
+    subst (λ (w : StagingState). KeepsStaging w.typing.stage c.resume.new.world.stage) c.staging.view_is c.in_ok-turn.ensures.kept
