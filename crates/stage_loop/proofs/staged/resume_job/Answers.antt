@@ -40,4 +40,4 @@ returns-clause-fits_next c =
 
 pub returns-clause-kept : goal.returns-clause-kept
 returns-clause-kept c =
-    subst (λ (w : StagingState). KeepsStaging w.typing.stage c.resume.new.world.stage) c.staging.view_is c.in_ok-turn.ensures.kept
+    subst (λ (w : StagingState). KeepsStaging w.typing.stage c.resume.new.typing.stage) c.staging.view_is c.in_ok-turn.ensures.kept

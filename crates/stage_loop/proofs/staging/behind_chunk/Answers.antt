@@ -10,16 +10,16 @@ use Rattle.stage_loop.proofs.Sound.{gave_so}
 use Rattle.stage_loop.proofs.staging.behind_chunk.Goals as goal
 
 -- a chunk that gave values left a sound world
-pub run-requires-in-Exports : goal.run-requires-in-Exports
-run-requires-in-Exports c =
+pub run-requires : goal.run-requires
+run-requires c =
     let a = c.args in (
       gave_so a.chunk (IsSound a.staging.now.typing.stage) (sym c.gave_values.ensures ∙ c.if-not-gave_values.false)
           c.requires.sound,
       tt,
     )
 
-pub check_all-requires-sound : goal.check_all-requires-sound
-check_all-requires-sound c =
+pub check_all-requires-clause-sound : goal.check_all-requires-clause-sound
+check_all-requires-clause-sound c =
     let a = c.args in
     gave_so a.chunk (IsSound a.staging.now.typing.stage) (sym c.gave_values.ensures ∙ c.if-not-gave_values.false)
     c.requires.sound

@@ -17,10 +17,10 @@ use Rattle.stage_loop.proofs.Sound.{left_sound}
 use Rattle.stage_loop.proofs.staging.stage_from.Goals as goal
 
 pub run-requires : goal.run-requires
-run-requires c = (subst (λ (w : StagingState). IsSound w.typing.stage) c.deref_mut.ensures.value c.requires, tt)
+run-requires c = (subst (λ (w : StagingState). IsSound w.typing.stage) (sym c.deref_mut.ensures.value) c.requires, tt)
 
-pub behind_chunk-requires-sound : goal.behind_chunk-requires-sound
-behind_chunk-requires-sound c =
+pub behind_chunk-requires-clause-sound : goal.behind_chunk-requires-clause-sound
+behind_chunk-requires-clause-sound c =
     let question = asked.Job (jobs.Stage (Evaluate Chunk)) in
     subst (λ (w : StagingState). OnEnds c.in_ok-chunk.chunk (λ _. IsSound w.typing.stage)) (sym c.deref_mut-2.ensures.value)
     (left_sound c.in_ok-chunk.chunk question c.deref_mut.result.now c.run.new.world c.in_ok-chunk.ensures.left)
