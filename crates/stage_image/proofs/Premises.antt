@@ -20,4 +20,4 @@ pub can_compile : (items : Items) → ArePlaced items → (place : Place) (n : �
 can_compile items placed place n limits out are comes done =
     let whole : IsWhole out.end = subst IsWhole (sym done) tt in
     let ends = stagings-end-sound items placed place Exports n limits.budget limits.memory out are.most_memory comes whole in
-    compilable out.left.world.typing.stage ends.sound ends.part ends.fine limits are ends.memory
+    compilable out.left.world.typing.stage ends.sound ends.exports ends.fine limits are ends.memory

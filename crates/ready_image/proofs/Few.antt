@@ -10,7 +10,7 @@ use Rattle.check_sound.specs.Exports as counting
 use Rattle.check_sound.specs.Exports.{AreCounted, IsClosed, Stands, body_nodes, numbered}
 use Rattle.check_sound.proofs.Restricting.{mentions-called}
 use Rattle.check_sound.proofs.Tests.{none-some, same-some}
-use Rattle.back_end.specs.Compiled.{AreFew, nodes_in, nodes_of}
+use Rattle.back_end.specs.Ready.{AreFew, nodes_in, nodes_of}
 
 -- ---- lists without a place
 

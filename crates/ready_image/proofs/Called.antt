@@ -25,9 +25,9 @@ use Rattle.check_sound.specs.Sound.{IsSound, body_in, typed_body}
 use Rattle.check_sound.proofs.Foreseen.{body-item, body-result}
 use Rattle.check_sound.proofs.Tests.{none-some, same-some}
 use Rattle.terra_meaning.specs.Values.{form_at}
-use Rattle.back_end.specs.Compiled.{IsOutward, all_scalar, is_result, is_scalar}
+use Rattle.back_end.specs.Ready.{IsOutward, all_scalar, is_result, is_scalar}
 use Rattle.back_end.specs.Plain.{all_plain}
-use Rattle.stage_image.proofs.Plains.{trees-plain}
+use Rattle.ready_image.proofs.Plains.{trees-plain}
 
 pub record IsTypedAs (w : StageState) (f : FnId) (k : Callable) : Type 0 where
   pub function : Function
