@@ -1,11 +1,11 @@
 -- From what is owed and delivered to what is answered.
-use Rattle.std.proofs.Common.{◌≡◌, ◌≢◌, ◌⊎◌, inl, inr, ℕ, List, Option, Some, None, refl, sym, ap, subst, ◌∙◌}
+use Rattle.std.proofs.Common.{◌≡◌, ◌≢◌, ◌⊎◌, inl, inr, ℕ, List, Option, Some, refl, sym, ap, subst, ◌∙◌}
 use Rattle.tl_base.specs.declared.place.Place.{Place}
 use Rattle.tl_base.specs.Outside.{with_back, IsRisen}
 use Rattle.tl_tree.specs.Code.{Items}
 use Rattle.terrac_call.specs.declared.status.Status.{Status}
 use Rattle.terrac_call.specs.declared.status.Status.TheVariants as statuses
-use Rattle.terrac_call.specs.Words.{Job, Make, Stage, Exec, Task, Check, Terms, Emit, Run, job_of, text_of}
+use Rattle.terrac_call.specs.Words.{Make, Stage, Exec, Task, Check, Terms, Emit, Run, Asked, Named, Refused, Unlawful, asked_of, text_of}
 use Rattle.terrac_call.specs.Due.{Due, IsReadingDue, IsRefused, IsTree, Reading}
 use Rattle.terrac_call.specs.Staged.{IsRestDue, IsRestOwed, IsSourceDue, IsSourceOwed, IsTreeDue, IsTreeOwed, told}
 use Rattle.terrac_call.specs.Reading.{IsToldAs}
@@ -45,11 +45,12 @@ module _ (due : Due) (found : due.status ≢ statuses.NoMemory) where
   source_due : (task : Task) (bytes : List ℕ) → IsSourceOwed task bytes due → IsSourceDue task bytes due
   source_due task bytes is = (is.0, is.1, reading_due task is.0 is.2)
 
-  pub due_of_owed : (job : Option Job) (bytes : List ℕ) → IsOwed job bytes due → IsDue job bytes due
-  due_of_owed None bytes is = is
-  due_of_owed (Some (Make what)) bytes is = is
-  due_of_owed (Some (Stage task)) bytes is = source_due task (text_of task bytes) is
-  due_of_owed (Some (Exec call steps)) bytes is = is
+  pub due_of_owed : (asked : Asked) (bytes : List ℕ) → IsOwed asked bytes due → IsDue asked bytes due
+  due_of_owed (Named (Make what)) bytes is = is
+  due_of_owed (Named (Stage task)) bytes is = source_due task (text_of task bytes) is
+  due_of_owed (Named (Exec call steps)) bytes is = is
+  due_of_owed Refused bytes is = is
+  due_of_owed Unlawful bytes is = is
 
 -- ---- where nothing fails
 
@@ -74,9 +75,9 @@ answers_exactly words left Rose status oo on nb nn o0 o1 n0 n1 SameOut SameNotes
     ]
   where
     due_is : (bytes : List ℕ) → left ≡ Some bytes → (Rose → ⊥) → (answers.due.status ≢ statuses.NoMemory)
-        → Owed (job_of words) left Rose answers.due → IsDue (job_of words) bytes answers.due
+        → Owed (asked_of words) left Rose answers.due → IsDue (asked_of words) bytes answers.due
     due_is bytes told_as quiet found (Answered other same is) =
         let here : bytes ≡ other = subst (λ (o : Option (List ℕ)). IsToldAs o other) told_as same in
-        subst (λ (b : List ℕ). IsDue (job_of words) b answers.due) (sym here) (due_of_owed answers.due found (job_of words) other is)
+        subst (λ (b : List ℕ). IsDue (asked_of words) b answers.due) (sym here) (due_of_owed answers.due found (asked_of words) other is)
     due_is bytes told_as quiet found (Unread named rose is) = absurd (quiet rose)
     due_is bytes told_as quiet found (OutOfMemory is) = absurd (found (ap (λ (d : Due). d.status) is))

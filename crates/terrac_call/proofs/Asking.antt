@@ -1,5 +1,5 @@
 -- What `clap` found, and the job that it names.
-use Rattle.std.proofs.Common.{◌≡◌, ◌≢◌, ◌⊎◌, inl, inr, ℕ, ◌^◌, Bool, true, false, cond, ◌&&◌, List, [], ◌∷◌, length, Option, Some, None}
+use Rattle.std.proofs.Common.{◌≡◌, ◌≢◌, ◌⊎◌, inl, inr, ℕ, ◌^◌, Bool, true, false, cond, ◌&&◌, List, [], ◌∷◌, length, Option}
 use Rattle.std.proofs.Common.{refl, sym, ap, subst, ◌∙◌, ◌<◌, nat_lt, lt-ltb, ltb-true, arith}
 use Rattle.std.proofs.lemmas.Bool.{ne_eqb}
 use Rattle.std.specs.List.{list_all}
@@ -10,7 +10,8 @@ use Rattle.clap.specs.Walk.{is_empty}
 use Rattle.clap.specs.declared.error.ErrorKind.{ErrorKind}
 use Rattle.clap.specs.declared.error.ErrorKind.TheVariants.{OutOfMemory}
 use Rattle.clap.proofs.OnLiterals.{clap_on_literals}
-use Rattle.terrac_call.specs.Words.{Job, command_line, job_of, job_of_command, is_numeral, number_or_zero, AreTaken}
+use Rattle.terrac_call.specs.Words.{Asked, Job, Refused, asked_job, asked_of, command_line, job_of_command, is_numeral, number_or_zero}
+use Rattle.terrac_call.specs.Words.{AreTaken}
 
 is_simple_line : is_simple command_line ≡ true
 unfolding clap_on_literals
@@ -27,32 +28,32 @@ some_fault : (kind : ErrorKind) (xs : List ErrorKind) → IsAmong kind xs → is
 some_fault kind [] h = absurd h
 some_fault kind (x ∷ xs) h = ne_eqb (length (x ∷ xs)) 0 (λ e. omega arith)
 
--- what was found for words that are taken is their job
-pub named : (built : App) (words : List Text) (found : Option (Text × List Row)) (job : Job) → built ≡ command_line →
+-- what is asked for with what was found for words that are taken is what they ask for
+pub named : (built : App) (words : List Text) (found : Option (Text × List Row)) (job : Job) (asked : Asked) → built ≡ command_line →
     (is_simple_and_free built ≡ true → fault_of built words ≡ []) → (is_simple built ≡ true → found ≡ subcommand_of built words) →
-    job ≡ job_of_command found → Some job ≡ job_of words
-unfolding job_of
-named built words found job line free simple is =
+    job ≡ job_of_command found → asked ≡ asked_job job → asked ≡ asked_of words
+unfolding asked_of
+named built words found job asked line free simple is by =
     let none : fault_of command_line words ≡ [] = sym (ap (λ (a : App). fault_of a words) line)
     ∙ free (ap is_simple_and_free line ∙ is_free_line) in
     let rows : found ≡ subcommand_of command_line words = simple (ap is_simple line ∙ is_simple_line)
     ∙ ap (λ (a : App). subcommand_of a words) line in
-    ap Some (is ∙ ap job_of_command rows)
-    ∙ sym (ap (λ (b : Bool). cond b (Some (job_of_command (subcommand_of command_line words))) None)
+    by ∙ ap asked_job (is ∙ ap job_of_command rows)
+    ∙ sym (ap (λ (b : Bool). cond b (asked_job (job_of_command (subcommand_of command_line words))) Refused)
     (empty_fault (fault_of command_line words) none))
 
 -- words that are refused name none
 pub refuses : (built : App) (words : List Text) (kind : ErrorKind) → built ≡ command_line →
     (is_simple_and_free built ≡ true → (kind ≡ OutOfMemory) ⊎ IsAmong kind (fault_of built words)) → kind ≢ OutOfMemory
-    → None ≡ job_of words
-unfolding job_of
+    → Refused ≡ asked_of words
+unfolding asked_of
 refuses built words kind line free other =
     elim (free (ap is_simple_and_free line ∙ is_free_line)) [
       | inl memory ↦ absurd (other memory)
       | inr among ↦
           let some : is_empty (fault_of command_line words) ≡ false =
           some_fault kind (fault_of command_line words) (subst (λ (a : App). IsAmong kind (fault_of a words)) line among) in
-          sym (ap (λ (b : Bool). cond b (Some (job_of_command (subcommand_of command_line words))) None) some)
+          sym (ap (λ (b : Bool). cond b (asked_job (job_of_command (subcommand_of command_line words))) Refused) some)
     ]
 
 pub taken : (built : App) (words : List Text) → built ≡ command_line → AreTaken words → takes built words ≡ true

@@ -237,6 +237,7 @@ refusal_is (statuses.Fault kind place) bytes other = refl
 refusal_is statuses.Unfinished bytes other = refl
 refusal_is (statuses.BadImage fault) bytes other = refl
 refusal_is (statuses.MachineFault kind pc) bytes other = refl
+refusal_is (statuses.BadAssembly kind number) bytes other = refl
 refusal_is statuses.ReadFault bytes other = refl
 refusal_is statuses.WriteFault bytes other = refl
 refusal_is statuses.NoMemory bytes other = refl

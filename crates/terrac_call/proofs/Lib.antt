@@ -1,6 +1,7 @@
 pub mod Answering
 pub mod ArgumentSteps
 pub mod Asking
+pub mod AssembledImages
 pub mod Buffers
 pub mod Calls
 pub mod Deliveries

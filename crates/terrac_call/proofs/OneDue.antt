@@ -14,14 +14,23 @@ use Rattle.elf_image.specs.Calls.{symbol_named}
 use Rattle.elf_image.specs.Loads.{Loads, BadBytes}
 use Rattle.rv_machine.specs.Machine.{Ran}
 use Rattle.rv_machine.proofs.ImageRuns.{one_run}
-use Rattle.terrac_call.specs.declared.status.ImageFault.TheVariants.{Refused}
-use Rattle.terrac_call.specs.Words.{Call, Job, Make, Stage, Exec, Task, Check, Terms, Emit, Run, Rename, job_of, text_of}
+use Rattle.terrac_call.specs.declared.status.ImageFault.TheVariants as faults
+use Rattle.rv_listing.specs.Listing.{Listing, OneListing}
+use Rattle.rv_listing.specs.Assembly.{OneAnswer}
+use Rattle.rv_listing.specs.declared.assembly.AsmKind.{AsmKind}
+use Rattle.terrac_call.specs.declared.status.Status.TheVariants as statuses
+use Rattle.terrac_call.specs.Words.{Call, Make, Stage, Exec, Task, Check, Terms, Emit, Run, Making, Rename, ListImage, Assemble}
+use Rattle.terrac_call.specs.Words.{Asked, Named, Refused, Unlawful, asked_of, text_of}
 use Rattle.terrac_call.specs.Arguments.{Arguments, Good, Bad, arguments_of}
-use Rattle.terrac_call.specs.Due.{Due, Reading, IsReadingDue, IsRefused, IsTree, after, noting}
+use Rattle.elf_image.specs.Written as files
+use Rattle.terrac_call.specs.Due.{Due, Reading, IsReadingDue, IsRefused, IsTree, refused, given, after, noting}
 use Rattle.terrac_call.specs.Exec.{Manner, plain, shown_file, due_of_bad_image, due_of_stop, IsRunDue, IsCallDue, IsExecDue, IsLong}
 use Rattle.terrac_call.specs.Exec.{IsBad, IsImage}
 use Rattle.terrac_call.specs.Staged.{Compiles, IsDone, IsEndDue, IsRestDue, IsTreeDue, bytes_of, limits_of, mode_of, told}
 use Rattle.terrac_call.specs.Rename as renames
+use Rattle.terrac_call.specs.Listed as listed
+use Rattle.terrac_call.specs.Assembled as assembled
+use Rattle.terrac_call.specs.Making.{IsMakingDue}
 use Rattle.terrac_call.specs.Answer.{IsDue}
 use Rattle.terrac_call.specs.Call.{CompilesNothing, OneDue}
 use Rattle.terrac_call.proofs.OneReading.{one_reading}
@@ -56,7 +65,7 @@ one_of_exec call steps bytes one other (IsLong more p) (IsBad f few bad q) = abs
 one_of_exec call steps bytes one other (IsLong more p) (IsImage i few loads q) = absurd (omega arith)
 one_of_exec call steps bytes one other (IsBad e few bad p) (IsLong long q) = absurd (omega arith)
 one_of_exec call steps bytes one other (IsBad e few bad p) (IsBad f less worse q) = p
-    ∙ ap (λ (x : ImageError). due_of_bad_image (Refused x)) (one_fault bytes e f bad worse) ∙ sym q
+    ∙ ap (λ (x : ImageError). due_of_bad_image (faults.Refused x)) (one_fault bytes e f bad worse) ∙ sym q
 one_of_exec call steps bytes one other (IsBad e few bad p) (IsImage i less loads q) = absurd (no_both bytes e i bad loads)
 one_of_exec call steps bytes one other (IsImage i few loads p) (IsLong long q) = absurd (omega arith)
 one_of_exec call steps bytes one other (IsImage i few loads p) (IsBad f less bad q) = absurd (no_both bytes f i bad loads)
@@ -64,6 +73,41 @@ one_of_exec call steps bytes one other (IsImage i few loads p) (IsImage j less r
     let same : j ≡ i = read.1 ∙ sym loads.1 in
     one_of_call i call (plain steps []) (symbol_named call.entry i.exports) one other p
     (subst (λ (x : Image). IsCallDue x call (plain steps []) (symbol_named call.entry x.exports) other) same q)
+
+-- an image has one listing
+one_of_list : OneListing → (bytes : List ℕ) (one other : Due) → listed.IsListDue bytes one → listed.IsListDue bytes other → one ≡ other
+one_of_list single bytes one other (listed.IsLong more p) (listed.IsLong long q) = p ∙ sym q
+one_of_list single bytes one other (listed.IsLong more p) (listed.IsBad f few bad q) = absurd (omega arith)
+one_of_list single bytes one other (listed.IsLong more p) (listed.IsImage i lines few loads is q) = absurd (omega arith)
+one_of_list single bytes one other (listed.IsBad e few bad p) (listed.IsLong long q) = absurd (omega arith)
+one_of_list single bytes one other (listed.IsBad e few bad p) (listed.IsBad f less worse q) = p
+    ∙ ap (λ (x : ImageError). due_of_bad_image (faults.Refused x)) (one_fault bytes e f bad worse) ∙ sym q
+one_of_list single bytes one other (listed.IsBad e few bad p) (listed.IsImage i lines less loads is q) =
+    absurd (no_both bytes e i bad loads)
+one_of_list single bytes one other (listed.IsImage i lines few loads is p) (listed.IsLong long q) = absurd (omega arith)
+one_of_list single bytes one other (listed.IsImage i lines few loads is p) (listed.IsBad f less bad q) =
+    absurd (no_both bytes f i bad loads)
+one_of_list single bytes one other (listed.IsImage i lines few loads is p) (listed.IsImage j others less read are q) =
+    let same : j ≡ i = read.1 ∙ sym loads.1 in
+    p ∙ ap given (single i lines others is (subst (λ (x : Image). Listing x others) same are)) ∙ sym q
+
+-- a source of instructions has one answer, and words one file
+one_of_assembly : ((text : List ℕ) → OneAnswer text) → (entry : List ℕ) (memory : ℕ) (bytes : List ℕ) (one other : Due)
+    → assembled.IsAssemblyDue entry memory bytes one → assembled.IsAssemblyDue entry memory bytes other → one ≡ other
+one_of_assembly single entry memory bytes one other (assembled.IsLong more p) (assembled.IsLong long q) = p ∙ sym q
+one_of_assembly single entry memory bytes one other (assembled.IsLong more p) (assembled.IsBad k n few bad q) = absurd (omega arith)
+one_of_assembly single entry memory bytes one other (assembled.IsLong more p) (assembled.IsGood ws few good q) = absurd (omega arith)
+one_of_assembly single entry memory bytes one other (assembled.IsBad k n few bad p) (assembled.IsLong long q) = absurd (omega arith)
+one_of_assembly single entry memory bytes one other (assembled.IsBad k n few bad p) (assembled.IsBad l m less worse q) =
+    let same = (single bytes).refused k l n m bad worse in
+    p ∙ ap (λ (x : AsmKind). refused (statuses.BadAssembly x n)) same.0 ∙ ap (λ (x : ℕ). refused (statuses.BadAssembly l x)) same.1 ∙ sym q
+one_of_assembly single entry memory bytes one other (assembled.IsBad k n few bad p) (assembled.IsGood ws less good q) =
+    absurd ((single bytes).apart ws k n good bad)
+one_of_assembly single entry memory bytes one other (assembled.IsGood ws few good p) (assembled.IsLong long q) = absurd (omega arith)
+one_of_assembly single entry memory bytes one other (assembled.IsGood ws few good p) (assembled.IsBad k n less bad q) =
+    absurd ((single bytes).apart ws k n good bad)
+one_of_assembly single entry memory bytes one other (assembled.IsGood ws few good p) (assembled.IsGood vs less fine q) =
+    p ∙ ap (λ (x : List ℕ). given (files.bytes_of (assembled.assembled entry memory x))) ((single bytes).words ws vs good fine) ∙ sym q
 
 -- what a staging comes to, it comes to where it may go deeper
 abbrev pub Settled : Type 0
@@ -108,16 +152,30 @@ one_of_rename : (bytes : List ℕ) (reading : Reading) (one other : Due) → IsR
 one_of_rename bytes (IsRefused kind place) one other p q = p ∙ sym q
 one_of_rename bytes (IsTree tree finish) one other p q = p ∙ sym q
 
-one_of_job : Settled → (job : Option Job) (bytes : List ℕ) (one other : Due) → CompilesNothing job → IsDue job bytes one
-    → IsDue job bytes other → one ≡ other
-one_of_job settled None bytes one other none p q = absurd none
-one_of_job settled (Some (Exec call steps)) bytes one other none p q = one_of_exec call steps bytes one other p q
-one_of_job settled (Some (Stage task)) bytes one other none p q =
-    one_of_reading settled task none p.0 one other p.2
-    (subst (λ (r : Reading). IsReadingDue (IsTreeDue task) r other) (one_reading (text_of task bytes) q.0 p.0 q.1 p.1) q.2)
-one_of_job settled (Some (Make Rename)) bytes one other none p q =
+-- what the laws say that are proved below
+record Laws : Type 0 where
+  settled : Settled
+  listing : OneListing
+  answer : (text : List ℕ) → OneAnswer text
+
+one_of_making : Laws → (what : Making) (bytes : List ℕ) (one other : Due) → IsMakingDue what bytes one → IsMakingDue what bytes other
+    → one ≡ other
+one_of_making laws Rename bytes one other p q =
     one_of_rename bytes p.0 one other p.2
     (subst (λ (r : Reading). IsReadingDue (renames.IsTreeDue bytes) r other) (one_reading bytes q.0 p.0 q.1 p.1) q.2)
+one_of_making laws ListImage bytes one other p q = one_of_list laws.listing bytes one other p q
+one_of_making laws (Assemble entry memory) bytes one other p q = one_of_assembly laws.answer entry memory bytes one other p q
 
-pub one_due : Settled → OneDue
-one_due settled words bytes one other none p q = one_of_job settled (job_of words) bytes one other none p q
+one_of_job : Laws → (asked : Asked) (bytes : List ℕ) (one other : Due) → CompilesNothing asked → IsDue asked bytes one
+    → IsDue asked bytes other → one ≡ other
+one_of_job laws Refused bytes one other none p q = absurd none
+one_of_job laws Unlawful bytes one other none p q = p ∙ sym q
+one_of_job laws (Named (Exec call steps)) bytes one other none p q = one_of_exec call steps bytes one other p q
+one_of_job laws (Named (Stage task)) bytes one other none p q =
+    one_of_reading laws.settled task none p.0 one other p.2
+    (subst (λ (r : Reading). IsReadingDue (IsTreeDue task) r other) (one_reading (text_of task bytes) q.0 p.0 q.1 p.1) q.2)
+one_of_job laws (Named (Make what)) bytes one other none p q = one_of_making laws what bytes one other p q
+
+pub one_due : Settled → OneListing → ((text : List ℕ) → OneAnswer text) → OneDue
+one_due settled listing answer words bytes one other none p q =
+    one_of_job (record { settled = settled; listing = listing; answer = answer }) (asked_of words) bytes one other none p q

@@ -4,6 +4,7 @@ use Rattle.std.proofs.Common.{subst, codes, option_map, ◌∙◌, arith}
 use Rattle.std.proofs.lemmas.Bool.{ne_eqb}
 use Rattle.std.specs.Option.{option_map_or}
 use Rattle.std.specs.Prelude.{if◌then◌else◌}
+use Rattle.elf_image.specs.Lawful.{is_name}
 use Rattle.clap.specs.Words.{Rule, Row, Text, Shape, fault_of, subcommand_of}
 use Rattle.clap.specs.Simple.{argument_words, built, built_leaf, entered, filled, inherited, label_of, marked_built, names_of, on_top, rows_at}
 use Rattle.clap.specs.Simple.{with_index, with_leaf_noted}
@@ -13,10 +14,11 @@ use Rattle.clap.specs.declared.builder.value_parser.ValueParser.TheVariants as p
 use Rattle.clap.specs.declared.error.ErrorKind.{ErrorKind}
 use Rattle.clap.proofs.OnLiterals.{clap_on_literals}
 use Rattle.clap.proofs.ValueTestLemmas.{accepts-Accepts}
-use Rattle.terrac_call.specs.Words.{budget_rule, memory_rule, steps_rule, count_rule, command_line, job_of}
+use Rattle.terrac_call.specs.Words.{budget_rule, memory_rule, steps_rule, count_rule, command_line, asked_of, asked_job}
+use Rattle.terrac_call.specs.Words.{Job, Make, Stage, Exec, Rename, ListImage, Assemble, Named, Refused, Unlawful, asm_command}
 use Rattle.terrac_call.specs.Words.{job_of_command, limits_of, number_found, check_command, emit_command, exec_command, gen_command}
 use Rattle.terrac_call.specs.Words.{run_command, terms_command}
-use Rattle.terrac_call.specs.Ranges.{AreLimits, AreSteps, AreWorked, IsCount, IsLawfulJob, JobsAreLawful}
+use Rattle.terrac_call.specs.Ranges.{AreLimits, AreSteps, AreWorked, IsCount, IsLawfulJob, IsLawfulTask, JobsAreLawful}
 use Rattle.terrac_call.proofs.Found.{Each, HasId, IsDefault, IsNumber, IsOne, all_found, number_in, or_both}
 
 no : false ≡ true → ⊥
@@ -87,8 +89,16 @@ limits_in s words budget memory fault =
 
 -- ---- each command
 
+-- the numbers are in their ranges
+abbrev IsInRange : Job → Type 0
+IsInRange (Make Rename) = Unit {0}
+IsInRange (Make ListImage) = Unit {0}
+IsInRange (Make (Assemble entry memory)) = (64 ≤ memory) × (memory ≤ 65536)
+IsInRange (Stage task) = IsLawfulTask task
+IsInRange (Exec call steps) = AreSteps steps
+
 abbrev IsLawfulSub : Shape → Type 0
-IsLawfulSub s = (words : List Text) → Takes s words → IsLawfulJob (job_of_command (Some (s.name, rows_of s words)))
+IsLawfulSub s = (words : List Text) → Takes s words → IsInRange (job_of_command (Some (s.name, rows_of s words)))
 
 run_sub : IsLawfulSub (sub run_command.top)
 unfolding clap_on_literals
@@ -172,21 +182,30 @@ gen_sub words fault = (
       }) refl fault,
 )
 
+asm_sub : IsLawfulSub (sub asm_command.top)
+unfolding clap_on_literals
+asm_sub words fault =
+    memory_in (sub asm_command.top) words
+    (record {
+      ones = (λ e. refl, (λ e. absurd (no e), (λ e. absurd (no e), tt)));
+      has = inl refl;
+    }) fault
+
 subs_lawful : Each IsLawfulSub (built command_line).subs
 unfolding clap_on_literals
-subs_lawful = (run_sub, (emit_sub, (exec_sub, (check_sub, (terms_sub, (λ words fault. tt, (gen_sub, (λ words fault. tt, tt))))))))
+subs_lawful = (run_sub, (emit_sub, (exec_sub, (check_sub, (terms_sub, (λ words fault. tt, (gen_sub, (λ words fault. tt, (asm_sub, (λ words fault. tt, tt))))))))))
 
 -- ---- the job
 
 -- what was found for the command at which a walk stopped
 found_lawful : (stop : Option (Text × List Text)) → entered_fault (built command_line) stop ≡ []
-    → IsLawfulJob (job_of_command (entered (built command_line) stop))
+    → IsInRange (job_of_command (entered (built command_line) stop))
 found_lawful None fault = tt
 found_lawful (Some p) fault = by (find (λ s. answers_to p.0 (label_of s)) (built command_line).subs) refl fault
   where
     by : (o : Option Shape) → find (λ s. answers_to p.0 (label_of s)) (built command_line).subs ≡ o
         → option_map_or (λ s. level_fault s [] nothing_held p.1 false []) o [] ≡ []
-        → IsLawfulJob (job_of_command (option_map (λ s. rows_at s p.1) o))
+        → IsInRange (job_of_command (option_map (λ s. rows_at s p.1) o))
     by None e fault = tt
     by (Some s) e fault =
         all_found IsLawfulSub (λ s. answers_to p.0 (label_of s)) (built command_line).subs s subs_lawful e p.1 fault
@@ -195,27 +214,43 @@ nothing : (kinds : List ErrorKind) → is_empty kinds ≡ true → kinds ≡ []
 nothing [] e = refl
 nothing (k ∷ ks) e = absurd (no (sym (ne_eqb (length (k ∷ ks)) 0 (λ e. omega arith)) ∙ e))
 
+-- a job that is asked for has a lawful name as well
+asked_lawful : (found job : Job) → IsInRange found → asked_job found ≡ Named job → IsLawfulJob job
+asked_lawful (Make Rename) job range named = let same : Make Rename ≡ job = cc in subst IsLawfulJob same tt
+asked_lawful (Make ListImage) job range named = let same : Make ListImage ≡ job = cc in subst IsLawfulJob same tt
+asked_lawful (Make (Assemble entry memory)) job range named = by (is_name entry) refl named
+  where
+    by : (b : Bool) → is_name entry ≡ b → (if b then Named (Make (Assemble entry memory)) else Unlawful) ≡ Named job → IsLawfulJob job
+    by true e named = let same : Make (Assemble entry memory) ≡ job = cc in subst IsLawfulJob same (range.0, range.1, e)
+    by false e named = absurd cc
+asked_lawful (Stage task) job range named = let same : Stage task ≡ job = cc in subst IsLawfulJob same range
+asked_lawful (Exec call steps) job range named = let same : Exec call steps ≡ job = cc in subst IsLawfulJob same range
+
 pub jobs_are_lawful : JobsAreLawful
-unfolding job_of
+unfolding asked_of
 jobs_are_lawful words job named = by (is_empty (fault_of command_line words)) refl named
   where
     by : (b : Bool) → is_empty (fault_of command_line words) ≡ b
-        → (if b then Some (job_of_command (subcommand_of command_line words)) else None) ≡ Some job → IsLawfulJob job
+        → (if b then asked_job (job_of_command (subcommand_of command_line words)) else Refused) ≡ Named job → IsLawfulJob job
     by false e named = absurd cc
     by true e named =
-        let same : job_of_command (subcommand_of command_line words) ≡ job = cc in
         let none : fault_of command_line words ≡ [] = nothing (fault_of command_line words) e in
         let inner = (or_both _ _ (or_both _ _ none).1).0 in
-        subst IsLawfulJob same
+        asked_lawful (job_of_command (subcommand_of command_line words)) job
         (found_lawful (stop_after (built command_line).top.rules (names_of (built command_line)) (argument_words command_line words)) inner)
+        named
 
 pub are_worked : AreWorked
-unfolding clap_on_literals job_of
+unfolding clap_on_literals asked_of
 are_worked = record {
   check = refl;
   terms = refl;
   emit = refl;
   rename = refl;
+  list = refl;
+  asm = refl;
+  unlawful = refl;
+  nameless = refl;
   run = refl;
   exec = refl;
   gen = refl;

@@ -1,6 +1,5 @@
 -- No job that is done ends as a refusal of the words, or as a read that failed.
 use Rattle.std.proofs.Common.{◌≡◌, ◌≢◌, inl, inr, ℕ, Bool, true, false, List, [], Option, Some, None, refl, sym, ap, ◌∙◌}
-use Rattle.std.specs.Prelude.{IsSome}
 use Rattle.elf_image.specs.declared.image.Image.{Image}
 use Rattle.elf_image.specs.declared.image.Symbol.{Symbol}
 use Rattle.elf_image.specs.Calls.{symbol_named}
@@ -11,12 +10,16 @@ use Rattle.check_stage.specs.declared.staging.End.{End}
 use Rattle.check_stage.specs.declared.staging.End.TheVariants.{Done, Raised, Spent}
 use Rattle.terrac_call.specs.declared.status.Status.{Status}
 use Rattle.terrac_call.specs.declared.status.Status.TheVariants as statuses
-use Rattle.terrac_call.specs.Words.{Call, Job, Make, Stage, Exec, Task, Check, Terms, Emit, Run, Rename}
+use Rattle.terrac_call.specs.Words.{Call, Job, Make, Stage, Exec, Task, Check, Terms, Emit, Run, Making, Rename, ListImage, Assemble}
+use Rattle.terrac_call.specs.Words.{Asked, Named, Refused, Unlawful}
 use Rattle.terrac_call.specs.Arguments.{Arguments, Good, Bad, arguments_of}
 use Rattle.terrac_call.specs.Due.{Due, Reading, IsReadingDue, IsRefused, IsTree}
 use Rattle.terrac_call.specs.Exec.{Manner, due_of_stop, plain, IsRunDue, IsCallDue, IsExecDue, IsLong, IsBad, IsImage}
 use Rattle.terrac_call.specs.Staged.{IsDone, IsEndDue, IsRestOwed, IsTreeOwed}
 use Rattle.terrac_call.specs.Rename as renames
+use Rattle.terrac_call.specs.Listed as listed
+use Rattle.terrac_call.specs.Assembled as assembled
+use Rattle.terrac_call.specs.Making.{IsMakingDue}
 use Rattle.terrac_call.specs.Answer.{Answered, IsOwed, OutOfMemory, Owed, Unread}
 use Rattle.terrac_call.proofs.Answering.{told_status}
 
@@ -34,6 +37,7 @@ ends_job (statuses.BadImage fault) = true
 ends_job statuses.WriteFault = true
 ends_job statuses.NoMemory = true
 ends_job (statuses.MachineFault kind pc) = true
+ends_job (statuses.BadAssembly kind number) = true
 ends_job (statuses.Raised text place) = true
 ends_job statuses.BudgetSpent = true
 
@@ -70,6 +74,21 @@ of_rename : (bytes : List ℕ) (reading : Reading) (due : Due) → IsReadingDue 
 of_rename bytes (IsRefused kind place) due is = as_that due _ is refl
 of_rename bytes (IsTree tree finish) due is = as_that due _ is refl
 
+of_list : (bytes : List ℕ) (due : Due) → listed.IsListDue bytes due → EndsJob due
+of_list bytes due (listed.IsLong more is) = as_that due _ is refl
+of_list bytes due (listed.IsBad error few bad is) = as_that due _ is refl
+of_list bytes due (listed.IsImage image lines few loads listing is) = as_that due _ is refl
+
+of_assembly : (entry : List ℕ) (memory : ℕ) (bytes : List ℕ) (due : Due) → assembled.IsAssemblyDue entry memory bytes due → EndsJob due
+of_assembly entry memory bytes due (assembled.IsLong more is) = as_that due _ is refl
+of_assembly entry memory bytes due (assembled.IsBad kind number few bad is) = as_that due _ is refl
+of_assembly entry memory bytes due (assembled.IsGood words few good is) = as_that due _ is refl
+
+of_making : (what : Making) (bytes : List ℕ) (due : Due) → IsMakingDue what bytes due → EndsJob due
+of_making Rename bytes due is = of_rename bytes is.0 due is.2
+of_making ListImage bytes due is = of_list bytes due is
+of_making (Assemble entry memory) bytes due is = of_assembly entry memory bytes due is
+
 of_done : (task : Task) (it : Ending) (due : Due) → IsDone task it due → EndsJob due
 of_done (Check limits) it due is = as_that due _ is refl
 of_done (Terms limits) it due is = as_that due _ is refl
@@ -91,8 +110,8 @@ of_reading task (IsTree tree finish) due is =
     ap ends_job (ap (λ (d : Due). d.status) is.is ∙ told_status task is.ending.left.world.stage.heap.printed is.rest)
     ∙ of_rest task is.ending is.rest is.rest_is
 
-of_owed : (job : Job) (bytes : List ℕ) (due : Due) → IsOwed (Some job) bytes due → EndsJob due
-of_owed (Make Rename) bytes due is = of_rename bytes is.0 due is.2
+of_owed : (job : Job) (bytes : List ℕ) (due : Due) → IsOwed (Named job) bytes due → EndsJob due
+of_owed (Make what) bytes due is = of_making what bytes due is
 of_owed (Stage task) bytes due is = of_reading task is.0 due is.2
 of_owed (Exec call steps) bytes due is = of_exec call steps bytes due is
 
@@ -100,22 +119,25 @@ not_ending : (due : Due) (status : Status) → ends_job status ≡ false → End
 not_ending due status never ends is = let bad : true ≡ false = sym ends ∙ ap ends_job is ∙ never in absurd cc
 
 -- a job isn't refused as bad usage
-pub job_no_usage : (job : Option Job) (left : Option (List ℕ)) (Rose : Type 0) (due : Due) → IsSome job → Owed job left Rose due
-    → due.status ≢ statuses.Usage
-job_no_usage None left Rose due some owed = let bad : false ≡ true = some in absurd cc
-job_no_usage (Some job) left Rose due some (Answered bytes told is) = not_ending due statuses.Usage refl (of_owed job bytes due is)
-job_no_usage (Some job) left Rose due some (Unread named rose is) = λ e. let bad : statuses.ReadFault ≡ statuses.Usage =
+pub job_no_usage : (asked : Asked) (left : Option (List ℕ)) (Rose : Type 0) (due : Due) → asked ≢ Refused → asked ≢ Unlawful
+    → Owed asked left Rose due → due.status ≢ statuses.Usage
+job_no_usage Refused left Rose due taken lawful owed = absurd (taken refl)
+job_no_usage Unlawful left Rose due taken lawful owed = absurd (lawful refl)
+job_no_usage (Named job) left Rose due taken lawful (Answered bytes told is) = not_ending due statuses.Usage refl (of_owed job bytes due is)
+job_no_usage (Named job) left Rose due taken lawful (Unread named rose is) = λ e. let bad : statuses.ReadFault ≡ statuses.Usage =
     sym (ap (λ (d : Due). d.status) is) ∙ e in absurd cc
-job_no_usage (Some job) left Rose due some (OutOfMemory is) = λ e. let bad : statuses.NoMemory ≡ statuses.Usage =
+job_no_usage (Named job) left Rose due taken lawful (OutOfMemory is) = λ e. let bad : statuses.NoMemory ≡ statuses.Usage =
     sym (ap (λ (d : Due). d.status) is) ∙ e in absurd cc
 
 -- a read that failed is told only where the source's count of faults rose
-pub read_fault_rose : (job : Option Job) (left : Option (List ℕ)) (Rose : Type 0) (due : Due) → Owed job left Rose due
+pub read_fault_rose : (asked : Asked) (left : Option (List ℕ)) (Rose : Type 0) (due : Due) → Owed asked left Rose due
     → due.status ≡ statuses.ReadFault → Rose
-read_fault_rose None left Rose due (Answered bytes told is) fault = let bad : statuses.Usage ≡ statuses.ReadFault =
+read_fault_rose Refused left Rose due (Answered bytes told is) fault = let bad : statuses.Usage ≡ statuses.ReadFault =
     sym (ap (λ (d : Due). d.status) is.1) ∙ fault in absurd cc
-read_fault_rose (Some job) left Rose due (Answered bytes told is) fault =
+read_fault_rose Unlawful left Rose due (Answered bytes told is) fault = let bad : statuses.Usage ≡ statuses.ReadFault =
+    sym (ap (λ (d : Due). d.status) is) ∙ fault in absurd cc
+read_fault_rose (Named job) left Rose due (Answered bytes told is) fault =
     absurd (not_ending due statuses.ReadFault refl (of_owed job bytes due is) fault)
-read_fault_rose job left Rose due (Unread named rose is) fault = rose
-read_fault_rose job left Rose due (OutOfMemory is) fault = let bad : statuses.NoMemory ≡ statuses.ReadFault =
+read_fault_rose asked left Rose due (Unread named rose is) fault = rose
+read_fault_rose asked left Rose due (OutOfMemory is) fault = let bad : statuses.NoMemory ≡ statuses.ReadFault =
     sym (ap (λ (d : Due). d.status) is) ∙ fault in absurd cc

@@ -4,13 +4,16 @@ use Rattle.std.proofs.Common.{append-nil, length-append}
 use Rattle.tl_base.specs.declared.place.Place.{Place}
 use Rattle.tl_base.specs.Outside.{with_front, IsAtEnd}
 use Rattle.tl_tree.specs.Code.{Items}
-use Rattle.terrac_call.specs.Words.{Call, Job, Make, Stage, Exec, Task, Rename, generated_of, source_of}
+use Rattle.terrac_call.specs.Words.{Call, Job, Make, Stage, Exec, Task, Making, Rename, ListImage, Assemble, Named, generated_of, source_of}
 use Rattle.terrac_call.specs.Due.{Due, IsDueOfSource, IsNotUtf8, IsReadAs, IsReadingDue, IsText, IsTooLong, Reading, longest}
 use Rattle.terrac_call.specs.Exec.{IsBad, IsExecDue, IsImage, IsLong, longest_image}
 use Rattle.terrac_call.specs.Staged.{IsSourceOwed, IsTreeOwed}
 use Rattle.terrac_call.specs.Rename.{IsRenameDue}
 use Rattle.terrac_call.specs.Rename as renames
-use Rattle.terrac_call.specs.Reading.{IsToldAs, most_of_source, most_read}
+use Rattle.terrac_call.specs.Listed as listed
+use Rattle.terrac_call.specs.Assembled as assembled
+use Rattle.terrac_call.specs.Making.{IsMakingDue}
+use Rattle.terrac_call.specs.Reading.{IsToldAs, most_of_making, most_of_source, most_read}
 use Rattle.terrac_call.specs.Answer.{Answered, IsOwed, Owed}
 
 -- what was read of a source: all of it, or more than it may have
@@ -87,17 +90,50 @@ exec_whole call steps text bytes due (inl same) is = subst (λ (b : List ℕ). I
 exec_whole call steps text bytes due (inr long) is =
     subst (λ (b : List ℕ). IsExecDue call steps b due) (sym long.1.1) (exec_longer call steps text long.1.0 due long.0 is)
 
+-- ---- what is made of bytes
+
+list_longer : (text rest : List ℕ) (due : Due) → longest_image + 1 ≤ length text → listed.IsListDue text due
+    → listed.IsListDue (text ++ rest) due
+list_longer text rest due long (listed.IsLong more is) = listed.IsLong (omega (arith, length-append text rest)) is
+list_longer text rest due long (listed.IsBad error few bad is) = absurd (omega arith)
+list_longer text rest due long (listed.IsImage image lines few loads listing is) = absurd (omega arith)
+
+list_whole : (text bytes : List ℕ) (due : Due) → IsRead (longest_image + 1) text bytes → listed.IsListDue text due
+    → listed.IsListDue bytes due
+list_whole text bytes due (inl same) is = subst (λ (b : List ℕ). listed.IsListDue b due) same is
+list_whole text bytes due (inr long) is =
+    subst (λ (b : List ℕ). listed.IsListDue b due) (sym long.1.1) (list_longer text long.1.0 due long.0 is)
+
+assembly_longer : (entry : List ℕ) (memory : ℕ) (text rest : List ℕ) (due : Due) → longest + 1 ≤ length text
+    → assembled.IsAssemblyDue entry memory text due → assembled.IsAssemblyDue entry memory (text ++ rest) due
+assembly_longer entry memory text rest due long (assembled.IsLong more is) = assembled.IsLong (omega (arith, length-append text rest)) is
+assembly_longer entry memory text rest due long (assembled.IsBad kind number few bad is) = absurd (omega arith)
+assembly_longer entry memory text rest due long (assembled.IsGood words few good is) = absurd (omega arith)
+
+assembly_whole : (entry : List ℕ) (memory : ℕ) (text bytes : List ℕ) (due : Due) → IsRead (longest + 1) text bytes
+    → assembled.IsAssemblyDue entry memory text due → assembled.IsAssemblyDue entry memory bytes due
+assembly_whole entry memory text bytes due (inl same) is = subst (λ (b : List ℕ). assembled.IsAssemblyDue entry memory b due) same is
+assembly_whole entry memory text bytes due (inr long) is =
+    subst (λ (b : List ℕ). assembled.IsAssemblyDue entry memory b due) (sym long.1.1)
+    (assembly_longer entry memory text long.1.0 due long.0 is)
+
+making_whole : (what : Making) (text bytes : List ℕ) (due : Due) → IsRead (most_of_making what) text bytes → IsMakingDue what text due
+    → IsMakingDue what bytes due
+making_whole Rename text bytes due read is = rename_whole text bytes due read is
+making_whole ListImage text bytes due read is = list_whole text bytes due read is
+making_whole (Assemble entry memory) text bytes due read is = assembly_whole entry memory text bytes due read is
+
 -- ---- a job
 
-job_whole : (job : Job) (text bytes : List ℕ) (due : Due) → IsRead (most_read (Some job)) text bytes → IsOwed (Some job) text due
-    → IsOwed (Some job) bytes due
-job_whole (Make Rename) text bytes due read is = rename_whole text bytes due read is
+job_whole : (job : Job) (text bytes : List ℕ) (due : Due) → IsRead (most_read (Named job)) text bytes → IsOwed (Named job) text due
+    → IsOwed (Named job) bytes due
+job_whole (Make what) text bytes due read is = making_whole what text bytes due read is
 job_whole (Stage task) text bytes due read is = run_whole task (generated_of task) text bytes due read is
 job_whole (Exec call steps) text bytes due read is = exec_whole call steps text bytes due read is
 
 -- what is owed on what was read is owed for what the source has left
 pub owed_read : (job : Job) (left new : Option (List ℕ)) (Rose : Type 0) (text : List ℕ) (due : Due)
-    → IsEnough (most_read (Some job)) text left new → IsOwed (Some job) text due → Owed (Some job) left Rose due
+    → IsEnough (most_read (Named job)) text left new → IsOwed (Named job) text due → Owed (Named job) left Rose due
 owed_read job left new Rose text due enough is =
-    let w = whole (most_read (Some job)) text left new enough in
+    let w = whole (most_read (Named job)) text left new enough in
     Answered w.bytes w.told (job_whole job text w.bytes due w.read is)

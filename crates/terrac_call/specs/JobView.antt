@@ -1,5 +1,5 @@
 -- What values of the program show of a job and its arguments.
-use Rattle.std.specs.Prelude.{ℕ, ◌≡◌, List, ◌++◌, Option, Some, None, length, map, string_bytes}
+use Rattle.std.specs.Prelude.{ℕ, ◌≡◌, List, ◌++◌, length, map, string_bytes}
 use Rattle.std.specs.Borrow.{Bor}
 use Rattle.terrac_call.specs.declared.status.Status.TheVariants as statuses
 use Rattle.terrac_call.specs.Statuses.{text_of}
@@ -14,11 +14,12 @@ use Rattle.terrac_call.specs.declared.words.Task.TheVariants as tasks
 use Rattle.terrac_call.specs.declared.exec.Manner.{Manner as MannerValue}
 use Rattle.terrac_call.specs.declared.words.Job.{Job as JobValue}
 use Rattle.terrac_call.specs.declared.words.Job.TheVariants as jobs
-use Rattle.terrac_call.specs.declared.words.Asked.{Asked}
+use Rattle.terrac_call.specs.declared.words.Asked.{Asked as AskedValue}
 use Rattle.terrac_call.specs.declared.words.Asked.TheVariants as asked
 use Rattle.terrac_call.specs.declared.arguments.Arguments.{Arguments as ArgumentsValue}
 use Rattle.terrac_call.specs.declared.arguments.Arguments.TheVariants as values
-use Rattle.terrac_call.specs.Words.{Call, Limits, Running, Asking, Making, Rename, Task, Check, Terms, Emit, Run, Job, Make, Stage, Exec}
+use Rattle.terrac_call.specs.Words.{Call, Limits, Running, Asking, Making, Rename, ListImage, Assemble, Task, Check, Terms, Emit, Run}
+use Rattle.terrac_call.specs.Words.{Job, Make, Stage, Exec, Asked, Named, Refused, Unlawful}
 use Rattle.terrac_call.specs.Arguments.{Arguments, Good, Bad}
 use Rattle.terrac_call.specs.Due.{line}
 use Rattle.terrac_call.specs.Exec.{Manner}
@@ -44,6 +45,8 @@ shown_manner manner = record { steps = manner.steps; front = manner.front.now; s
 
 abbrev pub shown_making : MakingValue → Making
 shown_making makings.Rename = Rename
+shown_making makings.ListImage = ListImage
+shown_making (makings.Assemble entry memory) = Assemble entry.now memory
 
 abbrev pub shown_task : TaskValue → Task
 shown_task (tasks.Check limits) = Check (shown_limits limits)
@@ -56,10 +59,10 @@ shown_job (jobs.Make what) = Make (shown_making what)
 shown_job (jobs.Stage task) = Stage (shown_task task)
 shown_job (jobs.Exec call steps) = Exec (shown_call call) steps
 
--- the job that was asked for, if the words name one
-abbrev pub shown_asked : Asked → Option Job
-shown_asked (asked.Job job) = Some (shown_job job)
-shown_asked (asked.Refused text) = None
+abbrev pub shown_asked : AskedValue → Asked
+shown_asked (asked.Job job) = Named (shown_job job)
+shown_asked (asked.Refused text) = Refused
+shown_asked asked.Unlawful = Unlawful
 
 abbrev pub shown_arguments : ArgumentsValue → Arguments
 shown_arguments (values.Good words) = Good words.items
@@ -75,6 +78,7 @@ abbrev pub HasUsageLine : List ℕ → Type 0
 HasUsageLine bytes = (text : List ℕ) × (bytes ≡ line (text_of statuses.Usage) ++ text)
 
 -- a refusal of the words has that line
-abbrev pub IsUsageText : Asked → Type 0
+abbrev pub IsUsageText : AskedValue → Type 0
 IsUsageText (asked.Job job) = Unit {0}
 IsUsageText (asked.Refused text) = HasUsageLine (string_bytes text)
+IsUsageText asked.Unlawful = Unit {0}

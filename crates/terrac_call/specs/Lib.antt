@@ -23,6 +23,12 @@ pub mod Values
 pub mod Meant
 -- what is due for `rename`
 pub mod Rename
+-- what is due for `list`
+pub mod Listed
+-- what is due for `asm`
+pub mod Assembled
+-- what is due for these three, which make something of bytes at once
+pub mod Making
 -- how much is read of a source
 pub mod Reading
 -- what is written of it, whatever the sinks do

@@ -1,7 +1,9 @@
 -- The ranges of what the words name: `clap` refuses words that name a number beyond its range.
-use Rattle.std.specs.Prelude.{ℕ, ◌≡◌, ◌≤◌, List, [], ◌∷◌, Option, Some, None, codes, false}
+use Rattle.std.specs.Prelude.{ℕ, ◌≡◌, ◌≤◌, List, [], ◌∷◌, Option, Some, None, IsTrue, codes, false}
 use Rattle.clap.specs.Words.{Text}
-use Rattle.terrac_call.specs.Words.{Limits, Running, Rename, Task, Check, Terms, Emit, Run, Job, Make, Stage, Exec, job_of, main_call}
+use Rattle.elf_image.specs.Lawful.{is_name}
+use Rattle.terrac_call.specs.Words.{Limits, Running, Making, Rename, ListImage, Assemble, Task, Check, Terms, Emit, Run, Job, Make, Stage, Exec}
+use Rattle.terrac_call.specs.Words.{Named, Refused, Unlawful, asked_of, main_call}
 
 -- a budget from 1 to 4,000,000 units, and a memory from 64 to 65,536 KiB
 pub record AreLimits (limits : Limits) : Type 0 where
@@ -26,14 +28,20 @@ IsLawfulTask (Terms limits) = AreLimits limits
 IsLawfulTask (Emit limits) = AreLimits limits
 IsLawfulTask (Run asking) = AreLimits asking.running.limits × AreSteps asking.running.steps × IsCount asking.generated
 
+-- a memory from 64 to 65,536 KiB, and a name that a function of an image can have
+abbrev pub IsLawfulMaking : Making → Type 0
+IsLawfulMaking Rename = Unit {0}
+IsLawfulMaking ListImage = Unit {0}
+IsLawfulMaking (Assemble entry memory) = (64 ≤ memory) × (memory ≤ 65536) × IsTrue (is_name entry)
+
 abbrev pub IsLawfulJob : Job → Type 0
-IsLawfulJob (Make what) = Unit {0}
+IsLawfulJob (Make what) = IsLawfulMaking what
 IsLawfulJob (Stage task) = IsLawfulTask task
 IsLawfulJob (Exec call steps) = AreSteps steps
 
 -- so each job is that words name
 abbrev pub JobsAreLawful : Type 0
-JobsAreLawful = (words : List Text) (job : Job) → job_of words ≡ Some job → IsLawfulJob job
+JobsAreLawful = (words : List Text) (job : Job) → asked_of words ≡ Named job → IsLawfulJob job
 
 -- ---- worked words
 
@@ -44,26 +52,30 @@ abbrev pub default_running : Running
 default_running = record { limits = default_limits; steps = 100000000; shows = false }
 
 -- A number that isn't given is its default, and one that is given is read. A number beyond its range is refused, and so is an option that
--- the command hasn't, or that is given twice.
+-- the command hasn't, or that is given twice. No function has the empty name.
 pub record AreWorked : Type 0 where
-  pub check : job_of (codes "terrac" ∷ codes "check" ∷ []) ≡ Some (Stage (Check default_limits))
-  pub terms : job_of (codes "terrac" ∷ codes "terms" ∷ []) ≡ Some (Stage (Terms default_limits))
-  pub emit : job_of (codes "terrac" ∷ codes "emit" ∷ []) ≡ Some (Stage (Emit default_limits))
-  pub rename : job_of (codes "terrac" ∷ codes "rename" ∷ []) ≡ Some (Make Rename)
-  pub run : job_of (codes "terrac" ∷ codes "run" ∷ codes "add" ∷ codes "2" ∷ [])
-      ≡ Some (Stage (Run (record {
+  pub check : asked_of (codes "terrac" ∷ codes "check" ∷ []) ≡ Named (Stage (Check default_limits))
+  pub terms : asked_of (codes "terrac" ∷ codes "terms" ∷ []) ≡ Named (Stage (Terms default_limits))
+  pub emit : asked_of (codes "terrac" ∷ codes "emit" ∷ []) ≡ Named (Stage (Emit default_limits))
+  pub rename : asked_of (codes "terrac" ∷ codes "rename" ∷ []) ≡ Named (Make Rename)
+  pub list : asked_of (codes "terrac" ∷ codes "list" ∷ []) ≡ Named (Make ListImage)
+  pub asm : asked_of (codes "terrac" ∷ codes "asm" ∷ codes "five" ∷ []) ≡ Named (Make (Assemble (codes "five") 1024))
+  pub unlawful : asked_of (codes "terrac" ∷ codes "asm" ∷ [] ∷ []) ≡ Unlawful
+  pub nameless : asked_of (codes "terrac" ∷ codes "asm" ∷ []) ≡ Refused
+  pub run : asked_of (codes "terrac" ∷ codes "run" ∷ codes "add" ∷ codes "2" ∷ [])
+      ≡ Named (Stage (Run (record {
         call = record { entry = codes "add"; arguments = codes "2" ∷ [] };
         running = default_running;
         generated = None;
       })))
-  pub exec : job_of (codes "terrac" ∷ codes "exec" ∷ codes "add" ∷ [])
-      ≡ Some (Exec (record { entry = codes "add"; arguments = [] }) 100000000)
-  pub gen : job_of (codes "terrac" ∷ codes "gen" ∷ codes "2000" ∷ [])
-      ≡ Some (Stage (Run (record { call = main_call; running = default_running; generated = Some 2000 })))
-  pub given : job_of (codes "terrac" ∷ codes "check" ∷ codes "--budget" ∷ codes "4000000" ∷ codes "--memory=64" ∷ [])
-      ≡ Some (Stage (Check (record { budget = 4000000; memory = 64 })))
-  pub below : job_of (codes "terrac" ∷ codes "check" ∷ codes "--budget" ∷ codes "0" ∷ []) ≡ None
-  pub above : job_of (codes "terrac" ∷ codes "gen" ∷ codes "2001" ∷ []) ≡ None
-  pub other : job_of (codes "terrac" ∷ codes "check" ∷ codes "--steps" ∷ codes "1" ∷ []) ≡ None
-  pub twice : job_of (codes "terrac" ∷ codes "emit" ∷ codes "--memory" ∷ codes "64" ∷ codes "--memory" ∷ codes "64" ∷ []) ≡ None
-  pub none : job_of (codes "terrac" ∷ []) ≡ None
+  pub exec : asked_of (codes "terrac" ∷ codes "exec" ∷ codes "add" ∷ [])
+      ≡ Named (Exec (record { entry = codes "add"; arguments = [] }) 100000000)
+  pub gen : asked_of (codes "terrac" ∷ codes "gen" ∷ codes "2000" ∷ [])
+      ≡ Named (Stage (Run (record { call = main_call; running = default_running; generated = Some 2000 })))
+  pub given : asked_of (codes "terrac" ∷ codes "check" ∷ codes "--budget" ∷ codes "4000000" ∷ codes "--memory=64" ∷ [])
+      ≡ Named (Stage (Check (record { budget = 4000000; memory = 64 })))
+  pub below : asked_of (codes "terrac" ∷ codes "check" ∷ codes "--budget" ∷ codes "0" ∷ []) ≡ Refused
+  pub above : asked_of (codes "terrac" ∷ codes "gen" ∷ codes "2001" ∷ []) ≡ Refused
+  pub other : asked_of (codes "terrac" ∷ codes "check" ∷ codes "--steps" ∷ codes "1" ∷ []) ≡ Refused
+  pub twice : asked_of (codes "terrac" ∷ codes "emit" ∷ codes "--memory" ∷ codes "64" ∷ codes "--memory" ∷ codes "64" ∷ []) ≡ Refused
+  pub none : asked_of (codes "terrac" ∷ []) ≡ Refused

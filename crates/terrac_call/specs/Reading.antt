@@ -1,7 +1,8 @@
 -- What is read of a source.
 use Rattle.std.specs.Prelude.{ℕ, ◌≡◌, ◌+◌, ◌≤◌, List, length, Option, Some, None}
 use Rattle.tl_base.specs.Outside.{with_front}
-use Rattle.terrac_call.specs.Words.{Job, Make, Stage, Exec, generated_of}
+use Rattle.terrac_call.specs.Words.{Making, Rename, ListImage, Assemble, Make, Stage, Exec, Asked, Named, Refused, Unlawful}
+use Rattle.terrac_call.specs.Words.{generated_of}
 use Rattle.terrac_call.specs.Due.{longest}
 use Rattle.terrac_call.specs.Exec.{longest_image}
 
@@ -19,8 +20,14 @@ abbrev pub most_of_source : Option ℕ → ℕ
 most_of_source None = longest + 1
 most_of_source (Some count) = 0
 
-abbrev pub most_read : Option Job → ℕ
-most_read None = 0
-most_read (Some (Make what)) = longest + 1
-most_read (Some (Stage task)) = most_of_source (generated_of task)
-most_read (Some (Exec call steps)) = longest_image + 1
+abbrev pub most_of_making : Making → ℕ
+most_of_making Rename = longest + 1
+most_of_making ListImage = longest_image + 1
+most_of_making (Assemble entry memory) = longest + 1
+
+abbrev pub most_read : Asked → ℕ
+most_read (Named (Make what)) = most_of_making what
+most_read (Named (Stage task)) = most_of_source (generated_of task)
+most_read (Named (Exec call steps)) = longest_image + 1
+most_read Refused = 0
+most_read Unlawful = 0

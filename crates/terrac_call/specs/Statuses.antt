@@ -7,6 +7,8 @@ use Rattle.elf_image.specs.declared.error.ImageError.{ImageError}
 use Rattle.elf_image.specs.declared.error.ImageError.TheVariants as tests
 use Rattle.rv_machine.specs.declared.stops.MachineKind.{MachineKind}
 use Rattle.rv_machine.specs.declared.stops.MachineKind.TheVariants as machine
+use Rattle.rv_listing.specs.declared.assembly.AsmKind.{AsmKind}
+use Rattle.rv_listing.specs.declared.assembly.AsmKind.TheVariants as assembly
 use Rattle.terrac_call.specs.declared.status.FaultKind.{FaultKind}
 use Rattle.terrac_call.specs.declared.status.FaultKind.TheVariants as faults
 use Rattle.terrac_call.specs.declared.status.ImageFault.{ImageFault}
@@ -14,7 +16,7 @@ use Rattle.terrac_call.specs.declared.status.ImageFault.TheVariants as images
 use Rattle.terrac_call.specs.declared.status.Status.{Status}
 use Rattle.terrac_call.specs.declared.status.Status.TheVariants.{Ok, Usage, Syntax, Raised, BudgetSpent, NoEntry}
 use Rattle.terrac_call.specs.declared.status.Status.TheVariants.{BadArgument, Fault, Unfinished, BadImage, ReadFault}
-use Rattle.terrac_call.specs.declared.status.Status.TheVariants.{WriteFault, NoMemory, MachineFault}
+use Rattle.terrac_call.specs.declared.status.Status.TheVariants.{WriteFault, NoMemory, MachineFault, BadAssembly}
 use Rattle.check_stage.specs.Texts.{place_text}
 
 abbrev pub code_of : Status → ℕ
@@ -32,6 +34,7 @@ code_of ReadFault = 11
 code_of WriteFault = 12
 code_of NoMemory = 13
 code_of (MachineFault kind pc) = 14
+code_of (BadAssembly kind number) = 16
 
 abbrev pub kind_name : SyntaxKind → List ℕ
 kind_name syntax.BadByte = codes "BadByte"
@@ -73,6 +76,11 @@ machine_fault_text machine.BadAccess = codes "BadAccess"
 machine_fault_text machine.BadCall = codes "BadCall"
 machine_fault_text machine.Break = codes "Break"
 
+abbrev pub assembly_text : AsmKind → List ℕ
+assembly_text assembly.Empty = codes "Empty"
+assembly_text assembly.BadName = codes "BadName"
+assembly_text assembly.BadOperands = codes "BadOperands"
+
 -- the line without its end; that of NoEntry ends with the entry's name, and behind that of Usage stands a text of its own
 abbrev pub text_of : Status → List ℕ
 text_of Ok = []
@@ -89,3 +97,4 @@ text_of ReadFault = codes "read fault"
 text_of WriteFault = codes "write fault"
 text_of NoMemory = codes "no memory"
 text_of (MachineFault kind pc) = codes "machine fault " ++ machine_fault_text kind ++ codes " at " ++ decimal pc
+text_of (BadAssembly kind number) = codes "bad assembly " ++ assembly_text kind ++ codes " at " ++ decimal number

@@ -5,6 +5,7 @@ use Rattle.std.specs.List.{list_all}
 use Rattle.std.specs.Char.{digit_value}
 use Rattle.std.specs.Str.{bytes_eq}
 use Rattle.std.specs.Str.Parse.{digits_value, without_leading_plus}
+use Rattle.elf_image.specs.Lawful.{is_name}
 use Rattle.gen_source.specs.Generated.{generated}
 use Rattle.clap.specs.Words.{App, Row, Rule, Text, all_of, fault_of, first_of, new_app, new_rule}
 use Rattle.clap.specs.Words.{subcommand_of, takes, with_rule, with_subcommand}
@@ -97,6 +98,14 @@ rename_command = new_app (codes "rename")
 abbrev pub gen_command : App
 gen_command = with_rule (with_rule (staging_command (new_app (codes "gen"))) steps_rule) count_rule
 
+-- list, without options
+abbrev pub list_command : App
+list_command = new_app (codes "list")
+
+-- asm ENTRY, with its option
+abbrev pub asm_command : App
+asm_command = with_rule (with_rule (new_app (codes "asm")) memory_rule) entry_rule
+
 -- the program without a command
 abbrev pub program : App
 program = record { top = record (new_shape (codes "terrac")) { subcommand_required = true }; subs = [] }
@@ -108,11 +117,15 @@ command_line =
     (with_subcommand
     (with_subcommand
     (with_subcommand
+    (with_subcommand
+    (with_subcommand
     (with_subcommand (with_subcommand (with_subcommand program run_command.top) emit_command.top) exec_command.top)
     check_command.top)
     terms_command.top)
     rename_command.top)
-    gen_command.top
+    gen_command.top)
+    list_command.top)
+    asm_command.top
 
 -- ---- the job
 
@@ -138,9 +151,12 @@ pub record Asking : Type 0 where
   pub running : Running
   pub generated : Option ℕ
 
--- what is made of bytes, with nothing written before it: a source with its locals renamed
+-- what is made of bytes, with nothing written before it: a source with its locals renamed; the listing of an image; or the image of lines
+-- of instructions, with a function of this name and so many KiB of memory
 pub data Making : Type 0 where
   Rename : Making
+  ListImage : Making
+  Assemble : (entry : Text) (memory : ℕ) → Making
 
 -- what a source is staged for: a line for the check of each function that it defines; the terms of what it exports; the image of that; or a
 -- call of it, of a source that is read or of one that is generated
@@ -218,7 +234,11 @@ main_call = record { entry = codes "main"; arguments = [] }
 abbrev pub gen_of : List Row → Asking
 gen_of rows = record { call = main_call; running = running_of rows; generated = Some (number_found (codes "N") rows) }
 
--- the job of a command with what was found for its arguments; there is one of seven
+-- the image that is assembled
+abbrev pub assembly_of : List Row → Making
+assembly_of rows = Assemble (text_or_none (first_of (codes "ENTRY") rows)) (number_found (codes "memory") rows)
+
+-- the job of a command with what was found for its arguments; there is one of nine
 abbrev pub job_of_command : Option (Text × List Row) → Job
 job_of_command None = Make Rename
 job_of_command (Some found) =
@@ -227,12 +247,39 @@ job_of_command (Some found) =
     else (if bytes_eq found.0 (codes "check") then Stage (Check (limits_of found.1))
     else (if bytes_eq found.0 (codes "terms") then Stage (Terms (limits_of found.1))
     else (if bytes_eq found.0 (codes "emit") then Stage (Emit (limits_of found.1))
-    else (if bytes_eq found.0 (codes "gen") then Stage (Run (gen_of found.1)) else Make Rename)))))
+    else (if bytes_eq found.0 (codes "gen") then Stage (Run (gen_of found.1))
+    else (if bytes_eq found.0 (codes "list") then Make ListImage
+    else (if bytes_eq found.0 (codes "asm") then Make (assembly_of found.1) else Make Rename)))))))
 
--- the job that the words name, the program's own name first: none exactly where `clap` refuses them
-unfoldable pub job_of : List Text → Option Job
-job_of words =
-    if is_empty (fault_of command_line words) then Some (job_of_command (subcommand_of command_line words)) else None
+-- ---- what is asked for
+
+-- What words ask for: a job; nothing, as `clap` refuses them, with a text of its own; or an image whose function can't have its name.
+pub data Asked : Type 0 where
+  Named : (job : Job) → Asked
+  Refused : Asked
+  Unlawful : Asked
+
+-- a function of an image has a name of 1 to 255 bytes, none of them zero
+abbrev pub asked_making : Making → Asked
+asked_making Rename = Named (Make Rename)
+asked_making ListImage = Named (Make ListImage)
+asked_making (Assemble entry memory) = if is_name entry then Named (Make (Assemble entry memory)) else Unlawful
+
+abbrev pub asked_job : Job → Asked
+asked_job (Make what) = asked_making what
+asked_job (Stage task) = Named (Stage task)
+asked_job (Exec call steps) = Named (Exec call steps)
+
+-- what the words ask for, the program's own name first: refused exactly where `clap` refuses them
+unfoldable pub asked_of : List Text → Asked
+asked_of words =
+    if is_empty (fault_of command_line words) then asked_job (job_of_command (subcommand_of command_line words)) else Refused
+
+-- a job was asked for
+abbrev pub NamesJob : Asked → Type 0
+NamesJob (Named job) = Unit {0}
+NamesJob Refused = ⊥
+NamesJob Unlawful = ⊥
 
 -- the words are ones of which `clap` says that a simple command takes them
 unfoldable pub AreTaken : List Text → Type 0

@@ -1,8 +1,8 @@
 // The top call.
 
-ghost use Rattle.std.specs.Prelude.{◌≡◌, ◌≢◌, ◌<◌, ◌⊎◌, None, map, string_bytes};
+ghost use Rattle.std.specs.Prelude.{◌≡◌, ◌≢◌, ◌<◌, ◌⊎◌, map, string_bytes};
 ghost use Rattle.tl_base.specs.Outside.{IsRisen};
-ghost use Rattle.terrac_call.specs.Words.{job_of, AreTaken};
+ghost use Rattle.terrac_call.specs.Words.{asked_of, AreTaken, NamesJob, Unlawful};
 ghost use Rattle.terrac_call.specs.Writing.{Delivers};
 ghost use Rattle.terrac_call.specs.Answer.{Answers};
 ghost use Rattle.terrac_call.specs.Reading.{TookAtMost, most_read};
@@ -17,6 +17,7 @@ use crate::lines::{bare_usage_due, no_memory_due};
 use crate::status::Status;
 use crate::work::work;
 use check_stage::staging::larger_changes_nothing;
+use rv_listing::{one_answer, one_listing};
 use std::alloc::Global;
 use std::io::ErrorKind;
 use tl_base::{Sink, Source};
@@ -55,12 +56,14 @@ pub fn terrac<S: Source, K: Sink, N: Sink>(
     ensures out_rose { K.faults out.old < K.faults out.new → result ≡ statuses.WriteFault }
     ensures notes_rose { N.faults notes.old < N.faults notes.new → result ≡ statuses.WriteFault }
 
-    // Words that `clap` takes are no bad usage; words that name no job leave the source as it is.
-    ensures taken { AreTaken (map string_bytes words.now) → result ≢ statuses.Usage }
-    ensures untouched { job_of (map string_bytes words.now) ≡ None → source.new ≡ source.old }
+    // Words that `clap` takes are no bad usage, unless an image is asked for whose function can't have its name; words that name no job
+    // leave the source as it is.
+    ensures taken { AreTaken (map string_bytes words.now) → asked_of (map string_bytes words.now) ≢ Unlawful →
+        result ≢ statuses.Usage }
+    ensures untouched { (NamesJob (asked_of (map string_bytes words.now)) → ⊥) → source.new ≡ source.old }
 
     // No more than one byte past the limit of a source or an image is read.
-    ensures bound { TookAtMost (most_read (job_of (map string_bytes words.now))) (S.left source.old) (S.left source.new) }
+    ensures bound { TookAtMost (most_read (asked_of (map string_bytes words.now))) (S.left source.old) (S.left source.new) }
 {
     let work = work(alloc, words, source);
     carry_out(work, out, notes)
@@ -90,5 +93,7 @@ fn unread_words_due(kind: ErrorKind) -> Due
 pub fn one_due()
     ensures { OneDue }
 {
+    one_listing();
+    one_answer();
     larger_changes_nothing()
 }

@@ -59,7 +59,7 @@ pub(crate) fn exec(
 }
 
 /// What is due for bytes that are no image, where it isn't want of memory that says so.
-fn refused_due(alloc: Global, error: ImageError) -> Result<Due, NoMemory>
+pub(crate) fn refused_due(alloc: Global, error: ImageError) -> Result<Due, NoMemory>
     ensures other { IfOk result (λ due. error ≢ errors.NoMemory) }
     ensures due { IfOk result (λ due. shown_due due ≡ due_of_bad_image (Refused error)) }
 {

@@ -2,7 +2,7 @@
 
 ghost use Rattle.std.specs.Prelude.{◌≡◌, [], IfOk, string_bytes};
 ghost use Rattle.terrac_call.specs.Due.{refused, due_of_syntax, due_of_no_entry, due_of_bad_argument, due_of_usage};
-ghost use Rattle.terrac_call.specs.Statuses.{kind_name, image_fault_text};
+ghost use Rattle.terrac_call.specs.Statuses.{kind_name, image_fault_text, assembly_text};
 ghost use Rattle.terrac_call.specs.Exec.{due_of_bad_image};
 ghost use Rattle.terrac_call.specs.DueView.{line_bytes, shown_due};
 ghost use Rattle.terrac_call.specs.declared.status.Status.TheVariants as statuses;
@@ -10,6 +10,7 @@ ghost use Rattle.terrac_call.specs.declared.status.Status.TheVariants as statuse
 use crate::due::{Due, Line};
 use crate::status::{ImageFault, Status};
 use elf_image::ImageError;
+use rv_listing::AsmKind;
 use std::alloc::Global;
 use tl_base::{Bytes, NoMemory, Place};
 use tl_lex::SyntaxKind;
@@ -181,5 +182,27 @@ pub(crate) fn bad_image_due(alloc: Global, fault: ImageFault) -> Result<Due, NoM
     Ok(Due {
         status: Status::BadImage { fault },
         line: Line::Made(format!(in alloc; "bad image {text}\n")?),
+    })
+}
+
+/// The name of a fault of lines of instructions.
+fn assembly_text(kind: AsmKind) -> &'static str
+    ensures { result.now ≡ assembly_text kind }
+{
+    match kind {
+        AsmKind::Empty => "Empty",
+        AsmKind::BadName => "BadName",
+        AsmKind::BadOperands => "BadOperands",
+    }
+}
+
+/// The refusal of lines of instructions.
+pub(crate) fn bad_assembly_due(alloc: Global, kind: AsmKind, line: u64) -> Result<Due, NoMemory>
+    ensures { IfOk result (λ due. shown_due due ≡ refused (statuses.BadAssembly kind line)) }
+{
+    let name = assembly_text(kind);
+    Ok(Due {
+        status: Status::BadAssembly { kind, line },
+        line: Line::Made(format!(in alloc; "bad assembly {name} at {line}\n")?),
     })
 }

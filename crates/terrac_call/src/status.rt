@@ -4,6 +4,7 @@ ghost use Rattle.std.specs.Prelude.{◌≡◌};
 ghost use Rattle.terrac_call.specs.Statuses.{code_of};
 
 use elf_image::ImageError;
+use rv_listing::AsmKind;
 use rv_machine::MachineKind;
 use tl_base::{Bytes, Place};
 use tl_lex::SyntaxKind;
@@ -39,6 +40,8 @@ pub enum Status {
     NoMemory,
     /// The machine refused the instruction at this address.
     MachineFault { kind: MachineKind, pc: u64 },
+    /// This line is the first that is no instruction; or there are no lines, at line 0.
+    BadAssembly { kind: AsmKind, line: u64 },
 }
 
 /// With which fault a program ends.
@@ -87,6 +90,7 @@ impl Status {
             Status::WriteFault => 12,
             Status::NoMemory => 13,
             Status::MachineFault { kind: _, pc: _ } => 14,
+            Status::BadAssembly { kind: _, line: _ } => 16,
         }
     }
 }

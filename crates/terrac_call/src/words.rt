@@ -1,21 +1,27 @@
 // The words of a command line, which `clap` reads.
 
-ghost use Rattle.std.specs.Prelude.{◌≡◌, [], IfOk, IsSome, ◌==◌, false, map, unwrap_or, string_bytes};
+ghost use Rattle.std.specs.Prelude.{◌≡◌, ◌≢◌, [], IfOk, ◌==◌, false, map, unwrap_or, string_bytes};
+ghost use Rattle.std.specs.List.{list_all};
+ghost use Rattle.elf_image.specs.Fields.{allows};
+ghost use Rattle.elf_image.specs.Lawful.{is_name};
+ghost use Rattle.elf_image.specs.declared.rule.Rule.TheVariants.{Between};
 ghost use Rattle.clap.specs.Words.{app_of, found_of, rows_of, rule_of, subcommand_rows_of, all_of, first_of};
 ghost use Rattle.terrac_call.specs.Words.{entry_rule, arguments_rule, count_rule, steps_rule, budget_rule, memory_rule};
 ghost use Rattle.clap.specs.declared.builder.command.Command.{out-Command};
 ghost use Rattle.terrac_call.specs.Words.{image_rule, run_command, emit_command, exec_command, check_command};
-ghost use Rattle.terrac_call.specs.Words.{terms_command, rename_command, gen_command};
+ghost use Rattle.terrac_call.specs.Words.{terms_command, rename_command, gen_command, list_command, asm_command};
 ghost use Rattle.terrac_call.specs.Words.{command_line, call_of, limits_of, running_of, run_of, gen_of, number_found, number_or_zero};
-ghost use Rattle.terrac_call.specs.Words.{text_or_none, generated_of, job_of, job_of_command, AreTaken};
+ghost use Rattle.terrac_call.specs.Words.{text_or_none, generated_of, assembly_of, asked_job, asked_making, asked_of};
+ghost use Rattle.terrac_call.specs.Words.{job_of_command, AreTaken, Refused};
 ghost use Rattle.terrac_call.specs.JobView.{texts_of, shown_call, shown_limits, shown_running, shown_asking, shown_job, shown_asked};
-ghost use Rattle.terrac_call.specs.JobView.{HasUsageLine, IsUsageText, shown_task};
+ghost use Rattle.terrac_call.specs.JobView.{HasUsageLine, IsUsageText, shown_making, shown_task};
 
 use clap::builder::ValueParser;
 use clap::error::ErrorKind;
 use clap::{Arg, ArgAction, ArgMatches, Command, Error};
 use std::alloc::{AllocError, Global};
 use tl_base::NoMemory;
+use tl_base::limits::MAX_NAME_BYTES;
 
 /// A call of an entry with arguments.
 #[derive(Drop)]
@@ -54,9 +60,13 @@ pub(crate) struct Asking<'a> {
 
 /// What is made of bytes, with nothing written before it.
 #[derive(Clone, Copy, Drop)]
-pub(crate) enum Making {
+pub(crate) enum Making<'a> {
     /// A source with its locals renamed.
     Rename,
+    /// The listing of an image.
+    ListImage,
+    /// The image of lines of instructions, with a function of this name and so many KiB of memory.
+    Assemble { entry: &'a str, memory: u64 },
 }
 
 /// What a source is staged for.
@@ -88,34 +98,79 @@ impl Task<'_> {
 #[derive(Drop)]
 pub(crate) enum Job<'a> {
     /// To make something of bytes.
-    Make(Making),
+    Make(Making<'a>),
     /// To stage a source.
     Stage(Task<'a>),
     /// To run an entry of an image for at most so many steps.
     Exec(Call<'a>, u64),
 }
 
-/// The job that words name, or the line `usage` and `clap`'s own text where they name none.
+/// What words ask for.
 #[derive(Drop)]
 pub(crate) enum Asked<'a> {
     Job(Job<'a>),
+    /// Nothing: the line `usage`, and `clap`'s own text.
     Refused(String),
+    /// An image whose function can't have its name.
+    Unlawful,
 }
 
 /// What the words ask for, the program's own name first.
-pub(crate) fn job_of<'a>(alloc: Global, words: &'a [String]) -> Result<Asked<'a>, NoMemory>
-    ensures job { IfOk result (λ asked. shown_asked asked ≡ job_of (map string_bytes words.now)) }
-    ensures taken { AreTaken (map string_bytes words.now) → IfOk result (λ asked. IsSome (shown_asked asked)) }
+pub(crate) fn asked_of<'a>(alloc: Global, words: &'a [String]) -> Result<Asked<'a>, NoMemory>
+    ensures asked { IfOk result (λ asked. shown_asked asked ≡ asked_of (map string_bytes words.now)) }
+    ensures taken { AreTaken (map string_bytes words.now) → IfOk result (λ asked. shown_asked asked ≢ Refused) }
     ensures text { IfOk result IsUsageText }
 {
     let command = command_line(alloc)?;
     match command.try_get_matches_from(words) {
-        Ok(matches) => Ok(Asked::Job(job_of_matches(alloc, &matches)?)),
+        Ok(matches) => {
+            let job = job_of_matches(alloc, &matches)?;
+            Ok(asked_job(job))
+        }
         Err(error) => match error.kind() {
             ErrorKind::OutOfMemory => Err(NoMemory),
             _ => Ok(Asked::Refused(usage_text(alloc, &error)?)),
         },
     }
+}
+
+// What is asked for with a job that was found.
+fn asked_job<'a>(job: Job<'a>) -> Asked<'a>
+    ensures asked { shown_asked result ≡ asked_job (shown_job job.entry) }
+    ensures named { shown_asked result ≢ Refused }
+    ensures text { IsUsageText result }
+{
+    match &job {
+        Job::Make(Making::Assemble { entry, memory: _ }) => {
+            if !is_entry_name(entry) {
+                return Asked::Unlawful;
+            }
+        }
+        _ => {}
+    }
+    Asked::Job(job)
+}
+
+// Whether a function of an image can have this name.
+fn is_entry_name(name: &str) -> bool
+    ensures { result ≡ is_name name.now }
+{
+    let bytes = name.as_bytes();
+    let length = bytes.len();
+    1 <= length && length <= MAX_NAME_BYTES && are_name_bytes(bytes)
+}
+
+fn are_name_bytes(bytes: &[u8]) -> bool
+    ensures { result ≡ list_all (allows (Between 1 255)) bytes.now }
+{
+    bytes.iter().all(|byte| is_name_byte(*byte))
+}
+
+// Any byte but zero.
+fn is_name_byte(byte: u8) -> bool
+    ensures { result ≡ allows (Between 1 255) byte }
+{
+    1 <= byte && byte <= u8::MAX
 }
 
 // The line `usage`, and the error's own text.
@@ -154,6 +209,10 @@ fn job_named<'a>(alloc: Global, name: &str, found: &ArgMatches<'a>) -> Result<Jo
         Ok(Job::Stage(Task::Emit(limits_of(found))))
     } else if name == "gen" {
         Ok(Job::Stage(Task::Run(gen_of(alloc, found))))
+    } else if name == "list" {
+        Ok(Job::Make(Making::ListImage))
+    } else if name == "asm" {
+        Ok(Job::Make(assembly_of(found)))
     } else {
         Ok(Job::Make(Making::Rename))
     }
@@ -182,6 +241,16 @@ fn gen_of<'a>(alloc: Global, found: &ArgMatches<'a>) -> Asking<'a>
         },
         running: running_of(found),
         generated: Some(number_found(found, "N")),
+    }
+}
+
+// The image that is assembled, by what was found.
+fn assembly_of<'a>(found: &ArgMatches<'a>) -> Making<'a>
+    ensures { shown_making result ≡ assembly_of (rows_of (found_of found.now)) }
+{
+    Making::Assemble {
+        entry: text_of(found, "ENTRY"),
+        memory: number_found(found, "memory"),
     }
 }
 
@@ -267,7 +336,9 @@ fn command_line<'a>(alloc: Global) -> Result<Command<'a>, AllocError>
         .subcommand(check_command(alloc)?)?
         .subcommand(terms_command(alloc)?)?
         .subcommand(rename_command(alloc)?)?
-        .subcommand(gen_command(alloc)?)?;
+        .subcommand(gen_command(alloc)?)?
+        .subcommand(list_command(alloc)?)?
+        .subcommand(asm_command(alloc)?)?;
     Ok(command)
 }
 
@@ -380,6 +451,34 @@ fn gen_command<'a>(alloc: Global) -> Result<Command<'a>, AllocError>
         .arg(memory_argument(alloc))?
         .arg(steps_argument(alloc))?
         .arg(count_argument(alloc))?;
+    Ok(command)
+}
+
+// list, without options.
+fn list_command<'a>(alloc: Global) -> Result<Command<'a>, AllocError>
+    ensures shape { IfOk result (λ command. app_of command ≡ list_command) }
+    ensures local { IfOk result (λ command. (out-Command command).has_globals ≡ false) }
+{
+    let command = Command::new(alloc, "list")
+        .about(
+            "Lists an image, read on standard input: writes its functions, and each instruction with its address.",
+        )
+        .after_help("Example: terrac list < five.elf");
+    Ok(command)
+}
+
+// asm ENTRY, with its option.
+fn asm_command<'a>(alloc: Global) -> Result<Command<'a>, AllocError>
+    ensures shape { IfOk result (λ command. app_of command ≡ asm_command) }
+    ensures local { IfOk result (λ command. (out-Command command).has_globals ≡ false) }
+{
+    let command = Command::new(alloc, "asm")
+        .about(
+            "Assembles lines of instructions, read on standard input: writes the image of a function of this name.",
+        )
+        .after_help("Example: terrac asm five < five.s > five.elf")
+        .arg(memory_argument(alloc))?
+        .arg(entry_argument(alloc))?;
     Ok(command)
 }
 

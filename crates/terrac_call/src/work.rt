@@ -1,23 +1,23 @@
 // From the words and the source to the work that they come to. Nothing is written here.
 
-ghost use Rattle.std.specs.Prelude.{◌≡◌, ◌≢◌, ◌⊎◌, ◌<◌, ℕ, Option, Some, None, Err, IfOk, OnErr, IsSome, map, string_bytes};
+ghost use Rattle.std.specs.Prelude.{◌≡◌, ◌≢◌, ◌⊎◌, ◌<◌, ℕ, Option, Err, IfOk, OnErr, map, string_bytes};
 ghost use Rattle.tl_base.specs.Outside.{IsRisen};
-ghost use Rattle.terrac_call.specs.Words.{job_of, AreTaken};
+ghost use Rattle.terrac_call.specs.Words.{asked_of, AreTaken, Named, NamesJob, Refused};
 ghost use Rattle.terrac_call.specs.Ranges.{IsLawfulJob};
-ghost use Rattle.terrac_call.specs.JobView.{shown_job};
+ghost use Rattle.terrac_call.specs.JobView.{shown_job, shown_making};
 ghost use Rattle.terrac_call.specs.Answer.{Owed, IsOwed};
-ghost use Rattle.terrac_call.specs.Reading.{TookAtMost, most_read};
+ghost use Rattle.terrac_call.specs.Reading.{TookAtMost, most_of_making, most_read};
 ghost use Rattle.terrac_call.specs.DueView.{due_of_rest, due_of_work};
 ghost use Rattle.terrac_call.specs.declared.status.Status.TheVariants as statuses;
 ghost use Rattle.terrac_call.specs.declared.reading.ReadError.TheVariants as errors;
 
 use crate::due::{Rest, Stream, Work};
 use crate::exec::exec;
-use crate::lines::{no_memory_due, read_fault_due, usage_due};
+use crate::lines::{bare_usage_due, no_memory_due, read_fault_due, usage_due};
 use crate::making::make;
 use crate::reading::{ReadError, read_source};
 use crate::source::stage;
-use crate::words::{Asked, Job, job_of};
+use crate::words::{Asked, Job, Making, asked_of};
 use elf_image::LONGEST_IMAGE;
 use std::alloc::Global;
 use tl_base::{Bytes, NoMemory, Source};
@@ -38,13 +38,13 @@ impl Work {
 
 /// What the words and the source come to.
 pub(crate) fn work<S: Source>(alloc: Global, words: &[String], source: &mut S) -> Work
-    ensures owed { Owed (job_of (map string_bytes words.now)) (S.left source.old) (IsRisen (S.faults source.old) (S.faults source.new))
+    ensures owed { Owed (asked_of (map string_bytes words.now)) (S.left source.old) (IsRisen (S.faults source.old) (S.faults source.new))
         (due_of_work result) }
     ensures rose { S.faults source.old < S.faults source.new → (due_of_work result).status ≡ statuses.ReadFault }
     ensures taken { AreTaken (map string_bytes words.now) →
-        IsSome (job_of (map string_bytes words.now)) ⊎ ((due_of_work result).status ≡ statuses.NoMemory) }
-    ensures untouched { job_of (map string_bytes words.now) ≡ None → source.new ≡ source.old }
-    ensures bound { TookAtMost (most_read (job_of (map string_bytes words.now))) (S.left source.old) (S.left source.new) }
+        (asked_of (map string_bytes words.now) ≢ Refused) ⊎ ((due_of_work result).status ≡ statuses.NoMemory) }
+    ensures untouched { (NamesJob (asked_of (map string_bytes words.now)) → ⊥) → source.new ≡ source.old }
+    ensures bound { TookAtMost (most_read (asked_of (map string_bytes words.now))) (S.left source.old) (S.left source.new) }
 {
     match work_asked(alloc, words, source) {
         Ok(work) => work,
@@ -55,16 +55,17 @@ pub(crate) fn work<S: Source>(alloc: Global, words: &[String], source: &mut S) -
 
 /// The work for the words, with what may cut it off.
 fn work_asked<S: Source>(alloc: Global, words: &[String], source: &mut S) -> Result<Work, ReadError>
-    ensures owed { IfOk result (λ work. Owed (job_of (map string_bytes words.now)) (S.left source.old)
+    ensures owed { IfOk result (λ work. Owed (asked_of (map string_bytes words.now)) (S.left source.old)
         (IsRisen (S.faults source.old) (S.faults source.new)) (due_of_work work)) }
     ensures unread { result ≡ Err errors.Unread →
-        IsSome (job_of (map string_bytes words.now)) × IsRisen (S.faults source.old) (S.faults source.new) }
+        NamesJob (asked_of (map string_bytes words.now)) × IsRisen (S.faults source.old) (S.faults source.new) }
     ensures quiet { result ≢ Err errors.Unread → S.faults source.new ≡ S.faults source.old }
-    ensures taken { AreTaken (map string_bytes words.now) → IfOk result (λ work. IsSome (job_of (map string_bytes words.now))) }
-    ensures untouched { job_of (map string_bytes words.now) ≡ None → source.new ≡ source.old }
-    ensures bound { TookAtMost (most_read (job_of (map string_bytes words.now))) (S.left source.old) (S.left source.new) }
+    ensures taken { AreTaken (map string_bytes words.now) → IfOk result (λ work. asked_of (map string_bytes words.now) ≢ Refused) }
+    ensures untouched { (NamesJob (asked_of (map string_bytes words.now)) → ⊥) → source.new ≡ source.old }
+    ensures bound { TookAtMost (most_read (asked_of (map string_bytes words.now))) (S.left source.old) (S.left source.new) }
 {
-    match job_of(alloc, words)? {
+    match asked_of(alloc, words)? {
+        Asked::Unlawful => Ok(Work::of(alloc, Rest::Due(bare_usage_due()))),
         Asked::Refused(text) => Ok(Work::of(alloc, Rest::Due(usage_due(text)))),
         Asked::Job(job) => read_and_work(alloc, &job, source),
     }
@@ -73,11 +74,11 @@ fn work_asked<S: Source>(alloc: Global, words: &[String], source: &mut S) -> Res
 /// The work for a job, with the read that it takes.
 fn read_and_work<S: Source>(alloc: Global, job: &Job<'_>, source: &mut S) -> Result<Work, ReadError>
     requires { IsLawfulJob (shown_job job.now) }
-    ensures owed { IfOk result (λ work. Owed (Some (shown_job job.now)) (S.left source.old)
+    ensures owed { IfOk result (λ work. Owed (Named (shown_job job.now)) (S.left source.old)
         (IsRisen (S.faults source.old) (S.faults source.new)) (due_of_work work)) }
     ensures unread { result ≡ Err errors.Unread → IsRisen (S.faults source.old) (S.faults source.new) }
     ensures quiet { result ≢ Err errors.Unread → S.faults source.new ≡ S.faults source.old }
-    ensures bound { TookAtMost (most_read (Some (shown_job job.now))) (S.left source.old) (S.left source.new) }
+    ensures bound { TookAtMost (most_read (Named (shown_job job.now))) (S.left source.old) (S.left source.new) }
 {
     let bytes = read_source(alloc, source, most_read(job))?;
     let work = job_work(alloc, job, &bytes)?;
@@ -86,10 +87,10 @@ fn read_and_work<S: Source>(alloc: Global, job: &Job<'_>, source: &mut S) -> Res
 
 /// How many bytes are read for a job at most: one more than its source or image may have; and none for a generated source.
 fn most_read(job: &Job<'_>) -> usize
-    ensures { result ≡ most_read (Some (shown_job job.now)) }
+    ensures { result ≡ most_read (Named (shown_job job.now)) }
 {
     match job {
-        Job::Make(_) => LONGEST_TEXT + 1,
+        Job::Make(what) => most_of_making(*what),
         Job::Stage(task) => match task.generated() {
             None => LONGEST_TEXT + 1,
             Some(_) => 0,
@@ -98,10 +99,19 @@ fn most_read(job: &Job<'_>) -> usize
     }
 }
 
+fn most_of_making(what: Making<'_>) -> usize
+    ensures { result ≡ most_of_making (shown_making what.entry) }
+{
+    match what {
+        Making::ListImage => LONGEST_IMAGE + 1,
+        _ => LONGEST_TEXT + 1,
+    }
+}
+
 /// The work for a job on these bytes.
 fn job_work(alloc: Global, job: &Job<'_>, bytes: &[u8]) -> Result<Work, NoMemory>
     requires { IsLawfulJob (shown_job job.now) }
-    ensures { IfOk result (λ work. IsOwed (Some (shown_job job.now)) bytes.now (due_of_work work)) }
+    ensures { IfOk result (λ work. IsOwed (Named (shown_job job.now)) bytes.now (due_of_work work)) }
 {
     match job {
         Job::Make(what) => {

@@ -1,7 +1,7 @@
 use Rattle.std.proofs.Common.{◌∙◌, inl, inr}
 use Rattle.std.specs.Prelude.{◌≡◌, map, string_bytes}
 use Rattle.tl_base.specs.Outside.{IsRisen}
-use Rattle.terrac_call.specs.Words.{job_of}
+use Rattle.terrac_call.specs.Words.{asked_of}
 use Rattle.terrac_call.specs.DueView.{due_of_work}
 use Rattle.terrac_call.proofs.Answering.{answers_exactly}
 use Rattle.terrac_call.proofs.Top.{answers, no_usage, read_rose, status_kept}
@@ -29,16 +29,17 @@ returns-clause-read_fault g c =
     read_rose (due_of_work c.work-work.result) c.carry_out.result (g.K.Sink.taken c.args.out.now) (g.K.Sink.taken c.carry_out.new.out)
     (g.N.Sink.taken c.args.notes.now) (g.N.Sink.taken c.carry_out.new.notes) (g.K.Sink.faults c.args.out.now)
     (g.K.Sink.faults c.carry_out.new.out) (g.N.Sink.faults c.args.notes.now) (g.N.Sink.faults c.carry_out.new.notes)
-    c.carry_out.ensures.delivers (job_of (map string_bytes c.args.words.now)) (g.S.Source.left c.args.source.now)
+    c.carry_out.ensures.delivers (asked_of (map string_bytes c.args.words.now)) (g.S.Source.left c.args.source.now)
     (IsRisen (g.S.Source.faults c.args.source.now) (g.S.Source.faults c.work-work.new.source)) c.work-work.ensures.owed
 
 pub returns-clause-taken : goal.returns-clause-taken
-returns-clause-taken g c = λ are.
+returns-clause-taken g c = λ are lawful.
     no_usage (due_of_work c.work-work.result) c.carry_out.result (g.K.Sink.taken c.args.out.now) (g.K.Sink.taken c.carry_out.new.out)
     (g.N.Sink.taken c.args.notes.now) (g.N.Sink.taken c.carry_out.new.notes) (g.K.Sink.faults c.args.out.now)
     (g.K.Sink.faults c.carry_out.new.out) (g.N.Sink.faults c.args.notes.now) (g.N.Sink.faults c.carry_out.new.notes)
-    c.carry_out.ensures.delivers (job_of (map string_bytes c.args.words.now)) (g.S.Source.left c.args.source.now)
-    (IsRisen (g.S.Source.faults c.args.source.now) (g.S.Source.faults c.work-work.new.source)) c.work-work.ensures.owed (c.work-work.ensures.taken are)
+    c.carry_out.ensures.delivers (asked_of (map string_bytes c.args.words.now)) (g.S.Source.left c.args.source.now)
+    (IsRisen (g.S.Source.faults c.args.source.now) (g.S.Source.faults c.work-work.new.source)) c.work-work.ensures.owed
+    (c.work-work.ensures.taken are) lawful
 
 pub returns-clause-source_rose : goal.returns-clause-source_rose
 returns-clause-source_rose g c = λ rose.

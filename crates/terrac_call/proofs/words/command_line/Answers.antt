@@ -20,5 +20,9 @@ returns c =
     ∙ ap₂ with_subcommand with_check (ap (λ (a : App). a.top) c.in_ok-terms_command.ensures.shape) in
     let with_rename = c.in_ok-subcommand-6.ensures.shape c.in_ok-rename_command.ensures.local
     ∙ ap₂ with_subcommand with_terms (ap (λ (a : App). a.top) c.in_ok-rename_command.ensures.shape) in
-    c.in_ok-command.ensures.shape c.in_ok-gen_command.ensures.local
-    ∙ ap₂ with_subcommand with_rename (ap (λ (a : App). a.top) c.in_ok-gen_command.ensures.shape)
+    let with_gen = c.in_ok-subcommand-7.ensures.shape c.in_ok-gen_command.ensures.local
+    ∙ ap₂ with_subcommand with_rename (ap (λ (a : App). a.top) c.in_ok-gen_command.ensures.shape) in
+    let with_list = c.in_ok-subcommand-8.ensures.shape c.in_ok-list_command.ensures.local
+    ∙ ap₂ with_subcommand with_gen (ap (λ (a : App). a.top) c.in_ok-list_command.ensures.shape) in
+    c.in_ok-command.ensures.shape c.in_ok-asm_command.ensures.local
+    ∙ ap₂ with_subcommand with_list (ap (λ (a : App). a.top) c.in_ok-asm_command.ensures.shape)
