@@ -1,7 +1,6 @@
--- The layers as one stage: how each stands in it, and what each job means.
-use Rattle.std.specs.Prelude.{◌≡◌, ℕ, false, if◌then◌else◌, [], refl, Option}
-use Rattle.tl_base.specs.Layer.{Meaning, Given, State}
-use Rattle.stage_form.specs.Stage.{Stage, Final, staged}
+-- The layers as one: how each stands among them, and what each job means.
+use Rattle.std.specs.Prelude.{◌≡◌, false, if◌then◌else◌, [], refl}
+use Rattle.tl_base.specs.Layer.{Meaning, Given}
 use Rattle.stage_form.specs.Within.{Fitting, given_part, within}
 use Rattle.tl_tree.specs.Code.{Items}
 use Rattle.lua_model.specs.declared.end.LuaEnd.{LuaEnd}
@@ -44,7 +43,6 @@ use Rattle.check_stage.specs.declared.jobs.Asked.TheVariants as asked
 use Rattle.check_stage.specs.declared.jobs.JobEnd.{JobEnd}
 use Rattle.check_stage.specs.declared.jobs.JobEnd.TheVariants as ends
 use Rattle.check_stage.specs.Asking.{called, exporting, asking_rest}
-use Rattle.check_stage.specs.Calling.{refusing}
 use Rattle.check_stage.specs.Results.{result_meaning, result_rest, ResultFits}
 use Rattle.check_stage.specs.declared.staged.Staged.{Staged}
 use Rattle.check_stage.specs.declared.staged.Staged.TheVariants as layers
@@ -146,7 +144,7 @@ layout_fitting = record {
   end = layout_end;
 }
 
--- ---- the stage
+-- ---- jobs
 
 -- what each job means, over the nodes of a tree
 abbrev pub job_meaning : Items → Job → Meaning TypingState Asked CheckAnswer JobEnd
@@ -158,11 +156,6 @@ job_meaning items (jobs.Body f) = within body_fitting (body f)
 job_meaning items (jobs.Result f) = within result_fitting (result_meaning f)
 job_meaning items (jobs.Layout t at) = within layout_fitting (layout (record { of = t; at = at }))
 
--- what each question means: that Lua code calls a Terra function is refused
-abbrev pub asked_meaning : Items → Asked → Meaning TypingState Asked CheckAnswer JobEnd
-asked_meaning items (asked.Job job) = job_meaning items job
-asked_meaning items (asked.Terra f vs place) = within asking_fitting (refusing place)
-
 -- an end as the answer to the layer that asked
 abbrev pub answer_of : JobEnd → CheckAnswer
 answer_of (ends.Values vs) = answers.Values vs
@@ -172,16 +165,9 @@ answer_of (ends.Refused why) = answers.Refused why
 answer_of ends.Done = answers.Done
 answer_of (ends.NoLayout kind) = answers.NoLayout kind
 
-abbrev pub check_stage : Items → Stage TypingState Asked CheckAnswer JobEnd
-check_stage items = record { meaning = asked_meaning items; go = answers.Go; answer_of = answer_of }
-
--- what a job comes to
-abbrev pub job_staged : Items → ℕ → Job → State TypingState → Option (Final TypingState JobEnd)
-job_staged items n job s = staged (check_stage items) n (asked.Job job) s
-
 -- ---- layers that are suspended
 
--- what remains to be done by a layer of the stage
+-- what remains to be done by a layer
 abbrev pub rest : Staged → Meaning TypingState Asked CheckAnswer JobEnd
 rest (layers.Stage staged) = within stage_fitting (staged_rest staged)
 rest (layers.Asking asking) = within asking_fitting (asking_rest asking)
@@ -189,7 +175,6 @@ rest (layers.Check check) = within check_fitting (check_rest check)
 rest (layers.Body body) = within body_fitting (body_rest body)
 rest (layers.Result result) = within result_fitting (result_rest result)
 rest (layers.Layout layout) = within layout_fitting (layout_rest layout)
-rest (layers.Calling place) = within asking_fitting (refusing place)
 
 abbrev pub JobGiven : Type 0
 JobGiven = Given TypingState CheckAnswer
@@ -201,7 +186,6 @@ Fits (layers.Check check) next = CheckFits check (given_part check_fitting next)
 Fits (layers.Body body) next = BodyFits body (given_part body_fitting next)
 Fits (layers.Result result) next = ResultFits result (given_part result_fitting next)
 Fits (layers.Layout layout) next = LayoutFits layout (given_part layout_fitting next)
-Fits (layers.Calling place) next = Unit {0}
 
 -- no end begins a layer
 pub ends_follow : (end : JobEnd) → is_go (answer_of end) ≡ false

@@ -1,4 +1,4 @@
-// What a layer of the stage is asked to do, and how it ends.
+// What a layer is asked to do, what it asks, and how it ends.
 
 ghost use Rattle.std.specs.Prelude.{◌≡◌};
 ghost use Rattle.check_stage.specs.Layers.{answer_of};

@@ -1,22 +1,16 @@
-//! The staging of a source of Lua and Terra code with checks: the layers of `terra_stage`, the functions of the library that ask for checks
-//! and layouts, and the typing of bodies, checks and layouts, in one loop; and the outcome.
+//! The layers of a staging with checks: those of `terra_stage`, the functions of the library that ask for checks and layouts, and the typing
+//! of bodies, checks and layouts. `stage_loop` runs them, with calls of Terra functions by Lua code beside them.
 //!
-//! - `jobs`: what a layer is asked to do, and how it ends;
+//! - `jobs`: what a layer is asked to do, what it asks, and how it ends;
 //! - `asking`: functions of the library that ask, and the exports at the end of the chunk, as layers;
-//! - `calling`: the answers to what asks to call a Terra function;
 //! - `results`: the result type of a function, as a layer;
-//! - `staged`: all layers as one stage;
-//! - `staging`: the call, and its outcome;
-//! - `texts`: the same call for its texts alone.
+//! - `staged`: all layers as one.
 #![tactic(auto)]
 
 pub mod asking;
-pub mod calling;
 pub mod jobs;
 pub mod results;
 pub mod staged;
-pub mod staging;
-pub mod texts;
 
-pub use staging::{CheckLine, End, Mode, Outcome, stage};
-pub use texts::{Written, stage_checks, stage_terms};
+pub use jobs::{Asked, Job, JobEnd};
+pub use staged::{CheckStage, Staged};

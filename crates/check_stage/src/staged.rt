@@ -1,4 +1,4 @@
-// The layers as one stage.
+// The layers as one.
 
 ghost use Rattle.std.specs.Prelude.{◌≡◌, ◌≤◌, List, [], ◌∷◌, false, IfOk, OnOk};
 ghost use Rattle.tl_base.specs.Layer.{State, given, at, state, seen, OnAsk, UnlessAsk};
@@ -10,7 +10,6 @@ ghost use Rattle.check_expr.specs.Frames.{is_go};
 ghost use Rattle.check_expr.specs.Rest.{body_rest, BodyFits};
 ghost use Rattle.check_flow.specs.Rest.{check_rest, CheckFits, layout_rest, LayoutFits};
 ghost use Rattle.check_stage.specs.Asking.{asking_rest};
-ghost use Rattle.check_stage.specs.Calling.{refusing};
 ghost use Rattle.check_stage.specs.Results.{result_rest, ResultFits};
 ghost use Rattle.check_stage.specs.Keeping.{KeepsChecking};
 ghost use Rattle.check_stage.specs.Layers as models;
@@ -19,8 +18,7 @@ ghost use Rattle.check_stage.specs.Layers.{body_fitting, result_fitting, layout_
 ghost use Rattle.check_model.specs.Typing.{TypingState};
 
 use crate::asking::{Asker, Asking};
-use crate::calling::refuse_call;
-use crate::jobs::{Asked, Job, JobEnd, answer_of};
+use crate::jobs::{Asked, Job, JobEnd};
 use crate::results::ResultOf;
 use check_expr::Body;
 use check_flow::{Check, Layout};
@@ -30,11 +28,10 @@ use check_model::{
 };
 use lua_model::{LuaAnswer, LuaEnd, LuaJob};
 use lua_value::Values;
-use stage_form::Stages;
 use stage_library::Task;
 use std::alloc::Global;
 use terra_stage::{Asked as TaskAsked, Staged as WithoutChecks, TerraStage};
-use tl_base::{Budget, Layer, NoMemory, Place, Turn};
+use tl_base::{Budget, Layer, NoMemory, Turn};
 use tl_rename::Slots;
 use tl_tree::Tree;
 
@@ -126,7 +123,7 @@ fn resume_stage(
 }
 
 /// Where what asks in the library stops.
-fn asking_turn(turn: Turn<Job, JobEnd>) -> Turn<Asked, JobEnd>
+pub fn asking_turn(turn: Turn<Job, JobEnd>) -> Turn<Asked, JobEnd>
     ensures { result ≡ turn_within asking_fitting turn }
 {
     match turn {
@@ -155,26 +152,6 @@ fn resume_asking(
     ensures paid { OnOk result (budget.new ≤ budget.old) }
 {
     let turn = asking.resume(&mut typing.world, budget, answer)?;
-    Ok(asking_turn(turn))
-}
-
-/// Refuses a call of a Terra function by Lua code at a place, whatever begins that.
-fn resume_calling(
-    place: Place,
-    typing: &mut Typing,
-    budget: &mut Budget,
-    answer: CheckAnswer,
-) -> Result<Turn<Asked, JobEnd>, NoMemory>
-    ensures turn { IfOk result (λ turn. within asking_fitting (refusing place) (given answer typing.old budget.old) []
-        ≡ seen turn (state typing.new budget.new)) }
-    ensures reads_no_more { IfOk result (λ turn. UnlessAsk turn ((later : List JobGiven) →
-        within asking_fitting (refusing place) (given answer typing.old budget.old) later
-        ≡ seen turn (state typing.new budget.new))) }
-    ensures ends { IfOk result (λ turn. OnAsk turn (λ _. ⊥)) }
-    ensures kept { OnOk result (KeepsChecking typing.old typing.new) }
-    ensures paid { OnOk result (budget.new ≤ budget.old) }
-{
-    let turn = refuse_call(&mut typing.world, budget, place, answer)?;
     Ok(asking_turn(turn))
 }
 
@@ -352,7 +329,7 @@ fn resume_layout(
     Ok(layout_turn(turn))
 }
 
-// ---- the stage
+// ---- the layers
 
 /// A layer of the stage, which is to begin, or is suspended.
 #[derive(Drop)]
@@ -364,8 +341,6 @@ pub enum Staged<'a> {
     Body(Body),
     Result(ResultOf),
     Layout(Layout),
-    /// It is to call a Terra function, at this place.
-    Calling(Place),
 }
 
 impl Layer for Staged<'_> {
@@ -398,19 +373,18 @@ impl Layer for Staged<'_> {
             Staged::Body(body) => resume_body(body, typing, budget, answer),
             Staged::Result(result) => resume_result(result, typing, budget, answer),
             Staged::Layout(layout) => resume_layout(layout, typing, budget, answer),
-            Staged::Calling(place) => resume_calling(*place, typing, budget, answer),
         }
     }
 }
 
-/// The stage of these layers, over a tree whose uses of locals have these slots.
+/// What begins these layers, over a tree whose uses of locals have these slots.
 #[derive(Drop)]
 pub struct CheckStage<'a> {
     inner: TerraStage<'a>,
 }
 
 impl<'a> CheckStage<'a> {
-    /// The stage over a tree, with the slots that `tl_rename::resolve` gives for it.
+    /// What begins layers over a tree, with the slots that `tl_rename::resolve` gives for it.
     pub fn new(tree: &'a Tree<'a>, slots: &'a Slots) -> CheckStage<'a>
         requires { ArePaths (items_of tree.now) slots.now }
         ensures { result.inner.tree.now ≡ tree.now }
@@ -421,7 +395,7 @@ impl<'a> CheckStage<'a> {
     }
 
     /// The layer of a job, which is to begin.
-    fn start_job(&self, alloc: Global, job: Job) -> Staged<'a>
+    pub fn start(&self, alloc: Global, job: Job) -> Staged<'a>
         ensures means { (first : JobGiven) (later : List JobGiven) →
             rest result first later ≡ job_meaning (items_of self.now.inner.tree.now) job first later }
         ensures fits { (s : State TypingState) → Fits result (at CheckAnswer.Go s) }
@@ -435,50 +409,5 @@ impl<'a> CheckStage<'a> {
             Job::Result(f) => Staged::Result(ResultOf::Begins(f)),
             Job::Layout(of, at) => Staged::Layout(Layout::start(alloc, of, at)),
         }
-    }
-}
-
-impl<'a> Stages for CheckStage<'a> {
-    ghost use Rattle.stage_library.proofs.Keeping.{keeps_itself, keeps_then};
-    ghost use Rattle.check_stage.specs.Layers.{check_stage, ends_follow};
-    ghost use Rattle.stage_form.proofs.Unowed.{nothing_held};
-
-    type World = Typing;
-
-    type Question = Asked;
-
-    type Answer = CheckAnswer;
-
-    type End = JobEnd;
-
-    type Staged = Staged<'a>;
-
-    ghost stage = { λ stages. check_stage (items_of stages.inner.tree.now) };
-
-    ghost begins = { λ stages question w. Unit {0} };
-
-    ghost leaves = { λ stages question w end v. Unit {0} };
-
-    ghost layers_hold = { λ stages. nothing_held (check_stage (items_of stages.inner.tree.now)) };
-
-    ghost ends_follow = { λ stages question asked now end kept paid left. ends_follow end };
-
-    ghost keeps_self = { λ w. keeps_itself w.stage };
-
-    ghost keeps_on = { λ u v w. keeps_then u.stage v.stage w.stage };
-
-    fn start(&self, alloc: Global, asked: Asked) -> Staged<'a> {
-        match asked {
-            Asked::Job(job) => self.start_job(alloc, job),
-            Asked::Terra(_, _, place) => Staged::Calling(place),
-        }
-    }
-
-    fn go(&self) -> CheckAnswer {
-        CheckAnswer::Go
-    }
-
-    fn answer(&self, end: JobEnd) -> CheckAnswer {
-        answer_of(end)
     }
 }

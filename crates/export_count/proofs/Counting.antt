@@ -13,12 +13,12 @@ use Rattle.exotype.specs.World.{StageState}
 use Rattle.check_model.specs.declared.job.Reached.{Reached}
 use Rattle.check_model.specs.Checks.{was_reached}
 use Rattle.check_library.specs.Counting.{CountedState, numbered, with_function, mentioned, with_reached, summed, count_function, count_on}
-use Rattle.check_library.specs.Counting.{count_exports}
+use Rattle.check_library.specs.Counting.{nothing, count_exports}
 use Rattle.check_sound.specs.Exports.{Stands, IsClosed, AreCounted, nodes_in}
 use Rattle.check_sound.specs.Layers.{ReachesReady}
 use Rattle.check_sound.specs.Sound.{IsSound}
 use Rattle.check_sound.proofs.Tests.{none-some}
-use Rattle.export_count.specs.Counted.{CountsAreRight}
+use Rattle.export_count.specs.Counted.{CountsAreRight, OneCountsRight}
 use Rattle.export_count.proofs.Lists.{Longer, longer-twice, stands-longer, old-or-new, Put, put, get-behind, in-front-or-last}
 use Rattle.export_count.proofs.Reaching.{Through, Gone, goes-through, mentioned-was, was-mentioned}
 use Rattle.export_count.proofs.Nodes.{number-below, nodes-are, nodes-beside, Summed, sums}
@@ -217,3 +217,17 @@ count-law w sound c f few counted ready checked x of h =
               (take-append-drop c.exports w.exports.list)
               (counted-one w sound (take c.exports w.exports.list ++ (uncounted w c)) d m.counted f checked x of h),
         )
+
+-- ---- one function
+
+none-counted : (w : StageState) → AreCounted w [] [] 0
+none-counted w = record {
+  exported = λ i e at. absurd (none-some e at);
+  once = λ i j f at there. absurd (none-some f at);
+  closed = λ k f at. absurd (none-some f at);
+  sum = refl;
+  most = omega arith;
+}
+
+pub count-one : OneCountsRight
+count-one w sound f checked x of h = counted-one w sound [] nothing (none-counted w) f checked x of h

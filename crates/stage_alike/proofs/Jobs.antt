@@ -58,9 +58,10 @@ use Rattle.check_stage.specs.declared.asking.Asker.TheVariants as begins
 use Rattle.check_stage.specs.Asking as of_asking
 use Rattle.check_stage.specs.Asking.{called, exporting}
 use Rattle.check_stage.specs.Results.{result_meaning}
-use Rattle.check_stage.specs.Calling.{raised, refusing}
+use Rattle.stage_model.specs.Calling.{raised, refusing}
+use Rattle.stage_model.specs.Stage.{typing_meaning, checking_fitting, stage}
 use Rattle.check_stage.specs.Layers.{stage_fitting, asking_fitting, body_fitting, result_fitting, check_fitting, layout_fitting}
-use Rattle.check_stage.specs.Layers.{stage_asks, body_asks, check_asks, layout_asks, job_of, job_meaning, asked_meaning, check_stage}
+use Rattle.check_stage.specs.Layers.{stage_asks, body_asks, check_asks, layout_asks, job_of, job_meaning}
 
 -- ---- what is asked for
 
@@ -231,16 +232,17 @@ refusing-same items other place first later =
     (refl, asking-turn-only items other place (asks.Turn (raised first.state place CallsTerra).turn) (raised first.state place CallsTerra).left)
 
 asked-same : (items other : Items) → AreAlike items other → (question : Asked) → IsJobAsked items other question
-    → MeanSame (IsJobAsked items other) (asked_meaning items question) (asked_meaning other question)
+    → MeanSame (IsJobAsked items other) (typing_meaning items question) (typing_meaning other question)
 asked-same items other alike (asked.Job job) proper = job-same items other alike job proper
 asked-same items other alike (asked.Terra f vs place) proper =
     within_means_same (IsJob items other) (IsJobAsked items other) asking_fitting (refusing place) (refusing place) (λ q h. h)
     (refusing-same items other place)
 
-pub stage-same : (items other : Items) → AreAlike items other
-    → StagesSame (IsJobAsked items other) (check_stage items) (check_stage other)
+pub stage-same : (items other : Items) → AreAlike items other → StagesSame (IsJobAsked items other) (stage items) (stage other)
 stage-same items other alike = record {
   go = refl;
   answer_of = λ end. refl;
-  meaning = asked-same items other alike;
+  meaning = λ question proper.
+      within_means_same (IsJobAsked items other) (IsJobAsked items other) checking_fitting (typing_meaning items question)
+      (typing_meaning other question) (λ q h. h) (asked-same items other alike question proper);
 }

@@ -15,33 +15,32 @@ use Rattle.tl_alike.proofs.AlikeTrees.{alike_trees}
 use Rattle.lua_model.specs.declared.job.LuaJob.TheVariants.{Chunk}
 use Rattle.spec_model.specs.Making.{is_undefined}
 use Rattle.stage_library.specs.declared.tasks.Task.TheVariants.{Evaluate}
-use Rattle.check_model.specs.Typing.{TypingState}
 use Rattle.check_stage.specs.declared.jobs.Job.{Job}
 use Rattle.check_stage.specs.declared.jobs.Job.TheVariants as jobs
 use Rattle.check_stage.specs.declared.jobs.Asked.TheVariants as asked
 use Rattle.check_stage.specs.declared.jobs.JobEnd.{JobEnd}
 use Rattle.check_stage.specs.declared.jobs.JobEnd.TheVariants as ends
-use Rattle.check_stage.specs.declared.staging.CheckLine.{CheckLine}
-use Rattle.check_stage.specs.declared.staging.Mode.{Mode}
-use Rattle.check_stage.specs.declared.staging.Mode.TheVariants.{Exports, CheckAll}
-use Rattle.check_stage.specs.Layers.{check_stage, job_staged}
-use Rattle.check_stage.specs.Staging.{after_check, exported, by_mode, checks, line_of, Checked, checked_with, outcome, outcome_from, ending_if_any, begun}
+use Rattle.stage_model.specs.declared.staging.CheckLine.{CheckLine}
+use Rattle.stage_model.specs.declared.staging.Mode.{Mode}
+use Rattle.stage_model.specs.declared.staging.Mode.TheVariants.{Exports, CheckAll}
+use Rattle.stage_model.specs.Stage.{StagingState, stage, job_staged}
+use Rattle.stage_model.specs.Staging.{after_check, exported, by_mode, checks, line_of, Checked, checked_with, outcome, outcome_from, ending_if_any, begun}
 use Rattle.stage_alike.specs.Same.{TreesStageAlike, TextsStageAlike}
 use Rattle.stage_alike.proofs.Jobs.{IsJob, IsJobAsked, stage-same}
 
-after_check-same : {A B : Type 0} (one : Option (Final TypingState A)) (go goes : A → State TypingState → Option (Final TypingState B))
-    → ((a : A) (s : State TypingState) → go a s ≡ goes a s) → after_check one go ≡ after_check one goes
+after_check-same : {A B : Type 0} (one : Option (Final StagingState A)) (go goes : A → State StagingState → Option (Final StagingState B))
+    → ((a : A) (s : State StagingState) → go a s ≡ goes a s) → after_check one go ≡ after_check one goes
 after_check-same None go goes h = refl
 after_check-same (Some (Finished e s)) go goes h = h e s
 after_check-same (Some (Exhausted s)) go goes h = refl
 
 -- what each job that isn't of Lua code comes to, or the whole chunk
-at-stage : (items other : Items) → AreAlike items other → (n : ℕ) (job : Job) → IsJob items other job → (s : State TypingState)
+at-stage : (items other : Items) → AreAlike items other → (n : ℕ) (job : Job) → IsJob items other job → (s : State StagingState)
     → job_staged items n job s ≡ job_staged other n job s
 at-stage items other alike n job proper s =
-    staged_same (IsJobAsked items other) (check_stage items) (check_stage other) (stage-same items other alike) n (asked.Job job) proper s
+    staged_same (IsJobAsked items other) (stage items) (stage other) (stage-same items other alike) n (asked.Job job) proper s
 
-exported-same : (items other : Items) → AreAlike items other → (n : ℕ) (place : Place) (end : JobEnd) (s : State TypingState)
+exported-same : (items other : Items) → AreAlike items other → (n : ℕ) (place : Place) (end : JobEnd) (s : State StagingState)
     → exported items n place end s ≡ exported other n place end s
 exported-same items other alike n place (ends.Values vs) s = at-stage items other alike n (jobs.Export place) tt s
 exported-same items other alike n place (ends.Raised v at) s = refl
@@ -51,12 +50,12 @@ exported-same items other alike n place ends.Done s = refl
 exported-same items other alike n place (ends.NoLayout kind) s = refl
 
 -- the check of a function, and of those behind it
-abbrev checked-here : Items → (n i : ℕ) → List CheckLine → State TypingState → Option (Final TypingState Checked)
+abbrev checked-here : Items → (n i : ℕ) → List CheckLine → State StagingState → Option (Final StagingState Checked)
 checked-here items n i lines s =
     after_check (job_staged items n (jobs.Check (record { 0 = i })) s) (λ end next.
     checks items n (i + 1) (lines ++ line_of (record { 0 = i }) end ∷ []) next)
 
-one-more : (items other : Items) (n i : ℕ) (lines : List CheckLine) (s : State TypingState)
+one-more : (items other : Items) (n i : ℕ) (lines : List CheckLine) (s : State StagingState)
     → checked-here items n i lines s ≡ checked-here other n i lines s → checks items n (i + 1) lines s ≡ checks other n (i + 1) lines s
     → (there undefined : Bool)
     → (if there then (if undefined then checks items n (i + 1) lines s else checked-here items n i lines s)
@@ -67,7 +66,7 @@ one-more items other n i lines s here next true true = next
 one-more items other n i lines s here next true false = here
 one-more items other n i lines s here next false undefined = refl
 
-checks-same : (items other : Items) → AreAlike items other → (n i : ℕ) (lines : List CheckLine) (s : State TypingState)
+checks-same : (items other : Items) → AreAlike items other → (n i : ℕ) (lines : List CheckLine) (s : State StagingState)
     → checks items n i lines s ≡ checks other n i lines s
 unfolding checks
 checks-same items other alike zero i lines s = refl
@@ -77,16 +76,16 @@ checks-same items other alike (suc n) i lines s =
     (λ end next. checks items n (i + 1) (lines ++ line_of (record { 0 = i }) end ∷ []) next)
     (λ end next. checks other n (i + 1) (lines ++ line_of (record { 0 = i }) end ∷ []) next)
     (λ end next. checks-same items other alike n (i + 1) (lines ++ line_of (record { 0 = i }) end ∷ []) next)
-    ∙ ap (λ (o : Option (Final TypingState JobEnd)). after_check o (λ end next.
+    ∙ ap (λ (o : Option (Final StagingState JobEnd)). after_check o (λ end next.
     checks other n (i + 1) (lines ++ line_of (record { 0 = i }) end ∷ []) next))
     (at-stage items other alike n (jobs.Check (record { 0 = i })) tt s))
     (checks-same items other alike n (i + 1) lines s)
-    (nat_lt i (length s.world.stage.store.functions)) (is_undefined s.world.stage (record { 0 = i }))
+    (nat_lt i (length s.world.typing.stage.store.functions)) (is_undefined s.world.typing.stage (record { 0 = i }))
 
-by_mode-same : (items other : Items) → AreAlike items other → (mode : Mode) (n : ℕ) (place : Place) (end : JobEnd) (s : State TypingState)
+by_mode-same : (items other : Items) → AreAlike items other → (mode : Mode) (n : ℕ) (place : Place) (end : JobEnd) (s : State StagingState)
     → by_mode mode items n place end s ≡ by_mode mode other n place end s
 by_mode-same items other alike Exports n place end s =
-    ap (λ (o : Option (Final TypingState JobEnd)). after_check o (λ e last. Some (Finished (checked_with e []) last)))
+    ap (λ (o : Option (Final StagingState JobEnd)). after_check o (λ e last. Some (Finished (checked_with e []) last)))
     (exported-same items other alike n place end s)
 by_mode-same items other alike CheckAll n place (ends.Values vs) s = checks-same items other alike n 0 [] s
 by_mode-same items other alike CheckAll n place (ends.Raised v at) s = refl
@@ -100,10 +99,10 @@ trees_stage_alike items other alike place mode n units memory =
     ap ending_if_any
     (after_check-same (job_staged items n (jobs.Stage (Evaluate Chunk)) s) (by_mode mode items n place) (by_mode mode other n place)
     (by_mode-same items other alike mode n place)
-    ∙ ap (λ (o : Option (Final TypingState JobEnd)). after_check o (by_mode mode other n place))
+    ∙ ap (λ (o : Option (Final StagingState JobEnd)). after_check o (by_mode mode other n place))
     (at-stage items other alike n (jobs.Stage (Evaluate Chunk)) tt s))
   where
-    s : State TypingState
+    s : State StagingState
     s = state (begun memory) units
 
 pub texts_stage_alike : TextsStageAlike

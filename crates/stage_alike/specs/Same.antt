@@ -7,8 +7,8 @@ use Rattle.tl_tree.specs.Code.{Items}
 use Rattle.tl_tree.specs.Binding.{Alike}
 use Rattle.tl_alike.specs.Alike.{AreAlike}
 use Rattle.tl_base.specs.declared.place.Place.{Place}
-use Rattle.check_stage.specs.declared.staging.Mode.{Mode}
-use Rattle.check_stage.specs.Staging.{outcome}
+use Rattle.stage_model.specs.declared.staging.Mode.{Mode}
+use Rattle.stage_model.specs.Staging.{outcome}
 
 -- What the staging of a tree comes to is the same for one that is alike.
 abbrev pub TreesStageAlike : Type 0

@@ -1,7 +1,4 @@
 pub mod Counting
-pub mod Plains
-pub mod Called
-pub mod Few
 pub mod Names
 pub mod Compiling
 pub mod Premises

@@ -13,10 +13,10 @@ use Rattle.terra_term.specs.Held.{Held, state_of}
 use Rattle.terra_term.specs.Stores.{Contents, contents_of, static_bytes}
 use Rattle.exotype.specs.World.{StageState}
 use Rattle.check_sound.specs.Exports.{HasName}
-use Rattle.check_stage.specs.declared.staging.End.{End}
-use Rattle.check_stage.specs.declared.staging.End.TheVariants as ends
-use Rattle.check_stage.specs.declared.staging.Mode.TheVariants.{Exports}
-use Rattle.check_stage.specs.Staging.{Ending, outcome}
+use Rattle.stage_model.specs.declared.staging.End.{End}
+use Rattle.stage_model.specs.declared.staging.End.TheVariants as ends
+use Rattle.stage_model.specs.declared.staging.Mode.TheVariants.{Exports}
+use Rattle.stage_model.specs.Staging.{Ending, outcome}
 use Rattle.back_end.specs.Compiled.{AreExports, AreFew, AreReady, HasTypedPart, IsCompiled, name_bytes}
 use Rattle.stage_image.specs.declared.emitting.Emitted.{Emitted}
 use Rattle.stage_image.specs.declared.emitting.Made.{Made}
@@ -88,6 +88,6 @@ pub record IsEmitted (items : Items) (place : Place) (limits : Limits) (it : Emi
   pub n : ℕ
   pub ending : Ending
   pub comes : outcome items place Exports n limits.budget limits.memory ≡ Some ending
-  pub printed : it.printed ≡ ending.left.world.stage.heap.printed
-  pub functions : it.functions ≡ defined_count ending.left.world.stage.store
-  pub end : IsMade ending.left.world.stage limits.memory ending.end it.end
+  pub printed : it.printed ≡ ending.left.world.typing.stage.heap.printed
+  pub functions : it.functions ≡ defined_count ending.left.world.typing.stage.store
+  pub end : IsMade ending.left.world.typing.stage limits.memory ending.end it.end

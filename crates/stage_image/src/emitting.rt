@@ -4,15 +4,16 @@ ghost use Rattle.std.specs.Prelude.{ℕ, ◌≡◌, ◌<◌, ◌-◌, ◌^◌, I
 ghost use Rattle.tl_base.specs.Limits.{IsLimits};
 ghost use Rattle.tl_tree.specs.Arena.{items_of, end_of as finish_of};
 ghost use Rattle.terra_term.specs.Stores.{contents_of};
-ghost use Rattle.check_stage.specs.declared.staging.End.TheVariants as ends;
+ghost use Rattle.stage_model.specs.declared.staging.End.TheVariants as ends;
 ghost use Rattle.stage_image.specs.Emitted.{AreBytes, CanCompile, HaveBytes, IsEmitted, IsImageOf, IsMade, counted, defined_count};
 ghost use Rattle.stage_image.specs.Emitted.{is_defined};
 
 use back_end::compile;
-use check_stage::{End, Mode, stage};
 use elf_image::Image;
 use exotype::World;
 use spec_sound::places_fit;
+use stage_loop::stage;
+use stage_model::{End, Mode};
 use std::alloc::Global;
 use terra_term::{Export, FunctionState, Store};
 use tl_base::{Bytes, FnId, Limits, NoMemory, Place};
@@ -49,7 +50,7 @@ pub fn stage_exports(alloc: Global, tree: &Tree<'_>, limits: Limits) -> Result<E
     places_fit(tree);
     let outcome = stage(alloc, tree, limits.budget, limits.memory, Mode::Exports)?;
     let end = outcome.end;
-    let emitted = emitted_of(alloc, &outcome.typing.world, end, limits)?;
+    let emitted = emitted_of(alloc, outcome.staging.world(), end, limits)?;
     Ok(emitted)
 }
 

@@ -1,7 +1,8 @@
 // What comes of a row.
 
-use check_stage::{End, Mode, Written, stage, stage_checks, stage_terms};
 use row_words::SourceRow;
+use stage_loop::{stage, stage_checks, stage_terms};
+use stage_model::{End, Mode, Written};
 use std::alloc::Global;
 use tl_base::{Bytes, NoMemory};
 use tl_lex::LONGEST_TEXT;
@@ -100,7 +101,7 @@ fn push_staging(
     units: u64,
 ) -> Result<(), NoMemory> {
     let outcome = stage(alloc, tree, units, MEMORY, Mode::Exports)?;
-    let printed = outcome.typing.world.printed()?;
+    let printed = outcome.staging.world().printed()?;
     out.push_all(printed.as_slice())?;
     let left = outcome.left;
     match &outcome.end {

@@ -1,4 +1,4 @@
-//! Stages the sources of standard input as `check_stage` does, and writes what comes of each.
+//! Stages the sources of standard input as `stage_loop` does, and writes what comes of each.
 //!
 //! A row is a line `== UNITS NAME` and the lines of its source: it is staged with these units and once more with one unit less, and
 //! written are what each staging prints, how it ends and the units that are left. For a row `== terms UNITS NAME` or `== check UNITS NAME`

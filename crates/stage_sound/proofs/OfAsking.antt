@@ -32,10 +32,10 @@ use Rattle.check_stage.specs.declared.jobs.JobEnd.TheVariants as ends
 use Rattle.check_stage.specs.declared.asking.Asker.{Asker}
 use Rattle.check_stage.specs.declared.asking.Asker.TheVariants as begins
 use Rattle.check_stage.specs.Asking.{begun, place_of, end_seen, turn_seen, asking_seen, asking_going}
-use Rattle.check_stage.specs.Calling.{raised, refusing}
-use Rattle.check_stage.specs.Layers.{check_stage, answer_of, with_stage, asking_fitting}
-use Rattle.stage_form.specs.Holding.{IsBackFor, Shows, Holds, Comes}
-use Rattle.stage_sound.specs.Jobs.{Begins, Says, Leaves}
+use Rattle.stage_model.specs.Calling.{raised, refusing, calling}
+use Rattle.check_stage.specs.Layers.{answer_of, with_stage, asking_fitting}
+use Rattle.stage_form.specs.Holding.{IsBackFor, Shows, Holds}
+use Rattle.stage_sound.specs.Jobs.{Begins, Says, Leaves, Came}
 use Rattle.stage_sound.proofs.Layers.{LayersKeep}
 use Rattle.stage_sound.proofs.OfChecks.{JobHolds}
 use Rattle.stage_sound.proofs.OfTasks.{Led}
@@ -162,11 +162,11 @@ module _ (items : Items) (k : LayersKeep items) where
   module _ (layer : Meaning StageState Job CheckAnswer JobEnd) (question : Asked)
       (says : (end : JobEnd) (v : StageState) → IsEnd end → Says question end v) (first : Given TypingState CheckAnswer)
       (holds : Holds IsAsked AskedBack (Ends first.state.world.stage) layer (given_part asking_fitting first)) where
-    going-in-stage : Holds Begins (λ q s next. Comes (check_stage items) Leaves q s next) (Leaves question first.state.world)
+    going-in-stage : Holds Begins Came (Leaves question first.state.world)
         (within asking_fitting layer) first
     going-in-stage =
         within-holds asking_fitting IsAsked AskedBack (Ends first.state.world.stage) Begins
-        (λ q s next. Comes (check_stage items) Leaves q s next) (Leaves question first.state.world)
+        Came (Leaves question first.state.world)
         (λ w. w.variables ≡ first.state.world.variables)
         (λ w q p b h. asks-begin w q p h)
         (λ w end p b h. record { sound = h.1.0; leads = h.1.1; variables = b; says = says end p h.0 })
@@ -222,8 +222,8 @@ module _ (items : Items) (k : LayersKeep items) where
 
   pub refusal-holds : (f : FnId) (vs : List Value) (place : Place) (first : Given TypingState CheckAnswer) →
       Begins (asked.Terra f vs place) first.state.world →
-      Holds Begins (Comes (check_stage items) Leaves) (Leaves (asked.Terra f vs place) first.state.world)
-      (within asking_fitting (refusing place)) first
+      Holds Begins Came (Leaves (asked.Terra f vs place) first.state.world)
+      (calling place) first
   refusal-holds f vs place first begin =
       going-in-stage (refusing place) (asked.Terra f vs place) (terra-says f vs place) first
       (refusing-holds place (given_part asking_fitting first) begin.0)

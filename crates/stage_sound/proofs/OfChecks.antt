@@ -42,16 +42,15 @@ use Rattle.check_sound.specs.Layers as laws
 use Rattle.check_sound.proofs.Foreseen.{body-result}
 use Rattle.check_sound.proofs.Leading.{leads-itself}
 use Rattle.check_stage.specs.declared.jobs.Job.{Job}
-use Rattle.check_stage.specs.declared.jobs.Asked.{Asked}
 use Rattle.check_stage.specs.declared.jobs.Asked.TheVariants as asked
 use Rattle.check_stage.specs.declared.jobs.Job.TheVariants as jobs
 use Rattle.check_stage.specs.declared.jobs.JobEnd.{JobEnd}
 use Rattle.check_stage.specs.declared.jobs.JobEnd.TheVariants as ends
-use Rattle.check_stage.specs.Layers.{check_stage, answer_of, with_stage, job_meaning, check_fitting, check_asks, check_end, body_fitting}
+use Rattle.check_stage.specs.Layers.{answer_of, with_stage, job_meaning, check_fitting, check_asks, check_end, body_fitting}
 use Rattle.check_stage.specs.Layers.{body_asks, body_end, result_fitting, layout_fitting, layout_asks, layout_end}
 use Rattle.check_stage.specs.Results.{result_meaning, result_by, result_seen}
-use Rattle.stage_form.specs.Holding.{IsBackFor, Shows, Holds, Comes}
-use Rattle.stage_sound.specs.Jobs.{Begins, Says, Leaves}
+use Rattle.stage_form.specs.Holding.{IsBackFor, Shows, Holds}
+use Rattle.stage_sound.specs.Jobs.{Begins, Says, Leaves, Came}
 use Rattle.stage_sound.proofs.Layers.{LayersKeep}
 use Rattle.stage_sound.proofs.Parts.{within-holds}
 
@@ -59,10 +58,7 @@ module _ (items : Items) (k : LayersKeep items) where
   -- what a job holds to in the stage
   abbrev pub JobHolds : Job → Given TypingState CheckAnswer → Type 0
   JobHolds job first =
-      Holds Begins (Comes (check_stage items) Leaves) (Leaves (asked.Job job) first.state.world) (job_meaning items job) first
-
-  abbrev Back : Asked → State TypingState → Given TypingState CheckAnswer → Type 0
-  Back question s next = Comes (check_stage items) Leaves question s next
+      Holds Begins Came (Leaves (asked.Job job) first.state.world) (job_meaning items job) first
 
   -- ---- checks
 
@@ -111,7 +107,7 @@ module _ (items : Items) (k : LayersKeep items) where
     body-says g (ends.NoLayout kind) v h = absurd h
 
     check-comes : (w : TypingState) (q : CheckQuestion) (s : State StageState) (next : Given TypingState CheckAnswer) →
-        beside w → IsCheckAsked q s.world → Back (asked.Job (check_asks q)) (whole check_fitting w s) next →
+        beside w → IsCheckAsked q s.world → Came (asked.Job (check_asks q)) (whole check_fitting w s) next →
         IsCheckBack q s (given_part check_fitting next) × beside next.state.world
     check-comes w (of_checks.Body g) s next b may h = (
       record {
@@ -125,7 +121,7 @@ module _ (items : Items) (k : LayersKeep items) where
 
     pub check-holds : Begins (asked.Job (jobs.Check f)) first.state.world → JobHolds (jobs.Check f) first
     check-holds begin =
-        within-holds check_fitting IsCheckAsked IsCheckBack checks_left Begins Back
+        within-holds check_fitting IsCheckAsked IsCheckBack checks_left Begins Came
         (Leaves (asked.Job (jobs.Check f)) first.state.world) beside check-asks check-leaves check-comes (check f) first refl
         (check-layer begin.0)
 
@@ -176,13 +172,13 @@ module _ (items : Items) (k : LayersKeep items) where
     layout-leaves w (layout_ends.Refused kind) p b h = record { sound = h.0; leads = h.1.0; variables = b; says = tt }
 
     layout-comes : (w : TypingState) (q : LayoutQuestion) (s : State StageState) (next : Given TypingState CheckAnswer) →
-        beside_layout w → LayoutAsked q s.world → Back (asked.Job (layout_asks q)) (whole layout_fitting w s) next →
+        beside_layout w → LayoutAsked q s.world → Came (asked.Job (layout_asks q)) (whole layout_fitting w s) next →
         LayoutBack q s (given_part layout_fitting next) × beside_layout next.state.world
     layout-comes w q s next b may h = ((h.1.1.sound, h.1.1.leads), h.1.1.variables ∙ b)
 
     pub layout-holds : Begins (asked.Job (jobs.Layout t at)) first.state.world → JobHolds (jobs.Layout t at) first
     layout-holds begin =
-        within-holds layout_fitting LayoutAsked LayoutBack layouts_left Begins Back
+        within-holds layout_fitting LayoutAsked LayoutBack layouts_left Begins Came
         (Leaves (asked.Job (jobs.Layout t at)) first.state.world) beside_layout layout-asks layout-leaves layout-comes
         (layout (record { of = t; at = at })) first refl (layout-layer begin.0)
 
@@ -215,7 +211,7 @@ module _ (items : Items) (k : LayersKeep items) where
   answer-says (of_bodies.LayoutOf u place) (ends.Result t) v h = absurd h
   answer-says (of_bodies.LayoutOf u place) (ends.Refused why) v h = absurd h
 
-  body-came : (q : BodyQuestion) (s : State TypingState) (next : BodyGiven) → Back (asked.Job (body_asks q)) s next →
+  body-came : (q : BodyQuestion) (s : State TypingState) (next : BodyGiven) → Came (asked.Job (body_asks q)) s next →
       IsBodyBack q s next
   body-came q s next h = record {
     sound = h.1.1.sound;
@@ -260,7 +256,7 @@ module _ (items : Items) (k : LayersKeep items) where
 
     pub body-holds : Begins (asked.Job (jobs.Body f)) first.state.world → JobHolds (jobs.Body f) first
     body-holds begin =
-        within-holds body_fitting IsBodyAsked IsBodyBack bodies_left Begins Back (Leaves (asked.Job (jobs.Body f)) first.state.world)
+        within-holds body_fitting IsBodyAsked IsBodyBack bodies_left Begins Came (Leaves (asked.Job (jobs.Body f)) first.state.world)
         Anywhere (λ w q p b h. body-asked q p h) body-leaves (λ w q s next b may h. (body-came q s next h, tt)) (body f) first tt
         (body-layer begin.0 (subst MayBeTyped (sym begin.1.1) tt))
 
@@ -331,6 +327,6 @@ module _ (items : Items) (k : LayersKeep items) where
 
     pub result-holds : Begins (asked.Job (jobs.Result f)) first.state.world → JobHolds (jobs.Result f) first
     result-holds begin =
-        within-holds result_fitting IsBodyAsked IsBodyBack results_left Begins Back (Leaves (asked.Job (jobs.Result f)) first.state.world)
+        within-holds result_fitting IsBodyAsked IsBodyBack results_left Begins Came (Leaves (asked.Job (jobs.Result f)) first.state.world)
         Anywhere (λ w q p b h. body-asked q p h) (λ w end p b h. h) (λ w q s next b may h. (body-came q s next h, tt))
         (result_meaning f) first tt (result-layer begin.0 begin.1)

@@ -34,9 +34,9 @@ use Rattle.terra_stage.specs.declared.asked.Asked.TheVariants as of_tasks
 use Rattle.terra_stage.specs.Layers.{lua_fitting, spec_fitting, library_fitting, task_meaning}
 use Rattle.check_stage.specs.declared.jobs.Job.TheVariants as jobs
 use Rattle.check_stage.specs.declared.jobs.Asked.TheVariants as asked
-use Rattle.check_stage.specs.Layers.{check_stage, with_stage, stage_fitting, stage_asks, job_of, lua_end}
-use Rattle.stage_form.specs.Holding.{IsBackFor, Shows, Holds, Comes}
-use Rattle.stage_sound.specs.Jobs.{Begins, IsMeant, Leaves}
+use Rattle.check_stage.specs.Layers.{with_stage, stage_fitting, stage_asks, job_of, lua_end}
+use Rattle.stage_form.specs.Holding.{IsBackFor, Shows, Holds}
+use Rattle.stage_sound.specs.Jobs.{Begins, IsMeant, Leaves, Came}
 use Rattle.stage_sound.proofs.Layers.{LayersKeep}
 use Rattle.stage_sound.proofs.OfChecks.{JobHolds}
 use Rattle.stage_sound.proofs.Parts.{within-holds}
@@ -171,7 +171,7 @@ module _ (items : Items) (k : LayersKeep items) where
       JobHolds items k (jobs.Stage task) first
   stage-holds task first begin =
       within-holds stage_fitting TaskAsked TaskBack (λ end v. Led first.state.world.stage v) Begins
-      (λ question s next. Comes (check_stage items) Leaves question s next) (Leaves (asked.Job (jobs.Stage task)) first.state.world)
+      Came (Leaves (asked.Job (jobs.Stage task)) first.state.world)
       (λ w. w.variables ≡ first.state.world.variables)
       (λ w q p b h. asked-begins w q p h) leaves
       (λ w q s next b may h. ((h.1.1.sound, h.1.1.leads), h.1.1.variables ∙ b))

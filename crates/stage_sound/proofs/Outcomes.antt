@@ -12,7 +12,6 @@ use Rattle.terra_term.specs.declared.store.Export.{Export}
 use Rattle.terra_term.specs.Stores.{contents_of}
 use Rattle.exotype.specs.World.{StageState}
 use Rattle.spec_model.specs.Making.{is_undefined}
-use Rattle.check_model.specs.Typing.{TypingState}
 use Rattle.check_sound.specs.Sound.{IsSound}
 use Rattle.check_sound.specs.Growing.{AreFine, Leads}
 use Rattle.check_sound.specs.Layers.{ReachesReady, ReadyStays}
@@ -25,12 +24,12 @@ use Rattle.check_stage.specs.declared.jobs.Job.TheVariants as jobs
 use Rattle.check_stage.specs.declared.jobs.Asked.TheVariants as asked
 use Rattle.check_stage.specs.declared.jobs.JobEnd.{JobEnd}
 use Rattle.check_stage.specs.declared.jobs.JobEnd.TheVariants as ends
-use Rattle.check_stage.specs.declared.staging.CheckLine.{CheckLine}
-use Rattle.check_stage.specs.declared.staging.Mode.{Mode}
-use Rattle.check_stage.specs.declared.staging.Mode.TheVariants.{Exports, CheckAll}
-use Rattle.check_stage.specs.Layers.{job_staged}
-use Rattle.check_stage.specs.Staging.{Checked, checked_with, after_check, exported, line_of, checks, by_mode, Ending, ending_of}
-use Rattle.check_stage.specs.Staging.{ending_if_any, begun, outcome}
+use Rattle.stage_model.specs.declared.staging.CheckLine.{CheckLine}
+use Rattle.stage_model.specs.declared.staging.Mode.{Mode}
+use Rattle.stage_model.specs.declared.staging.Mode.TheVariants.{Exports, CheckAll}
+use Rattle.stage_model.specs.Stage.{StagingState, job_staged}
+use Rattle.stage_model.specs.Staging.{Checked, checked_with, after_check, exported, line_of, checks, by_mode, Ending, ending_of}
+use Rattle.stage_model.specs.Staging.{ending_if_any, begun, outcome}
 use Rattle.stage_sound.specs.Jobs.{IsMeant}
 use Rattle.stage_sound.specs.Parts.{HasPart}
 use Rattle.stage_sound.specs.Promises.{IsWhole, EndsSound}
@@ -45,43 +44,43 @@ HaveParts =
 
 module _ (items : Items) (k : LayersKeep items) (w0 : StageState) where
   -- a world that a staging led to
-  abbrev Reached : TypingState → Type 0
-  Reached w = IsSound w.stage × Leads w0 w.stage
+  abbrev Reached : StagingState → Type 0
+  Reached w = IsSound w.typing.stage × Leads w0 w.typing.stage
 
   -- where it ended, it is such a one
-  abbrev Fine : {A : Type 0} → Option (Final TypingState A) → Type 0
+  abbrev Fine : {A : Type 0} → Option (Final StagingState A) → Type 0
   Fine None = Unit {0}
   Fine (Some (Exhausted s)) = Unit {0}
   Fine (Some (Finished e s)) = Reached s.world
 
-  reached-job : (n : ℕ) (job : Job) (s : State TypingState) → Reached s.world → IsMeant (asked.Job job) s.world.stage →
-      (end : JobEnd) (t : State TypingState) → job_staged items n job s ≡ Some (Finished end t) → Reached t.world
+  reached-job : (n : ℕ) (job : Job) (s : State StagingState) → Reached s.world → IsMeant (asked.Job job) s.world.typing.stage →
+      (end : JobEnd) (t : State StagingState) → job_staged items n job s ≡ Some (Finished end t) → Reached t.world
   reached-job n job s r meant end t is =
       let l = question-leaves items k n (asked.Job job) s end t (r.0, meant) is in
-      (l.sound, leads-twice w0 s.world.stage t.world.stage r.1 l.leads)
+      (l.sound, leads-twice w0 s.world.typing.stage t.world.typing.stage r.1 l.leads)
 
-  fine-job : (n : ℕ) (job : Job) (s : State TypingState) → Reached s.world → IsMeant (asked.Job job) s.world.stage →
+  fine-job : (n : ℕ) (job : Job) (s : State StagingState) → Reached s.world → IsMeant (asked.Job job) s.world.typing.stage →
       Fine (job_staged items n job s)
   fine-job n job s r meant = by (job_staged items n job s) refl
     where
-      by : (o : Option (Final TypingState JobEnd)) → job_staged items n job s ≡ o → Fine o
+      by : (o : Option (Final StagingState JobEnd)) → job_staged items n job s ≡ o → Fine o
       by None is = tt
       by (Some (Exhausted t)) is = tt
       by (Some (Finished end t)) is = reached-job n job s r meant end t is
 
-  fine-after : {A B : Type 0} (o : Option (Final TypingState A)) (go : A → State TypingState → Option (Final TypingState B)) →
-      Fine o → ((e : A) (s : State TypingState) → Reached s.world → Fine (go e s)) → Fine (after_check o go)
+  fine-after : {A B : Type 0} (o : Option (Final StagingState A)) (go : A → State StagingState → Option (Final StagingState B)) →
+      Fine o → ((e : A) (s : State StagingState) → Reached s.world → Fine (go e s)) → Fine (after_check o go)
   fine-after None go h f = tt
   fine-after (Some (Exhausted s)) go h f = tt
   fine-after (Some (Finished e s)) go h f = f e s h
 
-  fine-choice : {A : Type 0} (b : Bool) (x y : Option (Final TypingState A)) → Fine x → Fine y → Fine (if b then x else y)
+  fine-choice : {A : Type 0} (b : Bool) (x y : Option (Final StagingState A)) → Fine x → Fine y → Fine (if b then x else y)
   fine-choice true x y f g = f
   fine-choice false x y f g = g
 
   -- ---- behind the chunk
 
-  fine-exported : (n : ℕ) (place : Place) (end : JobEnd) (s : State TypingState) → Reached s.world →
+  fine-exported : (n : ℕ) (place : Place) (end : JobEnd) (s : State StagingState) → Reached s.world →
       Fine (exported items n place end s)
   fine-exported n place (ends.Values vs) s r = fine-job n (jobs.Export place) s r tt
   fine-exported n place (ends.Raised x at) s r = r
@@ -90,17 +89,17 @@ module _ (items : Items) (k : LayersKeep items) (w0 : StageState) where
   fine-exported n place ends.Done s r = r
   fine-exported n place (ends.NoLayout kind) s r = r
 
-  fine-checks : (n i : ℕ) (lines : List CheckLine) (s : State TypingState) → Reached s.world → Fine (checks items n i lines s)
+  fine-checks : (n i : ℕ) (lines : List CheckLine) (s : State StagingState) → Reached s.world → Fine (checks items n i lines s)
   unfolding checks
   fine-checks zero i lines s r = tt
   fine-checks (suc n) i lines s r =
       let f : FnId = record { 0 = i } in
-      fine-choice (nat_lt i (length s.world.stage.store.functions))
-      (if is_undefined s.world.stage f then checks items n (i + 1) lines s
+      fine-choice (nat_lt i (length s.world.typing.stage.store.functions))
+      (if is_undefined s.world.typing.stage f then checks items n (i + 1) lines s
       else after_check (job_staged items n (jobs.Check f) s) (λ end next.
       checks items n (i + 1) (lines ++ line_of f end ∷ []) next))
       (Some (Finished (checked_with (ends.Values []) lines) s))
-      (fine-choice (is_undefined s.world.stage f) (checks items n (i + 1) lines s)
+      (fine-choice (is_undefined s.world.typing.stage f) (checks items n (i + 1) lines s)
       (after_check (job_staged items n (jobs.Check f) s) (λ end next.
       checks items n (i + 1) (lines ++ line_of f end ∷ []) next))
       (fine-checks n (i + 1) lines s r)
@@ -108,7 +107,7 @@ module _ (items : Items) (k : LayersKeep items) (w0 : StageState) where
       (λ end next. checks items n (i + 1) (lines ++ line_of f end ∷ []) next) (fine-job n (jobs.Check f) s r tt)
       (λ end next x. fine-checks n (i + 1) (lines ++ line_of f end ∷ []) next x))) r
 
-  fine-mode : (mode : Mode) (n : ℕ) (place : Place) (end : JobEnd) (s : State TypingState) → Reached s.world →
+  fine-mode : (mode : Mode) (n : ℕ) (place : Place) (end : JobEnd) (s : State StagingState) → Reached s.world →
       Fine (by_mode mode items n place end s)
   fine-mode Exports n place end s r =
       fine-after (exported items n place end s) (λ e last. Some (Finished (checked_with e []) last))
@@ -149,14 +148,14 @@ module _ (items : Items) (k : LayersKeep items) (w0 : StageState) where
       nothing : (i : ℕ) (e : Export) → slice_get w0.exports.list i ≡ Some e → ⊥
       nothing i e at = none-some e (ap (λ (l : List Export). slice_get l i) (sym none) ∙ at)
 
-  ends-sound : ReadyStays → (w : TypingState) → Reached w → AreFine w.stage → (i : ℕ) (e : Export) →
-      slice_get w.stage.exports.list i ≡ Some e → ReachesReady w.stage e.function
-  ends-sound stays w r fine i e at = stays w.stage e.function r.0 (fine.ready i e at)
+  ends-sound : ReadyStays → (w : StagingState) → Reached w → AreFine w.typing.stage → (i : ℕ) (e : Export) →
+      slice_get w.typing.stage.exports.list i ≡ Some e → ReachesReady w.typing.stage e.function
+  ends-sound stays w r fine i e at = stays w.typing.stage e.function r.0 (fine.ready i e at)
 
   same-ending : (a b : Ending) → ◌≡◌ {A = Option Ending} (Some a) (Some b) → a ≡ b
   same-ending a b e = cc e
 
-  final-sound : ReadyStays → HaveParts → AreFine w0 → (o : Option (Final TypingState Checked)) → Fine o → (out : Ending) →
+  final-sound : ReadyStays → HaveParts → AreFine w0 → (o : Option (Final StagingState Checked)) → Fine o → (out : Ending) →
       ending_if_any o ≡ Some out → IsWhole out.end → EndsSound w0.memory out
   final-sound stays parts none None h out is whole = absurd (apart out is)
     where
@@ -170,14 +169,14 @@ module _ (items : Items) (k : LayersKeep items) (w0 : StageState) where
         memory = h.1.memory;
         fine = fine;
         exports = ends-sound stays s.world h fine;
-        part = parts s.world.stage s.world.stage.exports.list h.0 (ends-sound stays s.world h fine);
+        part = parts s.world.typing.stage s.world.typing.stage.exports.list h.0 (ends-sound stays s.world h fine);
       })
   final-sound stays parts none (Some (Exhausted s)) h out is whole =
       absurd (subst (λ (x : Ending). IsWhole x.end) (sym (same-ending (ending_of (Exhausted s)) out is)) whole)
 
   pub outcome-sound : ReadyStays → HaveParts → w0.exports.list ≡ [] → (place : Place) (mode : Mode) (n units memory : ℕ)
       (out : Ending) →
-      IsSound w0 → (begun memory).stage ≡ w0 → outcome items place mode n units memory ≡ Some out → IsWhole out.end →
+      IsSound w0 → (begun memory).typing.stage ≡ w0 → outcome items place mode n units memory ≡ Some out → IsWhole out.end →
       EndsSound w0.memory out
   outcome-sound stays parts none place mode n units memory out sound same is whole =
       let s = state (begun memory) units in

@@ -1,11 +1,13 @@
--- What each question of the stage demands of the world in which it is asked, and what it leaves.
+-- What each question of a staging demands of the world in which it is asked, and what it leaves.
 use Rattle.std.specs.Prelude.{◌≡◌, false, Some}
 use Rattle.tl_base.specs.declared.ids.TermId.{TermId}
+use Rattle.tl_base.specs.Layer.{State, Given}
 use Rattle.terra_term.specs.declared.store.Function.{Function}
 use Rattle.terra_term.specs.declared.store.FunctionState.TheVariants as standing
 use Rattle.terra_term.specs.Held.{state_of, typed_in}
 use Rattle.exotype.specs.World.{StageState}
 use Rattle.check_model.specs.declared.known.KnownResult.TheVariants.{Is, NotYet}
+use Rattle.check_model.specs.declared.question.CheckAnswer.{CheckAnswer}
 use Rattle.check_model.specs.Typing.{TypingState, function_at, form_in, is_aggregate_form}
 use Rattle.check_model.specs.Calls.{result_of}
 use Rattle.check_model.specs.Keeping.{IsLaidOut}
@@ -19,6 +21,8 @@ use Rattle.check_stage.specs.declared.jobs.Asked.{Asked}
 use Rattle.check_stage.specs.declared.jobs.Asked.TheVariants as asked
 use Rattle.check_stage.specs.declared.jobs.JobEnd.{JobEnd}
 use Rattle.check_stage.specs.declared.jobs.JobEnd.TheVariants as ends
+use Rattle.check_stage.specs.Layers.{answer_of}
+use Rattle.stage_model.specs.Stage.{StagingState}
 
 -- ---- what is demanded
 
@@ -61,3 +65,15 @@ pub record Leaves (question : Asked) (w : TypingState) (end : JobEnd) (v : Typin
   pub leads : Leads w.stage v.stage
   pub variables : v.variables ≡ w.variables
   pub says : Says question end v.stage
+
+-- an answer is what an end of the question's layer is, and brings what that left
+abbrev pub Came : Asked → State TypingState → Given TypingState CheckAnswer → Type 0
+Came question s next = (end : JobEnd) × ((next.answer ≡ answer_of end) × Leaves question s.world end next.state.world)
+
+-- ---- in a staging
+
+abbrev pub Begun : Asked → StagingState → Type 0
+Begun question w = Begins question w.typing
+
+abbrev pub Left : Asked → StagingState → JobEnd → StagingState → Type 0
+Left question w end v = Leaves question w.typing end v.typing

@@ -17,8 +17,8 @@ use Rattle.tl_alike.proofs.AlikeTrees.{alike_trees}
 use Rattle.tl_renaming.proofs.Utf8.{renamed_utf8}
 use Rattle.terra_term.specs.WellTyped.{is_placed}
 use Rattle.spec_sound.specs.Sound.{ArePlaced, word_of}
-use Rattle.check_stage.specs.declared.staging.Mode.{Mode}
-use Rattle.check_stage.specs.Staging.{Ending, outcome}
+use Rattle.stage_model.specs.declared.staging.Mode.{Mode}
+use Rattle.stage_model.specs.Staging.{Ending, outcome}
 use Rattle.stage_alike.proofs.Outcomes.{trees_stage_alike}
 use Rattle.terrac_call.specs.Words.{Make, Stage, Exec, Task, Asked, Named, Refused, Unlawful, generated_of, asked_of, source_of, text_of}
 use Rattle.terrac_call.specs.Due.{Due, Reading, IsReadingDue, IsRefused, IsTree, IsDueOfSource, IsReadAs, IsText, IsTextReadAs, HasTree, longest}

@@ -34,7 +34,7 @@ module _ (due : Due) (found : due.status ≢ statuses.NoMemory) where
     comes = x.comes;
     rest = x.rest;
     rest_is = rest_due task x.ending x.rest
-        (λ none. found (ap (λ (d : Due). d.status) x.is ∙ told_status task x.ending.left.world.stage.heap.printed x.rest ∙ none)) x.rest_is;
+        (λ none. found (ap (λ (d : Due). d.status) x.is ∙ told_status task x.ending.left.world.typing.stage.heap.printed x.rest ∙ none)) x.rest_is;
     is = x.is;
   }
 

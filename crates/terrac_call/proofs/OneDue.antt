@@ -3,10 +3,10 @@ use Rattle.std.proofs.Common.{◌≡◌, ◌+◌, ◌≤◌, ℕ, List, [], Opti
 use Rattle.tl_tree.specs.Code.{Items}
 use Rattle.tl_tree.specs.Nodes.{lay}
 use Rattle.tl_base.specs.declared.place.Place.{Place}
-use Rattle.check_stage.specs.declared.staging.Mode.{Mode}
-use Rattle.check_stage.specs.declared.staging.End.{End}
-use Rattle.check_stage.specs.declared.staging.End.TheVariants.{Done, Raised, Spent}
-use Rattle.check_stage.specs.Staging.{Ending, outcome}
+use Rattle.stage_model.specs.declared.staging.Mode.{Mode}
+use Rattle.stage_model.specs.declared.staging.End.{End}
+use Rattle.stage_model.specs.declared.staging.End.TheVariants.{Done, Raised, Spent}
+use Rattle.stage_model.specs.Staging.{Ending, outcome}
 use Rattle.elf_image.specs.declared.error.ImageError.{ImageError}
 use Rattle.elf_image.specs.declared.image.Image.{Image}
 use Rattle.elf_image.specs.declared.image.Symbol.{Symbol}
@@ -144,8 +144,8 @@ one_of_reading settled task none (IsTree tree finish) one other p q =
     q.comes p.comes in
     let rests : p.rest ≡ q.rest =
     one_end task p.ending p.ending.end p.rest q.rest none p.rest_is (subst (λ (e : Ending). IsRestDue task e q.rest) same q.rest_is) in
-    p.is ∙ ap (told task p.ending.left.world.stage.heap.printed) rests
-    ∙ ap (λ (e : Ending). told task e.left.world.stage.heap.printed q.rest) (sym same) ∙ sym q.is
+    p.is ∙ ap (told task p.ending.left.world.typing.stage.heap.printed) rests
+    ∙ ap (λ (e : Ending). told task e.left.world.typing.stage.heap.printed q.rest) (sym same) ∙ sym q.is
 
 one_of_rename : (bytes : List ℕ) (reading : Reading) (one other : Due) → IsReadingDue (renames.IsTreeDue bytes) reading one
     → IsReadingDue (renames.IsTreeDue bytes) reading other → one ≡ other

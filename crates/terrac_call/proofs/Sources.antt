@@ -10,13 +10,13 @@ use Rattle.elf_image.specs.Written as files
 use Rattle.terra_term.specs.Stores.{contents_of}
 use Rattle.exotype.specs.World.{StageState}
 use Rattle.spec_sound.specs.Sound.{ArePlaced}
-use Rattle.check_stage.specs.declared.staging.End.{End}
-use Rattle.check_stage.specs.declared.staging.End.TheVariants as staged
-use Rattle.check_stage.specs.declared.staging.Mode.{Mode}
-use Rattle.check_stage.specs.declared.staging.Mode.TheVariants.{Exports}
-use Rattle.check_stage.specs.declared.texts.Written.{Written}
-use Rattle.check_stage.specs.Staging.{Ending, outcome}
-use Rattle.check_stage.specs.Texts.{AreChecks, AreTerms}
+use Rattle.stage_model.specs.declared.staging.End.{End}
+use Rattle.stage_model.specs.declared.staging.End.TheVariants as staged
+use Rattle.stage_model.specs.declared.staging.Mode.{Mode}
+use Rattle.stage_model.specs.declared.staging.Mode.TheVariants.{Exports}
+use Rattle.stage_model.specs.declared.texts.Written.{Written}
+use Rattle.stage_model.specs.Staging.{Ending, outcome}
+use Rattle.stage_model.specs.Texts.{AreChecks, AreTerms}
 use Rattle.back_end.specs.Compiled.{IsCompiled}
 use Rattle.stage_image.specs.declared.emitting.Made.{Made}
 use Rattle.stage_image.specs.declared.emitting.Made.TheVariants as made
@@ -56,22 +56,22 @@ refused_same text other place at same =
 
 module _ (task : Task) (it : Ending) (memory : ℕ) where
   -- an image comes of a staging that is done
-  pub image_end : (end : End) (image : Image) (rest : Due) → IsMade it.left.world.stage memory end (made.Image image)
-      → (IsCompiled (contents_of it.left.world.stage.store) memory it.left.world.stage.exports.list image → IsDone task it rest)
+  pub image_end : (end : End) (image : Image) (rest : Due) → IsMade it.left.world.typing.stage memory end (made.Image image)
+      → (IsCompiled (contents_of it.left.world.typing.stage.store) memory it.left.world.typing.stage.exports.list image → IsDone task it rest)
       → IsEndDue task it end rest
   image_end staged.Done image rest is done = done is
   image_end (staged.Raised text place) image rest is done = absurd cc
   image_end staged.Spent image rest is done = absurd cc
 
   -- a staging that raised an error owes its line
-  pub raised_end : (end : End) (text : List ℕ) (place : Place) → IsMade it.left.world.stage memory end (made.Raised text place)
+  pub raised_end : (end : End) (text : List ℕ) (place : Place) → IsMade it.left.world.typing.stage memory end (made.Raised text place)
       → IsEndDue task it end (refused (statuses.Raised text place))
   raised_end staged.Done text place is = absurd is
   raised_end (staged.Raised other at) text place is = refused_same text other place at is
   raised_end staged.Spent text place is = absurd cc
 
   -- and so does one whose budget was spent
-  pub spent_end : (end : End) → IsMade it.left.world.stage memory end made.Spent → IsEndDue task it end (refused statuses.BudgetSpent)
+  pub spent_end : (end : End) → IsMade it.left.world.typing.stage memory end made.Spent → IsEndDue task it end (refused statuses.BudgetSpent)
   spent_end staged.Done is = absurd is
   spent_end (staged.Raised text place) is = absurd cc
   spent_end staged.Spent is = refl
@@ -84,14 +84,14 @@ module _ (task : Task) (it : Ending) (memory : ℕ) where
 
 -- the file of an image that was compiled
 pub file_done : (limits : Limits) (it : Ending) (image : Image) (rest : Due)
-    → IsCompiled (contents_of it.left.world.stage.store) (bytes_of limits.memory) it.left.world.stage.exports.list image
+    → IsCompiled (contents_of it.left.world.typing.stage.store) (bytes_of limits.memory) it.left.world.typing.stage.exports.list image
     → rest ≡ given (files.bytes_of image) → IsDone (Emit limits) it rest
 file_done limits it image rest compiled is = record { image = image; compiled = compiled; is = is }
 
 -- and a call of it
 pub call_done : (asking : Asking) (it : Ending) (functions : ℕ) (image : Image) (rest : Due)
-    → functions ≡ defined_count it.left.world.stage.store
-    → IsCompiled (contents_of it.left.world.stage.store) (bytes_of asking.running.limits.memory) it.left.world.stage.exports.list image
+    → functions ≡ defined_count it.left.world.typing.stage.store
+    → IsCompiled (contents_of it.left.world.typing.stage.store) (bytes_of asking.running.limits.memory) it.left.world.typing.stage.exports.list image
     → IsCallDue image asking.call (manner_of asking functions) (symbol_named asking.call.entry image.exports) rest
     → IsDone (Run asking) it rest
 call_done asking it functions image rest count compiled is = record {
@@ -104,20 +104,20 @@ call_done asking it functions image rest count compiled is = record {
 -- as the task says
 abbrev Makes : Ending → Image → Due → Task → Type 0
 Makes it image rest task =
-    IsCompiled (contents_of it.left.world.stage.store) (bytes_of (limits_of task).memory) it.left.world.stage.exports.list image
+    IsCompiled (contents_of it.left.world.typing.stage.store) (bytes_of (limits_of task).memory) it.left.world.typing.stage.exports.list image
     → IsDone task it rest
 
 pub file_rest : (shown : Task) (limits : Limits) (it : Ending) (image : Image) (rest : Due) → shown ≡ Emit limits
     → rest ≡ given (files.bytes_of image)
-    → IsCompiled (contents_of it.left.world.stage.store) (bytes_of (limits_of shown).memory) it.left.world.stage.exports.list image
+    → IsCompiled (contents_of it.left.world.typing.stage.store) (bytes_of (limits_of shown).memory) it.left.world.typing.stage.exports.list image
     → IsDone shown it rest
 file_rest shown limits it image rest same is compiled =
     subst (Makes it image rest) (sym same) (λ made. file_done limits it image rest made is) compiled
 
 pub call_rest : (shown : Task) (asking : Asking) (it : Ending) (functions : ℕ) (image : Image) (rest : Due) → shown ≡ Run asking
-    → functions ≡ defined_count it.left.world.stage.store
+    → functions ≡ defined_count it.left.world.typing.stage.store
     → IsCallDue image asking.call (manner_of asking functions) (symbol_named asking.call.entry image.exports) rest
-    → IsCompiled (contents_of it.left.world.stage.store) (bytes_of (limits_of shown).memory) it.left.world.stage.exports.list image
+    → IsCompiled (contents_of it.left.world.typing.stage.store) (bytes_of (limits_of shown).memory) it.left.world.typing.stage.exports.list image
     → IsDone shown it rest
 call_rest shown asking it functions image rest same count is compiled =
     subst (Makes it image rest) (sym same) (λ made. call_done asking it functions image rest count made is) compiled
@@ -127,7 +127,7 @@ call_rest shown asking it functions image rest same count is compiled =
 -- what is owed behind what a staging printed
 pub tree_owed : (task : Task) (items : Items) (finish : Place) (n units memory : ℕ) (it : Ending) (printed : List ℕ) (rest due : Due)
     → ArePlaced items → outcome items finish (mode_of task) n units memory ≡ Some it → units ≡ (limits_of task).budget
-    → memory ≡ bytes_of (limits_of task).memory → printed ≡ it.left.world.stage.heap.printed → IsRestOwed task it rest
+    → memory ≡ bytes_of (limits_of task).memory → printed ≡ it.left.world.typing.stage.heap.printed → IsRestOwed task it rest
     → due ≡ told task printed rest → IsTreeOwed task items finish due
 tree_owed task items finish n units memory it printed rest due placed comes same_units same_memory same_printed owed is = record {
   placed = placed;
@@ -144,7 +144,7 @@ tree_owed task items finish n units memory it printed rest due placed comes same
 -- lines that stagings give
 pub written_owed : (task : Task) (items : Items) (finish : Place) (n units memory : ℕ) (it : Ending) (printed lines : List ℕ) (end : End)
     (due : Due) → ArePlaced items → outcome items finish (mode_of task) n units memory ≡ Some it → units ≡ (limits_of task).budget
-    → memory ≡ bytes_of (limits_of task).memory → printed ≡ it.left.world.stage.heap.printed → end ≡ it.end
+    → memory ≡ bytes_of (limits_of task).memory → printed ≡ it.left.world.typing.stage.heap.printed → end ≡ it.end
     → IsDone task it (given lines) → due ≡ told task printed (due_of_end end lines) → IsTreeOwed task items finish due
 written_owed task items finish n units memory it printed lines end due placed comes same_units same_memory same_printed same_end done is =
     tree_owed task items finish n units memory it printed (due_of_end it.end lines) due placed comes same_units same_memory same_printed
@@ -183,13 +183,13 @@ module _ (shown : Task) (items : Items) (finish : Place) (units memory : ℕ) (p
   -- what is made of an image
   pub emitted_owed : (it : Emitted) (due : Due) → mode_of shown ≡ Exports
       → (are : IsEmitted items finish (record { budget = units; memory = memory }) it)
-      → ((e : Ending) → it.functions ≡ defined_count e.left.world.stage.store
-      → IsMade e.left.world.stage (bytes_of (limits_of shown).memory) e.end it.end
+      → ((e : Ending) → it.functions ≡ defined_count e.left.world.typing.stage.store
+      → IsMade e.left.world.typing.stage (bytes_of (limits_of shown).memory) e.end it.end
       → (rest : Due) × IsRestOwed shown e rest × (due ≡ told shown it.printed rest))
       → IsTreeOwed shown items finish due
   emitted_owed it due exports are gives =
-      let made : IsMade are.ending.left.world.stage (bytes_of (limits_of shown).memory) are.ending.end it.end =
-      subst (λ (m : ℕ). IsMade are.ending.left.world.stage m are.ending.end it.end) same_memory are.end in
+      let made : IsMade are.ending.left.world.typing.stage (bytes_of (limits_of shown).memory) are.ending.end it.end =
+      subst (λ (m : ℕ). IsMade are.ending.left.world.typing.stage m are.ending.end it.end) same_memory are.end in
       let given_rest = gives are.ending are.functions made in
       tree_owed shown items finish are.n units memory are.ending it.printed given_rest.0 due placed
       (subst (λ (mode : Mode). outcome items finish mode are.n units memory ≡ Some are.ending) (sym exports) are.comes)

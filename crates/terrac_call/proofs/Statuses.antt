@@ -5,9 +5,9 @@ use Rattle.elf_image.specs.declared.image.Symbol.{Symbol}
 use Rattle.elf_image.specs.Calls.{symbol_named}
 use Rattle.rv_machine.specs.declared.stops.Stop.{Stop}
 use Rattle.rv_machine.specs.declared.stops.Stop.TheVariants as stops
-use Rattle.check_stage.specs.Staging.{Ending}
-use Rattle.check_stage.specs.declared.staging.End.{End}
-use Rattle.check_stage.specs.declared.staging.End.TheVariants.{Done, Raised, Spent}
+use Rattle.stage_model.specs.Staging.{Ending}
+use Rattle.stage_model.specs.declared.staging.End.{End}
+use Rattle.stage_model.specs.declared.staging.End.TheVariants.{Done, Raised, Spent}
 use Rattle.terrac_call.specs.declared.status.Status.{Status}
 use Rattle.terrac_call.specs.declared.status.Status.TheVariants as statuses
 use Rattle.terrac_call.specs.Words.{Call, Job, Make, Stage, Exec, Task, Check, Terms, Emit, Run, Making, Rename, ListImage, Assemble}
@@ -107,7 +107,7 @@ of_rest task it due (inr none) = as_that due _ none.1 refl
 of_reading : (task : Task) (reading : Reading) (due : Due) → IsReadingDue (IsTreeOwed task) reading due → EndsJob due
 of_reading task (IsRefused kind place) due is = as_that due _ is refl
 of_reading task (IsTree tree finish) due is =
-    ap ends_job (ap (λ (d : Due). d.status) is.is ∙ told_status task is.ending.left.world.stage.heap.printed is.rest)
+    ap ends_job (ap (λ (d : Due). d.status) is.is ∙ told_status task is.ending.left.world.typing.stage.heap.printed is.rest)
     ∙ of_rest task is.ending is.rest is.rest_is
 
 of_owed : (job : Job) (bytes : List ℕ) (due : Due) → IsOwed (Named job) bytes due → EndsJob due

@@ -4,7 +4,7 @@ use Rattle.std.specs.Prelude.{◌%◌}
 use Rattle.tl_base.specs.declared.limits.Limits.{Limits as StagingLimits}
 use Rattle.tl_base.specs.Limits.{IsLimits}
 use Rattle.terra_term.specs.Stores.{contents_of}
-use Rattle.check_stage.specs.declared.staging.End.{End}
+use Rattle.stage_model.specs.declared.staging.End.{End}
 use Rattle.stage_image.proofs.Premises.{can_compile}
 use Rattle.terrac_call.specs.Words.{Limits, Run}
 use Rattle.terrac_call.specs.Ranges.{AreLimits}
@@ -26,7 +26,7 @@ are_limits limits are = record {
 
 pub sources_are_meant : SourcesAreMeant
 sources_are_meant it are items finish due x done =
-    let w = x.ending.left.world.stage in
+    let w = x.ending.left.world.typing.stage in
     let limits : StagingLimits = record { budget = it.running.limits.budget; memory = bytes_of it.running.limits.memory } in
     let made : IsImageDue it w x.rest = subst (λ (end : End). IsEndDue (Run it) x.ending end x.rest) done x.rest_is in
     let can = can_compile items x.placed finish x.n limits x.ending (are_limits it.running.limits are) x.comes done in

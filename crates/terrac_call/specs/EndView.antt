@@ -1,7 +1,7 @@
 -- What the end of a staging owes.
 use Rattle.std.specs.Prelude.{ℕ, List}
-use Rattle.check_stage.specs.declared.staging.End.{End}
-use Rattle.check_stage.specs.declared.staging.End.TheVariants.{Done, Raised, Spent}
+use Rattle.stage_model.specs.declared.staging.End.{End}
+use Rattle.stage_model.specs.declared.staging.End.TheVariants.{Done, Raised, Spent}
 use Rattle.terrac_call.specs.declared.status.Status.TheVariants as statuses
 use Rattle.terrac_call.specs.Due.{Due, given, refused}
 

@@ -14,7 +14,7 @@ use Rattle.terra_meaning.specs.Values.{AreValues, form_at}
 use Rattle.terra_meaning.specs.Meaning.{meaning}
 use Rattle.back_end.specs.Compiled.{AreReady, HasTypedPart, IsCompiled}
 use Rattle.exotype.specs.World.{StageState}
-use Rattle.check_stage.specs.declared.staging.End.TheVariants.{Done}
+use Rattle.stage_model.specs.declared.staging.End.TheVariants.{Done}
 use Rattle.stage_image.specs.Emitted.{defined_count}
 use Rattle.terrac_call.specs.declared.status.FaultKind.{FaultKind}
 use Rattle.terrac_call.specs.declared.status.FaultKind.TheVariants.{BadAddress, DivZero, StackFull, CallDepth, NoReturn, BadCall}
@@ -120,4 +120,4 @@ pub record IsDoneMeant (it : Asking) (w : StageState) (due : Due) : Type 0 where
 abbrev pub SourcesAreMeant : Type 0
 SourcesAreMeant =
     (it : Asking) → AreLimits it.running.limits → (items : Items) (finish : Place) (due : Due) (x : IsTreeDue (words.Run it) items finish due) → x.ending.end ≡ Done →
-    IsDoneMeant it x.ending.left.world.stage x.rest
+    IsDoneMeant it x.ending.left.world.typing.stage x.rest

@@ -9,12 +9,12 @@ use Rattle.terra_term.specs.Stores.{contents_of}
 use Rattle.exotype.specs.World.{StageState}
 use Rattle.stage_text.specs.Terms.{terms_text}
 use Rattle.spec_sound.specs.Sound.{ArePlaced}
-use Rattle.check_stage.specs.declared.staging.End.{End}
-use Rattle.check_stage.specs.declared.staging.End.TheVariants.{Done, Raised, Spent}
-use Rattle.check_stage.specs.declared.staging.Mode.{Mode}
-use Rattle.check_stage.specs.declared.staging.Mode.TheVariants.{CheckAll, Exports}
-use Rattle.check_stage.specs.Staging.{Ending, outcome}
-use Rattle.check_stage.specs.Texts.{checks_text}
+use Rattle.stage_model.specs.declared.staging.End.{End}
+use Rattle.stage_model.specs.declared.staging.End.TheVariants.{Done, Raised, Spent}
+use Rattle.stage_model.specs.declared.staging.Mode.{Mode}
+use Rattle.stage_model.specs.declared.staging.Mode.TheVariants.{CheckAll, Exports}
+use Rattle.stage_model.specs.Staging.{Ending, outcome}
+use Rattle.stage_model.specs.Texts.{checks_text}
 use Rattle.back_end.specs.Compiled.{IsCompiled}
 use Rattle.terrac_call.specs.declared.status.Status.TheVariants as statuses
 use Rattle.terrac_call.specs.Words.{Limits, Task, Check, Terms, Emit, Run}
@@ -57,10 +57,10 @@ pub record IsFileDue (limits : Limits) (w : StageState) (due : Due) : Type 0 whe
 
 -- a line for each check; the exports with their terms; the image's file; or a call of the image
 abbrev pub IsDone : Task → Ending → Due → Type 0
-IsDone (Check limits) it due = due ≡ given (checks_text it.left.world.stage it.lines)
-IsDone (Terms limits) it due = due ≡ given (terms_text it.left.world.stage.store it.left.world.stage.exports.list)
-IsDone (Emit limits) it due = IsFileDue limits it.left.world.stage due
-IsDone (Run asking) it due = IsImageDue asking it.left.world.stage due
+IsDone (Check limits) it due = due ≡ given (checks_text it.left.world.typing.stage it.lines)
+IsDone (Terms limits) it due = due ≡ given (terms_text it.left.world.typing.stage.store it.left.world.typing.stage.exports.list)
+IsDone (Emit limits) it due = IsFileDue limits it.left.world.typing.stage due
+IsDone (Run asking) it due = IsImageDue asking it.left.world.typing.stage due
 
 -- whatever the end, that or the line of the refusal
 abbrev pub IsEndDue : Task → Ending → End → Due → Type 0
@@ -79,7 +79,7 @@ pub record IsTreeDueBy (IsRest : Task → Ending → Due → Type 0) (task : Tas
   pub comes : outcome items finish (mode_of task) n (limits_of task).budget (bytes_of (limits_of task).memory) ≡ Some ending
   pub rest : Due
   pub rest_is : IsRest task ending rest
-  pub is : due ≡ told task ending.left.world.stage.heap.printed rest
+  pub is : due ≡ told task ending.left.world.typing.stage.heap.printed rest
 
 abbrev pub IsRestDue : Task → Ending → Due → Type 0
 IsRestDue task it rest = IsEndDue task it it.end rest

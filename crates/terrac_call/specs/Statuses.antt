@@ -17,7 +17,7 @@ use Rattle.terrac_call.specs.declared.status.Status.{Status}
 use Rattle.terrac_call.specs.declared.status.Status.TheVariants.{Ok, Usage, Syntax, Raised, BudgetSpent, NoEntry}
 use Rattle.terrac_call.specs.declared.status.Status.TheVariants.{BadArgument, Fault, Unfinished, BadImage, ReadFault}
 use Rattle.terrac_call.specs.declared.status.Status.TheVariants.{WriteFault, NoMemory, MachineFault, BadAssembly}
-use Rattle.check_stage.specs.Texts.{place_text}
+use Rattle.stage_model.specs.Texts.{place_text}
 
 abbrev pub code_of : Status → ℕ
 code_of Ok = 0

@@ -4,7 +4,7 @@ ghost use Rattle.std.specs.Prelude.{◌≡◌, IfOk, string_bytes};
 ghost use Rattle.tl_tree.specs.Arena.{items_of, end_of as finish_of};
 ghost use Rattle.tl_base.specs.Limits.{IsLimits};
 ghost use Rattle.terra_term.specs.Stores.{contents_of};
-ghost use Rattle.check_stage.specs.Staging.{Ending};
+ghost use Rattle.stage_model.specs.Staging.{Ending};
 ghost use Rattle.elf_image.specs.Calls.{symbol_named};
 ghost use Rattle.elf_image.specs.Lawful.{IsLawful};
 ghost use Rattle.elf_image.specs.Written as files;
@@ -27,11 +27,12 @@ use crate::lines::{no_memory_due, raised_due, spent_due, syntax_due};
 use crate::parsing::{Parsed, parse_source};
 use crate::status::Status;
 use crate::words::{Asking, Limits, Task};
-use check_stage::{End, Written, stage_checks, stage_terms};
 use elf_image::{Image, write};
 use gen_source::generate;
 use spec_sound::places_fit;
 use stage_image::{Emitted, Made, stage_exports};
+use stage_loop::{stage_checks, stage_terms};
+use stage_model::{End, Written};
 use std::alloc::Global;
 use tl_base::{Bytes, Limits as StagingLimits, NoMemory};
 use tl_tree::Tree;
@@ -140,8 +141,8 @@ fn end_due(alloc: Global, end: End, lines: Bytes) -> Result<Due, NoMemory>
 fn emitted_work(alloc: Global, task: &Task<'_>, emitted: Emitted) -> Work
     requires made { IsLawfulMade emitted.end }
     requires compiles { Compiles (shown_task task.now) }
-    ensures { (it : Ending) → emitted.functions ≡ defined_count it.left.world.stage.store
-        → IsMade it.left.world.stage (bytes_of (limits_of (shown_task task.now)).memory) it.end emitted.end
+    ensures { (it : Ending) → emitted.functions ≡ defined_count it.left.world.typing.stage.store
+        → IsMade it.left.world.typing.stage (bytes_of (limits_of (shown_task task.now)).memory) it.end emitted.end
         → (rest : DueOf) × IsRestOwed (shown_task task.now) it rest × (due_of_work result ≡ told (shown_task task.now) emitted.printed rest) }
 {
     let Emitted {
@@ -170,8 +171,8 @@ fn stream_of(task: &Task<'_>) -> Stream
 fn made_or_no_memory(alloc: Global, task: &Task<'_>, functions: u64, end: Made) -> Rest
     requires made { IsLawfulMade end }
     requires compiles { Compiles (shown_task task.now) }
-    ensures { (it : Ending) → functions ≡ defined_count it.left.world.stage.store
-        → IsMade it.left.world.stage (bytes_of (limits_of (shown_task task.now)).memory) it.end end
+    ensures { (it : Ending) → functions ≡ defined_count it.left.world.typing.stage.store
+        → IsMade it.left.world.typing.stage (bytes_of (limits_of (shown_task task.now)).memory) it.end end
         → IsRestOwed (shown_task task.now) it (due_of_rest result) }
 {
     match made(alloc, task, functions, end) {
@@ -184,8 +185,8 @@ fn made_or_no_memory(alloc: Global, task: &Task<'_>, functions: u64, end: Made) 
 fn made(alloc: Global, task: &Task<'_>, functions: u64, end: Made) -> Result<Rest, NoMemory>
     requires made { IsLawfulMade end }
     requires compiles { Compiles (shown_task task.now) }
-    ensures { IfOk result (λ rest. (it : Ending) → functions ≡ defined_count it.left.world.stage.store
-        → IsMade it.left.world.stage (bytes_of (limits_of (shown_task task.now)).memory) it.end end
+    ensures { IfOk result (λ rest. (it : Ending) → functions ≡ defined_count it.left.world.typing.stage.store
+        → IsMade it.left.world.typing.stage (bytes_of (limits_of (shown_task task.now)).memory) it.end end
         → IsRestDue (shown_task task.now) it (due_of_rest rest)) }
 {
     match end {
@@ -208,9 +209,9 @@ fn image_rest(
 ) -> Result<Rest, NoMemory>
     requires lawful { IsLawful image.now }
     requires compiles { Compiles (shown_task task.now) }
-    ensures { IfOk result (λ rest. (it : Ending) → functions ≡ defined_count it.left.world.stage.store
-        → IsCompiled (contents_of it.left.world.stage.store) (bytes_of (limits_of (shown_task task.now)).memory)
-        it.left.world.stage.exports.list image.now
+    ensures { IfOk result (λ rest. (it : Ending) → functions ≡ defined_count it.left.world.typing.stage.store
+        → IsCompiled (contents_of it.left.world.typing.stage.store) (bytes_of (limits_of (shown_task task.now)).memory)
+        it.left.world.typing.stage.exports.list image.now
         → IsDone (shown_task task.now) it (due_of_rest rest)) }
 {
     match task {

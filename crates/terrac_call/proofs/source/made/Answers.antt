@@ -19,7 +19,7 @@ returns-in-Image c =
     let memory = bytes_of (limits_of task).memory in
     IfOk-weaker c.image_rest.result _ _
     (λ rest h. λ it count made. image_end task it memory it.end c.in-Image.image (due_of_rest rest)
-    (subst (λ (m : Made). IsMade it.left.world.stage memory it.end m) c.in-Image.is made) (λ compiled. h it count compiled))
+    (subst (λ (m : Made). IsMade it.left.world.typing.stage memory it.end m) c.in-Image.is made) (λ compiled. h it count compiled))
     c.image_rest.ensures
 
 pub returns-in_ok-due-in-Raised : goal.returns-in_ok-due-in-Raised
@@ -28,11 +28,11 @@ returns-in_ok-due-in-Raised c = λ it count made.
     let memory = bytes_of (limits_of task).memory in
     subst (λ (due : Due). IsRestDue task it due) (sym c.in_ok-due-in-Raised.ensures)
     (raised_end task it memory it.end c.in-Raised.text c.in-Raised.place
-    (subst (λ (m : Made). IsMade it.left.world.stage memory it.end m) c.in-Raised.is made))
+    (subst (λ (m : Made). IsMade it.left.world.typing.stage memory it.end m) c.in-Raised.is made))
 
 pub returns-in-Spent : goal.returns-in-Spent
 returns-in-Spent c = λ it count made.
     let task = shown_task c.args.task.now in
     let memory = bytes_of (limits_of task).memory in
     subst (λ (due : Due). IsRestDue task it due) (sym c.spent_due.ensures)
-    (spent_end task it memory it.end (subst (λ (m : Made). IsMade it.left.world.stage memory it.end m) c.in-Spent.is made))
+    (spent_end task it memory it.end (subst (λ (m : Made). IsMade it.left.world.typing.stage memory it.end m) c.in-Spent.is made))

@@ -1,7 +1,7 @@
 use Rattle.std.proofs.Common.{◌≡◌, ◌⊎◌, inl, inr, ap}
 use Rattle.std.proofs.lemmas.Result.{IfOk-weaker}
 use Rattle.tl_tree.specs.Arena.{items_of, end_of}
-use Rattle.check_stage.specs.declared.staging.Mode.TheVariants.{Exports}
+use Rattle.stage_model.specs.declared.staging.Mode.TheVariants.{Exports}
 use Rattle.terrac_call.specs.declared.words.Asking.{Asking}
 use Rattle.terrac_call.specs.declared.words.Limits.{Limits}
 use Rattle.terrac_call.specs.declared.words.Task.{Task}
@@ -33,7 +33,7 @@ returns-in_ok-written-in-Terms c =
 pub emitted_work-requires-clause-made : goal.emitted_work-requires-clause-made
 emitted_work-requires-clause-made c =
     let are = c.in_ok-emitted-in-Emit.ensures in
-    lawful_made are.ending.left.world.stage c.limits_of-limits.result.memory are.ending.end c.in_ok-emitted-in-Emit.emitted.end are.end
+    lawful_made are.ending.left.world.typing.stage c.limits_of-limits.result.memory are.ending.end c.in_ok-emitted-in-Emit.emitted.end are.end
 
 -- a task that compiles stages for exports
 exports-of : (task : Task) → ((x : Limits) × (task ≡ tasks.Emit x)) ⊎ ((x : Asking) × (task ≡ tasks.Run x)) → mode_of (shown_task task) ≡ Exports

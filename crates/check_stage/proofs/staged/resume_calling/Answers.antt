@@ -1,7 +1,0 @@
-use Rattle.terra_stage.proofs.Turning.{asks}
-use Rattle.check_stage.specs.Layers.{asking_fitting}
-use Rattle.check_stage.proofs.staged.resume_calling.Goals as goal
-
-pub returns-clause-ends : goal.returns-clause-ends
-returns-clause-ends c =
-    rw c.asking_turn.ensures (asks asking_fitting c.in_ok-turn.turn _ _ (λ q none. none) c.in_ok-turn.ensures.ends)

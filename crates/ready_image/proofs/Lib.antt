@@ -1,0 +1,4 @@
+pub mod Called
+pub mod Compiling
+pub mod Few
+pub mod Plains

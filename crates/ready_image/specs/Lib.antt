@@ -1,0 +1,2 @@
+-- What compiling asks of a store.
+pub mod Ready

@@ -1,0 +1,2 @@
+-- Layers that are suspended.
+pub mod Layers

@@ -1,0 +1,13 @@
+-- The promise: the outcome of a source's staging.
+pub mod Staging
+-- What is written of it.
+pub mod Texts
+pub mod Places
+-- The stage: its world, and what each question means.
+pub mod Stage
+pub mod World
+-- Calls of Terra functions by Lua code: as they are answered yet, and in the six steps in which they will run.
+pub mod Calling
+pub mod Calls
+-- What Lua code and Terra functions give one another.
+pub mod Words
