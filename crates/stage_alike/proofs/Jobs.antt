@@ -29,9 +29,9 @@ use Rattle.stage_library.specs.declared.tasks.Task.{Task}
 use Rattle.stage_library.specs.declared.tasks.Task.TheVariants as tasks
 use Rattle.stage_library.specs.Library as of_library
 use Rattle.stage_library.specs.Types.{type_asked, type_turned}
-use Rattle.terra_stage.specs.declared.asked.Asked.{Asked as TaskAsked}
-use Rattle.terra_stage.specs.declared.asked.Asked.TheVariants as of_tasks
-use Rattle.terra_stage.specs.Layers.{lua_fitting, spec_fitting, library_fitting, lua_asks, spec_asks, task_meaning}
+use Rattle.stage_code.specs.declared.asked.Asked.{Asked as TaskAsked}
+use Rattle.stage_code.specs.declared.asked.Asked.TheVariants as of_tasks
+use Rattle.stage_code.specs.Layers.{lua_fitting, spec_fitting, library_fitting, lua_asks, spec_asks, task_meaning}
 use Rattle.check_library.specs.declared.ask.AskTurn.{AskTurn}
 use Rattle.check_library.specs.declared.ask.AskTurn.TheVariants as asks
 use Rattle.check_library.specs.declared.ask.AskNext.{AskNext}
@@ -48,20 +48,20 @@ use Rattle.check_model.specs.Bodies.{body}
 use Rattle.check_model.specs.Checks.{check}
 use Rattle.check_model.specs.Layouts.{layout}
 use Rattle.check_library.specs.Calls.{asks as may_ask}
-use Rattle.check_stage.specs.declared.jobs.Job.{Job}
-use Rattle.check_stage.specs.declared.jobs.Job.TheVariants as jobs
-use Rattle.check_stage.specs.declared.jobs.JobEnd.{JobEnd}
-use Rattle.check_stage.specs.declared.jobs.Asked.{Asked}
-use Rattle.check_stage.specs.declared.jobs.Asked.TheVariants as asked
-use Rattle.check_stage.specs.declared.asking.Asker.{Asker}
-use Rattle.check_stage.specs.declared.asking.Asker.TheVariants as begins
-use Rattle.check_stage.specs.Asking as of_asking
-use Rattle.check_stage.specs.Asking.{called, exporting}
-use Rattle.check_stage.specs.Results.{result_meaning}
+use Rattle.stage_check.specs.declared.jobs.Job.{Job}
+use Rattle.stage_check.specs.declared.jobs.Job.TheVariants as jobs
+use Rattle.stage_check.specs.declared.jobs.JobEnd.{JobEnd}
+use Rattle.stage_check.specs.declared.jobs.Asked.{Asked}
+use Rattle.stage_check.specs.declared.jobs.Asked.TheVariants as asked
+use Rattle.stage_check.specs.declared.asking.Asker.{Asker}
+use Rattle.stage_check.specs.declared.asking.Asker.TheVariants as begins
+use Rattle.stage_check.specs.Asking as of_asking
+use Rattle.stage_check.specs.Asking.{called, exporting}
+use Rattle.stage_check.specs.Results.{result_meaning}
 use Rattle.stage_model.specs.Calling.{raised, refusing}
 use Rattle.stage_model.specs.Stage.{typing_meaning, checking_fitting, stage}
-use Rattle.check_stage.specs.Layers.{stage_fitting, asking_fitting, body_fitting, result_fitting, check_fitting, layout_fitting}
-use Rattle.check_stage.specs.Layers.{stage_asks, body_asks, check_asks, layout_asks, job_of, job_meaning}
+use Rattle.stage_check.specs.Layers.{stage_fitting, asking_fitting, body_fitting, result_fitting, check_fitting, layout_fitting}
+use Rattle.stage_check.specs.Layers.{stage_asks, body_asks, check_asks, layout_asks, job_of, job_meaning}
 
 -- ---- what is asked for
 

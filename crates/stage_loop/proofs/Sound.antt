@@ -4,9 +4,9 @@ use Rattle.stage_form.specs.declared.staging.Outcome.{Outcome}
 use Rattle.stage_form.specs.declared.staging.Outcome.TheVariants.{Ends, Spent}
 use Rattle.stage_form.specs.Holding.{OnEnds}
 use Rattle.check_sound.specs.Sound.{IsSound}
-use Rattle.check_stage.specs.declared.jobs.Asked.{Asked}
-use Rattle.check_stage.specs.declared.jobs.JobEnd.{JobEnd}
-use Rattle.check_stage.specs.declared.jobs.JobEnd.TheVariants as ends
+use Rattle.stage_check.specs.declared.jobs.Asked.{Asked}
+use Rattle.stage_check.specs.declared.jobs.JobEnd.{JobEnd}
+use Rattle.stage_check.specs.declared.jobs.JobEnd.TheVariants as ends
 use Rattle.stage_model.specs.Stage.{StagingState}
 use Rattle.stage_model.specs.Staging.{gave_values}
 use Rattle.stage_sound.specs.Jobs.{Left}

@@ -2,9 +2,9 @@
 use Rattle.std.proofs.Common.{◌≡◌, refl}
 use Rattle.tl_base.specs.declared.turn.Turn.{Turn}
 use Rattle.tl_base.specs.declared.turn.Turn.TheVariants.{End, Ask, Spent}
-use Rattle.terra_stage.specs.Layers.{turn_within}
-use Rattle.check_stage.specs.declared.jobs.Asked.{Asked}
-use Rattle.check_stage.specs.declared.jobs.JobEnd.{JobEnd}
+use Rattle.stage_code.specs.Layers.{turn_within}
+use Rattle.stage_check.specs.declared.jobs.Asked.{Asked}
+use Rattle.stage_check.specs.declared.jobs.JobEnd.{JobEnd}
 use Rattle.stage_model.specs.Stage.{checking_fitting}
 
 -- a job stops in the stage where it stops

@@ -2,10 +2,10 @@
 use Rattle.tl_base.specs.Layer.{Meaning, Given}
 use Rattle.stage_form.specs.Within.{given_part, within}
 use Rattle.check_model.specs.declared.question.CheckAnswer.{CheckAnswer}
-use Rattle.check_stage.specs.declared.jobs.Asked.{Asked}
-use Rattle.check_stage.specs.declared.jobs.JobEnd.{JobEnd}
-use Rattle.check_stage.specs.Keeping.{KeepsChecking}
-use Rattle.check_stage.specs.Layers.{rest as job_rest, Fits as JobFits}
+use Rattle.stage_check.specs.declared.jobs.Asked.{Asked}
+use Rattle.stage_check.specs.declared.jobs.JobEnd.{JobEnd}
+use Rattle.stage_check.specs.Keeping.{KeepsChecking}
+use Rattle.stage_check.specs.Layers.{rest as job_rest, Fits as JobFits}
 use Rattle.stage_model.specs.Calling.{calling}
 use Rattle.stage_model.specs.Stage.{StagingState, checking_fitting}
 use Rattle.stage_loop.specs.declared.staged.Layered.{Layered}

@@ -6,17 +6,17 @@ ghost use Rattle.lua_ops.specs.Faults.{fault_text};
 ghost use Rattle.exotype.specs.World.{StageState};
 ghost use Rattle.terra_lib.specs.Answers.{turned};
 ghost use Rattle.stage_library.specs.Keeping.{KeepsStaging};
-ghost use Rattle.check_stage.specs.Keeping.{KeepsChecking};
-ghost use Rattle.check_stage.specs.Layers.{JobGiven};
+ghost use Rattle.stage_check.specs.Keeping.{KeepsChecking};
+ghost use Rattle.stage_check.specs.Layers.{JobGiven};
 ghost use Rattle.stage_model.specs.Calling.{raised, refusing, calling};
 
 use check_model::{CheckAnswer, Typing};
-use check_stage::asking::end_of;
-use check_stage::staged::asking_turn;
-use check_stage::{Asked, Job, JobEnd};
 use exotype::World;
 use lua_ops::Fault;
 use lua_table::LibTurn;
+use stage_check::asking::end_of;
+use stage_check::staged::asking_turn;
+use stage_check::{Asked, Job, JobEnd};
 use tl_base::{Budget, NoMemory, Place, Turn};
 
 /// Refuses a call of a Terra function by Lua code at a place, whatever begins that.

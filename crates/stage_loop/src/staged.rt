@@ -7,7 +7,7 @@ ghost use Rattle.tl_tree.specs.Arena.{items_of};
 ghost use Rattle.lua_eval.specs.Slots.{ArePaths};
 ghost use Rattle.spec_sound.specs.Sound.{ArePlaced};
 ghost use Rattle.check_expr.specs.Frames.{is_go};
-ghost use Rattle.check_stage.specs.Layers.{rest as job_rest, Fits as JobFits};
+ghost use Rattle.stage_check.specs.Layers.{rest as job_rest, Fits as JobFits};
 ghost use Rattle.stage_model.specs.Calling.{calling};
 ghost use Rattle.stage_model.specs.Stage.{checking_fitting};
 ghost use Rattle.stage_loop.specs.Layers.{StagingGiven, Keeps};
@@ -15,8 +15,8 @@ ghost use Rattle.stage_loop.specs.Layers.{StagingGiven, Keeps};
 use crate::calling::resume_calling;
 use crate::world::Staging;
 use check_model::CheckAnswer;
-use check_stage::jobs::answer_of;
-use check_stage::{Asked, CheckStage, JobEnd, Staged as JobLayer};
+use stage_check::jobs::answer_of;
+use stage_check::{Asked, CheckStage, JobEnd, Staged as JobLayer};
 use stage_form::Stages;
 use std::alloc::Global;
 use tl_base::{Budget, Layer, NoMemory, Place, Turn};
@@ -131,7 +131,7 @@ impl<'a> Stagings<'a> {
 
 impl<'a> Stages for Stagings<'a> {
     ghost use Rattle.stage_library.proofs.Keeping.{keeps_itself, keeps_then};
-    ghost use Rattle.check_stage.specs.Layers.{ends_follow};
+    ghost use Rattle.stage_check.specs.Layers.{ends_follow};
     ghost use Rattle.stage_model.specs.Stage.{stage};
     ghost use Rattle.stage_sound.specs.Jobs.{Begun, Left};
     ghost use Rattle.stage_sound.proofs.Promises.{stages_hold_sound};

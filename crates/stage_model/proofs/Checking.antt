@@ -7,12 +7,12 @@ use Rattle.stage_form.specs.Stage.{Final, Finished, Exhausted}
 use Rattle.stage_form.proofs.Reaching.{fed-more}
 use Rattle.tl_tree.specs.Code.{Items}
 use Rattle.spec_model.specs.Making.{is_undefined}
-use Rattle.check_stage.specs.declared.jobs.Job.{Job}
-use Rattle.check_stage.specs.declared.jobs.Job.TheVariants as jobs
-use Rattle.check_stage.specs.declared.jobs.JobEnd.{JobEnd}
-use Rattle.check_stage.specs.declared.jobs.JobEnd.TheVariants as ends
+use Rattle.stage_check.specs.declared.jobs.Job.{Job}
+use Rattle.stage_check.specs.declared.jobs.Job.TheVariants as jobs
+use Rattle.stage_check.specs.declared.jobs.JobEnd.{JobEnd}
+use Rattle.stage_check.specs.declared.jobs.JobEnd.TheVariants as ends
 use Rattle.stage_model.specs.declared.staging.CheckLine.{CheckLine}
-use Rattle.check_stage.specs.declared.jobs.Asked.TheVariants as asked
+use Rattle.stage_check.specs.declared.jobs.Asked.TheVariants as asked
 use Rattle.stage_model.specs.Stage.{StagingState, stage, job_staged}
 use Rattle.stage_model.specs.Staging.{Checked, checked_with, after_check, checks, line_of}
 

@@ -6,10 +6,10 @@ use Rattle.stage_form.specs.declared.staging.Outcome.{Outcome as Staging}
 use Rattle.stage_form.specs.declared.staging.Outcome.TheVariants as stagings
 use Rattle.stage_form.specs.Stage.{Final, Finished, final_of}
 use Rattle.tl_tree.specs.Code.{Items}
-use Rattle.check_stage.specs.declared.jobs.Job.{Job}
-use Rattle.check_stage.specs.declared.jobs.Job.TheVariants as jobs
-use Rattle.check_stage.specs.declared.jobs.JobEnd.{JobEnd}
-use Rattle.check_stage.specs.declared.jobs.JobEnd.TheVariants as ends
+use Rattle.stage_check.specs.declared.jobs.Job.{Job}
+use Rattle.stage_check.specs.declared.jobs.Job.TheVariants as jobs
+use Rattle.stage_check.specs.declared.jobs.JobEnd.{JobEnd}
+use Rattle.stage_check.specs.declared.jobs.JobEnd.TheVariants as ends
 use Rattle.stage_model.specs.declared.staging.CheckLine.{CheckLine}
 use Rattle.stage_model.specs.declared.staging.Mode.{Mode}
 use Rattle.stage_model.specs.declared.staging.Mode.TheVariants.{Exports, CheckAll}

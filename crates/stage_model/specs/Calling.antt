@@ -10,11 +10,11 @@ use Rattle.exotype.specs.World.{StageState}
 use Rattle.terra_lib.specs.Answers.{Turned, on_heap}
 use Rattle.check_model.specs.declared.question.CheckAnswer.{CheckAnswer}
 use Rattle.check_model.specs.Typing.{TypingState}
-use Rattle.check_stage.specs.declared.jobs.Asked.{Asked}
-use Rattle.check_stage.specs.declared.jobs.Job.{Job}
-use Rattle.check_stage.specs.declared.jobs.JobEnd.{JobEnd}
-use Rattle.check_stage.specs.Asking.{end_seen}
-use Rattle.check_stage.specs.Layers.{asking_fitting}
+use Rattle.stage_check.specs.declared.jobs.Asked.{Asked}
+use Rattle.stage_check.specs.declared.jobs.Job.{Job}
+use Rattle.stage_check.specs.declared.jobs.JobEnd.{JobEnd}
+use Rattle.stage_check.specs.Asking.{end_seen}
+use Rattle.stage_check.specs.Layers.{asking_fitting}
 
 -- a fault of Lua code, which is raised with its place before its text, and paid for
 abbrev pub raised : State StageState → Place → Fault → Turned

@@ -27,12 +27,12 @@ use Rattle.check_model.specs.declared.question.CheckAnswer.TheVariants as answer
 use Rattle.check_library.specs.Answers.{refused}
 use Rattle.check_library.specs.Counting.{nothing, count_function}
 use Rattle.check_library.specs.Exports.{place_of_function}
-use Rattle.check_stage.specs.declared.jobs.Asked.{Asked}
-use Rattle.check_stage.specs.declared.jobs.Asked.TheVariants as asked
-use Rattle.check_stage.specs.declared.jobs.Job.TheVariants as jobs
-use Rattle.check_stage.specs.declared.jobs.JobEnd.{JobEnd}
-use Rattle.check_stage.specs.declared.jobs.JobEnd.TheVariants as ends
-use Rattle.check_stage.specs.Layers.{with_stage}
+use Rattle.stage_check.specs.declared.jobs.Asked.{Asked}
+use Rattle.stage_check.specs.declared.jobs.Asked.TheVariants as asked
+use Rattle.stage_check.specs.declared.jobs.Job.TheVariants as jobs
+use Rattle.stage_check.specs.declared.jobs.JobEnd.{JobEnd}
+use Rattle.stage_check.specs.declared.jobs.JobEnd.TheVariants as ends
+use Rattle.stage_check.specs.Layers.{with_stage}
 use Rattle.stage_model.specs.Places.{place_text}
 use Rattle.stage_model.specs.World.{StagingState}
 use Rattle.stage_model.specs.Words.{Taken, Words, Bad, is_callable, taken, values_of}

@@ -7,11 +7,11 @@ use Rattle.tl_tree.specs.Code.{Items}
 use Rattle.check_model.specs.declared.question.CheckAnswer.{CheckAnswer}
 use Rattle.check_model.specs.declared.question.CheckAnswer.TheVariants.{Go}
 use Rattle.check_model.specs.Typing.{TypingState}
-use Rattle.check_stage.specs.declared.jobs.Asked.{Asked}
-use Rattle.check_stage.specs.declared.jobs.Asked.TheVariants as asked
-use Rattle.check_stage.specs.declared.jobs.Job.{Job}
-use Rattle.check_stage.specs.declared.jobs.JobEnd.{JobEnd}
-use Rattle.check_stage.specs.Layers.{job_meaning, answer_of}
+use Rattle.stage_check.specs.declared.jobs.Asked.{Asked}
+use Rattle.stage_check.specs.declared.jobs.Asked.TheVariants as asked
+use Rattle.stage_check.specs.declared.jobs.Job.{Job}
+use Rattle.stage_check.specs.declared.jobs.JobEnd.{JobEnd}
+use Rattle.stage_check.specs.Layers.{job_meaning, answer_of}
 use Rattle.stage_model.specs.Calling.{calling}
 use Rattle.stage_model.specs.World.{with_typing}
 pub use Rattle.stage_model.specs.World.{TerraRun, StagingState}

@@ -20,9 +20,9 @@ use Rattle.exotype.specs.World as worlds
 use Rattle.spec_model.specs.Making.{is_undefined}
 use Rattle.stage_library.specs.declared.tasks.Task.TheVariants.{Evaluate}
 use Rattle.terra_lib.specs.Opening as library
-use Rattle.check_stage.specs.declared.jobs.Job.TheVariants as jobs
-use Rattle.check_stage.specs.declared.jobs.JobEnd.{JobEnd}
-use Rattle.check_stage.specs.declared.jobs.JobEnd.TheVariants as ends
+use Rattle.stage_check.specs.declared.jobs.Job.TheVariants as jobs
+use Rattle.stage_check.specs.declared.jobs.JobEnd.{JobEnd}
+use Rattle.stage_check.specs.declared.jobs.JobEnd.TheVariants as ends
 use Rattle.stage_model.specs.declared.staging.CheckLine.{CheckLine}
 use Rattle.stage_model.specs.declared.staging.End.{End}
 use Rattle.stage_model.specs.declared.staging.End.TheVariants.{Done, Raised, Spent}

@@ -23,17 +23,17 @@ use Rattle.check_sound.specs.Growing.{WasReady}
 use Rattle.check_sound.specs.Layers.{ReachesReady}
 use Rattle.check_sound.proofs.Grows.{grows-itself}
 use Rattle.library_sound.specs.Leaving.{AskIsFine, AsksSound, FitsAsk}
-use Rattle.check_stage.specs.declared.jobs.Job.{Job}
-use Rattle.check_stage.specs.declared.jobs.Job.TheVariants as jobs
-use Rattle.check_stage.specs.declared.jobs.Asked.{Asked}
-use Rattle.check_stage.specs.declared.jobs.Asked.TheVariants as asked
-use Rattle.check_stage.specs.declared.jobs.JobEnd.{JobEnd}
-use Rattle.check_stage.specs.declared.jobs.JobEnd.TheVariants as ends
-use Rattle.check_stage.specs.declared.asking.Asker.{Asker}
-use Rattle.check_stage.specs.declared.asking.Asker.TheVariants as begins
-use Rattle.check_stage.specs.Asking.{begun, place_of, end_seen, turn_seen, asking_seen, asking_going}
+use Rattle.stage_check.specs.declared.jobs.Job.{Job}
+use Rattle.stage_check.specs.declared.jobs.Job.TheVariants as jobs
+use Rattle.stage_check.specs.declared.jobs.Asked.{Asked}
+use Rattle.stage_check.specs.declared.jobs.Asked.TheVariants as asked
+use Rattle.stage_check.specs.declared.jobs.JobEnd.{JobEnd}
+use Rattle.stage_check.specs.declared.jobs.JobEnd.TheVariants as ends
+use Rattle.stage_check.specs.declared.asking.Asker.{Asker}
+use Rattle.stage_check.specs.declared.asking.Asker.TheVariants as begins
+use Rattle.stage_check.specs.Asking.{begun, place_of, end_seen, turn_seen, asking_seen, asking_going}
 use Rattle.stage_model.specs.Calling.{raised, refusing, calling}
-use Rattle.check_stage.specs.Layers.{answer_of, with_stage, asking_fitting}
+use Rattle.stage_check.specs.Layers.{answer_of, with_stage, asking_fitting}
 use Rattle.stage_form.specs.Holding.{IsBackFor, Shows, Holds}
 use Rattle.stage_sound.specs.Jobs.{Begins, Says, Leaves, Came}
 use Rattle.stage_sound.proofs.Layers.{LayersKeep}

@@ -41,14 +41,14 @@ use Rattle.check_sound.specs.Layers.{IsCheckBack, IsCheckBackFor, IsCheckedAs, C
 use Rattle.check_sound.specs.Layers as laws
 use Rattle.check_sound.proofs.Foreseen.{body-result}
 use Rattle.check_sound.proofs.Leading.{leads-itself}
-use Rattle.check_stage.specs.declared.jobs.Job.{Job}
-use Rattle.check_stage.specs.declared.jobs.Asked.TheVariants as asked
-use Rattle.check_stage.specs.declared.jobs.Job.TheVariants as jobs
-use Rattle.check_stage.specs.declared.jobs.JobEnd.{JobEnd}
-use Rattle.check_stage.specs.declared.jobs.JobEnd.TheVariants as ends
-use Rattle.check_stage.specs.Layers.{answer_of, with_stage, job_meaning, check_fitting, check_asks, check_end, body_fitting}
-use Rattle.check_stage.specs.Layers.{body_asks, body_end, result_fitting, layout_fitting, layout_asks, layout_end}
-use Rattle.check_stage.specs.Results.{result_meaning, result_by, result_seen}
+use Rattle.stage_check.specs.declared.jobs.Job.{Job}
+use Rattle.stage_check.specs.declared.jobs.Asked.TheVariants as asked
+use Rattle.stage_check.specs.declared.jobs.Job.TheVariants as jobs
+use Rattle.stage_check.specs.declared.jobs.JobEnd.{JobEnd}
+use Rattle.stage_check.specs.declared.jobs.JobEnd.TheVariants as ends
+use Rattle.stage_check.specs.Layers.{answer_of, with_stage, job_meaning, check_fitting, check_asks, check_end, body_fitting}
+use Rattle.stage_check.specs.Layers.{body_asks, body_end, result_fitting, layout_fitting, layout_asks, layout_end}
+use Rattle.stage_check.specs.Results.{result_meaning, result_by, result_seen}
 use Rattle.stage_form.specs.Holding.{IsBackFor, Shows, Holds}
 use Rattle.stage_sound.specs.Jobs.{Begins, Says, Leaves, Came}
 use Rattle.stage_sound.proofs.Layers.{LayersKeep}

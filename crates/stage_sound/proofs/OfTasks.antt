@@ -29,12 +29,12 @@ use Rattle.stage_library.specs.declared.tasks.Task.{Task}
 use Rattle.stage_library.specs.declared.tasks.Task.TheVariants as tasks
 use Rattle.stage_library.specs.Library.{library}
 use Rattle.stage_library.specs.Types.{type_asked}
-use Rattle.terra_stage.specs.declared.asked.Asked.{Asked}
-use Rattle.terra_stage.specs.declared.asked.Asked.TheVariants as of_tasks
-use Rattle.terra_stage.specs.Layers.{lua_fitting, spec_fitting, library_fitting, task_meaning}
-use Rattle.check_stage.specs.declared.jobs.Job.TheVariants as jobs
-use Rattle.check_stage.specs.declared.jobs.Asked.TheVariants as asked
-use Rattle.check_stage.specs.Layers.{with_stage, stage_fitting, stage_asks, job_of, lua_end}
+use Rattle.stage_code.specs.declared.asked.Asked.{Asked}
+use Rattle.stage_code.specs.declared.asked.Asked.TheVariants as of_tasks
+use Rattle.stage_code.specs.Layers.{lua_fitting, spec_fitting, library_fitting, task_meaning}
+use Rattle.stage_check.specs.declared.jobs.Job.TheVariants as jobs
+use Rattle.stage_check.specs.declared.jobs.Asked.TheVariants as asked
+use Rattle.stage_check.specs.Layers.{with_stage, stage_fitting, stage_asks, job_of, lua_end}
 use Rattle.stage_form.specs.Holding.{IsBackFor, Shows, Holds}
 use Rattle.stage_sound.specs.Jobs.{Begins, IsMeant, Leaves, Came}
 use Rattle.stage_sound.proofs.Layers.{LayersKeep}

@@ -19,11 +19,11 @@ use Rattle.check_sound.proofs.Tests.{none-some}
 use Rattle.check_sound.proofs.Grows.{grows-itself}
 use Rattle.check_sound.proofs.Leading.{leads-itself, leads-twice}
 use Rattle.stage_library.specs.declared.tasks.Task.TheVariants.{Evaluate}
-use Rattle.check_stage.specs.declared.jobs.Job.{Job}
-use Rattle.check_stage.specs.declared.jobs.Job.TheVariants as jobs
-use Rattle.check_stage.specs.declared.jobs.Asked.TheVariants as asked
-use Rattle.check_stage.specs.declared.jobs.JobEnd.{JobEnd}
-use Rattle.check_stage.specs.declared.jobs.JobEnd.TheVariants as ends
+use Rattle.stage_check.specs.declared.jobs.Job.{Job}
+use Rattle.stage_check.specs.declared.jobs.Job.TheVariants as jobs
+use Rattle.stage_check.specs.declared.jobs.Asked.TheVariants as asked
+use Rattle.stage_check.specs.declared.jobs.JobEnd.{JobEnd}
+use Rattle.stage_check.specs.declared.jobs.JobEnd.TheVariants as ends
 use Rattle.stage_model.specs.declared.staging.CheckLine.{CheckLine}
 use Rattle.stage_model.specs.declared.staging.Mode.{Mode}
 use Rattle.stage_model.specs.declared.staging.Mode.TheVariants.{Exports, CheckAll}

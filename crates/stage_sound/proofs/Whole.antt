@@ -7,11 +7,11 @@ use Rattle.stage_form.specs.Within.{given_part}
 use Rattle.tl_tree.specs.Code.{Items}
 use Rattle.check_model.specs.declared.question.CheckAnswer.{CheckAnswer}
 use Rattle.check_model.specs.Typing.{TypingState}
-use Rattle.check_stage.specs.declared.jobs.Asked.{Asked}
-use Rattle.check_stage.specs.declared.jobs.Asked.TheVariants as asked
-use Rattle.check_stage.specs.declared.jobs.Job.{Job}
-use Rattle.check_stage.specs.declared.jobs.Job.TheVariants as jobs
-use Rattle.check_stage.specs.declared.jobs.JobEnd.{JobEnd}
+use Rattle.stage_check.specs.declared.jobs.Asked.{Asked}
+use Rattle.stage_check.specs.declared.jobs.Asked.TheVariants as asked
+use Rattle.stage_check.specs.declared.jobs.Job.{Job}
+use Rattle.stage_check.specs.declared.jobs.Job.TheVariants as jobs
+use Rattle.stage_check.specs.declared.jobs.JobEnd.{JobEnd}
 use Rattle.stage_model.specs.Stage.{StagingState, typing_meaning, checking_fitting, stage}
 use Rattle.stage_sound.specs.Jobs.{Begins, Leaves, Came, Begun, Left}
 use Rattle.stage_sound.proofs.Feeding.{staged-holds}

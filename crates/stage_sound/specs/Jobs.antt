@@ -16,12 +16,12 @@ use Rattle.check_library.specs.Calls.{asks}
 use Rattle.check_sound.specs.Growing.{Leads}
 use Rattle.check_sound.specs.Layers.{ReachesReady}
 use Rattle.stage_library.specs.declared.tasks.Task.TheVariants as tasks
-use Rattle.check_stage.specs.declared.jobs.Job.TheVariants as jobs
-use Rattle.check_stage.specs.declared.jobs.Asked.{Asked}
-use Rattle.check_stage.specs.declared.jobs.Asked.TheVariants as asked
-use Rattle.check_stage.specs.declared.jobs.JobEnd.{JobEnd}
-use Rattle.check_stage.specs.declared.jobs.JobEnd.TheVariants as ends
-use Rattle.check_stage.specs.Layers.{answer_of}
+use Rattle.stage_check.specs.declared.jobs.Job.TheVariants as jobs
+use Rattle.stage_check.specs.declared.jobs.Asked.{Asked}
+use Rattle.stage_check.specs.declared.jobs.Asked.TheVariants as asked
+use Rattle.stage_check.specs.declared.jobs.JobEnd.{JobEnd}
+use Rattle.stage_check.specs.declared.jobs.JobEnd.TheVariants as ends
+use Rattle.stage_check.specs.Layers.{answer_of}
 use Rattle.stage_model.specs.Stage.{StagingState}
 
 -- ---- what is demanded

@@ -12,8 +12,8 @@ use Rattle.check_sound.specs.Sound.{IsSound}
 use Rattle.check_sound.specs.Growing.{AreFine}
 use Rattle.check_sound.specs.Layers.{ReachesReady}
 use Rattle.spec_sound.specs.Sound.{ArePlaced}
-use Rattle.check_stage.specs.declared.jobs.Asked.{Asked}
-use Rattle.check_stage.specs.declared.jobs.JobEnd.{JobEnd}
+use Rattle.stage_check.specs.declared.jobs.Asked.{Asked}
+use Rattle.stage_check.specs.declared.jobs.JobEnd.{JobEnd}
 use Rattle.stage_model.specs.declared.staging.End.{End}
 use Rattle.stage_model.specs.declared.staging.End.TheVariants.{Spent}
 use Rattle.stage_model.specs.declared.staging.Mode.{Mode}

@@ -1,8 +1,8 @@
 use Rattle.std.proofs.Common.{sym, ap, ◌∙◌}
 use Rattle.tl_base.specs.Layer.{state}
 use Rattle.terra_lib.specs.Answers.{Turned}
-use Rattle.terra_stage.proofs.Turning.{unless}
-use Rattle.check_stage.specs.Asking.{end_seen}
+use Rattle.stage_code.proofs.Turning.{unless}
+use Rattle.stage_check.specs.Asking.{end_seen}
 use Rattle.stage_loop.proofs.calling.refuse_call.Goals as goal
 
 pub returns-clause-reads_no_more : goal.returns-clause-reads_no_more

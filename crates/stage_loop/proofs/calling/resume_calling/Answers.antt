@@ -1,5 +1,5 @@
-use Rattle.terra_stage.proofs.Turning.{asks}
-use Rattle.check_stage.specs.Layers.{asking_fitting}
+use Rattle.stage_code.proofs.Turning.{asks}
+use Rattle.stage_check.specs.Layers.{asking_fitting}
 use Rattle.stage_loop.proofs.calling.resume_calling.Goals as goal
 
 pub returns-clause-ends : goal.returns-clause-ends

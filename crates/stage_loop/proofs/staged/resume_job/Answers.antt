@@ -2,13 +2,13 @@ use Rattle.std.proofs.Common.{◌≡◌, List, ◌∷◌, subst}
 use Rattle.tl_base.specs.declared.turn.Turn.{Turn}
 use Rattle.tl_base.specs.Layer.{given, OnAsk}
 use Rattle.stage_form.specs.Within.{given_part, within}
-use Rattle.terra_stage.specs.Layers.{turn_within}
-use Rattle.terra_stage.proofs.Turning.{goes_on}
-use Rattle.check_stage.specs.declared.jobs.Asked.{Asked}
-use Rattle.check_stage.specs.declared.jobs.JobEnd.{JobEnd}
-use Rattle.check_stage.specs.Layers.{rest as job_rest}
+use Rattle.stage_code.specs.Layers.{turn_within}
+use Rattle.stage_code.proofs.Turning.{goes_on}
+use Rattle.stage_check.specs.declared.jobs.Asked.{Asked}
+use Rattle.stage_check.specs.declared.jobs.JobEnd.{JobEnd}
+use Rattle.stage_check.specs.Layers.{rest as job_rest}
 use Rattle.stage_library.specs.Keeping.{KeepsStaging}
-use Rattle.check_stage.proofs.Showing.{asks_more}
+use Rattle.stage_check.proofs.Showing.{asks_more}
 use Rattle.stage_model.specs.Stage.{StagingState, checking_fitting}
 use Rattle.stage_loop.specs.contracts.world.Staging.{the_view}
 use Rattle.stage_loop.specs.Layers.{StagingGiven}

@@ -5,7 +5,7 @@ use Rattle.tl_base.specs.Layer.{state}
 use Rattle.stage_form.specs.Stage.{Finished, Exhausted}
 use Rattle.tl_tree.specs.Arena.{items_of}
 use Rattle.lua_value.specs.declared.value.Value.{Value}
-use Rattle.check_stage.specs.declared.jobs.JobEnd.TheVariants as ends
+use Rattle.stage_check.specs.declared.jobs.JobEnd.TheVariants as ends
 use Rattle.stage_model.specs.Staging.{checked_with}
 use Rattle.stage_model.proofs.Checking.{checks_done, checks_passed, checks_checked, checks_spent}
 use Rattle.stage_library.proofs.Keeping.{keeps_itself, keeps_then}

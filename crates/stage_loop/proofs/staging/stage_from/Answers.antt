@@ -4,8 +4,8 @@ use Rattle.tl_tree.specs.Arena.{items_of}
 use Rattle.stage_form.specs.Stage.{final_of}
 use Rattle.lua_model.specs.declared.job.LuaJob.TheVariants.{Chunk}
 use Rattle.stage_library.specs.declared.tasks.Task.TheVariants.{Evaluate}
-use Rattle.check_stage.specs.declared.jobs.Job.TheVariants as jobs
-use Rattle.check_stage.specs.declared.jobs.Asked.TheVariants as asked
+use Rattle.stage_check.specs.declared.jobs.Job.TheVariants as jobs
+use Rattle.stage_check.specs.declared.jobs.Asked.TheVariants as asked
 use Rattle.stage_model.specs.declared.staging.End.{End}
 use Rattle.stage_model.specs.declared.staging.CheckLine.{CheckLine}
 use Rattle.stage_model.specs.Stage.{StagingState}

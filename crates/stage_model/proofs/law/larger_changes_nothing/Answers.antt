@@ -1,7 +1,7 @@
 use Rattle.tl_base.specs.Layer.{state}
 use Rattle.lua_model.specs.declared.job.LuaJob.TheVariants.{Chunk}
 use Rattle.stage_library.specs.declared.tasks.Task.TheVariants.{Evaluate}
-use Rattle.check_stage.specs.declared.jobs.Job.TheVariants as jobs
+use Rattle.stage_check.specs.declared.jobs.Job.TheVariants as jobs
 use Rattle.stage_model.specs.Stage.{job_staged}
 use Rattle.stage_model.specs.Staging.{begun, after_check, by_mode}
 use Rattle.stage_model.proofs.Checking.{staged-more, after-more}

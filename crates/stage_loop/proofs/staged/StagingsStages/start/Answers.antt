@@ -1,7 +1,7 @@
 use Rattle.tl_base.specs.Layer.{state}
 use Rattle.tl_tree.specs.Arena.{items_of}
 use Rattle.stage_form.proofs.Standing.{within_same}
-use Rattle.check_stage.specs.Layers.{rest as job_rest, job_meaning}
+use Rattle.stage_check.specs.Layers.{rest as job_rest, job_meaning}
 use Rattle.stage_model.specs.Stage.{checking_fitting}
 use Rattle.stage_loop.proofs.staged.StagingsStages.start.Goals as goal
 
