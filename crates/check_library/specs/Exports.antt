@@ -1,11 +1,12 @@
 -- Exports: which entries of a table are exported, what is tested before and after their checks, and what is exported at the end of the
 -- chunk.
 use Rattle.std.specs.Prelude.{ℕ, Bool, true, false, not, ◌&&◌, ◌||◌, List, [], ◌∷◌, filter, Option, Some, None}
-use Rattle.std.specs.Prelude.{if◌then◌else◌}
+use Rattle.std.specs.Prelude.{if◌then◌else◌, length, nat_le, slice_get}
 use Rattle.tl_base.specs.declared.ids.FnId.{FnId}
 use Rattle.tl_base.specs.declared.ids.TableId.{TableId}
 use Rattle.tl_base.specs.declared.ids.TextId.{TextId}
 use Rattle.tl_base.specs.declared.ids.TypeId.{TypeId}
+use Rattle.tl_base.specs.declared.limits.TheConstants.{MAX_PARAMETERS}
 use Rattle.tl_base.specs.declared.place.Place.{Place}
 use Rattle.tl_base.specs.Layer.{State, state}
 use Rattle.lua_value.specs.declared.library.LibFn.TheVariants as library
@@ -15,17 +16,20 @@ use Rattle.lua_table.specs.Heap.{text_at, table_at}
 use Rattle.lua_table.specs.Pairs.{Pairs}
 use Rattle.lua_base.specs.Arguments.{argument, table_in}
 use Rattle.lua_base.specs.Opening.{globals}
+use Rattle.terra_types.specs.declared.types.TypeForm.{TypeForm}
 use Rattle.terra_term.specs.declared.refusal.RefusalKind.TheVariants.{TooLarge}
 use Rattle.terra_term.specs.declared.store.Function.{Function}
 use Rattle.terra_term.specs.Planted.{nowhere}
 use Rattle.exotype.specs.declared.fault.Fault.TheVariants as faults
 use Rattle.exotype.specs.World.{StageState}
+use Rattle.spec_model.specs.Making.{is_undefined}
 use Rattle.terra_lib.specs.Answers.{bad_argument, raised, gives}
 use Rattle.terra_lib.specs.Exports.{is_free, takes_scalars, gives_scalar, parameters_in, result_in, term_of_function, may_be_exported}
 use Rattle.terra_lib.specs.Exports.{with_exported, marked, is_text}
+use Rattle.terra_lib.specs.Symbols.{is_scalar}
 use Rattle.check_library.specs.declared.exports.Fate.{Fate}
 use Rattle.check_library.specs.declared.exports.Fate.TheVariants.{Exported, Refused, LeftOut}
-use Rattle.check_model.specs.Calls.{result_of}
+use Rattle.check_model.specs.Calls.{declared_params, declared_result, result_of}
 use Rattle.check_model.specs.Typing.{function_at}
 use Rattle.check_model.specs.declared.known.KnownResult.{KnownResult}
 use Rattle.check_model.specs.declared.known.KnownResult.TheVariants.{Is}
@@ -42,13 +46,38 @@ use Rattle.check_library.specs.Counting.{CountedState, nothing, count_with, numb
 abbrev pub fate_by : (at_end gives : Bool) → TextId → FnId → Fate
 fate_by at_end gives key f = if gives then Exported key f else (if at_end then LeftOut else Refused)
 
+-- at most eight types, all scalar, where they are known
+abbrev pub all_scalar_types : List TypeForm → List TypeId → Bool
+all_scalar_types types [] = true
+all_scalar_types types (t ∷ ts) = is_scalar (slice_get types t.0) && all_scalar_types types ts
+
+abbrev pub are_scalar_types : List TypeForm → Option (List TypeId) → Bool
+are_scalar_types types None = true
+are_scalar_types types (Some ts) = nat_le (length ts) MAX_PARAMETERS && all_scalar_types types ts
+
+-- what a function was declared as
+abbrev pub declared_as : Option Function → Option TypeId
+declared_as (Some g) = g.declared
+declared_as None = None
+
+-- A function has the parameters and the result of its definition, and until it is defined those of its declaration.
+abbrev pub takes_known : StageState → FnId → Bool
+takes_known w f =
+    if is_undefined w f
+    then are_scalar_types w.store.types (declared_params w.store.types (declared_as (function_at w f)))
+    else takes_scalars w (parameters_in (term_of_function w f))
+
+abbrev pub gives_known : StageState → FnId → Bool
+gives_known w f =
+    if is_undefined w f
+    then gives_scalar w (declared_result w.store.types (declared_as (function_at w f)))
+    else gives_scalar w (result_in (term_of_function w f))
+
 -- A function may be exported, if its check allows it, under a name that may be that of a new export, where it has at most eight parameters,
--- all scalar, and no aggregate is written as its result.
+-- all scalar, and no aggregate is written as its result, as far as these are known.
 abbrev pub fate_of_function : StageState → Bool → TextId → FnId → Fate
 fate_of_function w at_end key f =
-    if is_free w (text_at w.heap key) && takes_scalars w (parameters_in (term_of_function w f))
-    then fate_by at_end (gives_scalar w (result_in (term_of_function w f))) key f
-    else Refused
+    if is_free w (text_at w.heap key) && takes_known w f then fate_by at_end (gives_known w f) key f else Refused
 
 -- Only functions of the source are exported, under texts. An emptied entry isn't there.
 abbrev pub fate_of : StageState → Bool → Value → Value → Fate

@@ -5,10 +5,11 @@ ghost use Rattle.tl_base.specs.Layer.{state};
 ghost use Rattle.lua_table.specs.Heap.{table_at};
 ghost use Rattle.terra_lib.specs.Answers as library;
 ghost use Rattle.terra_lib.specs.Exports.{gives_scalar, marked};
-ghost use Rattle.check_model.specs.Calls.{result_of};
+ghost use Rattle.check_model.specs.Calls.{declared_params, declared_result, result_of};
+ghost use Rattle.check_model.specs.Typing.{function_at};
 ghost use Rattle.check_library.specs.Answers.{asked, said};
 ghost use Rattle.check_library.specs.Exports.{fate_by, fate_of_function, fate_of, fate_after, found_result, next_of, fared, exported};
-ghost use Rattle.check_library.specs.Exports.{raised_at};
+ghost use Rattle.check_library.specs.Exports.{raised_at, are_scalar_types, all_scalar_types, declared_as, takes_known, gives_known};
 ghost use Rattle.check_library.specs.Exports.{place_of_function, checked, export_backed, saveobj_asked, taken, taken_at};
 ghost use Rattle.check_library.specs.Exports.{table_exported, chunk_ended, too_large, added};
 ghost use Rattle.check_library.specs.Keeping.{KeepsAsked};
@@ -25,8 +26,11 @@ use terra_lib::exports::{
     export, gives_scalar, is_free, is_text, is_unit, may_be_exported, takes_scalars,
 };
 use terra_lib::symbols::is_scalar;
+use terra_lib::types::is_undefined;
 use terra_term::RefusalKind;
-use tl_base::{Budget, FnId, List, NoMemory, Place, TableId, TextId};
+use terra_types::{TypeForm, Types};
+use tl_base::limits::MAX_PARAMETERS;
+use tl_base::{Budget, FnId, List, NoMemory, Place, TableId, TextId, TypeId};
 
 /// How an entry of a table fares.
 #[derive(Clone, Copy, PartialEq, Eq)]
@@ -58,14 +62,89 @@ fn fate_by(at_end: bool, gives: bool, key: TextId, f: FnId) -> Fate
     }
 }
 
+/// What a function was declared as.
+fn declared_as(world: &World, f: FnId) -> Option<TypeId>
+    ensures { result ≡ declared_as (function_at world.now f) }
+{
+    match world.store.function(f) {
+        Some(function) => function.declared,
+        None => None,
+    }
+}
+
+/// Whether all these types are scalar.
+fn all_scalar_types(types: &Types, all: &[TypeId]) -> bool
+    ensures { result ≡ all_scalar_types types.now all.now }
+{
+    match all {
+        [] => true,
+        [first, rest @ ..] => is_scalar(types, *first) && all_scalar_types(types, rest),
+    }
+}
+
+/// Whether a declaration names at most eight parameters, all scalar; what is declared as nothing may have any.
+fn takes_declared(world: &World, declared: Option<TypeId>) -> bool
+    ensures { result ≡ are_scalar_types world.now.store.types (declared_params world.now.store.types declared) }
+{
+    let types = world.store.types();
+    match declared {
+        None => true,
+        Some(of) => match types.form(of) {
+            Some(TypeForm::Function(parameters, _)) => {
+                parameters.as_slice().len() <= MAX_PARAMETERS
+                    && all_scalar_types(types, parameters.as_slice())
+            }
+            _ => true,
+        },
+    }
+}
+
+/// Whether a declaration names no aggregate as the result.
+fn gives_declared(world: &World, declared: Option<TypeId>) -> bool
+    ensures { result ≡ gives_scalar world.now (declared_result world.now.store.types declared) }
+{
+    let types = world.store.types();
+    match declared {
+        None => true,
+        Some(of) => match types.form(of) {
+            Some(TypeForm::Function(_, result)) => {
+                is_scalar(types, *result) || is_unit(types, *result)
+            }
+            _ => true,
+        },
+    }
+}
+
+/// Whether a function has at most eight parameters, all scalar, as far as they are known.
+fn takes_known(world: &World, f: FnId) -> bool
+    ensures { result ≡ takes_known world.now f }
+{
+    if is_undefined(world, f) {
+        takes_declared(world, declared_as(world, f))
+    } else {
+        takes_scalars(world, f)
+    }
+}
+
+/// Whether no aggregate is written as the result of a function.
+fn gives_known(world: &World, f: FnId) -> bool
+    ensures { result ≡ gives_known world.now f }
+{
+    if is_undefined(world, f) {
+        gives_declared(world, declared_as(world, f))
+    } else {
+        gives_scalar(world, f)
+    }
+}
+
 /// How a function fares under a name before its check: whether it may be exported, if the check allows it.
 fn fate_of_function(world: &World, at_end: bool, key: TextId, f: FnId) -> Fate
     ensures { result ≡ fate_of_function world.now at_end key f }
 {
-    if !is_free(world, world.heap.text(key)) || !takes_scalars(world, f) {
+    if !is_free(world, world.heap.text(key)) || !takes_known(world, f) {
         return Fate::Refused;
     }
-    fate_by(at_end, gives_scalar(world, f), key, f)
+    fate_by(at_end, gives_known(world, f), key, f)
 }
 
 /// How an entry fares before a check.
