@@ -1,0 +1,2 @@
+-- Where variables lie.
+pub mod Laid
