@@ -38,11 +38,11 @@ after-more (Some (Finished e s)) o' go go' f g out is = rw (f (Finished e s) ref
 after-more (Some (Exhausted s)) o' go go' f g out is = rw (f (Exhausted s) refl) is
 
 -- what follows a check
-abbrev following : Items → ℕ → ℕ → List CheckLine → JobEnd → State StagingState → Option (Final StagingState Checked)
+abbrev pub following : Items → ℕ → ℕ → List CheckLine → JobEnd → State StagingState → Option (Final StagingState Checked)
 following items n i lines end next = checks items n (i + 1) (lines ++ line_of (record { 0 = i }) end ∷ []) next
 
 -- one function is checked, and the next ones follow
-abbrev checked : Items → ℕ → ℕ → List CheckLine → State StagingState → Option (Final StagingState Checked)
+abbrev pub checked : Items → ℕ → ℕ → List CheckLine → State StagingState → Option (Final StagingState Checked)
 checked items n i lines s = after_check (job_staged items n (jobs.Check (record { 0 = i })) s) (following items n i lines)
 
 -- the same unless it isn't defined
@@ -50,7 +50,7 @@ abbrev one : Items → ℕ → ℕ → List CheckLine → State StagingState →
 one items n i lines s =
     if is_undefined s.world.typing.stage (record { 0 = i }) then checks items n (i + 1) lines s else checked items n i lines s
 
-abbrev done : List CheckLine → State StagingState → Option (Final StagingState Checked)
+abbrev pub done : List CheckLine → State StagingState → Option (Final StagingState Checked)
 done lines s = Some (Finished (checked_with (ends.Values []) lines) s)
 
 -- what the checks come to from a number on, they come to at each larger n

@@ -1,2 +1,3 @@
 pub mod Checking
 pub mod Outcomes
+pub mod Ordered

@@ -1,5 +1,7 @@
 -- The promise: the outcome of a source's staging.
 pub mod Staging
+-- In which order its lines come.
+pub mod Ordered
 -- What is written of it.
 pub mod Texts
 pub mod Places

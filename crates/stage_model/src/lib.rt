@@ -9,6 +9,6 @@ pub mod law;
 pub mod staging;
 pub mod texts;
 
-pub use law::larger_changes_nothing;
+pub use law::{checks_are_in_order, larger_changes_nothing};
 pub use staging::{CheckLine, End, Mode};
 pub use texts::Written;
