@@ -61,7 +61,7 @@ fn refusal_text(alloc: Global, kind: RefusalKind, line: u32, word: u32) -> Resul
 }
 
 /// Raises a refusal at a place, as a text with the refusal's own place, which is paid for.
-pub(crate) fn raise_refusal(
+pub fn raise_refusal(
     world: &mut World,
     budget: &mut Budget,
     kind: RefusalKind,

@@ -78,8 +78,8 @@ impl Counted {
         Ok(None)
     }
 
-    /// Counts an export of a function.
-    fn count_function(&mut self, world: &World, f: FnId) -> Result<Option<FnId>, NoMemory>
+    /// Counts an export of a function. The function that takes the typed nodes past the most that there may be, if one does.
+    pub fn count_function(&mut self, world: &World, f: FnId) -> Result<Option<FnId>, NoMemory>
         ensures { IfOk result (λ passing. record { counted = self.new; passing = option_map (λ f. f.0) passing }
             ≡ count_function world.now self.old f) }
     {

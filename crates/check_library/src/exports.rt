@@ -239,7 +239,7 @@ fn raised_at(at_end: bool, own: Place, place: Place) -> Place
 }
 
 /// The place of a function.
-fn place_of_function(world: &World, f: FnId) -> Place
+pub fn place_of_function(world: &World, f: FnId) -> Place
     ensures { result ≡ place_of_function world.now f }
 {
     match world.store.function(f) {
