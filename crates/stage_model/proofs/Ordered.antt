@@ -69,7 +69,7 @@ behind-check : (items : Items) (n i : ℕ) (lines : List CheckLine) (o : Option 
     (out : Final StagingState Checked) →
     ((e : JobEnd) (next : State StagingState) → following items n i lines e next ≡ Some out →
     Rises (i + 1) (lines ++ line_of (record { 0 = i }) e ∷ []) out) → after_check o (following items n i lines) ≡ Some out → Rises i lines out
-behind-check items n i lines None out more is = cc
+behind-check items n i lines None out more is = absurd (cc is)
 behind-check items n i lines (Some (Finished e next)) out more is =
     with-line i lines (line_of (record { 0 = i }) e) out (ap (λ (f : FnId). f.0) (of-function (record { 0 = i }) e)) (more e next is)
 behind-check items n i lines (Some (Exhausted s)) out more is = exhausted i lines s out is
@@ -77,7 +77,7 @@ behind-check items n i lines (Some (Exhausted s)) out more is = exhausted i line
 checks-rise : (items : Items) (n i : ℕ) (lines : List CheckLine) (s : State StagingState) (out : Final StagingState Checked) →
     checks items n i lines s ≡ Some out → Rises i lines out
 unfolding checks
-checks-rise items zero i lines s out is = cc
+checks-rise items zero i lines s out is = absurd (cc is)
 checks-rise items (suc n) i lines s out is =
     either (nat_lt i (length s.world.typing.stage.store.functions))
     (if is_undefined s.world.typing.stage (record { 0 = i }) then checks items n (i + 1) lines s else checked items n i lines s)
@@ -92,7 +92,7 @@ checks-rise items (suc n) i lines s out is =
 
 with-exports : (o : Option (Final StagingState JobEnd)) (out : Final StagingState Checked) →
     after_check o (λ e last. Some (Finished (checked_with e []) last)) ≡ Some out → Rises 0 [] out
-with-exports None out is = cc
+with-exports None out is = absurd (cc is)
 with-exports (Some (Finished e last)) out is = ended 0 [] e last out is
 with-exports (Some (Exhausted s)) out is = exhausted 0 [] s out is
 
@@ -108,7 +108,7 @@ behind-chunk CheckAll items n place (ends.NoLayout kind) s out is = ended 0 [] (
 
 after-chunk : (mode : Mode) (items : Items) (n : ℕ) (place : Place) (o : Option (Final StagingState JobEnd))
     (out : Final StagingState Checked) → after_check o (by_mode mode items n place) ≡ Some out → Rises 0 [] out
-after-chunk mode items n place None out is = cc
+after-chunk mode items n place None out is = absurd (cc is)
 after-chunk mode items n place (Some (Finished e s)) out is = behind-chunk mode items n place e s out is
 after-chunk mode items n place (Some (Exhausted s)) out is = exhausted 0 [] s out is
 
@@ -118,7 +118,7 @@ lines-rise (Exhausted s) r = tt
 
 of-ending : (o : Option (Final StagingState Checked)) (out : Ending) →
     ((final : Final StagingState Checked) → o ≡ Some final → Rises 0 [] final) → ending_if_any o ≡ Some out → AreRising 0 out.lines
-of-ending None out rise is = cc
+of-ending None out rise is = absurd (cc is)
 of-ending (Some final) out rise is =
     subst (λ (e : Ending). AreRising 0 e.lines) (same_Some (ending_of final) out is) (lines-rise final (rise final refl))
 
