@@ -32,6 +32,7 @@ use Rattle.back_end.proofs.Closed.{HasSame, IsClosed, same-run}
 use Rattle.back_end.proofs.Composes.{agree}
 use Rattle.back_end.proofs.Extends.{extends}
 use Rattle.back_end.proofs.Following.{follows, only}
+use Rattle.back_end.proofs.Sounds.{counts-nothing}
 use Rattle.back_end.proofs.WithoutCopies.{all_compiled, all_lowered, compiled-runs}
 
 -- An image whose text was linked of functions that have all that they call, from a typed store.
@@ -74,7 +75,7 @@ module _ (store : Contents) (functions : List Function) (linked : Linked) (image
       let run = lowering_keeps_runs store (all_lowered store) made.types made.typed none-few (λ g. refl) image.memory n f k
       (map word arguments) made.memory made.half there narrow values in
       images-carried functions [] linked image f (compiled_code store k) n arguments (source n) made.selected made.sound made.text
-      made.lawful made.text_is made.no_entries made.room code-is args eight count
+      made.lawful made.text_is made.no_entries made.room code-is (counts-nothing store k) args eight count
       (subst (λ bytes. Run_of bytes n) (sym made.statics)
       (same-run (all_compiled store) (program_of functions []) In made.closed made.same (static_bytes store) image.memory n f
       (map word arguments) (source n) here

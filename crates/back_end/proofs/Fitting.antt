@@ -34,7 +34,7 @@ use Rattle.rv_link.proofs.Pushes.{text-length}
 use Rattle.back_end.specs.Compiled.{AreExports, AreFew, AreNamed, IsOutward, all_scalar, codes_of, is_scalar, name_bytes, nodes_in}
 use Rattle.back_end.specs.Compiled.{nodes_of, type_code}
 use Rattle.back_end.specs.Symbols.{parameters_in, result_in, start_among, symbol_of, symbols_of}
-use Rattle.back_end.specs.Working.{AreFunctions, AreWhole, Has, IsFunction, id_of}
+use Rattle.back_end.specs.Working.{AreFunctionsBy, AreWhole, Has, IsFunctionBy, id_of}
 use Rattle.back_end.proofs.Making.{same-nodes, starts-are, text-short}
 use Rattle.back_end.proofs.Sounds.{are-selected, both}
 
@@ -47,35 +47,35 @@ larger-most a b m p q = by (nat_le a b)
     by true = q
     by false = p
 
-module _ (store : Contents) where
-  nodes-few : (x : Function) → IsFunction store x → x.tac.nodes ≤ 8192
+module _ (counts : Bool) (store : Contents) where
+  nodes-few : (x : Function) → IsFunctionBy counts store x → x.tac.nodes ≤ 8192
   nodes-few x h =
       subst (λ n. n ≤ 8192)
       (ap nodes_of (sym h.ready.is ∙ h.is) ∙ sym (same-nodes store h.term) ∙ sym (ap (λ (t : Tac). t.nodes) h.tac)) h.ready.few
 
-  frame-few : (x : Function) → IsFunction store x → x.code.frame ≤ 1179648
+  frame-few : (x : Function) → IsFunctionBy counts store x → x.code.frame ≤ 1179648
   frame-few x h = least x.code.frame (private_bytes x.tac) x.tac.nodes (h.within.frame h.homes_few) h.good.sized.in_bytes (nodes-few x h)
     where
       least : (frame private nodes : ℕ) → frame ≤ private → private ≤ 136 * nodes + 65536 → nodes ≤ 8192 → frame ≤ 1179648
       least frame private nodes a b c = omega (arith, a, b, c)
 
   -- no frame has more bytes than 136 for each of 8,192 nodes, and 65,536 more
-  pub frames-few : (xs : List Function) → AreFunctions store xs → most_frame xs ≤ 1179648
+  pub frames-few : (xs : List Function) → AreFunctionsBy counts store xs → most_frame xs ≤ 1179648
   frames-few [] h = omega arith
   frames-few (x ∷ xs) h = larger-most x.code.frame (most_frame xs) 1179648 (frame-few x h.0) (frames-few xs h.1)
 
 -- ---- addresses
 
 -- a function that is there begins with a word of the text
-record Within (from at words : ℕ) : Type 0 where
-  before : ℕ
-  at_is : at ≡ from + 4 * before
-  less : before < words
+pub record Within (from at words : ℕ) : Type 0 where
+  pub before : ℕ
+  pub at_is : at ≡ from + 4 * before
+  pub less : before < words
 
-within : (places : FnId → ℕ) (store : Contents) (at : ℕ) (xs : List Function) (f : FnId) (n : ℕ) → AreFunctions store xs →
+within : (counts : Bool) (places : FnId → ℕ) (store : Contents) (at : ℕ) (xs : List Function) (f : FnId) (n : ℕ) → AreFunctionsBy counts store xs →
     slice_get (map id_of xs) n ≡ Some f → Within at (placed_in at xs f).at (length (text_from places at xs))
-within places store at [] f n h e = absurd (grind (arith, e))
-within places store at (x ∷ xs) f n h e = by (nat_eq x.id.0 f.0) refl (λ m i. within places store next xs f m h.1 i) n e
+within counts places store at [] f n h e = absurd (grind (arith, e))
+within counts places store at (x ∷ xs) f n h e = by (nat_eq x.id.0 f.0) refl (λ m i. within counts places store next xs f m h.1 i) n e
   where
     next : ℕ
     next = at + 4 * length x.code.words.items
@@ -128,7 +128,7 @@ within places store at (x ∷ xs) f n h e = by (nat_eq x.id.0 f.0) refl (λ m i.
         (sym (ap (λ b. (if b then record { homes = x.homes; at = at } else placed_in next xs f).at) q))
         (there (placed_in next xs f).at (later m i))
 
-in-text : (at n : ℕ) → Within text_address at n → is_in_text (4 * n) at ≡ true
+pub in-text : (at n : ℕ) → Within text_address at n → is_in_text (4 * n) at ≡ true
 in-text at n w =
     both (nat_le text_address at) (nat_lt at (text_address + 4 * n) && (at % 4 == 0))
     (le-leb text_address at (omega (arith, w.at_is)))
@@ -153,7 +153,7 @@ scalar-code (forms.Function ps r) h = absurd (grind (arith, h))
 scalar-code (forms.Array t m) h = absurd (grind (arith, h))
 scalar-code (forms.Struct m q l) h = absurd (grind (arith, h))
 
-any-code : (f : TypeForm) → allows result_rule (type_code f) ≡ true
+pub any-code : (f : TypeForm) → allows result_rule (type_code f) ≡ true
 any-code (forms.Integer Int8) = refl
 any-code (forms.Integer Int16) = refl
 any-code (forms.Integer Int32) = refl
@@ -169,11 +169,11 @@ any-code (forms.Function ps r) = refl
 any-code (forms.Array t m) = refl
 any-code (forms.Struct m q l) = refl
 
-codes-long : (types : List TypeForm) (xs : List TypedName) → length (codes_of types xs) ≡ length xs
+pub codes-long : (types : List TypeForm) (xs : List TypedName) → length (codes_of types xs) ≡ length xs
 codes-long types [] = refl
 codes-long types (x ∷ xs) = ap suc (codes-long types xs)
 
-codes-allowed : (types : List TypeForm) (xs : List TypedName) → all_scalar types xs ≡ true →
+pub codes-allowed : (types : List TypeForm) (xs : List TypedName) → all_scalar types xs ≡ true →
     list_all (allows param_rule) (codes_of types xs) ≡ true
 codes-allowed types [] h = refl
 codes-allowed types (x ∷ xs) h =
@@ -236,14 +236,14 @@ few-names (e ∷ es) = more (length es) (name_bytes es) (length e.name) (few-nam
 
 -- ---- the text
 
-abbrev words : List Function → ℕ
+abbrev pub words : List Function → ℕ
 words functions = length (text_from (places_of functions) text_address functions)
 
-module _ (store : Contents) (exports : List Export) (functions : List Function) (few : AreFew store exports)
-    (whole : AreWhole store exports functions) where
-  words-few : words functions ≤ 32768000
+module _ (counts : Bool) (store : Contents) (exports : List Export) (functions : List Function) (few : AreFew store exports)
+    (whole : AreWhole counts store exports functions) where
+  pub words-few : words functions ≤ 32768000
   words-few =
-      least (words functions) (nodes_in store (map id_of functions)) (text-short store (places_of functions) text_address functions whole.made)
+      least (words functions) (nodes_in store (map id_of functions)) (text-short counts store (places_of functions) text_address functions whole.made)
       (few (map id_of functions) whole.reached)
     where
       least : (n nodes : ℕ) → n ≤ 250 * nodes → nodes ≤ 131072 → n ≤ 32768000
@@ -253,15 +253,15 @@ module _ (store : Contents) (exports : List Export) (functions : List Function) 
   pub text-near : 65536 + 4 * words_in functions + 256 ≤ 2 ^ 30
   text-near =
       near (words_in functions) (words functions)
-      (text-length (places_of functions) text_address functions (are-selected store functions whole.made)) words-few
+      (text-length (places_of functions) text_address functions (are-selected counts store functions whole.made)) words-few
     where
       near : (n m : ℕ) → m ≡ n → m ≤ 32768000 → 65536 + 4 * n + 256 ≤ 2 ^ 30
       near n m a b = omega (arith, a, b)
 
 -- ---- the image
 
-module _ (store : Contents) (exports : List Export) (functions : List Function) (linked : Linked) (outward : AreExports store exports)
-    (named : AreNamed exports) (few : AreFew store exports) (whole : AreWhole store exports functions)
+module _ (counts : Bool) (store : Contents) (exports : List Export) (functions : List Function) (linked : Linked) (outward : AreExports store exports)
+    (named : AreNamed exports) (few : AreFew store exports) (whole : AreWhole counts store exports functions)
     (text : IsLinkedText functions linked) where
   abbrev ids : List FnId
   ids = map id_of functions
@@ -273,7 +273,7 @@ module _ (store : Contents) (exports : List Export) (functions : List Function) 
       (both (is_in_text (4 * words functions) at) ((nat_le (length codes) 8 && list_all (allows param_rule) codes) && allows result_rule code)
       (subst (λ a. is_in_text (4 * words functions) a ≡ true) (sym start)
       (in-text (image_of functions e.function).at (words functions)
-      (within (places_of functions) store text_address functions e.function here.0 whole.made here.1)))
+      (within counts (places_of functions) store text_address functions e.function here.0 whole.made here.1)))
       (both (nat_le (length codes) 8 && list_all (allows param_rule) codes) (allows result_rule code)
       (both (nat_le (length codes) 8) (list_all (allows param_rule) codes)
       (le-leb (length codes) 8 (subst (λ n. n ≤ 8) (sym (codes-long store.types (parameters_in (callable_of store e.function))))
@@ -305,7 +305,7 @@ module _ (store : Contents) (exports : List Export) (functions : List Function) 
       (symbols-lawful es (λ i x q. n (suc i) x q) (λ i x q. o (suc i) x q) (λ i x q. h (suc i) x q))
 
   pub frame-fits : linked.frame ≤ 1179648
-  frame-fits = subst (λ n. n ≤ 1179648) (sym text.frame) (frames-few store functions whole.made)
+  frame-fits = subst (λ n. n ≤ 1179648) (sym text.frame) (frames-few counts store functions whole.made)
 
   pub lawful : (image : Image) → image.text ≡ linked.words.items → image.statics ≡ static_bytes store → IsMemorySize image.memory →
       length (static_bytes store) ≤ image.memory / 2 → image.heap ≡ heap_start (length image.statics) → image.private ≡ 512 * linked.frame →
@@ -313,7 +313,7 @@ module _ (store : Contents) (exports : List Export) (functions : List Function) 
       image.exports ≡ symbols_of store ids linked.starts.items exports → ((k : ℕ) → slice_index image.text k < 2 ^ 32) →
       ((k : ℕ) → slice_index image.statics k < 2 ^ 8) → IsLawful image
   lawful image text_is statics_are memory half heap private none symbols are_words are_bytes =
-      is_lawful_from image (small (length image.text) (words functions) long (words-few store exports functions few whole)) are_words are_bytes
+      is_lawful_from image (small (length image.text) (words functions) long (words-few counts store exports functions few whole)) are_words are_bytes
       (both (allows memory_rule image.memory)
       (nat_le (2 * length image.statics) image.memory && ((image.heap == heap_start (length image.statics)) && allows private_rule image.private))
       (sized image.memory memory)

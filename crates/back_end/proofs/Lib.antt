@@ -2,6 +2,7 @@ pub mod Closed
 pub mod Coded
 pub mod Compiles
 pub mod Counted
+pub mod CountedImages
 pub mod Composes
 pub mod Extends
 pub mod Fitting
@@ -10,6 +11,7 @@ pub mod Growing
 pub mod Making
 pub mod Mentioning
 pub mod Naming
+pub mod Needed
 pub mod Parted
 pub mod Passing
 pub mod Placed

@@ -45,9 +45,9 @@ use Rattle.back_end.specs.Compiled.{AreExported, AreExports, IsCompiled, IsExpor
 use Rattle.back_end.specs.Compiled.{nodes_in, nodes_of, type_code}
 use Rattle.back_end.specs.Symbols.{parameters_in, result_in, start_among, symbol_of, symbols_of}
 use Rattle.back_end.specs.Laid.{AreRising, IsLaidOut}
-use Rattle.back_end.specs.Working.{AllCallWithin, AreFunctions, AreWhole, CallsWithin, Has, IsFunction, compiled_code, id_of}
+use Rattle.back_end.specs.Working.{AllCallWithin, AreFunctionsBy, AreWhole, CallsWithin, Has, IsFunctionBy, compiled_code, id_of}
 use Rattle.back_end.proofs.Compiles.{IsMade, agrees}
-use Rattle.back_end.proofs.Sounds.{are-selected, are-sound, as-many, both, code-is, parts-within}
+use Rattle.back_end.proofs.Sounds.{are-selected, are-sound, as-many, both, code-is, parts-within, uncounted}
 use Rattle.back_end.proofs.WithoutCopies.{same-count}
 
 -- ---- agreement of runs that are the same at each number of steps
@@ -97,7 +97,7 @@ scalar-few (forms.Function ps r) n h s = absurd (grind (arith, h))
 scalar-few (forms.Array t m) n h s = absurd (grind (arith, h))
 scalar-few (forms.Struct m q l) n h s = absurd (grind (arith, h))
 
-narrow-names : (types : List TypeForm) (xs : List TypedName) → all_scalar types xs ≡ true → are_narrow types (map type_of_name xs) ≡ true
+pub narrow-names : (types : List TypeForm) (xs : List TypedName) → all_scalar types xs ≡ true → are_narrow types (map type_of_name xs) ≡ true
 narrow-names types [] h = refl
 narrow-names types (x ∷ xs) h =
     let p = and_parts (is_scalar (form_at types x.of)) (all_scalar types xs) h in
@@ -105,7 +105,7 @@ narrow-names types (x ∷ xs) h =
     (le-leb (bytes_at types x.of) 128 (scalar-few (form_at types x.of) (bytes_at types x.of) p.0 (sizes types x.of)))
     (narrow-names types xs p.1)
 
-whole-result : (f : TypeForm) → is_result f ≡ true → is_aggregate (f ∷ []) (record { 0 = 0 }) ≡ false
+pub whole-result : (f : TypeForm) → is_result f ≡ true → is_aggregate (f ∷ []) (record { 0 = 0 }) ≡ false
 whole-result (forms.Integer i) h = refl
 whole-result forms.Bool h = refl
 whole-result (forms.Pointer t) h = refl
@@ -116,14 +116,14 @@ whole-result (forms.Struct m q l) h = absurd (grind (arith, h))
 
 -- ---- arguments
 
-values-long : (types : List TypeForm) (xs : List TypedName) (arguments : List ℕ) → AreValues types xs (map word arguments) →
+pub values-long : (types : List TypeForm) (xs : List TypedName) (arguments : List ℕ) → AreValues types xs (map word arguments) →
     length arguments ≡ length xs
 values-long types [] [] h = refl
 values-long types (x ∷ xs) (a ∷ arguments) h = ap suc (values-long types xs arguments h.1)
 values-long types [] (a ∷ arguments) h = absurd h
 values-long types (x ∷ xs) [] h = absurd h
 
-values-words : (types : List TypeForm) (xs : List TypedName) (arguments : List ℕ) → AreValues types xs (map word arguments) →
+pub values-words : (types : List TypeForm) (xs : List TypedName) (arguments : List ℕ) → AreValues types xs (map word arguments) →
     AreWords arguments
 values-words types [] [] h k x e = cc
 values-words types (y ∷ xs) (a ∷ arguments) h zero x e =
@@ -160,14 +160,14 @@ same-nodes store k = same-count (lowered store [] k) ∙ by (are_narrow store.ty
     by true = refl
     by false = refl
 
-module _ (store : Contents) where
+module _ (counts : Bool) (store : Contents) where
   -- a function's code has at most 250 words for each of its nodes
-  few-words : (x : Function) → IsFunction store x → code_words x.tac ≤ 250 * nodes_of (callable_of store x.id)
+  few-words : (x : Function) → IsFunctionBy counts store x → code_words x.tac ≤ 250 * nodes_of (callable_of store x.id)
   few-words x h =
       subst (λ n. code_words x.tac ≤ 250 * n)
       (ap (λ (t : Tac). t.nodes) h.tac ∙ same-nodes store h.term ∙ sym (ap nodes_of h.is)) h.good.sized.in_words
 
-  pub text-short : (places : FnId → ℕ) (at : ℕ) (xs : List Function) → AreFunctions store xs →
+  pub text-short : (places : FnId → ℕ) (at : ℕ) (xs : List Function) → AreFunctionsBy counts store xs →
       length (text_from places at xs) ≤ 250 * nodes_in store (map id_of xs)
   text-short places at [] h = omega arith
   text-short places at (x ∷ xs) h =
@@ -186,7 +186,7 @@ module _ (store : Contents) where
       sum all own rest items words nodes more a b c d e = omega (arith, a, b, c, d, e)
 
   -- a function that is there has code
-  there : (xs : List Function) (f : FnId) (n : ℕ) → slice_get (map id_of xs) n ≡ Some f → (code : Tac) × (code_in xs f ≡ Some code)
+  pub there : (xs : List Function) (f : FnId) (n : ℕ) → slice_get (map id_of xs) n ≡ Some f → (code : Tac) × (code_in xs f ≡ Some code)
   there [] f n e = absurd (grind (arith, e))
   there (x ∷ xs) f zero e =
       (x.tac, ap (λ b. if b then Some x.tac else code_in xs f) (eq-eqb x.id.0 f.0 (ap (λ (g : FnId). g.0) (one x.id f e))))
@@ -201,7 +201,7 @@ module _ (store : Contents) where
       by false q later = (later.0, ap (λ b. if b then Some x.tac else code_in xs f) q ∙ later.1)
 
   -- what the code of a number calls is within what all call
-  within : (fs : List FnId) (xs : List Function) (f : FnId) (code : Tac) → AllCallWithin fs xs → code_in xs f ≡ Some code →
+  pub within : (fs : List FnId) (xs : List Function) (f : FnId) (code : Tac) → AllCallWithin fs xs → code_in xs f ≡ Some code →
       CallsWithin fs code
   within fs [] f code h e = absurd (grind (arith, e))
   within fs (x ∷ xs) f code h e = by (nat_eq x.id.0 f.0) refl (λ later. within fs xs f code h.1 later)
@@ -216,7 +216,7 @@ module _ (store : Contents) where
 
 module _ (store : Contents) (exports : List Export) (functions : List Function) (linked : Linked) (image : Image)
     (types : AreTypes store.types) (typed : AreTyped store) (memory : IsMemorySize image.memory)
-    (half : length (static_bytes store) ≤ image.memory / 2) (outward : AreExports store exports) (whole : AreWhole store exports functions)
+    (half : length (static_bytes store) ≤ image.memory / 2) (outward : AreExports store exports) (whole : AreWhole false store exports functions)
     (text : IsLinkedText functions linked) (lawful : IsLawful image) (statics : image.statics ≡ static_bytes store)
     (text_is : image.text ≡ linked.words.items) (no_entries : image.entries ≡ []) (room : image.private ≡ 512 * linked.frame)
     (rising : AreRising (map id_of functions))
@@ -229,9 +229,9 @@ module _ (store : Contents) (exports : List Export) (functions : List Function) 
 
   code-of : (f : FnId) → Has ids f → code_in functions f ≡ option_map (compiled_code store) (callable_of store f)
   code-of f h =
-      let t = there store functions f h.0 h.1 in
-      let c = code-is store functions f t.0 whole.made t.1 in
-      t.1 ∙ ap Some c.2 ∙ sym (ap (option_map (compiled_code store)) c.1)
+      let t = there false store functions f h.0 h.1 in
+      let c = code-is store false functions f t.0 whole.made t.1 in
+      t.1 ∙ ap Some (c.2 ∙ uncounted store c.0) ∙ sym (ap (option_map (compiled_code store)) c.1)
 
   made : IsMade store functions linked image (Has ids)
   made = record {
@@ -240,8 +240,8 @@ module _ (store : Contents) (exports : List Export) (functions : List Function) 
     memory = memory;
     statics = statics;
     half = half;
-    selected = are-selected store functions whole.made;
-    sound = are-sound store functions whole.made functions whole.made;
+    selected = are-selected false store functions whole.made;
+    sound = are-sound store false functions whole.made functions whole.made;
     text = text;
     lawful = lawful;
     text_is = text_is;
@@ -249,7 +249,7 @@ module _ (store : Contents) (exports : List Export) (functions : List Function) 
     room = omega (arith, room);
     closed = record {
       calls = λ f code block b k to at g arguments h e i j.
-          within store ids functions f code whole.calls (code-of f h ∙ e) b k block to at g arguments i j;
+          within false store ids functions f code whole.calls (code-of f h ∙ e) b k block to at g arguments i j;
       no_values = refl;
     };
     same = record { same = λ f h. code-of f h; no_values = refl };
@@ -308,7 +308,7 @@ module _ (store : Contents) (exports : List Export) (functions : List Function) 
     functions = ids;
     reached = whole.reached;
     short = subst (λ t. length t ≤ 250 * nodes_in store ids) (sym (text_is ∙ text.words))
-        (text-short store (places_of functions) text_address functions whole.made);
+        (text-short false store (places_of functions) text_address functions whole.made);
     laid_out = laid-out;
     exported = subst (AreExported store image most exports) (sym symbols) (all-exported exports outward whole.exported);
   }

@@ -1,5 +1,5 @@
 -- What is compiled from a typed part of a store is compiled from the store.
-use Rattle.std.proofs.Common.{◌≡◌, ℕ, suc, ◌+◌, ◌*◌, ◌≤◌, true, List, [], ◌∷◌, length, map, Some, refl, sym, ap, ◌∙◌, subst}
+use Rattle.std.proofs.Common.{◌≡◌, ℕ, suc, ◌+◌, ◌*◌, ◌≤◌, Bool, true, false, List, [], ◌∷◌, length, map, Some, refl, sym, ap, ◌∙◌, subst}
 use Rattle.std.specs.Prelude.{slice_get}
 use Rattle.tl_base.specs.declared.ids.FnId.{FnId}
 use Rattle.elf_image.specs.declared.image.Image.{Image}
@@ -20,11 +20,11 @@ use Rattle.back_end.specs.Compiled.{AreExported, AreExports, AreReached, IsCompi
 use Rattle.back_end.specs.Compiled.{AreReady, is_result, nodes_in, nodes_of, type_code}
 use Rattle.back_end.specs.Laid.{IsLaidOut}
 use Rattle.back_end.specs.Symbols.{symbol_of, symbols_of, parameters_in, result_in, start_among}
-use Rattle.back_end.specs.Working.{AreFunctions, AreWhole, IsFunction, compiled_code, id_of}
+use Rattle.back_end.specs.Working.{AreFunctionsBy, AreWhole, IsFunctionBy, coded, id_of}
 
 -- code depends on nothing of a store but its types
-same-code : (a b : Contents) (k : Callable) → a.types ≡ b.types → compiled_code a k ≡ compiled_code b k
-same-code a b k types = ap (λ (ts : List TypeForm). compiled_code (record b { types = ts }) k) types
+same-code : (counts : Bool) (a b : Contents) (k : Callable) → a.types ≡ b.types → coded counts a k ≡ coded counts b k
+same-code counts a b k types = ap (λ (ts : List TypeForm). coded counts (record b { types = ts }) k) types
 
 module _ (store : Contents) (exports : List Export) (part : Contents) (is : IsTypedPart store exports part) where
   -- what exports reach in the one store, they reach in the other
@@ -71,12 +71,12 @@ module _ (store : Contents) (exports : List Export) (part : Contents) (is : IsTy
       }
 
   -- functions that are compiled from the store are compiled from its part
-  function-part : (x : Function) → IsReached x.id → IsFunction store x → IsFunction part x
-  function-part x r h = record {
+  function-part : (counts : Bool) (x : Function) → IsReached x.id → IsFunctionBy counts store x → IsFunctionBy counts part x
+  function-part counts x r h = record {
     term = h.term;
     is = same x.id r ∙ h.is;
     ready = ready-part x.id r h.ready;
-    tac = h.tac ∙ same-code store part h.term (sym is.types);
+    tac = h.tac ∙ same-code counts store part h.term (sym is.types);
     good = h.good;
     right = h.right;
     homes_few = h.homes_few;
@@ -84,11 +84,11 @@ module _ (store : Contents) (exports : List Export) (part : Contents) (is : IsTy
     within = h.within;
   }
 
-  functions-part : (xs : List Function) → ((n : ℕ) (f : FnId) → slice_get (map id_of xs) n ≡ Some f → IsReached f) → AreFunctions store xs →
-      AreFunctions part xs
-  functions-part [] r h = tt
-  functions-part (x ∷ xs) r h =
-      (function-part x (r 0 x.id refl) h.0, functions-part xs (λ n f at. r (suc n) f at) h.1)
+  functions-part : (counts : Bool) (xs : List Function) → ((n : ℕ) (f : FnId) → slice_get (map id_of xs) n ≡ Some f → IsReached f) → AreFunctionsBy counts store xs →
+      AreFunctionsBy counts part xs
+  functions-part counts [] r h = tt
+  functions-part counts (x ∷ xs) r h =
+      (function-part counts x (r 0 x.id refl) h.0, functions-part counts xs (λ n f at. r (suc n) f at) h.1)
 
   reached-part : (fs : List FnId) → AreReached store exports fs → AreReached part exports fs
   reached-part fs h = record {
@@ -106,16 +106,16 @@ module _ (store : Contents) (exports : List Export) (part : Contents) (is : IsTy
     once = h.once;
   }
 
-  pub whole-part : (xs : List Function) → AreWhole store exports xs → AreWhole part exports xs
-  whole-part xs h = record {
+  pub whole-part : (counts : Bool) (xs : List Function) → AreWhole counts store exports xs → AreWhole counts part exports xs
+  whole-part counts xs h = record {
     reached = reached-part (map id_of xs) h.reached;
     exported = h.exported;
-    made = functions-part xs h.reached.only h.made;
+    made = functions-part counts xs h.reached.only h.made;
     calls = h.calls;
   }
 
   -- symbols depend on the types and on the exported functions alone
-  symbol-same : (at : ℕ) (e : Export) → callable_of part e.function ≡ callable_of store e.function → symbol_of part at e ≡ symbol_of store at e
+  pub symbol-same : (at : ℕ) (e : Export) → callable_of part e.function ≡ callable_of store e.function → symbol_of part at e ≡ symbol_of store at e
   symbol-same at e here = λ i. record {
     name = e.name;
     address = at;
@@ -138,7 +138,7 @@ module _ (store : Contents) (exports : List Export) (part : Contents) (is : IsTy
   nodes-same [] r = refl
   nodes-same (f ∷ fs) r = λ i. nodes_of (same f (r 0 f refl) i) + nodes-same fs (λ n g at. r (suc n) g at) i
 
-  alike : (i : ℕ) (e : Export) → slice_get exports i ≡ Some e → AreAlike [] e.function store part
+  pub alike : (i : ℕ) (e : Export) → slice_get exports i ≡ Some e → AreAlike [] e.function store part
   alike i e at = record {
     types = sym is.types;
     statics = sym is.statics;
@@ -173,12 +173,12 @@ module _ (store : Contents) (exports : List Export) (part : Contents) (is : IsTy
       (exported-back image most j.0 e s j.1 x.0, all-back image most es ss (λ n y at. h (suc n) y at) x.1)
 
   -- functions that are compiled from the part are compiled from the store
-  function-back : AreReady store exports → (x : Function) → IsReached x.id → IsFunction part x → IsFunction store x
-  function-back ready x r h = record {
+  function-back : (counts : Bool) → AreReady store exports → (x : Function) → IsReached x.id → IsFunctionBy counts part x → IsFunctionBy counts store x
+  function-back counts ready x r h = record {
     term = h.term;
     is = sym (same x.id r) ∙ h.is;
     ready = ready r.0 r.1 x.id r.2 r.3;
-    tac = h.tac ∙ same-code part store h.term is.types;
+    tac = h.tac ∙ same-code counts part store h.term is.types;
     good = h.good;
     right = h.right;
     homes_few = h.homes_few;
@@ -186,17 +186,17 @@ module _ (store : Contents) (exports : List Export) (part : Contents) (is : IsTy
     within = h.within;
   }
 
-  functions-back : AreReady store exports → (xs : List Function) →
-      ((n : ℕ) (f : FnId) → slice_get (map id_of xs) n ≡ Some f → IsReached f) → AreFunctions part xs → AreFunctions store xs
-  functions-back ready [] r h = tt
-  functions-back ready (x ∷ xs) r h =
-      (function-back ready x (r 0 x.id refl) h.0, functions-back ready xs (λ n f at. r (suc n) f at) h.1)
+  functions-back : (counts : Bool) → AreReady store exports → (xs : List Function) →
+      ((n : ℕ) (f : FnId) → slice_get (map id_of xs) n ≡ Some f → IsReached f) → AreFunctionsBy counts part xs → AreFunctionsBy counts store xs
+  functions-back counts ready [] r h = tt
+  functions-back counts ready (x ∷ xs) r h =
+      (function-back counts ready x (r 0 x.id refl) h.0, functions-back counts ready xs (λ n f at. r (suc n) f at) h.1)
 
   laid-back : AreReady store exports → (fs : List FnId) (image : Image) →
       ((n : ℕ) (f : FnId) → slice_get fs n ≡ Some f → IsReached f) → IsLaidOut part fs exports image → IsLaidOut store fs exports image
   laid-back ready fs image r l = record {
     code = l.code;
-    made = functions-back ready l.code (λ n f at. r n f (subst (λ gs. slice_get gs n ≡ Some f) l.ids at)) l.made;
+    made = functions-back false ready l.code (λ n f at. r n f (subst (λ gs. slice_get gs n ≡ Some f) l.ids at)) l.made;
     ids = l.ids;
     rising = l.rising;
     text = l.text;

@@ -28,17 +28,32 @@ use Rattle.tac_copies.specs.Directed.{directed_code}
 use Rattle.tac_copies.specs.Shortened.{shortened_code}
 use Rattle.tac_copies.specs.Reached.{reached_code}
 use Rattle.tac_copies.specs.Taken.{taken_code}
+use Rattle.tac_copies.proofs.FitsMade.{first-fits, second-fits, within-parts}
 use Rattle.rv_select.specs.Calls.{all_has_code, block_has_code, has_code, has_exit_code}
 use Rattle.rv_select.specs.Waiting.{PassesAll}
 use Rattle.rv_link.specs.declared.function.Function.{Function}
 use Rattle.rv_link.specs.Linked.{AreSelected, AreSound, AreThere, block_there, code_in, edge_there, exit_there, program_of}
 use Rattle.back_end.specs.Compiled.{IsOutward, IsReady}
 use Rattle.back_end.specs.Plain.{all_plain}
-use Rattle.back_end.specs.Working.{AreFunctions, IsFunction, compiled_code, without_copies}
+use Rattle.back_end.specs.Working.{AreFunctionsBy, IsFunctionBy, coded, compiled_code, without_copies}
 use Rattle.back_end.proofs.Coded.{AllBlocks, AllNamed, Exits, Named, block-at, instruction-at, lowered-names}
 use Rattle.back_end.proofs.Growing.{same-function}
 use Rattle.back_end.proofs.Passing.{Passes, body-passes}
-use Rattle.back_end.proofs.WithoutCopies.{as-many-parameters, stays-good, stays-named}
+use Rattle.back_end.proofs.WithoutCopies.{as-many-parameters, same-counting, stays-good, stays-named}
+
+-- code that counts is as good as the same that doesn't
+pub good-counting : (counts : Bool) (code : Tac) → IsGood code → IsGood (record code { counts = counts })
+good-counting counts code g = record {
+  fits = record {
+    within = within-parts code counts code.parameters code.blocks refl g.fits.within (first-fits code g.fits.within)
+        (second-fits code g.fits.within);
+    short = g.fits.short;
+    few = g.fits.few;
+    begins = g.fits.begins;
+  };
+  counted = g.counted;
+  sized = record { in_words = g.sized.in_words; in_bytes = g.sized.in_bytes };
+}
 
 pub both : (a b : Bool) → a ≡ true → b ≡ true → (a && b) ≡ true
 both true true e f = refl
@@ -81,14 +96,14 @@ all-there code (b ∷ bs) h =
     (edges-there code b.exit (and_parts (list_all (instruction_fits code) b.instructions) (exit_fits code b.exit) p.0).1)
     (all-there code bs p.1)
 
-pub are-there : (store : Contents) (xs : List Function) → AreFunctions store xs → AreThere xs
-are-there store [] h = tt
-are-there store (x ∷ xs) h =
-    (all-there x.tac x.tac.blocks (parts-within x.tac h.0.good.fits.within).0, are-there store xs h.1)
+pub are-there : (counts : Bool) (store : Contents) (xs : List Function) → AreFunctionsBy counts store xs → AreThere xs
+are-there counts store [] h = tt
+are-there counts store (x ∷ xs) h =
+    (all-there x.tac x.tac.blocks (parts-within x.tac h.0.good.fits.within).0, are-there counts store xs h.1)
 
-pub are-selected : (store : Contents) (xs : List Function) → AreFunctions store xs → AreSelected xs
-are-selected store [] h = tt
-are-selected store (x ∷ xs) h = (h.0.selected, are-selected store xs h.1)
+pub are-selected : (counts : Bool) (store : Contents) (xs : List Function) → AreFunctionsBy counts store xs → AreSelected xs
+are-selected counts store [] h = tt
+are-selected counts store (x ∷ xs) h = (h.0.selected, are-selected counts store xs h.1)
 
 -- ---- each instruction has code
 
@@ -154,6 +169,17 @@ module _ (store : Contents) where
       let p = parts-within (compiled_code store k) good.fits.within in
       blocks-have (Passes store) (compiled_code store k) p.1 (compiled_code store k).blocks (named f k is r) p.0
 
+  -- it counts nothing
+  pub counts-nothing : (k : Callable) → (compiled_code store k).counts ≡ false
+  counts-nothing k = same-counting (lowered store [] k) ∙ by (are_narrow store.types (parameter_types k))
+    where
+      by : (b : Bool) → (if b then code_of store [] k else unreached k).counts ≡ false
+      by true = refl
+      by false = refl
+
+  pub uncounted : (k : Callable) → coded false store k ≡ compiled_code store k
+  uncounted k = ap (λ b. record (compiled_code store k) { counts = b }) (sym (counts-nothing k))
+
   -- as many parameters as the term has
   pub as-many : (k : Callable) → are_narrow store.types (parameter_types k) ≡ true →
       length (compiled_code store k).parameters ≡ length k.body.parameters
@@ -163,17 +189,17 @@ module _ (store : Contents) where
       ∙ received-count store.types k.body.parameters nothing_used
 
   -- the code of a number is that of a function that is there
-  pub code-is : (xs : List Function) (f : FnId) (code : Tac) → AreFunctions store xs → code_in xs f ≡ Some code →
-      (k : Callable) × (callable_of store f ≡ Some k) × (code ≡ compiled_code store k)
-  code-is [] f code h e = absurd (grind (arith, e))
-  code-is (x ∷ xs) f code h e = by (nat_eq x.id.0 f.0) refl (λ later. code-is xs f code h.1 later)
+  pub code-is : (counts : Bool) (xs : List Function) (f : FnId) (code : Tac) → AreFunctionsBy counts store xs → code_in xs f ≡ Some code →
+      (k : Callable) × (callable_of store f ≡ Some k) × (code ≡ coded counts store k)
+  code-is counts [] f code h e = absurd (grind (arith, e))
+  code-is counts (x ∷ xs) f code h e = by (nat_eq x.id.0 f.0) refl (λ later. code-is counts xs f code h.1 later)
     where
       one : (a b : Tac) → Some a ≡ Some b → a ≡ b
       one a b q = cc
 
       by : (b : Bool) → nat_eq x.id.0 f.0 ≡ b →
-          (code_in xs f ≡ Some code → (k : Callable) × (callable_of store f ≡ Some k) × (code ≡ compiled_code store k)) →
-          (k : Callable) × (callable_of store f ≡ Some k) × (code ≡ compiled_code store k)
+          (code_in xs f ≡ Some code → (k : Callable) × (callable_of store f ≡ Some k) × (code ≡ coded counts store k)) →
+          (k : Callable) × (callable_of store f ≡ Some k) × (code ≡ coded counts store k)
       by true q later = (
         h.0.term,
         subst (λ g. callable_of store g ≡ Some h.0.term) (same-function f x.id q) h.0.is,
@@ -181,31 +207,35 @@ module _ (store : Contents) where
       )
       by false q later = later (sym (ap (λ b. if b then Some x.tac else code_in xs f) q) ∙ e)
 
-  all-pass : (all : List Function) → AreFunctions store all → (x : Function) → IsFunction store x → PassesAll (program_of all []) x.tac
-  all-pass all are x h b n block to at f arguments callee in_code in_block there =
+  all-pass : (counts : Bool) (all : List Function) → AreFunctionsBy counts store all → (x : Function) → IsFunctionBy counts store x → PassesAll (program_of all []) x.tac
+  all-pass counts all are x h b n block to at f arguments callee in_code in_block there =
       let named' = subst (λ (c : Tac). AllBlocks (Passes store) c.blocks) (sym h.tac) (named x.id h.term h.is h.ready) in
       let at_block = block-at (Passes store) x.tac.blocks b block named' in_code in
       let passes = instruction-at (Passes store) block.instructions n (Call to at f arguments) at_block.0 in_block in
-      let c = code-is all f callee are there in
+      let c = code-is counts all f callee are there in
       let same : passes.0.0 ≡ c.0 = same-callable passes.0.0 c.0 (sym passes.0.1 ∙ c.1) in
       passes.0.2
       ∙ sym (as-many passes.0.0 passes.0.3)
       ∙ ap (λ (k : Callable). length (compiled_code store k).parameters) same
       ∙ ap (λ (t : Tac). length t.parameters) (sym c.2)
 
-  pub are-sound : (all : List Function) → AreFunctions store all → (xs : List Function) → AreFunctions store xs →
+  pub are-sound : (counts : Bool) (all : List Function) → AreFunctionsBy counts store all → (xs : List Function) → AreFunctionsBy counts store xs →
       AreSound (program_of all []) xs
-  are-sound all are [] h = tt
-  are-sound all are (x ∷ xs) h = (
+  are-sound counts all are [] h = tt
+  are-sound counts all are (x ∷ xs) h = (
     record {
       fits = h.0.good.fits;
       counted = h.0.good.counted;
       right = h.0.right;
       has_code = subst (λ c. all_has_code c ≡ true) (sym h.0.tac)
-          (has-code x.id h.0.term h.0.is h.0.ready (subst IsGood h.0.tac h.0.good));
-      passes = all-pass all are x h.0;
+          (has-code x.id h.0.term h.0.is h.0.ready
+          (good-counting (compiled_code store h.0.term).counts (coded counts store h.0.term) (subst IsGood h.0.tac h.0.good)));
+      passes = all-pass counts all are x h.0;
+      alike = λ f other there.
+          let c = code-is counts all f other are there in
+          ap (λ (t : Tac). t.counts) c.2 ∙ sym (ap (λ (t : Tac). t.counts) h.0.tac);
     },
-    are-sound all are xs h.1,
+    are-sound counts all are xs h.1,
   )
 
   -- what `lower` gives of a function that can be compiled, without copies

@@ -1,6 +1,6 @@
 -- What the code of a function keeps without copies: its runs, that machine code can be made of it, and what it calls.
 use Rattle.std.proofs.Common.{◌≡◌, ℕ, zero, suc, Bool, true, false, List, [], ◌∷◌, map, length, take, Option, Some, None, option_map, refl}
-use Rattle.std.proofs.Common.{sym, subst, inl, inr}
+use Rattle.std.proofs.Common.{sym, ap, ◌∙◌, subst, inl, inr}
 use Rattle.std.specs.Prelude.{if◌then◌else◌}
 use Rattle.std.proofs.lemmas.List.{length-map}
 use Rattle.tl_base.specs.declared.ids.FnId.{FnId}
@@ -52,6 +52,21 @@ as-many-parameters code = taken-number (reached_code code)
 pub same-count : (code : Tac) → (without_copies code).nodes ≡ code.nodes
 unfolding reached_code directed_code shortened_code
 same-count code = taken-nodes (reached_code code)
+
+once-counts : (code : Tac) → (taken_once code).counts ≡ code.counts
+once-counts code = by (shape code)
+  where
+    by : Shape code → (taken_once code).counts ≡ code.counts
+    by (inl q) = ap (λ (c : Tac). c.counts) q
+    by (inr k) = ap (λ (c : Tac). c.counts) k.made
+
+times-counts : (n : ℕ) (code : Tac) → (taken_times n code).counts ≡ code.counts
+times-counts zero code = refl
+times-counts (suc n) code = times-counts n (taken_once code) ∙ once-counts code
+
+pub same-counting : (code : Tac) → (without_copies code).counts ≡ code.counts
+unfolding reached_code taken_code directed_code shortened_code
+same-counting code = times-counts most_taken (reached_code code)
 
 pub stays-good : (code : Tac) → IsGood code → IsGood (without_copies code)
 stays-good code h =

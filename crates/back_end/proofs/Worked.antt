@@ -15,7 +15,7 @@ use Rattle.tac_lower.specs.Lowering.{lowered}
 use Rattle.rv_link.specs.declared.function.Function.{Function}
 use Rattle.back_end.specs.Compiled.{AreReached, IsReady}
 use Rattle.back_end.specs.Plain.{all_plain}
-use Rattle.back_end.specs.Working.{AllCallWithin, AreFunctions, AreWhole, CallsWithin, Has, IsFunction, Working, compiled_code, id_of}
+use Rattle.back_end.specs.Working.{AllCallWithin, AreFunctionsBy, AreWhole, CallsWithin, Has, IsFunctionBy, Working, compiled_code, id_of}
 use Rattle.back_end.specs.Worklist.{with_blocks, with_exports}
 use Rattle.back_end.proofs.Coded.{AllBlocks, lowered-names}
 use Rattle.back_end.proofs.Growing.{Grown, grows-blocks, grows-exports, has-blocks, has-exports, has-grown}
@@ -40,7 +40,7 @@ no-mentions : (xs : List TypedName) (es : List Event) → mentions_in (declares_
 no-mentions [] es = refl
 no-mentions (x ∷ xs) es = no-mentions xs es
 
-module _ (store : Contents) (exports : List Export) where
+module _ (counts : Bool) (store : Contents) (exports : List Export) where
   -- an export reaches it
   abbrev pub IsReached : FnId → Type 0
   IsReached f = (i : ℕ) × (e : Export) × (slice_get exports i ≡ Some e) × Reaches store [] e.function f
@@ -71,7 +71,7 @@ module _ (store : Contents) (exports : List Export) where
   ids-more : (xs : List Function) (x : Function) → map id_of (xs ++ x ∷ []) ≡ map id_of xs ++ x.id ∷ []
   ids-more xs x = map-append id_of xs (x ∷ [])
 
-  functions-more : (xs : List Function) (x : Function) → AreFunctions store xs → IsFunction store x → AreFunctions store (xs ++ x ∷ [])
+  functions-more : (xs : List Function) (x : Function) → AreFunctionsBy counts store xs → IsFunctionBy counts store x → AreFunctionsBy counts store (xs ++ x ∷ [])
   functions-more [] x h k = (k, tt)
   functions-more (y ∷ xs) x h k = (h.0, functions-more xs x h.1 k)
 
@@ -89,7 +89,7 @@ module _ (store : Contents) (exports : List Export) where
     once = g.once r.once;
   }
 
-  pub begins : Working store exports (with_exports [] exports) []
+  pub begins : Working counts store exports (with_exports [] exports) []
   begins =
       let g = grows-exports IsReached exports [] (λ i e q. (i, e, q, itself)) in
       record {
@@ -119,12 +119,12 @@ module _ (store : Contents) (exports : List Export) where
   none-is [] (g ∷ rest) e = absurd (grind (arith, e))
   none-is (x ∷ xs) rest e = none-is xs rest e
 
-  pub reached-next : (list : List FnId) (xs : List Function) (f : FnId) → Working store exports list xs →
+  pub reached-next : (list : List FnId) (xs : List Function) (f : FnId) → Working counts store exports list xs →
       slice_get list (length xs) ≡ Some f → IsReached f
   reached-next list xs f w e = w.reached.only (length xs) f e
 
-  pub goes-on : (list : List FnId) (xs : List Function) (x : Function) → Working store exports list xs →
-      slice_get list (length xs) ≡ Some x.id → IsFunction store x → Working store exports (with_blocks list x.tac.blocks) (xs ++ x ∷ [])
+  pub goes-on : (list : List FnId) (xs : List Function) (x : Function) → Working counts store exports list xs →
+      slice_get list (length xs) ≡ Some x.id → IsFunctionBy counts store x → Working counts store exports (with_blocks list x.tac.blocks) (xs ++ x ∷ [])
   goes-on list xs x w e made =
       let reached = reached-next list xs x.id w e in
       let named = subst (λ (c : Tac). AllBlocks (λ g n. IsReached g) c.blocks) (sym made.tac)
@@ -145,14 +145,14 @@ module _ (store : Contents) (exports : List Export) where
       }
 
   -- the list is of those that are compiled, once none is behind them
-  ends-same : (list : List FnId) (xs : List Function) → Working store exports list xs → slice_get list (length xs) ≡ None →
+  ends-same : (list : List FnId) (xs : List Function) → Working counts store exports list xs → slice_get list (length xs) ≡ None →
       list ≡ map id_of xs
   ends-same list xs w e =
       w.front ∙ ap (λ r. map id_of xs ++ r) (none-is xs w.rest (subst (λ l. slice_get l (length xs) ≡ None) w.front e))
       ∙ append-nil (map id_of xs)
 
-  pub ends : (list : List FnId) (xs : List Function) → Working store exports list xs → slice_get list (length xs) ≡ None →
-      AreWhole store exports xs
+  pub ends : (list : List FnId) (xs : List Function) → Working counts store exports list xs → slice_get list (length xs) ≡ None →
+      AreWhole counts store exports xs
   ends list xs w e =
       let same = ends-same list xs w e in
       record {

@@ -4,6 +4,8 @@ pub mod Compiled
 pub mod Ready
 -- When an image agrees with a function.
 pub mod Agrees
+-- Images whose code counts, and when they agree with a function.
+pub mod Units
 -- How an image is laid out, and the type codes of its symbols.
 pub mod Laid
 pub mod Codes

@@ -1,5 +1,5 @@
 -- What holds while functions are compiled in turn.
-use Rattle.std.specs.Prelude.{◌≡◌, ℕ, ◌≤◌, List, [], ◌∷◌, ◌++◌, length, map, Some, slice_get}
+use Rattle.std.specs.Prelude.{◌≡◌, ℕ, ◌≤◌, Bool, false, List, [], ◌∷◌, ◌++◌, length, map, Some, slice_get}
 use Rattle.tl_base.specs.declared.place.Place.{Place}
 use Rattle.tl_base.specs.declared.ids.FnId.{FnId}
 use Rattle.reg_alloc.specs.Right.{IsRight}
@@ -38,21 +38,29 @@ without_copies code = shortened_code (directed_code (taken_code (reached_code co
 abbrev pub compiled_code : Contents → Callable → Tac
 compiled_code store term = without_copies (lowered store [] term)
 
--- A function that is compiled: its code is that of its typed term, and machine code is selected of it.
-pub record IsFunction (store : Contents) (x : Function) : Type 0 where
+-- the same, of which the machine code counts or not
+abbrev pub coded : (counts : Bool) → Contents → Callable → Tac
+coded counts store term = record (compiled_code store term) { counts = counts }
+
+-- A function that is compiled: its code is that of its typed term, and machine code is selected of it, which counts or not.
+pub record IsFunctionBy (counts : Bool) (store : Contents) (x : Function) : Type 0 where
   pub term : Callable
   pub is : callable_of store x.id ≡ Some term
   pub ready : IsReady store x.id
-  pub tac : x.tac ≡ compiled_code store term
+  pub tac : x.tac ≡ coded counts store term
   pub good : IsGood x.tac
   pub right : IsRight x.tac x.homes
   pub homes_few : length x.homes ≤ x.tac.temps
   pub selected : IsSelected x.tac x.homes x.code
   pub within : KeepsWithin x.tac x.homes x.code
 
+abbrev pub AreFunctionsBy : (counts : Bool) → Contents → List Function → Type 0
+AreFunctionsBy counts store [] = Unit {0}
+AreFunctionsBy counts store (x ∷ xs) = IsFunctionBy counts store x × AreFunctionsBy counts store xs
+
+-- functions of an image, whose code counts nothing
 abbrev pub AreFunctions : Contents → List Function → Type 0
-AreFunctions store [] = Unit {0}
-AreFunctions store (x ∷ xs) = IsFunction store x × AreFunctions store xs
+AreFunctions store xs = AreFunctionsBy false store xs
 
 -- what code calls is in a list
 abbrev pub CallsWithin : List FnId → Tac → Type 0
@@ -65,17 +73,18 @@ AllCallWithin fs [] = Unit {0}
 AllCallWithin fs (x ∷ xs) = CallsWithin fs x.tac × AllCallWithin fs xs
 
 -- The functions of a list from its begin on are compiled, and all that these call is in the list.
-pub record Working (store : Contents) (exports : List Export) (list : List FnId) (functions : List Function) : Type 0 where
+pub record Working (counts : Bool) (store : Contents) (exports : List Export) (list : List FnId) (functions : List Function) :
+    Type 0 where
   pub rest : List FnId
   pub front : list ≡ map id_of functions ++ rest
   pub reached : AreReached store exports list
   pub exported : (i : ℕ) (e : Export) → slice_get exports i ≡ Some e → Has list e.function
-  pub made : AreFunctions store functions
+  pub made : AreFunctionsBy counts store functions
   pub calls : AllCallWithin list functions
 
 -- All are.
-pub record AreWhole (store : Contents) (exports : List Export) (functions : List Function) : Type 0 where
+pub record AreWhole (counts : Bool) (store : Contents) (exports : List Export) (functions : List Function) : Type 0 where
   pub reached : AreReached store exports (map id_of functions)
   pub exported : (i : ℕ) (e : Export) → slice_get exports i ≡ Some e → Has (map id_of functions) e.function
-  pub made : AreFunctions store functions
+  pub made : AreFunctionsBy counts store functions
   pub calls : AllCallWithin (map id_of functions) functions

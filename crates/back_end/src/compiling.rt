@@ -16,12 +16,12 @@ use tl_base::limits::{MAX_CALLS, REGION_ADDRESS};
 use tl_base::{Bytes, Limits, NoMemory};
 
 /// The words of a text have 32 bits.
-fn are_words(words: &[u32])
+pub(crate) fn are_words(words: &[u32])
     ensures { (k : ℕ) → slice_index words.now k < 2 ^ 32 }
 {}
 
 /// Bytes have 8 bits.
-fn are_bytes(bytes: &[u8])
+pub(crate) fn are_bytes(bytes: &[u8])
     ensures { (k : ℕ) → slice_index bytes.now k < 2 ^ 8 }
 {}
 
@@ -43,7 +43,7 @@ pub fn compile(
     ensures { IfOk result (λ image. IsCompiled (contents_of store.now) limits.memory exports.now image) }
 {
     store.types().are_types();
-    let compiled = compile_functions(alloc, store, exports)?;
+    let compiled = compile_functions(alloc, store, exports, false)?;
     let linked = link(alloc, &compiled.functions)?;
     let mut symbols = Vec::new(alloc);
     push_symbols(

@@ -2,12 +2,15 @@
 //!
 //! `compile` lowers each function that exports reach, takes out copies that its code can do without, gives its temporaries homes, selects
 //! its machine code, and links all of them into one lawful image. `specs/Compiled.antt` says what is promised of it: from each export's
-//! address a run of the image agrees with what the function's typed term means.
+//! address a run of the image agrees with what the function's typed term means. `compile_counted` does the same of one function, with code
+//! that counts (`specs/Units.antt`).
 #![tactic(auto)]
 
 mod compiling;
 mod function;
 mod symbols;
+mod units;
 mod worklist;
 
 pub use compiling::compile;
+pub use units::compile_counted;

@@ -57,7 +57,7 @@ fn push_codes(codes: &mut Vec<u8>, types: &Types, names: &[TypedName]) -> Result
 }
 
 /// Where a function begins that is one of these.
-fn start_of(ids: &IndexSet<FnId>, starts: &[u64], f: FnId) -> u64
+pub fn start_of(ids: &IndexSet<FnId>, starts: &[u64], f: FnId) -> u64
     ensures { result ≡ start_among ids.now.keys starts.now f }
 {
     let Some(place) = ids.get_index_of(&f) else {
@@ -70,7 +70,7 @@ fn start_of(ids: &IndexSet<FnId>, starts: &[u64], f: FnId) -> u64
 }
 
 /// The symbol of an export whose function begins at an address.
-fn symbol_of(alloc: Global, store: &Store, at: u64, export: &Export) -> Result<Symbol, NoMemory>
+pub fn symbol_of(alloc: Global, store: &Store, at: u64, export: &Export) -> Result<Symbol, NoMemory>
     requires { IsOutward (contents_of store.now) export.now.function }
     ensures { IfOk result (λ symbol. symbol ≡ symbol_of (contents_of store.now) at export.now) }
 {

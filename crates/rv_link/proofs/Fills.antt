@@ -1,7 +1,7 @@
 -- A function's words, with its calls filled in, are those of its code where it stands.
 use Rattle.std.proofs.Common.{◌≡◌, ℕ, zero, suc, ◌+◌, ◌-◌, ◌*◌, ◌%◌, ◌^◌, ◌<◌, ◌≤◌, Bool, true, false, List, [], ◌∷◌, ◌++◌, length, take}
 use Rattle.std.proofs.Common.{drop, append_assoc, Option, Some, None, refl, sym, ap, ◌∙◌, subst, arith}
-use Rattle.std.specs.Prelude.{if◌then◌else◌, map, slice_get}
+use Rattle.std.specs.Prelude.{if◌then◌else◌, map, slice_get, ◌&&◌, ◌||◌}
 use Rattle.std.specs.List.{list_all}
 use Rattle.std.proofs.lemmas.Bool.{ltb-true}
 use Rattle.std.proofs.lemmas.List.{append-nil, length-append, length-map, map-append}
@@ -17,6 +17,7 @@ use Rattle.rv_isa.specs.Table.{word_of}
 use Rattle.tl_base.specs.declared.place.Place.{Place}
 use Rattle.tac_form.specs.declared.tac.Part.{Part}
 use Rattle.tac_form.specs.declared.tac.Destination.{Destination}
+use Rattle.tac_form.specs.declared.tac.Edge.{Edge}
 use Rattle.tac_form.specs.declared.tac.Exit.{Exit}
 use Rattle.tac_form.specs.declared.tac.Exit.TheVariants.{Branch, Fail, Jump, Return}
 use Rattle.tac_form.specs.declared.tac.Instruction.{Instruction}
@@ -35,8 +36,9 @@ use Rattle.rv_select.specs.declared.settings.Follows.{Follows}
 use Rattle.rv_select.specs.declared.settings.Follows.TheVariants.{Neither, First, Second}
 use Rattle.rv_select.specs.declared.settings.Setting.{Setting}
 use Rattle.rv_select.specs.Settings.{falls, follower, setting_of}
-use Rattle.rv_select.specs.Shapes.{branch_bytes, branch_offset, branched, branched_bytes, chosen, distance, first_read, held_after, jump}
-use Rattle.rv_select.specs.Shapes.{jump_offset, negated, offset_of, read_in, shape_of, start_of}
+use Rattle.rv_select.specs.Shapes.{branch_bytes, branch_offset, branched, branched_bytes, chosen, counted_jump, counting, distance}
+use Rattle.rv_select.specs.Shapes.{edge_shape, first_read, held_after, jump, jump_offset, negated, offset_of, over, parted, read_in}
+use Rattle.rv_select.specs.Shapes.{shape_of, start_of, take_count}
 use Rattle.rv_select.specs.Entering.{left}
 use Rattle.rv_select.specs.Calls.{block_code, block_starts, blocks_calls, blocks_code, body_code, call_begun, call_ended, call_jump}
 use Rattle.rv_select.specs.Calls.{end_code, exit_code, function_calls, function_code, head_code, held_behind, instruction_calls}
@@ -301,11 +303,29 @@ jump-moved short b f t h = jump-is short (b + f) (b + t) ∙ (ap (jump-by short)
 jump-from : (short : Bool) (b f t p q : ℕ) → p ≡ b + f → q ≡ b + t → b + f ≤ 2 ^ 32 → jump short p q ≡ jump short f t
 jump-from short b f t p q e g h = ap (λ z. jump short z q) e ∙ (ap (jump short (b + f)) g ∙ jump-moved short b f t h)
 
--- so is that to a block, which may stand behind
-edge-from : (behind short : Bool) (b f t p q : ℕ) → p ≡ b + f → q ≡ b + t → b + f ≤ 2 ^ 32 →
-    (if behind then [] else jump short p q) ≡ (if behind then [] else jump short f t)
-edge-from true short b f t p q e g h = refl
-edge-from false short b f t p q e g h = jump-from short b f t p q e g h
+-- so is one before which a count may be taken
+counted-from : (counts short : Bool) (b f t p q : ℕ) → p ≡ b + f → q ≡ b + t → b + f + 12 ≤ 2 ^ 32 →
+    counted_jump counts short p q ≡ counted_jump counts short f t
+counted-from true short b f t p q e g h =
+    ap (λ z. take_count ++ z) (jump-from short b (f + 12) t (p + 12) q (omega (arith, e)) g (omega (arith, h)))
+counted-from false short b f t p q e g h = jump-from short b f t p q e g (omega (arith, h))
+
+counted-few : (counts short : Bool) (f t : ℕ) → length (counted_jump counts short f t) ≤ 5
+counted-few true true f t = omega arith
+counted-few true false f t = omega arith
+counted-few false true f t = omega arith
+counted-few false false f t = omega arith
+
+-- so is the way to a block, which may stand behind
+edge-from : (setting : Setting) (edge : Edge) (b f t p q : ℕ) → p ≡ b + f → q ≡ b + t → b + f + 12 ≤ 2 ^ 32 →
+    edge_shape setting edge p q ≡ edge_shape setting edge f t
+edge-from setting edge b f t p q e g h = either (falls setting.next edge)
+  where
+    either : (c : Bool) →
+        (if c then [] else counted_jump (setting.counts && edge.counts) setting.short p q) ≡
+        (if c then [] else counted_jump (setting.counts && edge.counts) setting.short f t)
+    either true = refl
+    either false = counted-from (setting.counts && edge.counts) setting.short b f t p q e g h
 
 -- so is that to the code that leaves a function
 last-from : (short : Bool) (next : Option ℕ) (b f t p q : ℕ) → p ≡ b + f → q ≡ b + t → b + f ≤ 2 ^ 32 →
@@ -339,16 +359,47 @@ chosen-moved close short Neither condition x y b at n first second to other near
 chosen-moved close short First condition x y b at n first second to other near g h = branched-moved close short (negated condition) x y b at n second other near h
 chosen-moved close short Second condition x y b at n first second to other near g h = branched-moved close short condition x y b at n first to near g
 
+-- so is one of which a way takes a count
+counting-moved : (setting : Setting) (condition : BranchCondition) (x y : Register) (b at n : ℕ) (e f : Edge) (first second to other : ℕ) →
+    b + at + n + 64 ≤ 2 ^ 32 → to ≡ b + first → other ≡ b + second →
+    counting setting condition x y (b + at + n) e f to other ≡ counting setting condition x y (at + n) e f first second
+counting-moved setting condition x y b at n e f first second to other near g h =
+    let counts : Bool = setting.counts && e.counts in
+    let C : List Instr = counted_jump counts setting.short (at + n + 4) first in
+    let one : b + at + n + 4 ≡ b + (at + n + 4) = omega arith in
+    let few : length C ≤ 5 = counted-few counts setting.short (at + n + 4) first in
+    let next : b + at + n + 4 + 4 * length C ≡ b + (at + n + 4 + 4 * length C) = omega arith in
+    ap (λ z. instrs.Branch (negated condition) x y (over z) ∷ (z ++ edge_shape setting f (b + at + n + 4 + 4 * length z) other))
+    (counted-from counts setting.short b (at + n + 4) first (b + at + n + 4) to one g (omega (arith, near)))
+    ∙ ap (λ z. instrs.Branch (negated condition) x y (over C) ∷ (C ++ z))
+    (edge-from setting f b (at + n + 4 + 4 * length C) second (b + at + n + 4 + 4 * length C) other next h (omega (arith, near, few)))
+
+parted-moved : (setting : Setting) (condition : BranchCondition) (x y : Register) (b at n : ℕ) (e f : Edge) (first second to other : ℕ) →
+    b + at + n + 64 ≤ 2 ^ 32 → to ≡ b + first → other ≡ b + second →
+    parted setting condition x y (b + at + n) e f to other ≡ parted setting condition x y (at + n) e f first second
+parted-moved setting condition x y b at n e f first second to other near g h = either (setting.counts && (e.counts || f.counts))
+  where
+    behind : Follows
+    behind = follower setting.next e.block f.block
+
+    either : (c : Bool) →
+        (if c then counting setting condition x y (b + at + n) e f to other
+        else chosen setting.near setting.short behind condition x y (b + at + n) to other) ≡
+        (if c then counting setting condition x y (at + n) e f first second
+        else chosen setting.near setting.short behind condition x y (at + n) first second)
+    either true = counting-moved setting condition x y b at n e f first second to other near g h
+    either false = chosen-moved setting.near setting.short behind condition x y b at n first second to other (omega (arith, near)) g h
+
 -- an exit's code is the same where it, the blocks and the function's end are moved
 exit-moved : (code : Tac) (y : Layout) (setting : Setting) (held : Option ℕ) (b at last : ℕ) (starts moved : ℕ → ℕ) (e : Exit) →
-    ((k : ℕ) → k < length code.blocks → moved k ≡ b + starts k) → exit_there code e ≡ true → b + at + 64 ≤ 2 ^ 32 →
+    ((k : ℕ) → k < length code.blocks → moved k ≡ b + starts k) → exit_there code e ≡ true → b + at + 128 ≤ 2 ^ 32 →
     exit_code y setting held (b + at) moved (b + last) e ≡ exit_code y setting held at starts last e
 exit-moved code y setting held b at last starts moved (Jump e) same fits near =
-    edge-from (falls setting.next e) setting.short b at (starts e.block) (b + at) (moved e.block) refl (same e.block (ltb-true e.block (length code.blocks) fits)) (omega (arith, near))
+    edge-from setting e b at (starts e.block) (b + at) (moved e.block) refl (same e.block (ltb-true e.block (length code.blocks) fits)) (omega (arith, near))
 exit-moved code y setting held b at last starts moved (Branch a e f) same fits near =
     ap (λ z. T ++ z)
-    (chosen-moved setting.near setting.short (follower setting.next e.block f.block) Ne (read_in y x5 a) x0 b at (4 * length T) (starts e.block) (starts f.block) (moved e.block) (moved f.block) (omega (arith, near, few))
-    (same e.block (ltb-true e.block (length code.blocks) parts.0)) (same f.block (ltb-true f.block (length code.blocks) parts.1)))
+    (parted-moved setting Ne (read_in y x5 a) x0 b at (4 * length T) e f (starts e.block) (starts f.block) (moved e.block) (moved f.block)
+    (omega (arith, near, few)) (same e.block (ltb-true e.block (length code.blocks) parts.0)) (same f.block (ltb-true f.block (length code.blocks) parts.1)))
   where
     T : List Instr
     T = first_read y held a
@@ -370,35 +421,32 @@ exit-moved code y setting held b at last starts moved (Fail kind place) same fit
 end-moved : (code : Tac) (y : Layout) (setting : Setting) (held : Option ℕ) (b at last : ℕ) (starts moved : ℕ → ℕ) (k : Block) (o : Option Pair) →
     pair_of y.reads k ≡ o →
     ((j : ℕ) → j < length code.blocks → moved j ≡ b + starts j) → block_there code k ≡ true →
-    b + at + 4 * length (end_code y setting held at starts last o k.exit) + 64 ≤ 2 ^ 32 →
+    b + at + 4 * length (end_code y setting held at starts last o k.exit) + 128 ≤ 2 ^ 32 →
     end_code y setting held (b + at) moved (b + last) o k.exit ≡ end_code y setting held at starts last o k.exit
 unfolding pair_code
 end-moved code y setting held b at last starts moved k None q same fits near =
     exit-moved code y setting held b at last starts moved k.exit same fits (omega (arith, near))
 end-moved code y setting held b at last starts moved k (Some pair) q same fits near =
     ap (λ z. T ++ z)
-    (chosen-moved setting.near setting.short behind (condition_of pair.form.signed pair.operator)
+    (parted-moved setting (condition_of pair.form.signed pair.operator)
     (left_of pair.operator (first_register y held pair.a pair.b) (second_register y held pair.a pair.b))
     (right_of pair.operator (first_register y held pair.a pair.b) (second_register y held pair.a pair.b)) b at
-    (4 * length T) (starts pair.first.block) (starts pair.second.block) (moved pair.first.block) (moved pair.second.block) room
+    (4 * length T) pair.first pair.second (starts pair.first.block) (starts pair.second.block) (moved pair.first.block) (moved pair.second.block) room
     (same pair.first.block (ltb-true pair.first.block (length code.blocks) parts.0))
     (same pair.second.block (ltb-true pair.second.block (length code.blocks) parts.1)))
   where
     T : List Instr
     T = operands_taken y held pair.a pair.b
 
-    behind : Follows
-    behind = follower setting.next pair.first.block pair.second.block
-
-    room : b + at + 4 * length (operands_taken y held pair.a pair.b) + 12 ≤ 2 ^ 32
+    room : b + at + 4 * length (operands_taken y held pair.a pair.b) + 64 ≤ 2 ^ 32
     room =
         let count : length (end_code y setting held at starts last (Some pair) k.exit) ≡ length (operands_taken y held pair.a pair.b) + length
-        (compared setting.near setting.short behind pair.form.signed pair.operator (first_register y held pair.a pair.b) (second_register y held pair.a pair.b)
-        (at + 4 * length (operands_taken y held pair.a pair.b)) (starts pair.first.block)
+        (compared setting pair.form.signed pair.operator (first_register y held pair.a pair.b) (second_register y held pair.a pair.b)
+        (at + 4 * length (operands_taken y held pair.a pair.b)) pair.first pair.second (starts pair.first.block)
         (starts pair.second.block)) =
         length-append (operands_taken y held pair.a pair.b)
-        (compared setting.near setting.short behind pair.form.signed pair.operator (first_register y held pair.a pair.b) (second_register y held pair.a pair.b)
-        (at + 4 * length (operands_taken y held pair.a pair.b)) (starts pair.first.block)
+        (compared setting pair.form.signed pair.operator (first_register y held pair.a pair.b) (second_register y held pair.a pair.b)
+        (at + 4 * length (operands_taken y held pair.a pair.b)) pair.first pair.second (starts pair.first.block)
         (starts pair.second.block)) in
         omega (arith, near, count)
 
@@ -410,7 +458,7 @@ end-moved code y setting held b at last starts moved k (Some pair) q same fits n
 -- A block.
 fill-block : (code : Tac) (places others : FnId → ℕ) (agree : (f : FnId) → places f ≡ others f) (base : ℕ) (y : Layout) (sizes : List ℕ) (from end last follow : ℕ)
     (starts moved : ℕ → ℕ) (cs : List Site) (k : Block) → ((j : ℕ) → j < length code.blocks → moved j ≡ base + starts j) → block_there code k ≡ true →
-    base + 4 * (from + length (block_code y sizes (λ f. 0) starts last (4 * from) follow k)) + 64 ≤ 2 ^ 32 →
+    base + 4 * (from + length (block_code y sizes (λ f. 0) starts last (4 * from) follow k)) + 128 ≤ 2 ^ 32 →
     AreIn (from + length (block_code y sizes (λ f. 0) starts last (4 * from) follow k)) end cs →
     Filled places base y sizes from end cs (block_code y sizes (λ f. 0) starts last (4 * from) follow k)
     (block_code y sizes others moved (base + last) (base + 4 * from) follow k) (instructions_calls y sizes from None (plain_of y.reads k))
@@ -448,7 +496,7 @@ fill-block code places others agree base y sizes from end last follow starts mov
 fill-blocks : (code : Tac) (places others : FnId → ℕ) (agree : (f : FnId) → places f ≡ others f) (base : ℕ) (y : Layout) (sizes : List ℕ) (from end last : ℕ) (starts moved : ℕ → ℕ)
     (cs : List Site) (ks : List Block) → ((j : ℕ) → j < length code.blocks → moved j ≡ base + starts j) →
     list_all (block_there code) ks ≡ true →
-    base + 4 * (from + length (blocks_code y sizes (λ f. 0) starts last (4 * from) ks)) + 64 ≤ 2 ^ 32 →
+    base + 4 * (from + length (blocks_code y sizes (λ f. 0) starts last (4 * from) ks)) + 128 ≤ 2 ^ 32 →
     AreIn (from + length (blocks_code y sizes (λ f. 0) starts last (4 * from) ks)) end cs →
     Filled places base y sizes from end cs (blocks_code y sizes (λ f. 0) starts last (4 * from) ks)
     (blocks_code y sizes others moved (base + last) (base + 4 * from) ks) (blocks_calls y sizes from ks)
@@ -470,11 +518,11 @@ fill-blocks code places others agree base y sizes from end last starts moved cs 
     ap (λ z. A ++ blocks_code y sizes (λ f. 0) starts last z ks) four in
     let count : length (A ++ B) ≡ length A + length B = length-append A B in
     let sum : n + length B ≡ from + length (A ++ B) = omega (arith, count) in
-    let near2 : base + 4 * (from + length (A ++ B)) + 64 ≤ 2 ^ 32 = subst (λ z. base + 4 * (from + length z) + 64 ≤ 2 ^ 32) whole near in
+    let near2 : base + 4 * (from + length (A ++ B)) + 128 ≤ 2 ^ 32 = subst (λ z. base + 4 * (from + length z) + 128 ≤ 2 ^ 32) whole near in
     let h2 : AreIn (n + length B) end cs =
     subst (λ z. AreIn z end cs) (sym sum) (subst (λ z. AreIn (from + length z) end cs) whole h) in
     let rest = fill-blocks code places others agree base y sizes n end last starts moved cs ks same both.1
-    (subst (λ z. base + 4 * z + 64 ≤ 2 ^ 32) (sym sum) near2) h2 in
+    (subst (λ z. base + 4 * z + 128 ≤ 2 ^ 32) (sym sum) near2) h2 in
     let mine : List Site = instructions_calls y sizes from None (plain_of y.reads k) in
     let behind : List Site = blocks_calls y sizes n ks in
     let all : blocks_calls y sizes from (k ∷ ks) ≡ mine ++ behind = ap (λ z. mine ++ blocks_calls y sizes (from + z) ks) less in
@@ -515,7 +563,7 @@ pub record FilledFunction (places others : FnId → ℕ) (base : ℕ) (y : Layou
   pub calls : AreIn 0 (length (function_code y code (λ f. 0) 0)) (function_calls y code)
 
 pub fill-function : (places others : FnId → ℕ) (agree : (f : FnId) → places f ≡ others f) (base : ℕ) (y : Layout) (code : Tac) → list_all (block_there code) code.blocks ≡ true →
-    base + 4 * length (function_code y code (λ f. 0) 0) + 64 ≤ 2 ^ 32 → FilledFunction places others base y code
+    base + 4 * length (function_code y code (λ f. 0) 0) + 128 ≤ 2 ^ 32 → FilledFunction places others base y code
 fill-function places others agree base y code fits near =
     let H : List Instr = head_code y code in
     let L : List Instr = left y (frame_bytes y) code.frame in
@@ -528,7 +576,7 @@ fill-function places others agree base y code fits near =
     let here : body_code y code (λ f. 0) 0 ≡ B =
     ap (λ n. blocks_code y code.areas (λ f. 0) starts last n code.blocks) (zero-first (4 * from)) in
     let end : ℕ = length (H ++ (B ++ L)) in
-    let near-all : base + 4 * end + 64 ≤ 2 ^ 32 = subst (λ z. base + 4 * length (H ++ (z ++ L)) + 64 ≤ 2 ^ 32) here near in
+    let near-all : base + 4 * end + 128 ≤ 2 ^ 32 = subst (λ z. base + 4 * length (H ++ (z ++ L)) + 128 ≤ 2 ^ 32) here near in
     let count : end ≡ from + (length B + length L) =
     length-append H (B ++ L) ∙ ap (λ n. from + n) (length-append B L) in
     let all = fill-blocks code places others agree base y code.areas from end last starts moved [] code.blocks

@@ -20,7 +20,7 @@ use Rattle.rv_select.specs.Entering.{left}
 use Rattle.rv_select.specs.Shapes.{start_of}
 use Rattle.rv_select.specs.Calls.{IsSelected, all_has_code, block_starts, body_code, function_code, head_code, last_address}
 use Rattle.rv_select.specs.Whole.{AreShort}
-use Rattle.rv_select.specs.Waiting.{IsPlaced, PassesAll, Placed, entry_of}
+use Rattle.rv_select.specs.Waiting.{CountsAlike, IsPlaced, PassesAll, Placed, entry_of}
 use Rattle.rv_select.proofs.Lengths.{blocks-length}
 use Rattle.rv_link.specs.declared.function.Function.{Function}
 use Rattle.rv_link.specs.declared.function.Linked.{Linked}
@@ -142,7 +142,7 @@ among p places (x ∷ xs) f code before at e selected sound is =
         (placed_in next xs f) (append_assoc before W T) (larger-second x.code.frame (most_frame xs)) (later other))
 
 pub texts-linked : LinkedTextsAreLinked
-texts-linked functions values linked program selected sound t decoded f code is =
+texts-linked functions values linked behind program selected sound t decoded f code is =
     placed (among (program_of functions values) (places_of functions) functions f code [] text_address refl selected sound is)
   where
     placed : IsAmong (program_of functions values) (places_of functions) (text_of functions) (most_frame functions) code
@@ -156,11 +156,13 @@ texts-linked functions values linked program selected sound t decoded f code is 
         ∙ ap (λ n. length i.before + n) (length-append (map word_of C) i.rest ∙ ap (λ n. n + length i.rest) (length-map C word_of))) in
         let near : x.at + 4 * length C + 256 ≤ 2 ^ 30 =
         reach x.at (length i.before) (length C) (length i.rest) (length (text_of functions)) i.at_is count t.near in
-        let words : IsProgram (i.before ++ (map word_of C ++ i.rest)) program =
-        subst (λ z. IsProgram z program) (t.words ∙ i.text_is) decoded in
+        let words : IsProgram (i.before ++ (map word_of C ++ (i.rest ++ behind))) program =
+        subst (λ z. IsProgram z program)
+        (ap (λ z. z ++ behind) (t.words ∙ i.text_is) ∙ (append_assoc i.before (map word_of C ++ i.rest) behind
+        ∙ ap (λ z. i.before ++ z) (append_assoc (map word_of C) i.rest behind))) decoded in
         facts i.sound.0 i.sound.1.0 i.sound.1.1.0 s near
         (subst (λ q. Stands program q C) (sym i.at_is)
-        (words-stand i.before i.rest C program words (short (length i.before) (length C) (length i.rest) (length (text_of functions)) count t.near)))
+        (words-stand i.before (i.rest ++ behind) C program words (short (length i.before) (length C) (length i.rest) (length (text_of functions)) count t.near)))
         (aligned x.at (length i.before) i.at_is) (subst (λ n. frame_bytes (layout_of code x.homes) ≤ n) (sym t.frame) i.frame)
       where
         reach : (at b c r n : ℕ) → at ≡ text_address + 4 * b → n ≡ b + (c + r) → text_address + 4 * n + 256 ≤ 2 ^ 30 →
@@ -186,6 +188,7 @@ texts-linked functions values linked program selected sound t decoded f code is 
           right = subst (λ z. IsRight code z) g (subst (λ z. IsRight z x.homes) e s.right);
           has_code = subst (λ z. all_has_code z ≡ true) e s.has_code;
           passes = subst (λ z. PassesAll (program_of functions values) z) e s.passes;
+          alike = subst (λ z. CountsAlike (program_of functions values) z) e s.alike;
           aligned = even;
           near = near;
           frame = frame;

@@ -122,7 +122,7 @@ filled-words x places others agree base s h near =
     ap length s.words ∙ length-map (function_code y x.tac (λ f. 0) 0) word_of in
     fill-function places others agree base y x.tac h (reach (length x.code.words.items) _ long near)
   where
-    reach : (k n : ℕ) → k ≡ n → base + 4 * k + 256 ≤ 2 ^ 30 → base + 4 * n + 64 ≤ 2 ^ 32
+    reach : (k n : ℕ) → k ≡ n → base + 4 * k + 256 ≤ 2 ^ 30 → base + 4 * n + 128 ≤ 2 ^ 32
     reach k n e h = omega (arith, e, h)
 
 pub function-turn : (x : Function) (places others : FnId → ℕ) → ((f : FnId) → places f ≡ others f) → (base : ℕ) →

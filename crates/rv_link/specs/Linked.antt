@@ -16,7 +16,7 @@ use Rattle.tac_form.specs.Flow.{Program}
 use Rattle.tac_form.specs.Fits.{Counted, Fits}
 use Rattle.rv_select.specs.Places.{layout_of}
 use Rattle.rv_select.specs.Calls.{IsSelected, all_has_code, function_code}
-use Rattle.rv_select.specs.Waiting.{Image, IsLinked, PassesAll, entries_of}
+use Rattle.rv_select.specs.Waiting.{CountsAlike, Image, IsLinked, PassesAll, entries_of}
 use Rattle.rv_link.specs.declared.function.Function.{Function}
 use Rattle.rv_link.specs.declared.function.Linked.{Linked}
 pub use Rattle.tac_form.specs.Fits.{edge_fits as edge_there}
@@ -88,13 +88,15 @@ abbrev pub AreThere : List Function → Type 0
 AreThere [] = Unit {0}
 AreThere (x ∷ xs) = IsTrue (blocks_there x.tac) × AreThere xs
 
--- A function of a program that machine code may be made of: its calls pass as many parts as the function that they call takes.
+-- A function of a program that machine code may be made of: its calls pass as many parts as the function that they call takes, and it
+-- counts where the others do.
 pub record IsSound (p : Program) (x : Function) : Type 0 where
   pub fits : Fits x.tac
   pub counted : Counted x.tac
   pub right : IsRight x.tac x.homes
   pub has_code : IsTrue (all_has_code x.tac)
   pub passes : PassesAll p x.tac
+  pub alike : CountsAlike p x.tac
 
 abbrev pub AreSound : Program → List Function → Type 0
 AreSound p [] = Unit {0}
@@ -107,10 +109,10 @@ pub record IsLinkedText (functions : List Function) (linked : Linked) : Type 0 w
   pub frame : linked.frame ≡ most_frame functions
   pub near : text_address + 4 * length (text_of functions) + 256 ≤ 2 ^ 30
 
--- In such a text the program's functions stand as runs ask for.
+-- In such a text the program's functions stand as runs ask for, whatever words lie behind them.
 abbrev pub LinkedTextsAreLinked : Type 0
 LinkedTextsAreLinked =
-    (functions : List Function) (values : List FnId) (linked : Linked) (program : List (Option Instr)) →
+    (functions : List Function) (values : List FnId) (linked : Linked) (behind : List ℕ) (program : List (Option Instr)) →
     AreSelected functions → AreSound (program_of functions values) functions → IsLinkedText functions linked →
-    IsProgram linked.words.items program →
+    IsProgram (linked.words.items ++ behind) program →
     IsLinked (program_of functions values) (image_of functions) program linked.frame

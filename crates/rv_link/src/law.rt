@@ -1,6 +1,6 @@
 // What linked texts promise. Each function does nothing, and its clause is a law.
 
-ghost use Rattle.rv_link.specs.Images.{ImagesAreCarried, ImagesStart};
+ghost use Rattle.rv_link.specs.Images.{CountedImagesAreCarried, ImagesAreCarried, ImagesStart};
 ghost use Rattle.rv_link.specs.Linked.{LinkedTextsAreLinked};
 
 /// In a text that `link` gives, of functions that machine code may be made of, each function stands where calls look for it, so runs of
@@ -18,4 +18,9 @@ pub fn images_start()
 /// at most as many steps for each count, and for the begin, as the image has instructions.
 pub fn images_are_carried()
     ensures { ImagesAreCarried }
+{}
+
+/// So does one of functions that count, from the words behind them all that give one of them its counts: it breaks off where none is left.
+pub fn counted_images_are_carried()
+    ensures { CountedImagesAreCarried }
 {}

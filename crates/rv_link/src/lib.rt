@@ -11,7 +11,9 @@ mod placing;
 pub mod ways;
 
 pub use function::{Function, Linked};
-pub use law::{images_are_carried, images_start, linked_texts_are_linked};
+pub use law::{
+    counted_images_are_carried, images_are_carried, images_start, linked_texts_are_linked,
+};
 pub use linking::link;
 pub use placing::is_near;
 pub use ways::blocks_there;

@@ -288,6 +288,7 @@ heap-keeps : (y : Layout) (base : ℕ) (m n : State) → ((r : ℕ) → r ≢ 3 
 heap-keeps y base m n k private = record {
   registers = λ r l u. k r (lasts-not r 3 l refl) (lasts-not r 5 l refl) (lasts-not r 6 l refl) (lasts-not r 7 l refl);
   link = k 1 (λ z. omega (arith, z)) (λ z. omega (arith, z)) (λ z. omega (arith, z)) (λ z. omega (arith, z));
+  count = k 9 (λ z. omega (arith, z)) (λ z. omega (arith, z)) (λ z. omega (arith, z)) (λ z. omega (arith, z));
   long = ap length private;
   outside = λ at c o. ap (λ z. take c (drop at z)) private;
 }

@@ -165,6 +165,7 @@ pub area-keeps : (y : Layout) (base n : ℕ) (bs : List ℕ) (m z : State) → n
 area-keeps y base n bs m z there s = record {
   registers = λ r l u. s.keeps r (lasts-not r 5 l refl) (lasts-not r 6 l refl) (lasts-not r 7 l refl);
   link = s.keeps 1 (λ z. omega (arith, z)) (λ z. omega (arith, z)) (λ z. omega (arith, z));
+  count = s.keeps 9 (λ z. omega (arith, z)) (λ z. omega (arith, z)) (λ z. omega (arith, z));
   long = s.long;
   outside = λ at k o. s.outside at k (⊎_elim (λ l. inl (omega (arith, l))) (λ l. inr (omega (arith, l, there))) o);
 }

@@ -42,17 +42,17 @@ pub record InFunction (z : Layout) (base bottom placed depth link : ℕ) (m n : 
   pub below : (at k : ℕ) → at + k ≤ bottom → take k (drop at n.private) ≡ take k (drop at m.private)
 
 pub enters-call : (program : List (Option Instr)) (y : Layout) (held : Option ℕ) (z : Layout)
-    (base bytes frame placed target most to link : ℕ) (w : World) (at : Place) (ps : List Part) (rest : List Instr) (m : State)
-    (b : Begun program y held base w at ps rest m) (j : JumpedTo program target b.after)
+    (base bytes frame placed target most to link : ℕ) (w : World) (at : Place) (ps : List Part) (left : ℕ) (rest : List Instr) (m : State)
+    (b : Begun program y held base w at ps left rest m) (j : JumpedTo program target b.after)
     (e : Enters program z (base - bytes) (placed - frame) most to j.after) → 88 ≤ bytes → bytes ≤ base →
     8 * length ps ≤ bytes → low (b.after.pc + 8) ≡ link → link < 2 ^ 64 → InFunction z base (base - bytes) (placed - frame) (suc w.depth) link m e.after
-enters-call program y held z base bytes frame placed target most to link w at ps rest m b j e least room passed link-is small = record {
+enters-call program y held z base bytes frame placed target most to link w at ps left rest m b j e least room passed link-is small = record {
   pointer = e.pointer;
   eight = e.placed;
   three = others 3 (λ q. omega (arith, q)) (λ q. omega (arith, q)) (λ q. omega (arith, q)) (λ q. omega (arith, q)) (λ q. omega (arith, q))
-      (λ q. omega (arith, q)) (λ q. omega (arith, q)) (λ q. omega (arith, q));
+      (λ q. omega (arith, q)) (λ q. omega (arith, q)) (λ q. omega (arith, q)) (λ q. omega (arith, q));
   four = others 4 (λ q. omega (arith, q)) (λ q. omega (arith, q)) (λ q. omega (arith, q)) (λ q. omega (arith, q)) (λ q. omega (arith, q))
-      (λ q. omega (arith, q)) (λ q. omega (arith, q)) (λ q. omega (arith, q));
+      (λ q. omega (arith, q)) (λ q. omega (arith, q)) (λ q. omega (arith, q)) (λ q. omega (arith, q));
   waiting = e.others 28 (λ q. omega (arith, q)) (λ q. omega (arith, q)) (λ q. omega (arith, q)) (λ q. omega (arith, q))
       (λ q. omega (arith, q))
       ∙ (j.others 28 (λ q. omega (arith, q)) (λ q. omega (arith, q)) ∙ b.waiting);
@@ -82,11 +82,11 @@ enters-call program y held z base bytes frame placed target most to link w at ps
     before r lo hi =
         j.others r (λ q. omega (arith, q, lo)) (λ q. omega (arith, q, lo))
         ∙ b.others r (λ q. omega (arith, q, lo)) (λ q. omega (arith, q, lo)) (λ q. omega (arith, q, lo)) (λ q. omega (arith, q, lo))
-        (λ q. omega (arith, q, hi))
+        (λ q. omega (arith, q, lo)) (λ q. omega (arith, q, hi))
 
-    others : (r : ℕ) → r ≢ 1 → r ≢ 2 → r ≢ 5 → r ≢ 6 → r ≢ 7 → r ≢ 8 → r ≢ 11 → r ≢ 28 → e.after.registers r ≡ m.registers r
-    others r one two five six seven eight eleven more = e.others r two five six seven eight ∙
-        (j.others r one five ∙ b.others r five six seven eleven more)
+    others : (r : ℕ) → r ≢ 1 → r ≢ 2 → r ≢ 5 → r ≢ 6 → r ≢ 7 → r ≢ 8 → r ≢ 9 → r ≢ 11 → r ≢ 28 → e.after.registers r ≡ m.registers r
+    others r one two five six seven eight nine eleven more = e.others r two five six seven eight ∙
+        (j.others r one five ∙ b.others r five six seven nine eleven more)
 
 -- the caller's registers and memory, as the function will put them back
 pub same-after : (z : Layout) (base bottom placed depth link : ℕ) (m n q : State) → InFunction z base bottom placed depth link m n →

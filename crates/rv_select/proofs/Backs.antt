@@ -23,6 +23,7 @@ use Rattle.tac_form.specs.Flow as tac
 use Rattle.tac_form.specs.Flow.{Activation, Caller, Program, area_size, give, given, operand, put, step, value_of}
 use Rattle.tac_form.specs.Fits.{area_fits, destination_fits, exit_fits, part_fits, place_fits}
 use Rattle.tac_form.specs.Graph.{block_of, destination_write, exit_reads, graph_of, step_of}
+use Rattle.tac_counts.specs.Counts.{left_behind}
 use Rattle.tac_form.specs.Live.{InUse, has}
 use Rattle.terra_words.specs.Runs.{word}
 use Rattle.terra_memory.specs.Numbers.{number_of}
@@ -38,12 +39,12 @@ use Rattle.rv_select.specs.Asked.{exit_asks, given_asks}
 use Rattle.rv_select.specs.Places.{AreBytes, HasHome, Holds, Housed, IsHeld, Layout, World, area_offset, frame_bytes, layout_of}
 use Rattle.rv_select.specs.Places.{link_in, private_word}
 use Rattle.rv_select.specs.Shapes.{put_at}
-use Rattle.rv_select.specs.Steps.{world_of}
+use Rattle.rv_select.specs.Steps.{CountsLeft, world_of}
 use Rattle.rv_select.specs.Calls.{blocks_length, call_begun, call_ended, call_jump, head_code, last_address}
 use Rattle.rv_select.specs.Entering.{left, result_put, size_in}
 use Rattle.rv_select.specs.Whole.{ended_words}
 use Rattle.rv_select.specs.Waiting.{Arrives, HasRoom, Image, IsLinked, IsPlaced, StandsIn, Stepped, Waiting, Waits, entries_of, held_at}
-use Rattle.rv_select.specs.Waiting.{held_in, place_in, plain_in, restored}
+use Rattle.rv_select.specs.Waiting.{counts_in, held_in, place_in, plain_in, restored}
 use Rattle.rv_select.proofs.Asking.{exit-homes}
 use Rattle.rv_select.proofs.Carries.{by-test, first-read, nothing-written}
 use Rattle.rv_select.proofs.Copies.{copies-there, size-small}
@@ -51,6 +52,7 @@ use Rattle.rv_select.proofs.Finds.{FoundFunction, held-next, stands-next}
 use Rattle.rv_select.proofs.Pairing.{before-next, plain-get}
 use Rattle.rv_select.proofs.Leaves.{exit-in-graph, exit-reads-live}
 use Rattle.rv_select.proofs.Lives.{housed, step-in-graph, write-used}
+use Rattle.rv_select.proofs.Counts.{counts-stay}
 use Rattle.rv_select.proofs.Moves.{Settles, fewer-holds, first-small, near-keeps, put-away, settled}
 use Rattle.rv_select.proofs.Passes.{IsPartFirst, part-small, part_value}
 use Rattle.rv_select.proofs.Receives.{housed-fewer}
@@ -147,7 +149,7 @@ some-same d t e = cc
 -- the result is where the caller takes it, and the machine goes on behind the call
 put-result : (p : Program) (image : Image) (program : List (Option Instr)) (most size : ℕ) → IsLinked p image program most →
     (s : tac.State) (a : Activation) (temps : tac.Temps) (areas : tac.Areas) (cs : List Caller) (code : Tac) (up k more bound target : ℕ)
-    (held : Option ℕ) (m n : State) → p.code a.function ≡ Some code → Way program k m n → 1 ≤ k → k + more ≤ bound →
+    (held : Option ℕ) (m n : State) → p.code a.function ≡ Some code → CountsLeft code.counts s.left n → Way program k m n → 1 ≤ k → k + more ≤ bound →
     (c : Settles (layout_of code (image a.function).homes) program (InUse (graph_of code) a.block a.at)
     (record { temps = temps; areas = areas; region = s.region; placed = a.base; depth = length cs }) up more target n) →
     IsHeld (layout_of code (image a.function).homes) held temps c.after →
@@ -158,7 +160,7 @@ put-result : (p : Program) (image : Image) (program : List (Option Instr)) (most
     (up + frame_bytes (layout_of code (image a.function).homes)) (a.base + code.frame)
     (restored (layout_of code (image a.function).homes) up n) →
     Arrives p image program most size bound s.left [] (record s { here = record a { temps = temps; areas = areas }; callers = cs }) m
-put-result p image program most size linked s a temps areas cs code up k more bound target held m n function way some few c five to-is held-is
+put-result p image program most size linked s a temps areas cs code up k more bound target held m n function counted way some few c five to-is held-is
     inside frame
     region room
     waits = record {
@@ -177,6 +179,7 @@ put-result p image program most size linked s a temps areas cs code up k more bo
         pc = c.at ∙ to-is;
         holds = c.holds;
         five = subst (λ o. IsHeld (layout_of code (image a.function).homes) o temps c.after) (sym held-is) five;
+        counts = counts-stay code.counts s.left n c.after c.keeps.count counted;
         frame = frame;
         region = region;
         room = room;
@@ -262,11 +265,12 @@ pub to-caller : (p : Program) (image : Image) (program : List (Option Instr)) (m
     (restored (layout_of W.code (image a.function).homes) up M) →
     length s.region.bytes ≡ size → Way program k m n → 1 ≤ k →
     k + length (call_ended (layout_of W.code (image a.function).homes) W.code.areas to) ≤ bound → IsBack s (length cs) up over link v M n →
+    CountsLeft W.code.counts s.left n →
     Puts program (layout_of W.code (image a.function).homes) W.code.areas (InUse (graph_of W.code) a.block a.at) to s a over (length cs) up
     v temps areas n →
     Arrives p image program most size bound s.left []
     (record s { here = record a { temps = temps; areas = areas }; callers = cs }) m
-to-caller p image program most size linked s a to v temps areas cs up over link k bound M m n W rest sized way some few b puts =
+to-caller p image program most size linked s a to v temps areas cs up over link k bound M m n W rest sized way some few b counted puts =
     let q : ℕ = behind_of p image most (record { waits = a; to = to }) (length cs) link up over M W in
     let bc = behind-call p image program most W.code a.function a.block W.before to W.block W.place W.callee W.arguments
     (linked a.function W.code W.function) W.in_function W.in_block in
@@ -329,6 +333,7 @@ to-caller p image program most size linked s a to v temps areas cs up over link 
         (puts r.after r.private r.five r.there held) in
         put-result p image program most size linked s a temps areas cs W.code up (k + 2) (length R) bound (low (r.after.pc + 4 * length R))
         (destination_write to) m r.after W.function
+        (counts-stay W.code.counts s.left n r.after (r.same 9 (λ z. omega (arith, z)) (λ z. omega (arith, z))) counted)
         (way-both program k 2 m n r.after way r.way) (omega (arith, some)) (sums (length R) few) both.0 both.1 target
         (ap (λ z. held_in W.code a.block z) W.at ∙ bc.held)
         (subst (λ z. z ≤ length (plain_in (reads_of W.code) (slice_get W.code.blocks a.block))) (sym W.at) bc.before_end)
@@ -483,9 +488,10 @@ to-one : (p : Program) (image : Image) (program : List (Option Instr)) (most siz
     Waits p image most size cs (private_word m (base + frame_bytes y))
     (base + frame_bytes y + frame_bytes (layout_of W.code (image a.function).homes)) (s.here.base + frame + W.code.frame)
     (restored (layout_of W.code (image a.function).homes) (base + frame_bytes y) (restored y base m)) →
+    CountsLeft W.code.counts s.left m →
     (link % 2 ≡ 0 → link < 2 ^ 64 → BackIn program y (frame_bytes y) base (s.here.base + frame) link (part_value y base (world_of s) v) own m) →
-    Stepped p image program most size (own + length (call_ended (layout_of W.code (image a.function).homes) W.code.areas to)) s m (given (value_of s v) (Some W.code) (record { waits = a; to = to }) cs s)
-to-one p image program most size linked s base m y held Used frame h fits sized a Nothing cs v link own depth reads W rest back =
+    Stepped p image program most size (left_behind p s) (own + length (call_ended (layout_of W.code (image a.function).homes) W.code.areas to)) s m (given (value_of s v) (Some W.code) (record { waits = a; to = to }) cs s)
+to-one p image program most size linked s base m y held Used frame h fits sized a Nothing cs v link own depth reads W rest counted back =
     let e = link-even p image program most linked a Nothing (length cs) link (base + frame_bytes y) (s.here.base + frame)
     (restored y base m) W in
     let x : ℕ = part_value y base (world_of s) v in
@@ -497,10 +503,11 @@ to-one p image program most size linked s base m y held Used frame h fits sized 
           (restored y base m) m b.after W rest sized b.way b.some
           (more b.steps (length (call_ended (layout_of W.code (image a.function).homes) W.code.areas Nothing)) own b.few)
           (left-back program y Used s base frame link x own (length cs) m h b depth (part-small y held Used (world_of s) base m v h reads) fits)
+          (counts-stay W.code.counts s.left m b.after b.count counted)
           (puts-nothing program (layout_of W.code (image a.function).homes) W.code.areas (InUse (graph_of W.code) a.block a.at) s a
           (s.here.base + frame) (length cs) (base + frame_bytes y) x b.after),
     )
-to-one p image program most size linked s base m y held Used frame h fits sized a (Temp d) cs (parts.Word o) link own depth reads W rest back =
+to-one p image program most size linked s base m y held Used frame h fits sized a (Temp d) cs (parts.Word o) link own depth reads W rest counted back =
     let e = link-even p image program most linked a (Temp d) (length cs) link (base + frame_bytes y) (s.here.base + frame)
     (restored y base m) W in
     let same : part_value y base (world_of s) (parts.Word o) ≡ operand s o = part-is y base s o in
@@ -514,13 +521,14 @@ to-one p image program most size linked s base m y held Used frame h fits sized 
           (restored y base m) m b.after W rest sized b.way b.some
           (more b.steps (length (call_ended (layout_of W.code (image a.function).homes) W.code.areas (Temp d))) own b.few)
           (left-back program y Used s base frame link (operand s o) own (length cs) m h b depth small fits)
+          (counts-stay W.code.counts s.left m b.after b.count counted)
           (puts-word p image program most linked s a d (operand s o) (length cs) (base + frame_bytes y) (s.here.base + frame) link
           (restored y base m) b.after W small),
     )
-to-one p image program most size linked s base m y held Used frame h fits sized a (Temp d) cs (parts.Area n) link own depth reads W rest back = tt
-to-one p image program most size linked s base m y held Used frame h fits sized a (Area j) cs (parts.Word o) link own depth reads W rest back = tt
-to-one p image program most size linked s base m y held Used frame h fits sized a (Area j) cs (parts.Area n) link own depth reads W rest back =
-    by-test (Stepped p image program most size (own + length (call_ended (layout_of W.code (image a.function).homes) W.code.areas (Area j))) s m) (nat_eq (length (s.here.areas n)) (area_size W.code j)) _ _
+to-one p image program most size linked s base m y held Used frame h fits sized a (Temp d) cs (parts.Area n) link own depth reads W rest counted back = tt
+to-one p image program most size linked s base m y held Used frame h fits sized a (Area j) cs (parts.Word o) link own depth reads W rest counted back = tt
+to-one p image program most size linked s base m y held Used frame h fits sized a (Area j) cs (parts.Area n) link own depth reads W rest counted back =
+    by-test (Stepped p image program most size (left_behind p s) (own + length (call_ended (layout_of W.code (image a.function).homes) W.code.areas (Area j))) s m) (nat_eq (length (s.here.areas n)) (area_size W.code j)) _ _
     (λ taken.
     let e = link-even p image program most linked a (Area j) (length cs) link (base + frame_bytes y) (s.here.base + frame)
     (restored y base m) W in
@@ -534,6 +542,7 @@ to-one p image program most size linked s base m y held Used frame h fits sized 
           (more b.steps (length (call_ended (layout_of W.code (image a.function).homes) W.code.areas (Area j))) own b.few)
           (left-back program y Used s base frame link (2 ^ 32 + (base + area_offset y n)) own (length cs) m h b depth
           (small (length m.private) h.frame.within h.frame.private) fits)
+          (counts-stay W.code.counts s.left m b.after b.count counted)
           (puts-bytes p image program most linked s a j (base + area_offset y n) (s.here.areas n) (length cs) (base + frame_bytes y)
           (s.here.base + frame) link (restored y base m) b.after W (eqb-true (length (s.here.areas n)) (area_size W.code j) taken)
           (under (length (s.here.areas n)) (h.short n reads)) (subst (λ z. base + frame_bytes y ≤ length z) (sym b.private) h.frame.within)
@@ -559,12 +568,18 @@ pub return-steps : (p : Program) (image : Image) (program : List (Option Instr))
     slice_get block.instructions s.here.at ≡ None → pair_of (reads_of x.code) block ≡ None → block.exit ≡ Return v →
     (found : AtExit p image program x.code (image s.here.function) s.here.block (held_in x.code s.here.block s.here.at) None block.exit
     (place_in p image x.code (image s.here.function) s.here.block s.here.at)) →
-    Stepped p image program most size (return_most p image (found.own + length (left (layout_of x.code (image s.here.function).homes)
+    Stepped p image program most size (left_behind p s) (return_most p image (found.own + length (left (layout_of x.code (image s.here.function).homes)
     (frame_bytes (layout_of x.code (image s.here.function).homes)) x.code.frame)) s.callers) s m (step p s)
 return-steps p image program most size linked s base m x block v in-f in-b alone is found =
     let e1 = x.function in
-    rw (e1, in-f, in-b) (rw is (go s.callers refl x.waits))
+    rw (e1, in-f, in-b)
+    (rw is
+    (subst (λ n. Stepped p image program most size n (return_most p image (found.own + L) s.callers) s m (give p (value_of s v) s.callers s)) untaken
+    (go s.callers refl x.waits)))
   where
+    untaken : left_behind p s ≡ s.left
+    untaken = let e1 = x.function in rw (e1, in-f, in-b) (rw is refl)
+
     reads : IsPartFirst (layout_of x.code (image s.here.function).homes) (held_in x.code s.here.block s.here.at)
         (InUse (graph_of x.code) s.here.block s.here.at) v
     reads =
@@ -632,7 +647,7 @@ return-steps p image program most size linked s base m x block v in-f in-b alone
         Waits p image most size cs (link_in (layout_of x.code (image s.here.function).homes) base m)
         (base + frame_bytes (layout_of x.code (image s.here.function).homes)) (s.here.base + x.code.frame)
         (restored (layout_of x.code (image s.here.function).homes) base m) →
-        Stepped p image program most size (return_most p image (found.own + L) cs) s m (give p (value_of s v) cs s)
+        Stepped p image program most size (left_behind p s) (return_most p image (found.own + L) cs) s m (give p (value_of s v) cs s)
     go [] e w =
         let b = back 0 w.0 refl (omega arith) in (
           refl,
@@ -642,6 +657,8 @@ return-steps p image program most size linked s base m x block v in-f in-b alone
             few = b.few;
             runs = λ more. b.way.runs more ∙ run-returned program b.after more b.pc;
             gives = λ k g. b.ten ∙ word-part (layout_of x.code (image s.here.function).homes) base s v k g;
+            count = subst (λ o. CountsLeft (counts_in o) (left_behind p s) b.after) (sym x.function)
+                (subst (λ n. CountsLeft x.code.counts n b.after) (sym untaken) (counts-stay x.code.counts s.left m b.after b.count x.counts));
           },
         )
     go (c ∷ cs) e w =
@@ -650,4 +667,6 @@ return-steps p image program most size linked s base m x block v in-f in-b alone
         (to-one p image program most size linked s base m (layout_of x.code (image s.here.function).homes)
         (held_in x.code s.here.block s.here.at) (InUse (graph_of x.code) s.here.block s.here.at) x.code.frame x.holds x.frame x.region
         c.waits c.to cs v (link_in (layout_of x.code (image s.here.function).homes) base m) (found.own + L) (ap length e) reads w.0 w.1
+        (subst (λ c. CountsLeft c s.left m)
+        (sym ((linked s.here.function x.code x.function).alike c.waits.function w.0.code w.0.function)) x.counts)
         (λ even small. back (link_in (layout_of x.code (image s.here.function).homes) base m) refl even small))

@@ -30,7 +30,8 @@ use Rattle.rv_select.specs.Calls.{blocks_length, head_code, last_address}
 use Rattle.rv_select.specs.Entering.{arguments_stored, begun, entered, kept_offset, place_given, received, stored_below}
 use Rattle.rv_select.specs.Entering.{words_offset}
 use Rattle.rv_select.specs.Frames.{BeforeEntering, Enters, HasWords, Received, seen, without_words}
-use Rattle.rv_select.specs.Waiting.{Arrives, Image, IsLinked, IsPlaced, Stepped, entries_of, place_in, plain_in}
+use Rattle.rv_select.specs.Steps.{CountsLeft, EndsLeft}
+use Rattle.rv_select.specs.Waiting.{Arrives, Image, IsLinked, IsPlaced, Stepped, counts_in, entries_of, place_in, plain_in}
 use Rattle.rv_select.specs.Whole.{EntriesAreCarried, Starts, before_entry}
 use Rattle.rv_select.proofs.Arrivals.{InFunction, begin-holds, link-after}
 use Rattle.rv_select.proofs.Bytes.{stored-word}
@@ -38,8 +39,8 @@ use Rattle.rv_select.proofs.Amounts.{top-is}
 use Rattle.rv_select.proofs.Calling.{entering_words, first-start, fresh_call, receiving_words, slice-below, takes-is, widen}
 use Rattle.rv_select.proofs.Carries.{by-test, place-small}
 use Rattle.rv_select.proofs.Areas.{Saves}
+use Rattle.rv_select.proofs.Counts.{counts-stay, ends-left}
 use Rattle.rv_select.proofs.Entrances.{functions-entered}
-use Rattle.rv_select.proofs.Faults.{later-ends}
 use Rattle.rv_select.proofs.Finds.{FoundFunction}
 use Rattle.rv_select.proofs.Numbers.{constant-loads, register-is}
 use Rattle.rv_select.proofs.Passes.{Beneath, below-saves, beneath-both, near-beneath, saves-beneath}
@@ -333,7 +334,7 @@ not-lt a b e = ⊎_elim (λ l. let t : nat_lt a b ≡ true = lt-ltb a b l in let
 -- the function's code, its frames and its arguments, where it begins as the entry
 module _ (p : Program) (image : Image) (program : List (Option Instr)) (most n : ℕ) (f : FnId) (code : Tac) (arguments : List ℕ)
     (region : Contents) (m : State) (linked : IsLinked p image program most) (e : p.code f ≡ Some code)
-    (x : Starts (image f).at region arguments m) (eight : length arguments ≤ 8) (count : length arguments ≡ length code.parameters)
+    (x : Starts (image f).at region arguments m) (counted : CountsLeft code.counts n m) (eight : length arguments ≤ 8) (count : length arguments ≡ length code.parameters)
     (room : 512 * most ≤ (length m.private)) where
   pl : IsPlaced p image program most code (image f)
   pl = linked f code e
@@ -455,6 +456,18 @@ module _ (p : Program) (image : Image) (program : List (Option Instr)) (most n :
           b.others 1 (λ z. omega (arith, z)) (λ z. omega (arith, z)) (λ z. omega (arith, z)) (λ z. omega (arith, z)) (λ z. omega (arith, z))
           ∙ x.link
 
+  at-nine : (b : AtEntry program code (place_number code.place) (length code.parameters) m) → b.after.registers 9 ≡ m.registers 9
+  at-nine b = b.others 9 (λ z. omega (arith, z)) (λ z. omega (arith, z)) (λ z. omega (arith, z)) (λ z. omega (arith, z)) (λ z. omega (arith, z))
+
+  in-nine : (b : AtEntry program code (place_number code.place) (length code.parameters) m)
+      (en : Enters program (layout_of code (image f).homes) ((length m.private) - (frame_bytes (layout_of code (image f).homes)))
+      ((end_address region) - code.frame) (entering_words image f code)
+      (low (b.after.pc + 4 * length (entered (layout_of code (image f).homes) (frame_bytes (layout_of code (image f).homes)) code.frame)))
+      b.after) → en.after.registers 9 ≡ m.registers 9
+  in-nine b en =
+      en.others 9 (λ z. omega (arith, z)) (λ z. omega (arith, z)) (λ z. omega (arith, z)) (λ z. omega (arith, z)) (λ z. omega (arith, z))
+      ∙ at-nine b
+
   lands-in : (b : AtEntry program code (place_number code.place) (length code.parameters) m)
       (en : Enters program (layout_of code (image f).homes) ((length m.private) - (frame_bytes (layout_of code (image f).homes)))
       ((end_address region) - code.frame) (entering_words image f code)
@@ -503,6 +516,7 @@ module _ (p : Program) (image : Image) (program : List (Option Instr)) (most n :
               before_end = from-zero (length (plain_in (reads_of code) (slice_get code.blocks 0)));
               pc = r.at ∙ to-is;
               five = tt;
+              counts = counts-stay code.counts n m r.after (r.keeps.count ∙ in-nine b en) counted;
               holds = widen (layout_of code (image f).homes) (InUse (graph_of code) 0 0)
                   (seen (record (fresh_call f code (before_entry f region n)) { temps = temps; areas = areas }) region 0)
                   ((length m.private) - (frame_bytes (layout_of code (image f).homes))) r.after r.holds
@@ -600,23 +614,25 @@ module _ (p : Program) (image : Image) (program : List (Option Instr)) (most n :
       (received (layout_of code (image f).homes) code.areas (words_offset (layout_of code (image f).homes)) code.parameters)) near.0 ∙
       (fn.first ∙ sym (first-start (layout_of code (image f).homes) code (image f).at wi.entered)))) rc
 
-  pub entry-step : Stepped p image program most (length region.bytes) (length (head_code (layout_of code (image f).homes) code))
+  pub entry-step : Stepped p image program most (length region.bytes) n (length (head_code (layout_of code (image f).homes) code))
       (before_entry f region n) m (enter code.place f (Some code) (map word arguments) (end_address region) [] (before_entry f region n))
   entry-step =
       let both = functions-entered program (layout_of code (image f).homes) (frame_bytes (layout_of code (image f).homes)) code.frame
       (length m.private) (end_address region) (length region.bytes) code.place at-entry.after (before at-entry) in
-      by-test (Stepped p image program most (length region.bytes) (length (head_code (layout_of code (image f).homes) code))
+      by-test (Stepped p image program most (length region.bytes) n (length (head_code (layout_of code (image f).homes) code))
       (before_entry f region n) m) (nat_lt (end_address region) (heap_limit region + code.frame)) _ _
       (λ full. (
         refl,
-        later-ends program StackFull code.place at-entry.steps (entering_words image f code)
-            (length (head_code (layout_of code (image f).homes) code)) m at-entry.after
+        subst (λ o. EndsLeft (counts_in o) program StackFull code.place (length (head_code (layout_of code (image f).homes) code)) n m) (sym e)
+            (ends-left code.counts program StackFull code.place at-entry.steps (entering_words image f code)
+            (length (head_code (layout_of code (image f).homes) code)) n m at-entry.after
             at-entry.way (both.0 (ltb-true (end_address region) (heap_limit region + code.frame) full))
             (steps-full at-entry.steps (length (begun code)) (entering_words image f code) (receiving_words image f code)
-            (length (head_code (layout_of code (image f).homes) code)) head-words at-entry.few),
+            (length (head_code (layout_of code (image f).homes) code)) head-words at-entry.few)
+            (counts-stay code.counts n m at-entry.after (at-nine at-entry) counted)),
       ))
       (λ fits.
-      by-test (Stepped p image program most (length region.bytes) (length (head_code (layout_of code (image f).homes) code))
+      by-test (Stepped p image program most (length region.bytes) n (length (head_code (layout_of code (image f).homes) code))
       (before_entry f region n) m) (accepts_all code code.parameters (map word arguments)) _ _
       (λ taken. (
         [],
@@ -626,5 +642,5 @@ module _ (p : Program) (image : Image) (program : List (Option Instr)) (most n :
       )) (λ no. tt))
 
 pub entries-carried : EntriesAreCarried
-entries-carried p image program most n f code arguments region m linked e x eight count room = entry-step p image program most n f code
-    arguments region m linked e x eight count room
+entries-carried p image program most n f code arguments region m linked e x counted eight count room = entry-step p image program most n f code
+    arguments region m linked e x counted eight count room

@@ -1,6 +1,6 @@
 -- The code of a function from its parts.
-use Rattle.std.proofs.Common.{◌≡◌, ℕ, ◌+◌, ◌*◌, true, false, List, [], ◌++◌, length, append_assoc, Option, None, refl, sym, ap, subst}
-use Rattle.std.proofs.Common.{◌∙◌, arith}
+use Rattle.std.proofs.Common.{◌≡◌, ℕ, ◌+◌, ◌*◌, Bool, true, false, List, [], ◌++◌, length, append_assoc, Option, None, refl, sym, ap}
+use Rattle.std.proofs.Common.{◌∙◌, subst, arith}
 use Rattle.std.specs.Prelude.{map, Result, OnOk}
 use Rattle.std.specs.List.{list_all}
 use Rattle.std.proofs.lemmas.List.{map-append}
@@ -24,7 +24,7 @@ use Rattle.rv_select.specs.declared.settings.Extent.{Extent}
 use Rattle.rv_select.specs.declared.settings.Setting.{Setting}
 use Rattle.rv_select.specs.Settings.{setting_of}
 use Rattle.rv_select.specs.Asked.{asked_homes}
-use Rattle.rv_select.specs.Places.{Layout, extent_of, frame_bytes, layout_with, with_extent, with_homes, with_reads}
+use Rattle.rv_select.specs.Places.{Layout, extent_of, frame_bytes, layout_with, with_counting, with_extent, with_homes, with_reads}
 use Rattle.rv_select.specs.Shapes.{start_of}
 use Rattle.rv_select.specs.Entering.{begun, entered, left, received, words_offset}
 use Rattle.rv_select.specs.Calls.{IsSelected, block_code, block_has_code, block_starts, blocks_calls, blocks_code, body_code, call_begun}
@@ -56,12 +56,16 @@ one-called r y sizes held to at f arguments given i n old new e g h =
     (subst (λ z. OnOk r (new ≡ old ++ map word_of (called y sizes (λ g. 0) n held to at f z))) g h)
 
 abbrev of_nothing : Extent
-of_nothing = record { near = false; short = false; blocks = 0; calls = false }
+of_nothing = record { near = false; short = false; blocks = 0; calls = false; counts = false }
+
+abbrev of_counts : Bool → Extent
+of_counts counts = record { near = false; short = false; blocks = 0; calls = false; counts = counts }
 
 -- the code of blocks depends on how often temporaries are read, and that of their instructions doesn't
 pub plain-code : (h : List (Option Home)) (reads : List Reads) (extent : Extent) (sizes : List ℕ) (at : ℕ) (is : List Instruction) →
-    instructions_code (with_homes h) sizes (λ f. 0) at None is ≡ instructions_code (with_reads h reads extent) sizes (λ f. 0) at None is
-plain-code h reads extent sizes at is = instructions-same h 0 0 0 0 [] reads of_nothing extent sizes (λ f. 0) at None is
+    instructions_code (with_counting h extent.counts) sizes (λ f. 0) at None is
+    ≡ instructions_code (with_reads h reads extent) sizes (λ f. 0) at None is
+plain-code h reads extent sizes at is = instructions-same h 0 0 0 0 [] reads (of_counts extent.counts) extent sizes (λ f. 0) at None is refl
 
 pub plain-is : (reads : List Reads) (b : Block) (is plain : List Instruction) (pair : Option Pair) → is ≡ b.instructions →
     pair ≡ pair_of reads b →
@@ -81,7 +85,7 @@ pub block-turn : {A E : Type 0} (r : Result A E) (h : List (Option Home)) (reads
     (b : Block)
     (is plain : List Instruction) (pair : Option Pair) (held : Option ℕ) (old mid new : List ℕ) → is ≡ b.instructions →
     pair ≡ pair_of reads b →
-    plain ≡ but_pair pair is → mid ≡ old ++ map word_of (instructions_code (with_homes h) sizes (λ f. 0) (4 * length old) None plain) →
+    plain ≡ but_pair pair is → mid ≡ old ++ map word_of (instructions_code (with_counting h extent.counts) sizes (λ f. 0) (4 * length old) None plain) →
     held ≡ held_behind None plain → setting ≡ setting_of extent rest →
     OnOk r (new ≡ mid ++ map word_of (end_code (with_homes h) setting held (4 * length mid) starts last pair b.exit)) →
     OnOk r (new ≡ old ++ map word_of (block_code (with_reads h reads extent) sizes (λ f. 0) starts last (4 * length old) rest b))
@@ -90,7 +94,7 @@ block-turn r h reads extent setting sizes starts last rest b is plain pair held 
     let same : plain ≡ plain_of reads b = plain-is reads b is plain pair w o p in
     placed-turn r old mid new (instructions_code y sizes (λ f. 0) (4 * length old) None (plain_of reads b))
     (λ at. end_code y (setting_of extent rest) (held_behind None (plain_of reads b)) at starts last (pair_of reads b) b.exit)
-    (e ∙ (ap (λ z. old ++ map word_of (instructions_code (with_homes h) sizes (λ f. 0) (4 * length old) None z)) same
+    (e ∙ (ap (λ z. old ++ map word_of (instructions_code (with_counting h extent.counts) sizes (λ f. 0) (4 * length old) None z)) same
     ∙ ap (λ z. old ++ map word_of z) (plain-code h reads extent sizes (4 * length old) (plain_of reads b))))
     (subst (λ z. OnOk r (new ≡ mid ++ map word_of z))
     (end-same h 0 0 0 0 [] reads of_nothing extent setting held (4 * length mid) starts last pair b.exit

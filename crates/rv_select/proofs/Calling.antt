@@ -11,6 +11,7 @@ use Rattle.reg_alloc.specs.declared.assignment.Home.{Home}
 use Rattle.rv_isa.specs.declared.instr.Instr.{Instr}
 use Rattle.terra_memory.specs.Numbers.{number_of}
 use Rattle.terra_memory.specs.Region.{end_address, heap_limit}
+use Rattle.terra_words.specs.declared.words.FaultKind.{FaultKind}
 use Rattle.terra_words.specs.declared.words.FaultKind.TheVariants.{CallDepth, StackFull}
 use Rattle.terra_words.specs.Words.{most_calls}
 use Rattle.terra_words.specs.Runs.{Value}
@@ -34,12 +35,13 @@ use Rattle.rv_select.specs.Asked.{asked_homes, part_asks, passed_asks}
 use Rattle.rv_select.specs.Places.{HasHome, Holds, Housed, Layout, World, area_offset, frame_bytes, home_of, layout_of, link_in}
 use Rattle.rv_select.specs.Places.{private_word}
 use Rattle.rv_select.specs.Shapes.{place_number, start_of}
-use Rattle.rv_select.specs.Steps.{Ends, world_of}
+use Rattle.rv_select.specs.Steps.{Ends, CountsLeft, EndsLeft, OnMore, world_of}
+use Rattle.tac_counts.specs.Counts.{left_behind}
 use Rattle.rv_select.specs.Calls.{block_starts, blocks_length, call_begun, call_ended, call_jump, head_code, instruction_code, last_address}
-use Rattle.rv_select.specs.Calls.{starts_from}
+use Rattle.rv_select.specs.Calls.{depth_tested, one_more, passed, starts_from}
 use Rattle.rv_select.specs.Entering.{begun, entered, received, words_offset}
 use Rattle.rv_select.specs.Frames.{ArePassed, BeforeEntering, Enters, IsPartFirst, Received, part_value, seen, without_words}
-use Rattle.rv_select.specs.Waiting.{Arrives, HasRoom, Image, IsLinked, IsPlaced, StandsIn, Stepped, Waiting, Waits, entries_of, entry_of}
+use Rattle.rv_select.specs.Waiting.{Arrives, HasRoom, Image, IsLinked, IsPlaced, StandsIn, Stepped, Waiting, Waits, counts_in, entries_of, entry_of}
 use Rattle.rv_select.specs.Waiting.{held_in, place_in, plain_in, restored}
 use Rattle.rv_select.proofs.Amounts.{all-few, args-room, bytes-least, chain, deep-is, entry-facts, far, few-deep, frame-fits, goes, head-in}
 use Rattle.rv_select.proofs.Amounts.{least, less-frame, link-facts, link-low, link-word, nearer, not-le, not-lt, shallow-is, shorter}
@@ -47,10 +49,10 @@ use Rattle.rv_select.proofs.Amounts.{some-steps, stack-less, stack-more, steps-f
 use Rattle.rv_select.proofs.Amounts.{words-under, words-within, zero-first}
 use Rattle.rv_select.proofs.Asking.{instruction-homes}
 use Rattle.rv_select.proofs.Arrivals.{InFunction, areas-lie, begin-holds, enters-call, has-words, link-after, room-next, same-after}
-use Rattle.rv_select.proofs.Callings.{Begun, JumpedTo, begins, jumps-to, too-deep}
+use Rattle.rv_select.proofs.Callings.{Begun, JumpedTo, begins, begun-words, call-breaks, jumps-to, too-deep}
+use Rattle.rv_select.proofs.Counts.{count-left, counts-stay, ends-left}
 use Rattle.rv_select.proofs.Carries.{by-test, first-read, has-left, has-right, nothing-written, place-small}
-use Rattle.rv_select.proofs.Entrances.{functions-entered, more-ends}
-use Rattle.rv_select.proofs.Faults.{later-ends}
+use Rattle.rv_select.proofs.Entrances.{functions-entered}
 use Rattle.rv_select.proofs.Finds.{FoundFunction}
 use Rattle.rv_select.proofs.Pairing.{plain-get}
 use Rattle.rv_select.proofs.Lives.{housed, read-live, step-in-graph, use-follows}
@@ -58,7 +60,7 @@ use Rattle.rv_select.proofs.Passes.{parts-small}
 use Rattle.rv_select.proofs.Receives.{parameters-received}
 use Rattle.rv_select.proofs.Stands.{AtPlace, Within, at-instruction, both-true, instruction-within, the-function, within-parts}
 use Rattle.rv_select.proofs.Waits.{SameAbove, link-kept, restored-same, same-home, waits-same}
-use Rattle.rv_select.proofs.Ways.{Way, way-both}
+use Rattle.rv_select.proofs.Ways.{Way, stands-front, way-both}
 
 -- what comes before the jump of a call that an activation makes
 abbrev pub begun_in : Image → Tac → Activation → Place → List Part → List Instr
@@ -79,8 +81,10 @@ abbrev pub taking : Image → FnId → Option Tac → ℕ
 taking image f None = 0
 taking image f (Some code) = entering_words image f code + receiving_words image f code
 
-abbrev pub call_most : Program → Image → Tac → Activation → Place → FnId → List Part → ℕ
-call_most p image code a place f arguments = length (begun_in image code a place arguments) + 2 + taking image f (p.code f)
+-- how many steps a call takes at most, with so many counts left: with none it only begins
+abbrev pub call_most : Program → Image → Tac → Activation → (left : ℕ) → Place → FnId → List Part → ℕ
+call_most p image code a zero place f arguments = length (begun_in image code a place arguments)
+call_most p image code a (suc left) place f arguments = length (begun_in image code a place arguments) + 2 + taking image f (p.code f)
 
 -- what a call passes is in use before it, and is at home unless x5 holds it
 part-first : (code : Tac) (homes : List (Option Home)) (held : Option ℕ) (Used : ℕ → Type 0) (q : Part) → part_fits code q ≡ true →
@@ -218,6 +222,7 @@ pub lands : (p : Program) (image : Image) (program : List (Option Instr)) (most 
     (Call to place f arguments) →
     (callee : Tac) → p.code f ≡ Some callee →
     (l k target : ℕ) (a : Activation) (n : State) → a ≡ record (fresh_call f callee s) { temps = a.temps; areas = a.areas } →
+    CountsLeft callee.counts l n →
     Way program k m n → 1 ≤ k → k + receiving_words image f callee ≤ bound →
     (frame_bytes (layout_of callee (image f).homes)) ≤ base →
     HasRoom most (suc (length s.callers)) (base - (frame_bytes (layout_of callee (image f).homes))) → callee.frame ≤ s.here.base →
@@ -232,7 +237,7 @@ pub lands : (p : Program) (image : Image) (program : List (Option Instr)) (most 
     target n →
     Arrives p image program most size bound (suc l) [] (entered_state s to l a) m
 unfolding made-waiting
-lands p image program most size bound linked s base m x block to place f arguments in-f in-b callee e l k target a n a-is way some few fit
+lands p image program most size bound linked s base m x block to place f arguments in-f in-b callee e l k target a n a-is counted way some few fit
     room enough below within inside to-is rc =
     subst
     (λ b. Received program (without_words (layout_of callee (image f).homes)) (InUse (graph_of callee) 0 0)
@@ -325,6 +330,7 @@ lands p image program most size bound linked s base m x block to place f argumen
             before_end = from-zero (length (plain_in (reads_of callee) (slice_get callee.blocks 0)));
             pc = r.at ∙ to-is;
             five = tt;
+            counts = counts-stay callee.counts l n r.after r.keeps.count counted;
             holds = widen (layout_of callee (image f).homes) (InUse (graph_of callee) 0 0)
                 (seen (record (fresh_call f callee s) { temps = temps; areas = areas }) s.region (suc (length s.callers)))
                 (base - (frame_bytes (layout_of callee (image f).homes))) r.after r.holds
@@ -449,21 +455,22 @@ callee-step : (p : Program) (image : Image) (program : List (Option Instr)) (mos
     (Call to place f arguments) →
     (callee : Tac) → p.code f ≡ Some callee →
     AtCall p image program most size s base m x to place f arguments → length arguments ≡ length callee.parameters →
-    length s.callers < 511 →
+    length s.callers < 511 → (l : ℕ) → CountsLeft x.code.counts (suc l) m →
     (b : Begun program (layout_of x.code (image s.here.function).homes) (held_in x.code s.here.block s.here.at) base (world_of s) place
-    arguments (call_jump (place_in p image x.code (image s.here.function) s.here.block s.here.at + 4 * length
+    arguments l (call_jump (place_in p image x.code (image s.here.function) s.here.block s.here.at + 4 * length
     (begun_in image x.code s.here place arguments)) (entries_of p image f) ++ call_ended
     (layout_of x.code (image s.here.function).homes) x.code.areas to) m) →
-    (s.here.base < heap_limit s.region + callee.frame → Ends program StackFull place (length (begun_in image x.code s.here place arguments) + 2 + taking image f (Some callee)) m) ×
-    (heap_limit s.region + callee.frame ≤ s.here.base → accepts_all callee callee.parameters (values_of s arguments) ≡ true → (l : ℕ) →
+    (s.here.base < heap_limit s.region + callee.frame →
+    EndsLeft x.code.counts program StackFull place (length (begun_in image x.code s.here place arguments) + 2 + taking image f (Some callee)) l m) ×
+    (heap_limit s.region + callee.frame ≤ s.here.base → accepts_all callee callee.parameters (values_of s arguments) ≡ true →
     Arrives p image program most size (length (begun_in image x.code s.here place arguments) + 2 + taking image f (Some callee)) (suc l) []
     (entered_state s to l (takes_all callee.parameters (values_of s arguments) (fresh_call f callee s))) m)
-callee-step p image program most size linked s base m x block to place f arguments in-f in-b callee e c count shallow b = (
-  λ less. later-ends program StackFull place (b.steps + 2) (entering_words image f callee)
-      (length (begun_in image x.code s.here place arguments) + 2 + taking image f (Some callee)) m jump.after jumped
+callee-step p image program most size linked s base m x block to place f arguments in-f in-b callee e c count shallow l counted b = (
+  λ less. ends-left x.code.counts program StackFull place (b.steps + 2) (entering_words image f callee)
+      (length (begun_in image x.code s.here place arguments) + 2 + taking image f (Some callee)) l m jump.after jumped
       (entering.0 (stack-less s.here.base (length s.region.bytes) callee.frame less))
-      (steps-few b.steps (length (begun_in image x.code s.here place arguments)) (entering_words image f callee) (receiving_words image f callee) b.few),
-  λ fits accepts l. arrived (entering.1 (stack-more s.here.base (length s.region.bytes) callee.frame fits)) fits accepts l,
+      (steps-few b.steps (length (begun_in image x.code s.here place arguments)) (entering_words image f callee) (receiving_words image f callee) b.few) counted-jump,
+  λ fits accepts. arrived (entering.1 (stack-more s.here.base (length s.region.bytes) callee.frame fits)) fits accepts,
 )
   where
     plz : IsPlaced p image program most callee (image f)
@@ -520,8 +527,12 @@ callee-step p image program most size linked s base m x block to place f argumen
     top-within : base ≤ length m.private
     top-within = least base (frame_bytes (layout_of x.code (image s.here.function).homes)) (length m.private) x.holds.frame.within
 
-    same : (r : ℕ) → r ≢ 1 → r ≢ 5 → r ≢ 6 → r ≢ 7 → r ≢ 11 → r ≢ 28 → jump.after.registers r ≡ m.registers r
-    same r one five six seven eleven more = jump.others r one five ∙ b.others r five six seven eleven more
+    same : (r : ℕ) → r ≢ 1 → r ≢ 5 → r ≢ 6 → r ≢ 7 → r ≢ 9 → r ≢ 11 → r ≢ 28 → jump.after.registers r ≡ m.registers r
+    same r one five six seven nine eleven more = jump.others r one five ∙ b.others r five six seven nine eleven more
+
+    counted-jump : CountsLeft x.code.counts l jump.after
+    counted-jump = count-left x.code.counts l m jump.after counted
+        (jump.others 9 (λ q. omega (arith, q)) (λ q. omega (arith, q)) ∙ b.count)
 
     before : BeforeEntering program (layout_of callee (image f).homes) (frame_bytes (layout_of callee (image f).homes)) callee.frame base
         s.here.base (length s.region.bytes) place jump.after
@@ -533,11 +544,11 @@ callee-step p image program most size linked s base m x block to place f argumen
           (word-near ((image f).at + 4 * length (begun callee)) (last_address (layout_of callee (image f).homes) callee (image f).at)
           entry-low fn.near);
       pointer = same 2 (λ q. omega (arith, q)) (λ q. omega (arith, q)) (λ q. omega (arith, q)) (λ q. omega (arith, q))
-          (λ q. omega (arith, q)) (λ q. omega (arith, q)) ∙ x.holds.frame.pointer;
+          (λ q. omega (arith, q)) (λ q. omega (arith, q)) (λ q. omega (arith, q)) ∙ x.holds.frame.pointer;
       limit = same 4 (λ q. omega (arith, q)) (λ q. omega (arith, q)) (λ q. omega (arith, q)) (λ q. omega (arith, q))
-          (λ q. omega (arith, q)) (λ q. omega (arith, q)) ∙ x.holds.limit;
+          (λ q. omega (arith, q)) (λ q. omega (arith, q)) (λ q. omega (arith, q)) ∙ x.holds.limit;
       placed_is = same 8 (λ q. omega (arith, q)) (λ q. omega (arith, q)) (λ q. omega (arith, q)) (λ q. omega (arith, q))
-          (λ q. omega (arith, q)) (λ q. omega (arith, q)) ∙ x.holds.placed;
+          (λ q. omega (arith, q)) (λ q. omega (arith, q)) (λ q. omega (arith, q)) ∙ x.holds.placed;
       place = λ some. jump.others 11 (λ q. omega (arith, q)) (λ q. omega (arith, q)) ∙ b.place;
       small = wi.frame;
       above = x.holds.above;
@@ -564,10 +575,10 @@ callee-step p image program most size linked s base m x block to place f argumen
         (s.here.base - callee.frame) (entering_words image f callee)
         (low (jump.after.pc + 4 * length
         (entered (layout_of callee (image f).homes) (frame_bytes (layout_of callee (image f).homes)) callee.frame))) jump.after →
-        heap_limit s.region + callee.frame ≤ s.here.base → accepts_all callee callee.parameters (values_of s arguments) ≡ true → (l : ℕ) →
+        heap_limit s.region + callee.frame ≤ s.here.base → accepts_all callee callee.parameters (values_of s arguments) ≡ true →
         Arrives p image program most size (length (begun_in image x.code s.here place arguments) + 2 + taking image f (Some callee)) (suc l) []
         (entered_state s to l (takes_all callee.parameters (values_of s arguments) (fresh_call f callee s))) m
-    arrived en fits accepts l =
+    arrived en fits accepts =
         let inside : InFunction (layout_of callee (image f).homes) base (base - (frame_bytes (layout_of callee (image f).homes)))
         (s.here.base - callee.frame) (suc (length s.callers))
         (place_in p image x.code (image s.here.function) s.here.block s.here.at + 4 * length
@@ -579,7 +590,7 @@ callee-step p image program most size linked s base m x block to place f argumen
         (low (jump.after.pc + 4 * length
         (entered (layout_of callee (image f).homes) (frame_bytes (layout_of callee (image f).homes)) callee.frame)))
         (place_in p image x.code (image s.here.function) s.here.block s.here.at + 4 * length
-        (begun_in image x.code s.here place arguments) + 8) (world_of s) place arguments
+        (begun_in image x.code s.here place arguments) + 8) (world_of s) place arguments l
         (call_jump (place_in p image x.code (image s.here.function) s.here.block s.here.at + 4 * length
         (begun_in image x.code s.here place arguments)) (entries_of p image f) ++ call_ended
         (layout_of x.code (image s.here.function).homes) x.code.areas to) m b jump en before.least room.0
@@ -634,7 +645,7 @@ callee-step p image program most size linked s base m x block to place f argumen
         (low (en.after.pc + 4 * length
         (received (layout_of callee (image f).homes) callee.areas (words_offset (layout_of callee (image f).homes)) callee.parameters)))
         (takes_all callee.parameters (values_of s arguments) (fresh_call f callee s)) en.after
-        (takes-is callee.parameters (values_of s arguments) (fresh_call f callee s))
+        (takes-is callee.parameters (values_of s arguments) (fresh_call f callee s)) counted-in
         (way-both program (b.steps + 2) en.steps m jump.after en.after jumped (record { runs = en.runs })) (some-steps b.steps en.steps)
         (all-few b.steps (length (begun_in image x.code s.here place arguments)) en.steps (entering_words image f callee) (receiving_words image f callee) b.few
         en.few)
@@ -648,6 +659,13 @@ callee-step p image program most size linked s base m x block to place f argumen
         (subst (λ q. q < 2 ^ 30) (sym fn.first) head-near)
         ∙ (fn.first ∙ sym (first-start (layout_of callee (image f).homes) callee (image f).at wi.entered)))) rc
       where
+        counted-in : CountsLeft callee.counts l en.after
+        counted-in =
+            subst (λ c. CountsLeft c l en.after) (sym ((linked s.here.function x.code x.function).alike f callee e))
+            (counts-stay x.code.counts l jump.after en.after
+            (en.others 9 (λ q. omega (arith, q)) (λ q. omega (arith, q)) (λ q. omega (arith, q)) (λ q. omega (arith, q)) (λ q. omega (arith, q)))
+            counted-jump)
+
         head-near : (image f).at + 4 * length (head_code (layout_of callee (image f).homes) callee) < 2 ^ 30
         head-near = nearer ((image f).at + 4 * length (head_code (layout_of callee (image f).homes) callee))
             (last_address (layout_of callee (image f).homes) callee (image f).at)
@@ -688,9 +706,9 @@ pub call-step : (p : Program) (image : Image) (program : List (Option Instr)) (m
     →
     slice_get x.code.blocks s.here.block ≡ Some block → slice_get (plain_of (reads_of x.code) block) s.here.at ≡ Some
     (Call to place f arguments) →
-    Stepped p image program most size (call_most p image x.code s.here place f arguments) s m (step p s)
+    Stepped p image program most size (left_behind p s) (call_most p image x.code s.here s.left place f arguments) s m (step p s)
 call-step p image program most size linked s base m x block to place f arguments in-f in-b =
-    stepped (call_most p image x.code s.here place f arguments) refl
+    stepped (call_most p image x.code s.here s.left place f arguments) refl
   where
     here : slice_get block.instructions s.here.at ≡ Some (Call to place f arguments)
     here = plain-get (pair_of (reads_of x.code) block) block.instructions s.here.at (Call to place f arguments) in-b
@@ -707,61 +725,98 @@ call-step p image program most size linked s base m x block to place f arguments
         (room-next most (length s.callers) base (frame_bytes (layout_of callee (image f).homes)) x.room less (linked f callee e).frame).0
         (count callee e)
 
+    counted : (l : ℕ) → s.left ≡ l → CountsLeft x.code.counts l m
+    counted l q = subst (λ n. CountsLeft x.code.counts n m) q x.counts
+
+    taken : (l : ℕ) → s.left ≡ suc l → left_behind p s ≡ l
+    taken l q = let e1 = x.function in rw (e1, in-f, here) (omega (arith, q))
+
+    ends-so : (l : ℕ) → s.left ≡ suc l → (kind : FaultKind) (few most : ℕ) → few ≤ most → EndsLeft x.code.counts program kind place few l m →
+        EndsLeft (counts_in (p.code s.here.function)) program kind place most (left_behind p s) m
+    ends-so l q kind few most h d =
+        subst (λ o. EndsLeft (counts_in o) program kind place most (left_behind p s) m) (sym x.function)
+        (subst (λ n. EndsLeft x.code.counts program kind place most n m) (sym (taken l q))
+        (record { steps = d.steps; last = d.last; few = under d.steps few most d.few h; runs = d.runs; count = d.count }))
+      where
+        under : (a b c : ℕ) → a ≤ b → b ≤ c → a ≤ c
+        under a b c g i = omega (arith, g, i)
+
     with-code : (l : ℕ) → s.left ≡ suc l → (o : Option Tac) → p.code f ≡ o →
-        Stepped p image program most size (length (begun_in image x.code s.here place arguments) + 2 + taking image f o) s m
+        Stepped p image program most size (left_behind p s) (length (begun_in image x.code s.here place arguments) + 2 + taking image f o) s m
         (enter place f o (values_of s arguments) s.here.base (record { waits = record s.here { at = suc s.here.at }; to = to } ∷ s.callers)
         (record s { left = l }))
     with-code l q None e = tt
     with-code l q (Some callee) e =
-        by-test (Stepped p image program most size (length (begun_in image x.code s.here place arguments) + 2 + taking image f (Some callee)) s m) (nat_le most_calls (suc (length s.callers))) _ _
+        by-test (Stepped p image program most size (left_behind p s) (length (begun_in image x.code s.here place arguments) + 2 + taking image f (Some callee)) s m) (nat_le most_calls (suc (length s.callers))) _ _
         (λ deep. (
           refl,
-          more-ends program CallDepth place (length (begun_in image x.code s.here place arguments))
-              (length (begun_in image x.code s.here place arguments) + 2 + taking image f (Some callee)) m (few-deep (length (begun_in image x.code s.here place arguments)) (taking image f (Some callee)))
+          ends-so l q CallDepth (length (begun_in image x.code s.here place arguments))
+              (length (begun_in image x.code s.here place arguments) + 2 + taking image f (Some callee)) (few-deep (length (begun_in image x.code s.here place arguments)) (taking image f (Some callee)))
               (too-deep program (layout_of x.code (image s.here.function).homes) (held_in x.code s.here.block s.here.at)
               (InUse (graph_of x.code) s.here.block s.here.at) (world_of s) base place arguments
               (call_jump (place_in p image x.code (image s.here.function) s.here.block s.here.at + 4 * length
               (begun_in image x.code s.here place arguments)) (entries_of p image f) ++ call_ended
-              (layout_of x.code (image s.here.function).homes) x.code.areas to) m x.holds x.five c.homes c.place_small c.code
+              (layout_of x.code (image s.here.function).homes) x.code.areas to) m x.holds x.five c.homes c.place_small l (counted (suc l) q) c.code
               (deep-is (length s.callers) (leb-true most_calls (suc (length s.callers)) deep))),
         ))
         (λ shallow.
         let less : length s.callers < 511 = shallow-is (length s.callers) (not-le most_calls (suc (length s.callers)) shallow) in
         let both = callee-step p image program most size linked s base m x block to place f arguments in-f in-b callee e c (count callee e)
-        less
+        less l (counted (suc l) q)
         (begins program (layout_of x.code (image s.here.function).homes) (held_in x.code s.here.block s.here.at)
         (InUse (graph_of x.code) s.here.block s.here.at) (world_of s) base
         place arguments (call_jump
         (place_in p image x.code (image s.here.function) s.here.block s.here.at + 4 * length
         (begun_in image x.code s.here place arguments)) (entries_of p image f) ++ call_ended
-        (layout_of x.code (image s.here.function).homes) x.code.areas to) m x.holds x.five c.homes c.place_small c.code less c.reads
+        (layout_of x.code (image s.here.function).homes) x.code.areas to) m x.holds x.five c.homes c.place_small l (counted (suc l) q) c.code less c.reads
         (room callee e less)) in
-        by-test (Stepped p image program most size (length (begun_in image x.code s.here place arguments) + 2 + taking image f (Some callee)) s m)
+        by-test (Stepped p image program most size (left_behind p s) (length (begun_in image x.code s.here place arguments) + 2 + taking image f (Some callee)) s m)
         (nat_lt s.here.base (heap_limit s.region + callee.frame)) _ _
-        (λ full. (refl, both.0 (ltb-true s.here.base (heap_limit s.region + callee.frame) full)))
+        (λ full. (
+          refl,
+          ends-so l q StackFull (length (begun_in image x.code s.here place arguments) + 2 + taking image f (Some callee))
+              (length (begun_in image x.code s.here place arguments) + 2 + taking image f (Some callee)) (omega arith)
+              (both.0 (ltb-true s.here.base (heap_limit s.region + callee.frame) full)),
+        ))
         (λ fits.
-        by-test (Stepped p image program most size (length (begun_in image x.code s.here place arguments) + 2 + taking image f (Some callee)) s m)
+        by-test (Stepped p image program most size (left_behind p s) (length (begun_in image x.code s.here place arguments) + 2 + taking image f (Some callee)) s m)
         (accepts_all callee callee.parameters (values_of s arguments)) _ _
-        (λ taken. (
+        (λ accepted. (
           [],
           nothing-written s.out,
           subst
               (λ z. Arrives p image program most size (length (begun_in image x.code s.here place arguments) + 2 + taking image f (Some callee)) z []
               (entered_state s to l (takes_all callee.parameters (values_of s arguments) (fresh_call f callee s))) m)
-              (sym q) (both.1 (not-lt s.here.base (heap_limit s.region + callee.frame) fits) taken l),
+              (sym q) (both.1 (not-lt s.here.base (heap_limit s.region + callee.frame) fits) accepted),
         )) (λ no. tt)))
 
     counts : (l : ℕ) → s.left ≡ l →
-        Stepped p image program most size (call_most p image x.code s.here place f arguments) s m
+        Stepped p image program most size (left_behind p s) (call_most p image x.code s.here l place f arguments) s m
         (tac.counted l s (λ z. enter place f (p.code f) (values_of s arguments) z.here.base
         (record { waits = (tac.ahead z).here; to = to } ∷ z.callers) z))
-    counts zero q = (refl, q)
+    counts zero q = (
+      refl,
+      q,
+      subst (λ o. OnMore (counts_in o) program (length (begun_in image x.code s.here place arguments)) m) (sym x.function)
+          (call-breaks program x.code.counts place
+          (depth_tested ++ (passed (layout_of x.code (image s.here.function).homes) (held_in x.code s.here.block s.here.at) 0 arguments ++ one_more))
+          m x.holds.pc c.place_small (counted 0 q) (length (begun_in image x.code s.here place arguments))
+          (omega (arith, begun-words (layout_of x.code (image s.here.function).homes) (held_in x.code s.here.block s.here.at) place arguments))
+          (stands-front program m.pc (begun_in image x.code s.here place arguments) _ c.code)),
+    )
     counts (suc l) q = with-code l q (p.code f) refl
 
-    stepped : (n : ℕ) → call_most p image x.code s.here place f arguments ≡ n → Stepped p image program most size n s m (step p s)
+    one-less : left_behind p s ≡ s.left - 1
+    one-less = let e1 = x.function in let e2 = here in rw (e1, in-f, e2) refl
+
+    stepped : (n : ℕ) → call_most p image x.code s.here s.left place f arguments ≡ n → Stepped p image program most size (left_behind p s) n s m (step p s)
     stepped n same =
         let e1 = x.function in
         let e2 = here in
-        rw (e1, in-f, e2) (subst (λ z. Stepped p image program most size z s m
+        rw (e1, in-f, e2)
+        (subst (λ w. Stepped p image program most size w n s m
         (tac.counted s.left s (λ z. enter place f (p.code f) (values_of s arguments) z.here.base
-        (record { waits = (tac.ahead z).here; to = to } ∷ z.callers) z))) same (counts s.left refl))
+        (record { waits = (tac.ahead z).here; to = to } ∷ z.callers) z))) one-less
+        (subst (λ z. Stepped p image program most size (left_behind p s) z s m
+        (tac.counted s.left s (λ z. enter place f (p.code f) (values_of s arguments) z.here.base
+        (record { waits = (tac.ahead z).here; to = to } ∷ z.callers) z))) same (counts s.left refl)))

@@ -24,27 +24,29 @@ use Rattle.rv_select.proofs.Moves.{fewer-holds}
 
 -- registers that hold something between two instructions of three-address code
 abbrev pub is_held : ℕ → Bool
-is_held r = nat_eq r 2 || (nat_eq r 3 || (nat_eq r 4 || (nat_eq r 8 || (nat_eq r 28 || (nat_eq r 1 || (nat_le 18 r && nat_le r 27))))))
+is_held r =
+    nat_eq r 2 || (nat_eq r 3 || (nat_eq r 4 || (nat_eq r 8 || (nat_eq r 9 || (nat_eq r 28 || (nat_eq r 1 || (nat_le 18 r && nat_le r 27)))))))
 
-first-or-last : (a b c d e g f : Bool) → (a || f) ≡ true → (a || (b || (c || (d || (e || (g || f)))))) ≡ true
-first-or-last true b c d e g f h = refl
-first-or-last false true c d e g f h = refl
-first-or-last false false true d e g f h = refl
-first-or-last false false false true e g f h = refl
-first-or-last false false false false true g f h = refl
-first-or-last false false false false false true f h = refl
-first-or-last false false false false false false f h = h
+first-or-last : (a b c d e g k f : Bool) → (a || f) ≡ true → (a || (b || (c || (d || (e || (g || (k || f))))))) ≡ true
+first-or-last true b c d e g k f h = refl
+first-or-last false true c d e g k f h = refl
+first-or-last false false true d e g k f h = refl
+first-or-last false false false true e g k f h = refl
+first-or-last false false false false true g k f h = refl
+first-or-last false false false false false true k f h = refl
+first-or-last false false false false false false true f h = refl
+first-or-last false false false false false false false f h = h
 
 or-last : (a f : Bool) → f ≡ true → (a || f) ≡ true
 or-last true f h = refl
 or-last false f h = h
 
 lasting-held : (r : ℕ) → is_lasting r ≡ true → is_held r ≡ true
-lasting-held r h = first-or-last (nat_eq r 2) (nat_eq r 3) (nat_eq r 4) (nat_eq r 8) (nat_eq r 28) (nat_eq r 1) (nat_le 18 r && nat_le r 27) h
+lasting-held r h = first-or-last (nat_eq r 2) (nat_eq r 3) (nat_eq r 4) (nat_eq r 8) (nat_eq r 9) (nat_eq r 28) (nat_eq r 1) (nat_le 18 r && nat_le r 27) h
 
 home-held : (r : ℕ) → 18 ≤ r → r ≤ 27 → is_held r ≡ true
 home-held r l u =
-    first-or-last (nat_eq r 2) (nat_eq r 3) (nat_eq r 4) (nat_eq r 8) (nat_eq r 28) (nat_eq r 1) (nat_le 18 r && nat_le r 27)
+    first-or-last (nat_eq r 2) (nat_eq r 3) (nat_eq r 4) (nat_eq r 8) (nat_eq r 9) (nat_eq r 28) (nat_eq r 1) (nat_le 18 r && nat_le r 27)
     (or-last (nat_eq r 2) (nat_le 18 r && nat_le r 27) (ap (λ b. b && nat_le r 27) (le-leb 18 r l) ∙ le-leb r 27 u))
 
 -- The registers that hold something and both memories are the same.
@@ -111,6 +113,7 @@ pub calm-keeps : (y : Layout) (base : ℕ) (m n : State) → Calm m n → Keeps 
 calm-keeps y base m n c = record {
   registers = λ r l u. c.keeps r (lasting-held r l);
   link = c.keeps 1 refl;
+  count = c.keeps 9 refl;
   long = ap length c.private;
   outside = λ at k o. ap (λ z. take k (drop at z)) c.private;
 }

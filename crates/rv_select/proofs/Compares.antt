@@ -1,5 +1,5 @@
 -- A comparison and its branch as one.
-use Rattle.std.proofs.Common.{◌≡◌, ◌≢◌, ℕ, suc, ◌+◌, ◌*◌, ◌%◌, ◌^◌, ◌<◌, ◌≤◌, Bool, true, false, not, ◌&&◌, ◌||◌, List, [], ◌++◌, length}
+use Rattle.std.proofs.Common.{◌≡◌, ◌≢◌, ℕ, suc, ◌+◌, ◌*◌, ◌%◌, ◌^◌, ◌<◌, ◌≤◌, Bool, true, false, not, ◌&&◌, ◌||◌, List, ◌++◌, length}
 use Rattle.std.proofs.Common.{map, Option, refl, sym, ap, ◌∙◌, subst, ⊎_elim, inl, arith}
 use Rattle.std.specs.Prelude.{if◌then◌else◌, nat_eq, nat_lt, int_lt}
 use Rattle.std.specs.List.{list_any}
@@ -34,21 +34,18 @@ use Rattle.rv_operators.specs.Codes.{is_comparison}
 use Rattle.rv_operators.proofs.Values.{signed-less}
 use Rattle.rv_select.specs.Asked.{both_ask, is_second}
 use Rattle.rv_select.specs.Places.{Holds, Housed, IsFirst, IsRead, Layout, World, layout_of, value_in}
-use Rattle.rv_select.specs.declared.settings.Follows.{Follows}
-use Rattle.rv_select.specs.declared.settings.Follows.TheVariants.{First, Second}
-use Rattle.rv_select.specs.Settings.{follower}
+use Rattle.rv_select.specs.declared.settings.Setting.{Setting}
 use Rattle.rv_select.specs.Compared.{ComparesAreCarried, ComparesKeepWithin, StandsAtCompare, below_condition, compared, compared_shape}
 use Rattle.rv_select.specs.Compared.{condition_of, first_register, least_condition, left_of, operands_taken, right_of, second_register}
-use Rattle.rv_select.specs.Steps.{AreFewer, Comes, Left, with_temp, world_of}
+use Rattle.rv_select.specs.Steps.{AreFewer, Left, with_temp, world_of}
 use Rattle.rv_select.proofs.Moves.{at-most, fewer-holds, unused-holds}
 use Rattle.rv_select.proofs.Sides.{Sides, sides-count, sides-few, sides-taken}
 use Rattle.rv_select.proofs.Numbers.{pushed_words}
 use Rattle.rv_select.proofs.Lives.{housed, read-live, step-in-graph, use-follows}
 use Rattle.rv_select.proofs.Carries.{both-read, both-true, by-test, has-left, has-right, used-small}
-use Rattle.rv_select.proofs.Leaves.{chosen-comes, edge-near, edge-reach, exit-in-graph, next-live, or-left, or-second, zero-or-more}
-use Rattle.rv_select.proofs.Branched.{follower-first, follower-second}
-use Rattle.rv_select.proofs.Jumps.{chosen-count, chosen-few, chosen_words}
-use Rattle.rv_select.proofs.Weights.{edge-least}
+use Rattle.rv_select.proofs.Leaves.{edge-left, edge-near, edge-reach, exit-in-graph, next-live, or-left, or-second}
+use Rattle.rv_select.proofs.Parted.{EdgeWays, parted-ways}
+use Rattle.rv_select.proofs.Weighing.{parted-count, parted-few, parted-weight, parted_words}
 
 -- the result of a comparison, as its branch sees it
 flag-is : (b : Bool) → not (nat_eq (flag b) 0) ≡ b
@@ -179,38 +176,29 @@ module _ (p : Program) (code : Tac) (homes : List (Option Home)) (held : Option 
       value_in s.here.temps o < 2 ^ 64
   small o fits reads = used-small code y used (world_of s) base m o x.holds fits reads
 
-  compare-comes : (taken_it : Bool) (c : ℕ) → not (nat_eq result 0) ≡ taken_it → (if taken_it then e.block else f.block) ≡ c → (IsLive (graph_of code) c 0 d → ⊥) →
-      ((q : ℕ → Bool) → q c ≡ true → list_any q (exit_next (Branch (Temp d) e f)) ≡ true) → Comes y program (InUse (graph_of code) c 0) (world_of after_it) base weight (starts c) [] m
-  compare-comes taken_it c is block unread h =
+  compare-ways : (taken_it : Bool) (c : ℕ) → not (nat_eq result 0) ≡ taken_it → (IsLive (graph_of code) c 0 d → ⊥) →
+      ((q : ℕ → Bool) → q c ≡ true → list_any q (exit_next (Branch (Temp d) e f)) ≡ true) →
+      EdgeWays y program (InUse (graph_of code) c 0) (world_of after_it) base weight (if taken_it then starts e.block else starts f.block)
+      (x.setting.counts && (if taken_it then e.counts else f.counts)) m
+  compare-ways taken_it c is unread h =
       let l : Register = first_register y held a b in
       let r : Register = second_register y held a b in
       let k : Sides A m l r va vb = sides-taken y held used (world_of s) base m a b x.five x.holds all-housed in-order turned-round in
       let few : length A ≤ 16 = sides-few y held a b in
-      let o : Follows = follower x.setting.next e.block f.block in
-      let C : List Instr = compared_shape y x.setting held m.pc starts op form a b e f in
-      let first-next : o ≡ First → starts e.block ≡ m.pc + 4 * length C =
-      λ g. x.next_there e.block (follower-first x.setting.next e.block f.block g) in
-      let second-next : o ≡ Second → starts f.block ≡ m.pc + 4 * length C =
-      λ g. x.next_there f.block (follower-second x.setting.next e.block f.block g) in
-      chosen-comes y (without used d) (InUse (graph_of code) c 0) (world_of after_it) base (starts e.block) (starts f.block) (starts c) weight x.setting.near x.setting.short o
-      (condition_of form.signed op) (left_of op l r) (right_of op l r) taken_it A program m k.after
+      parted-ways y (without used d) (InUse (graph_of code) c 0) (world_of after_it) base (starts e.block) (starts f.block) weight x.setting
+      (condition_of form.signed op) (left_of op l r) (right_of op l r) e f taken_it A program m k.after
       k.scratch (unread-holds y used (world_of s) base d result m x.holds) (record { homes = λ t u k. all-housed.homes t u.0 k; apart = λ t u i j k o g. all-housed.apart t u i.0 j.0 k o g }) (next-here c unread h)
       (at-most weight) few x.near (x.blocks e.block) (x.blocks f.block) (edge-reach code starts m.pc x.setting.short e x.short_is x.reach fit-e)
       (edge-reach code starts m.pc x.setting.short f x.short_is x.reach fit-f) (edge-near code starts m.pc x.setting.near e x.near_is x.reach fit-e)
-      (edge-near code starts m.pc x.setting.near f x.near_is x.reach fit-f) first-next second-next x.stands
+      (edge-near code starts m.pc x.setting.near f x.near_is x.reach fit-f) (λ q. x.next_there e.block q) (λ q. x.next_there f.block q) x.stands
       (compare-is (width_of form) op va vb x.compares (small a fits-a read-a) (small b fits-both.1 read-b) l r k.after k.first k.second ∙ is)
-      (chosen-start taken_it c block)
-    where
-      chosen-start : (t : Bool) (c : ℕ) → (if t then e.block else f.block) ≡ c → (if t then starts e.block else starts f.block) ≡ starts c
-      chosen-start true c i = ap starts i
-      chosen-start false c i = ap starts i
 
   pub carry-leave : Left y (graph_of code) program base weight starts s m (step p after_it)
   carry-leave =
-      let first : result ≢ 0 → Comes y program (InUse (graph_of code) e.block 0) (world_of after_it) base weight (starts e.block) [] m =
-      λ n. compare-comes true e.block (ap not (ne_eqb result 0 n)) refl x.first_unread (λ q g. or-left (q e.block) (q f.block || false) g) in
-      let second : result ≡ 0 → Comes y program (InUse (graph_of code) f.block 0) (world_of after_it) base weight (starts f.block) [] m =
-      λ n. compare-comes false f.block (ap not (eq-eqb result 0 n)) refl x.second_unread (λ q g. or-second (q e.block) (q f.block || false) (or-left (q f.block) false g)) in
+      let first : result ≢ 0 → EdgeWays y program (InUse (graph_of code) e.block 0) (world_of after_it) base weight (starts e.block) (x.setting.counts && e.counts) m =
+      λ n. compare-ways true e.block (ap not (ne_eqb result 0 n)) x.first_unread (λ q g. or-left (q e.block) (q f.block || false) g) in
+      let second : result ≡ 0 → EdgeWays y program (InUse (graph_of code) f.block 0) (world_of after_it) base weight (starts f.block) (x.setting.counts && f.counts) m =
+      λ n. compare-ways false f.block (ap not (eq-eqb result 0 n)) x.second_unread (λ q g. or-second (q e.block) (q f.block || false) (or-left (q f.block) false g)) in
       let same : tac.operand after_it (Temp d) ≡ result = ap (λ t. if t then result else s.here.temps d) (eq-eqb d d refl) in
       let e1 = x.function in
       let e2 = x.in_function in
@@ -219,13 +207,13 @@ module _ (p : Program) (code : Tac) (homes : List (Option Home)) (held : Option 
       rw (e1, e2, e3) (rw e4 (rw same
       (by-test (λ moved. Left y (graph_of code) program base weight starts s m moved) (nat_eq result 0) _ _
       (λ z.
-      let comes = second (eqb-true result 0 z) in
-      by-test (λ moved. Left y (graph_of code) program base weight starts s m moved) f.counts _ _
-      (λ c. ⊎_elim (λ k. rw k tt) (λ k. let q = k.1 in rw q (refl, inl comes)) (zero-or-more s.left)) (λ c. (refl, inl comes)))
+      edge-left y (graph_of code) program base weight starts f code.counts after_it m refl x.counts
+      (subst (λ c. EdgeWays y program (InUse (graph_of code) f.block 0) (world_of after_it) base weight (starts f.block) (c && f.counts) m) x.counts_is
+      (second (eqb-true result 0 z))))
       (λ z.
-      let comes = first (λ o. let t : nat_eq result 0 ≡ true = eq-eqb result 0 o in let none : true ≡ false = sym t ∙ z in cc) in
-      by-test (λ moved. Left y (graph_of code) program base weight starts s m moved) e.counts _ _
-      (λ c. ⊎_elim (λ k. rw k tt) (λ k. let q = k.1 in rw q (refl, inl comes)) (zero-or-more s.left)) (λ c. (refl, inl comes))))))
+      edge-left y (graph_of code) program base weight starts e code.counts after_it m refl x.counts
+      (subst (λ c. EdgeWays y program (InUse (graph_of code) e.block 0) (world_of after_it) base weight (starts e.block) (c && e.counts) m) x.counts_is
+      (first (λ o. let t : nat_eq result 0 ≡ true = eq-eqb result 0 o in let none : true ≡ false = sym t ∙ z in cc)))))))
 
 pub compares : ComparesAreCarried
 compares p code homes held d op form a b e f starts s program base m x =
@@ -241,24 +229,22 @@ compares p code homes held d op form a b e f starts s program base m x =
     (length (compared_shape (layout_of code homes) x.setting held m.pc starts op form a b e f)) starts s m (steps p 1 moved)) zero _ _ (λ h. tt) (λ h. leave))
 
 -- how many words there are
-compared-count : (y : Layout) (near short : Bool) (o : Follows) (held : Option ℕ) (signed : Bool) (op : BinaryOperator) (a b : Operand) (at first second : ℕ) →
-    length (operands_taken y held a b ++ compared near short o signed op (first_register y held a b) (second_register y held a b) at first second) ≡
-    length (operands_taken y held a b) + chosen_words near short o
-compared-count y near short o held signed op a b at first second =
+compared-count : (y : Layout) (setting : Setting) (held : Option ℕ) (signed : Bool) (op : BinaryOperator) (a b : Operand) (at : ℕ) (e f : Edge) (first second : ℕ) →
+    length (operands_taken y held a b ++ compared setting signed op (first_register y held a b) (second_register y held a b) at e f first second) ≡
+    length (operands_taken y held a b) + parted_words setting e f
+compared-count y setting held signed op a b at e f first second =
     let l : Register = left_of op (first_register y held a b) (second_register y held a b) in
     let r : Register = right_of op (first_register y held a b) (second_register y held a b) in
-    length-append (operands_taken y held a b) (compared near short o signed op (first_register y held a b) (second_register y held a b) at first second)
-    ∙ ap (λ n. length (operands_taken y held a b) + n) (chosen-count near short o (condition_of signed op) l r at first second)
+    length-append (operands_taken y held a b) (compared setting signed op (first_register y held a b) (second_register y held a b) at e f first second)
+    ∙ ap (λ n. length (operands_taken y held a b) + n) (parted-count setting (condition_of signed op) l r at e f first second)
 
 pub compares-within : ComparesKeepWithin
 compares-within y setting held d op form a b e f at other starts others =
-    let o : Follows = follower setting.next e.block f.block in
-    let n : length (compared_shape y setting held at starts op form a b e f) ≡ length (operands_taken y held a b) + chosen_words setting.near setting.short o =
-    compared-count y setting.near setting.short o held form.signed op a b (at + 4 * length (operands_taken y held a b)) (starts e.block) (starts f.block) in
-    let few : chosen_words setting.near setting.short o ≤ 5 = chosen-few setting.near setting.short o in (
-      omega (arith, n, few, sides-few y held a b),
-      omega (arith, n, few, sides-count y held a b, edge-least e, edge-least f),
-      n ∙ sym (compared-count y setting.near setting.short o held form.signed op a b (other + 4 * length (operands_taken y held a b)) (others e.block) (others f.block)),
+    let n : length (compared_shape y setting held at starts op form a b e f) ≡ length (operands_taken y held a b) + parted_words setting e f =
+    compared-count y setting held form.signed op a b (at + 4 * length (operands_taken y held a b)) e f (starts e.block) (starts f.block) in (
+      omega (arith, n, parted-few setting e f, sides-few y held a b),
+      omega (arith, n, parted-weight setting e f, sides-count y held a b),
+      n ∙ sym (compared-count y setting held form.signed op a b (other + 4 * length (operands_taken y held a b)) e f (others e.block) (others f.block)),
     )
 
 pub operand_words : (old : List ℕ) (y : Layout) (held : Option ℕ) (a b : Operand) →

@@ -77,6 +77,7 @@ tests y Used Next w base v weight at A F r program m l is enough ff stands place
           later-ends program DivZero at (length A + 1) (length (failed DivZero at)) weight m (at_pc l.after t)
           (way-both program (length A) 1 m l.after (at_pc l.after t) first
           (branch-way program Ne r x0 (4 * (length F + 1)) l.after false (omega arith) (omega arith) rest.0 (ap not e)))
+          (near.keeps 9 (λ q. omega (arith, q)) (λ q. omega (arith, q)) (λ q. omega (arith, q)))
           (fails program (at_pc l.after t) DivZero at (low-below (l.after.pc + 4)) place (omega arith) (omega arith) (subst (λ c. Stands program t c) is rest.1)) (omega (arith, whole, last)),
     )
 

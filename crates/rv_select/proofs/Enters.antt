@@ -55,6 +55,7 @@ call-fails program m kind at e l u there =
       runs = λ more.
           let split : 3 + more ≡ 1 + 1 + suc more = omega arith in
           ap (run_of program m) split ∙ (way.runs (suc more) ∙ throw-step program Ecall c (fault_number kind) (place_number at) more there.1.1.0 last);
+      count = refl;
     }
 
 -- x7 gets the address at which the last quarter of the region begins
@@ -208,8 +209,8 @@ module _ (program : List (Option Instr)) (m : State) (frame size placed : ℕ) (
       let eleven : d.registers 11 ≡ place_number at = near-c.keeps 11 (λ z. omega (arith, z)) (λ z. omega (arith, z)) (λ z. omega (arith, z)) ∙ e in
       let last : Ends program StackFull at 3 d =
       call-fails program d StackFull at eleven (omega arith) (omega arith) (stands-front program d.pc (fault_call StackFull) rest behind-b.1.1) in
-      later-ends program StackFull at (length A + 4 + 1 + 1) 3 (length (stack_tested frame)) m d (way-both program (length A + 4 + 1) 1 m c d way-c branch) last
-      (omega (arith, tested-words))
+      later-ends program StackFull at (length A + 4 + 1 + 1) 3 (length (stack_tested frame)) m d (way-both program (length A + 4 + 1) 1 m c d way-c branch)
+      (near-c.keeps 9 (λ z. omega (arith, z)) (λ z. omega (arith, z)) (λ z. omega (arith, z))) last (omega (arith, tested-words))
 
 -- The frame in the region is taken or given back, in no more steps than the code has words.
 pub record Placed (program : List (Option Instr)) (code rest : List Instr) (under : ℕ) (m : State) : Type 0 where
@@ -287,7 +288,7 @@ region-refused program (suc n) size placed rest m p small four most eight placed
     let r : Ends program StackFull at (length A) m =
     refuses program m (suc n) size placed (S ++ rest) p small four most eight placed-small
     (subst (λ z. Stands program m.pc z) (append_assoc A S rest) there) at (e (omega arith)) h in
-    record { steps = r.steps; last = r.last; few = omega (arith, r.few, length-append A S); runs = r.runs }
+    record { steps = r.steps; last = r.last; few = omega (arith, r.few, length-append A S); runs = r.runs; count = r.count }
 
 -- The frame in private memory is taken, and what callers rest on is kept.
 pub record Taken (program : List (Option Instr)) (y : Layout) (bytes base : ℕ) (rest : List Instr) (m : State) : Type 0 where

@@ -7,12 +7,14 @@ use Rattle.rv_isa.specs.declared.instr.Instr.{Instr}
 use Rattle.terra_memory.specs.Region.{Contents, end_address, fresh, heap_limit}
 use Rattle.terra_words.specs.Runs.{Value, word}
 use Rattle.tac_form.specs.declared.tac.Tac.{Tac}
+use Rattle.tac_form.specs.Flow as tac
 use Rattle.tac_form.specs.Flow.{Activation, Program, accepts_all, enter, place_of, steps, takes_all}
 use Rattle.rv_machine.specs.Machine.{fetch}
 use Rattle.rv_select.specs.Places.{layout_of}
 use Rattle.rv_select.specs.Calls.{body_code, head_code, last_address}
-use Rattle.rv_select.specs.Waiting.{Image, IsLinked, IsPlaced, entries_of, place_in}
-use Rattle.rv_select.specs.Whole.{AreShort, ProgramsAreCarried, before_entry, bytes_behind, bytes_left, end_in}
+use Rattle.tac_counts.specs.Counts.{left_after, left_in}
+use Rattle.rv_select.specs.Waiting.{Image, IsLinked, IsPlaced, counts_in, entries_of, place_in}
+use Rattle.rv_select.specs.Whole.{AreShort, Ended, ProgramsAreCarried, before_entry, bytes_behind, bytes_left, end_in}
 use Rattle.rv_select.proofs.Begins.{entries-carried}
 use Rattle.rv_select.proofs.Calling.{first-start, fresh_call, takes-is}
 use Rattle.rv_select.proofs.Carries.{by-test}
@@ -93,13 +95,20 @@ entry-high program at e z = never (sym (ap (fetch program) z) ∙ e)
     never e = cc
 
 pub programs-carried : ProgramsAreCarried
-programs-carried p image program most words memory n statics f code arguments m r linked short e starts eight count room (k, ends) =
+programs-carried p image program most words memory n statics f code arguments m r linked short e starts counted eight count room (k, ends) =
     let region : Contents = fresh memory statics in
-    behind-step p image program most (length region.bytes) words k (length (head_code (layout_of code (image f).homes) code))
-    ((n + 1) * words) r (before_entry f region n) m
-    (λ t b z rest y l g. runs-carried p image program most (length region.bytes) words rest k r t b z linked short y l g)
+    subst (λ z. Ended code.counts program ((n + 1) * words) (left_after z (left_in p k) n) (before_entry f region n) m r) (sym same)
+    (behind-step p image program most (length region.bytes) words k n (length (head_code (layout_of code (image f).homes) code))
+    ((n + 1) * words) code.counts r (before_entry f region n) m (ap counts_in e)
+    (λ t b z rest y l g.
+    subst (λ c. Ended c program rest (left_in p k t) t z r) (ap counts_in y.function ∙ (linked f code e).alike t.here.function y.code y.function)
+    (runs-carried p image program most (length region.bytes) words rest k r t b z linked short y l g))
     (enter code.place f (Some code) (map word arguments) (end_address region) [] (before_entry f region n))
     (λ out q z. entry-high program (image f).at (linked f code e).stands.0 (sym starts.pc ∙ z))
-    (entries-carried p image program most n f code arguments region m linked e starts eight count room)
+    (entries-carried p image program most n f code arguments region m linked e starts counted eight count room)
     (entry-falls p image program most words n linked short f code (map word arguments) region e)
-    (sym (ap (λ o. steps p k (enter (place_of o) f o (map word arguments) (end_address region) [] (before_entry f region n))) e) ∙ ends)
+    (sym (ap (λ o. steps p k (enter (place_of o) f o (map word arguments) (end_address region) [] (before_entry f region n))) e) ∙ ends))
+  where
+    same : tac.begun p statics memory n f (map word arguments)
+        ≡ enter code.place f (Some code) (map word arguments) (end_address (fresh memory statics)) [] (before_entry f (fresh memory statics) n)
+    same = ap (λ o. enter (place_of o) f o (map word arguments) (end_address (fresh memory statics)) [] (before_entry f (fresh memory statics) n)) e

@@ -14,16 +14,17 @@ use Rattle.rv_select.specs.Places.{AreBytes, Housed, Layout, frame_bytes, layout
 use Rattle.rv_select.proofs.Lives.{housed}
 use Rattle.rv_select.specs.Steps.{Ends}
 use Rattle.rv_select.specs.Entering.{entered, frame_taken, left, region_taken}
-use Rattle.rv_select.specs.Calls.{call_begun, returned}
+use Rattle.rv_select.specs.Calls.{call_begun, depth_tested, one_more, passed, returned}
 use Rattle.rv_select.specs.Frames.{BeforeEntering, Calls, CallsAreBegun, Enters, FunctionsAreEntered, FunctionsAreLeft, Returns, part_value}
-use Rattle.rv_select.proofs.Callings.{Begun, begins, too-deep}
+use Rattle.rv_select.proofs.Callings.{Begun, begins, begun-words, call-breaks, too-deep}
 use Rattle.rv_select.proofs.Enters.{Placed, Taken, region-refused, takes-frame, takes-region}
 use Rattle.rv_select.proofs.Returns.{BackIn, goes-back}
 use Rattle.rv_select.proofs.Straight.{low-below, pc-both}
 use Rattle.rv_select.proofs.Ways.{Way, way-both}
 
 pub more-ends : (program : List (Option Instr)) (kind : FaultKind) (at : Place) (weight whole : ℕ) (m : State) → weight ≤ whole → Ends program kind at weight m → Ends program kind at whole m
-more-ends program kind at weight whole m h e = record { steps = e.steps; last = e.last; few = omega (arith, h, e.few); runs = e.runs }
+more-ends program kind at weight whole m h e =
+    record { steps = e.steps; last = e.last; few = omega (arith, h, e.few); runs = e.runs; count = e.count }
 
 -- both frames are taken
 both-entered : (program : List (Option Instr)) (y : Layout) (bytes frame top placed size : ℕ) (at : Place) (m : State) → BeforeEntering program y bytes frame top placed size at m →
@@ -78,12 +79,17 @@ calls-begun code homes held block step program w base at ps m right p f fits the
     let h : Housed y Used = housed code homes block step right in
     let all : Stands program m.pc (call_begun y held at ps ++ []) =
     subst (λ z. Stands program m.pc z) (sym (append-nil (call_begun y held at ps))) there in (
-      λ deep. too-deep program y held Used w base at ps [] m p f h fits all deep,
-      λ shallow reads room. made (begins program y held Used w base at ps [] m p f h fits all shallow reads room),
+      λ none. call-breaks program code.counts at (depth_tested ++ (passed y held 0 ps ++ one_more)) m p.pc fits none (length (call_begun y held at ps))
+          (omega (arith, begun-words y held at ps)) there,
+      λ left counts. (
+        λ deep. too-deep program y held Used w base at ps [] m p f h fits left counts all deep,
+        λ shallow reads room. made left (begins program y held Used w base at ps [] m p f h fits left counts all shallow reads room),
+      ),
     )
   where
-    made : Begun program (layout_of code homes) held base w at ps [] m → Calls program (layout_of code homes) held base w at ps m
-    made b = record {
+    made : (left : ℕ) → Begun program (layout_of code homes) held base w at ps left [] m →
+        Calls program (layout_of code homes) held base w at ps left m
+    made left b = record {
       steps = b.steps;
       after = b.after;
       few = b.few;
@@ -92,6 +98,7 @@ calls-begun code homes held block step program w base at ps m right p f fits the
       place = b.place;
       waiting = b.waiting;
       others = b.others;
+      count = b.count;
       region = b.region;
       long = b.long;
       bytes = b.bytes;
@@ -125,6 +132,7 @@ functions-left code homes held block step program w base frame last link v m set
       heap = b.others 3 (inl refl);
       limit = b.others 4 (inr (inl refl));
       waiting = b.others 28 (inr (inr refl));
+      count = b.count;
       registers = b.registers;
       region = b.region;
       private = b.private;

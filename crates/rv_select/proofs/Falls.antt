@@ -43,14 +43,14 @@ FallsIf p image words bound s (Goes t) = (4 * bound + bytes_left p image words t
 FallsIf p image words bound s (Stops (Over (Returned v) out)) = 4 * bound ≤ bytes_left p image words s
 FallsIf p image words bound s (Stops (Over (Fault kind at) out)) = 4 * bound ≤ bytes_left p image words s
 FallsIf p image words bound s (Stops (Over Stuck out)) = Unit {0}
-FallsIf p image words bound s (Stops (More out)) = Unit {0}
+FallsIf p image words bound s (Stops (More out)) = 4 * bound ≤ bytes_left p image words s
 
 stops-if : (p : Program) (image : Image) (words bound : ℕ) (s : tac.State) (r : Run) → 4 * bound ≤ bytes_left p image words s →
     FallsIf p image words bound s (Stops r)
 stops-if p image words bound s (Over (Returned v) out) h = h
 stops-if p image words bound s (Over (Fault kind at) out) h = h
 stops-if p image words bound s (Over Stuck out) h = tt
-stops-if p image words bound s (More out) h = tt
+stops-if p image words bound s (More out) h = h
 
 -- what stands behind a place of a function that has code
 pub behind-is : (p : Program) (image : Image) (f : FnId) (code : Tac) (b k : ℕ) → p.code f ≡ Some code →
@@ -250,6 +250,9 @@ call-stops : (b t n q z r x w y k a c d m : ℕ) → r ≡ q + 4 * (b + (2 + n))
     d ≤ a + 4 * m → k ≡ y + m → 4 * (b + 2 + t) ≤ x + w + 4 * k
 call-stops b t n q z r x w y k a c d m e f g i l o s = omega (arith, e, f, g, i, l, o, s)
 
+call-none : (b n q z r x w y : ℕ) → r ≡ q + 4 * (b + (2 + n)) → r ≤ z → x ≡ z - q → 4 * b ≤ x + w + 4 * y
+call-none b n q z r x w y e f g = omega (arith, e, f, g)
+
 jump-two : (from to : ℕ) (rest : List Instr) → length (call_jump from to ++ rest) ≡ 2 + length rest
 jump-two from to rest = omega arith
 
@@ -266,9 +269,9 @@ pub falls-call : (p : Program) (image : Image) (program : List (Option Instr)) (
     slice_get code.blocks s.here.block ≡ Some block → slice_get block.instructions s.here.at ≡ Some (Call to place f arguments) →
     AtPlace p image program code (image s.here.function) s.here.block s.here.at (Call to place f arguments)
     (place_in p image code (image s.here.function) s.here.block s.here.at) →
-    FallsIf p image words (call_most p image code s.here place f arguments) s (step p s)
+    FallsIf p image words (call_most p image code s.here s.left place f arguments) s (step p s)
 falls-call p image program most words linked short code block to place f arguments s e in-f in-b found =
-    falls (call_most p image code s.here place f arguments) refl
+    falls (call_most p image code s.here s.left place f arguments) refl
   where
     x : ℕ
     x = bytes_behind p image s.here.function (p.code s.here.function) s.here.block s.here.at
@@ -366,13 +369,15 @@ falls-call p image program most words linked short code block to place f argumen
         (λ n. tt)))
 
     counts : (l : ℕ) → s.left ≡ l →
-        FallsIf p image words (call_most p image code s.here place f arguments) s
+        FallsIf p image words (call_most p image code s.here l place f arguments) s
         (tac.counted l s (λ z. enter place f (p.code f) (values_of s arguments) z.here.base
         (record { waits = (tac.ahead z).here; to = to } ∷ z.callers) z))
-    counts zero h = tt
+    counts zero h =
+        call-none B E q (end_in p image code (image s.here.function)) next x waits (s.left * words) returns within
+        (behind-is p image s.here.function code s.here.block s.here.at e)
     counts (suc l) h = with-code l (p.code f) h refl
 
-    falls : (n : ℕ) → call_most p image code s.here place f arguments ≡ n → FallsIf p image words n s (step p s)
+    falls : (n : ℕ) → call_most p image code s.here s.left place f arguments ≡ n → FallsIf p image words n s (step p s)
     falls n same =
         rw (e, in-f, in-b) (subst (λ z. FallsIf p image words z s
         (tac.counted s.left s (λ z. enter place f (p.code f) (values_of s arguments) z.here.base

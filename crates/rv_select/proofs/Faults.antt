@@ -61,18 +61,20 @@ fails program m kind at p h l u there =
       runs = λ more.
           let e : length code + 3 + more ≡ length code + 1 + 1 + suc more = omega arith in
           ap (run_of program m) e ∙ (way.runs (suc more) ∙ throw-step program Ecall c (fault_number kind) (place_number at) more rest.1.1.0 last);
+      count = k.keeps 9 (λ e. omega (arith, e)) (λ e. omega (arith, e));
     }
 
 -- a way before the end
-pub later-ends : (program : List (Option Instr)) (kind : FaultKind) (at : Place) (k weight whole : ℕ) (m n : State) → Way program k m n → Ends program kind at weight n →
-    k + weight ≤ whole → Ends program kind at whole m
-later-ends program kind at k weight whole m n way e h = record {
+pub later-ends : (program : List (Option Instr)) (kind : FaultKind) (at : Place) (k weight whole : ℕ) (m n : State) → Way program k m n →
+    n.registers 9 ≡ m.registers 9 → Ends program kind at weight n → k + weight ≤ whole → Ends program kind at whole m
+later-ends program kind at k weight whole m n way same e h = record {
   steps = k + e.steps;
   last = e.last;
   few = omega (arith, e.few);
   runs = λ more.
       let q : k + e.steps + more ≡ k + (e.steps + more) = omega arith in
       ap (run_of program m) q ∙ (way.runs (e.steps + more) ∙ e.runs more);
+  count = e.count ∙ same;
 }
 
 -- a branch that is taken, and one that isn't

@@ -1,5 +1,5 @@
 -- The code of instructions depends on a layout's homes alone.
-use Rattle.std.proofs.Common.{◌≡◌, ℕ, ◌+◌, ◌*◌, List, [], ◌∷◌, ◌++◌, length, Option, Some, None, refl, ap, ◌∙◌}
+use Rattle.std.proofs.Common.{◌≡◌, ℕ, ◌+◌, ◌*◌, Bool, List, [], ◌∷◌, ◌++◌, length, Option, Some, None, refl, ap, ◌∙◌}
 use Rattle.tl_base.specs.declared.ids.FnId.{FnId}
 use Rattle.reg_alloc.specs.declared.assignment.Home.{Home}
 use Rattle.rv_isa.specs.declared.instr.Instr.{Instr}
@@ -23,7 +23,7 @@ use Rattle.rv_select.specs.declared.settings.Setting.{Setting}
 use Rattle.rv_select.specs.Settings.{setting_of}
 use Rattle.rv_select.specs.Pairs.{pair_of, plain_of}
 use Rattle.rv_select.specs.Places.{Layout}
-use Rattle.rv_select.specs.Shapes.{held_after, place_number, x11}
+use Rattle.rv_select.specs.Shapes.{counted_if, held_after, place_number, x11}
 use Rattle.rv_select.specs.Entering.{received, received_one, stored_below}
 use Rattle.rv_select.specs.Calls.{block_code, blocks_calls, blocks_code, call_ended, call_jump, depth_tested, end_code, exit_code}
 use Rattle.rv_select.specs.Calls.{held_behind, instruction_calls, instruction_code, instructions_calls, instructions_code, one_more}
@@ -57,36 +57,45 @@ passed-same h a p b q r t v o held i (parts.Area n ∷ ps) =
     (passed-same h a p b q r t v o None (i + 1) ps)
 
 -- what comes before the jump of a call, by the words that pass its arguments
-abbrev begun-with : ℕ → List Instr → List Instr
-begun-with place passes = constant x11 place ++ (depth_tested ++ (passes ++ one_more))
+abbrev begun-with : (counts : Bool) → ℕ → List Instr → List Instr
+begun-with counts place passes = constant x11 place ++ counted_if counts (depth_tested ++ (passes ++ one_more))
 
 instruction-same : (h : List (Option Home)) (a p b q : ℕ) (r t : List Reads) (v o : Extent) (sizes : List ℕ) (places : FnId → ℕ) (at : ℕ)
-    (held : Option ℕ) (i : Instruction) →
+    (held : Option ℕ) (i : Instruction) → v.counts ≡ o.counts →
     instruction_code (laid h a p r v) sizes places at held i ≡ instruction_code (laid h b q t o) sizes places at held i
-instruction-same h a p b q r t v o sizes places at held (Call (destinations.Temp u) place f arguments) =
-    ap (λ z. begun-with (place_number place) z ++
-    (call_jump (at + 4 * length (begun-with (place_number place) z)) (places f) ++ call_ended (laid h a p r v) sizes (destinations.Temp u)))
+instruction-same h a p b q r t v o sizes places at held (Call (destinations.Temp u) place f arguments) same =
+    ap (λ z. begun-with v.counts (place_number place) z ++
+    (call_jump (at + 4 * length (begun-with v.counts (place_number place) z)) (places f) ++ call_ended (laid h a p r v) sizes (destinations.Temp u)))
     (passed-same h a p b q r t v o held 0 arguments)
-instruction-same h a p b q r t v o sizes places at held (Call (destinations.Area n) place f arguments) =
-    ap (λ z. begun-with (place_number place) z ++
-    (call_jump (at + 4 * length (begun-with (place_number place) z)) (places f) ++ call_ended (laid h a p r v) sizes (destinations.Area n)))
+    ∙ ap (λ c. begun-with c (place_number place) (passed (laid h b q t o) held 0 arguments) ++
+    (call_jump (at + 4 * length (begun-with c (place_number place) (passed (laid h b q t o) held 0 arguments))) (places f)
+    ++ call_ended (laid h a p r v) sizes (destinations.Temp u))) same
+instruction-same h a p b q r t v o sizes places at held (Call (destinations.Area n) place f arguments) same =
+    ap (λ z. begun-with v.counts (place_number place) z ++
+    (call_jump (at + 4 * length (begun-with v.counts (place_number place) z)) (places f) ++ call_ended (laid h a p r v) sizes (destinations.Area n)))
     (passed-same h a p b q r t v o held 0 arguments)
-instruction-same h a p b q r t v o sizes places at held (Call destinations.Nothing place f arguments) =
-    ap (λ z. begun-with (place_number place) z ++
-    (call_jump (at + 4 * length (begun-with (place_number place) z)) (places f) ++ call_ended (laid h a p r v) sizes destinations.Nothing))
+    ∙ ap (λ c. begun-with c (place_number place) (passed (laid h b q t o) held 0 arguments) ++
+    (call_jump (at + 4 * length (begun-with c (place_number place) (passed (laid h b q t o) held 0 arguments))) (places f)
+    ++ call_ended (laid h a p r v) sizes (destinations.Area n))) same
+instruction-same h a p b q r t v o sizes places at held (Call destinations.Nothing place f arguments) same =
+    ap (λ z. begun-with v.counts (place_number place) z ++
+    (call_jump (at + 4 * length (begun-with v.counts (place_number place) z)) (places f) ++ call_ended (laid h a p r v) sizes destinations.Nothing))
     (passed-same h a p b q r t v o held 0 arguments)
-instruction-same h a p b q r t v o sizes places at held (Compute d op form x y) = refl
-instruction-same h a p b q r t v o sizes places at held (TestDivisor place x) = refl
-instruction-same h a p b q r t v o sizes places at held (Copy d x) = refl
-instruction-same h a p b q r t v o sizes places at held (Locate d offset) = refl
-instruction-same h a p b q r t v o sizes places at held (Load d form spot) = refl
-instruction-same h a p b q r t v o sizes places at held (Store spot size x) = refl
-instruction-same h a p b q r t v o sizes places at held (Move to from size) = refl
-instruction-same h a p b q r t v o sizes places at held (Clear n size) = refl
-instruction-same h a p b q r t v o sizes places at held (CallValue to place sig x arguments) = refl
-instruction-same h a p b q r t v o sizes places at held (PutByte x) = refl
-instruction-same h a p b q r t v o sizes places at held (Write place x y) = refl
-instruction-same h a p b q r t v o sizes places at held (Alloc d x) = refl
+    ∙ ap (λ c. begun-with c (place_number place) (passed (laid h b q t o) held 0 arguments) ++
+    (call_jump (at + 4 * length (begun-with c (place_number place) (passed (laid h b q t o) held 0 arguments))) (places f)
+    ++ call_ended (laid h a p r v) sizes destinations.Nothing)) same
+instruction-same h a p b q r t v o sizes places at held (Compute d op form x y) same = refl
+instruction-same h a p b q r t v o sizes places at held (TestDivisor place x) same = refl
+instruction-same h a p b q r t v o sizes places at held (Copy d x) same = refl
+instruction-same h a p b q r t v o sizes places at held (Locate d offset) same = refl
+instruction-same h a p b q r t v o sizes places at held (Load d form spot) same = refl
+instruction-same h a p b q r t v o sizes places at held (Store spot size x) same = refl
+instruction-same h a p b q r t v o sizes places at held (Move to from size) same = refl
+instruction-same h a p b q r t v o sizes places at held (Clear n size) same = refl
+instruction-same h a p b q r t v o sizes places at held (CallValue to place sig x arguments) same = refl
+instruction-same h a p b q r t v o sizes places at held (PutByte x) same = refl
+instruction-same h a p b q r t v o sizes places at held (Write place x y) same = refl
+instruction-same h a p b q r t v o sizes places at held (Alloc d x) same = refl
 
 exit-same : (h : List (Option Home)) (a p b q : ℕ) (r t : List Reads) (v o : Extent) (setting : Setting) (held : Option ℕ) (at : ℕ) (starts : ℕ → ℕ) (last : ℕ) (e : Exit) →
     exit_code (laid h a p r v) setting held at starts last e ≡ exit_code (laid h b q t o) setting held at starts last e
@@ -103,14 +112,14 @@ end-same h a p b q r t v o setting held at starts last None e = exit-same h a p 
 end-same h a p b q r t v o setting held at starts last (Some pair) e = refl
 
 pub instructions-same : (h : List (Option Home)) (a p b q : ℕ) (r t : List Reads) (v o : Extent) (sizes : List ℕ) (places : FnId → ℕ) (at : ℕ)
-    (held : Option ℕ) (is : List Instruction) →
+    (held : Option ℕ) (is : List Instruction) → v.counts ≡ o.counts →
     instructions_code (laid h a p r v) sizes places at held is ≡ instructions_code (laid h b q t o) sizes places at held is
-instructions-same h a p b q r t v o sizes places at held [] = refl
-instructions-same h a p b q r t v o sizes places at held (i ∷ is) =
+instructions-same h a p b q r t v o sizes places at held [] same = refl
+instructions-same h a p b q r t v o sizes places at held (i ∷ is) same =
     let A : List Instr = instruction_code (laid h a p r v) sizes places at held i in
-    ap (λ z. A ++ z) (instructions-same h a p b q r t v o sizes places (at + 4 * length A) (held_after i) is)
+    ap (λ z. A ++ z) (instructions-same h a p b q r t v o sizes places (at + 4 * length A) (held_after i) is same)
     ∙ ap (λ z. z ++ instructions_code (laid h b q t o) sizes places (at + 4 * length z) (held_after i) is)
-    (instruction-same h a p b q r t v o sizes places at held i)
+    (instruction-same h a p b q r t v o sizes places at held i same)
 
 block-same : (h : List (Option Home)) (a p b q : ℕ) (r : List Reads) (v : Extent) (sizes : List ℕ) (places : FnId → ℕ) (starts : ℕ → ℕ)
     (last at rest : ℕ) (k : Block) →
@@ -123,7 +132,7 @@ block-same h a p b q r v sizes places starts last at rest k =
     let setting : Setting = setting_of v rest in
     ap (λ z. A ++ z) (end-same h a p b q r r v v setting held (at + 4 * length A) starts last o k.exit)
     ∙ ap (λ z. z ++ end_code (laid h b q r v) setting held (at + 4 * length z) starts last o k.exit)
-    (instructions-same h a p b q r r v v sizes places at None is)
+    (instructions-same h a p b q r r v v sizes places at None is refl)
 
 pub blocks-same : (h : List (Option Home)) (a p b q : ℕ) (r : List Reads) (v : Extent) (sizes : List ℕ) (places : FnId → ℕ) (starts : ℕ → ℕ)
     (last at : ℕ) (ks : List Block) →
@@ -135,42 +144,43 @@ blocks-same h a p b q r v sizes places starts last at (k ∷ ks) =
     ∙ ap (λ z. z ++ blocks_code (laid h b q r v) sizes places starts last (at + 4 * length z) ks)
     (block-same h a p b q r v sizes places starts last at (length ks) k)
 
-call-same : (h : List (Option Home)) (a p b q : ℕ) (r t : List Reads) (v o : Extent) (at : ℕ) (held : Option ℕ) (i : Instruction) →
+call-same : (h : List (Option Home)) (a p b q : ℕ) (r t : List Reads) (v o : Extent) (at : ℕ) (held : Option ℕ) (i : Instruction) → v.counts ≡ o.counts →
     instruction_calls (laid h a p r v) at held i ≡ instruction_calls (laid h b q t o) at held i
-call-same h a p b q r t v o at held (Call to place f arguments) =
-    ap (λ z. record { at = at + length (begun-with (place_number place) z); callee = f } ∷ [])
+call-same h a p b q r t v o at held (Call to place f arguments) same =
+    ap (λ z. record { at = at + length (begun-with v.counts (place_number place) z); callee = f } ∷ [])
     (passed-same h a p b q r t v o held 0 arguments)
-call-same h a p b q r t v o at held (Compute d op form x y) = refl
-call-same h a p b q r t v o at held (TestDivisor place x) = refl
-call-same h a p b q r t v o at held (Copy d x) = refl
-call-same h a p b q r t v o at held (Locate d offset) = refl
-call-same h a p b q r t v o at held (Load d form spot) = refl
-call-same h a p b q r t v o at held (Store spot size x) = refl
-call-same h a p b q r t v o at held (Move to from size) = refl
-call-same h a p b q r t v o at held (Clear n size) = refl
-call-same h a p b q r t v o at held (CallValue to place sig x arguments) = refl
-call-same h a p b q r t v o at held (PutByte x) = refl
-call-same h a p b q r t v o at held (Write place x y) = refl
-call-same h a p b q r t v o at held (Alloc d x) = refl
+    ∙ ap (λ c. record { at = at + length (begun-with c (place_number place) (passed (laid h b q t o) held 0 arguments)); callee = f } ∷ []) same
+call-same h a p b q r t v o at held (Compute d op form x y) same = refl
+call-same h a p b q r t v o at held (TestDivisor place x) same = refl
+call-same h a p b q r t v o at held (Copy d x) same = refl
+call-same h a p b q r t v o at held (Locate d offset) same = refl
+call-same h a p b q r t v o at held (Load d form spot) same = refl
+call-same h a p b q r t v o at held (Store spot size x) same = refl
+call-same h a p b q r t v o at held (Move to from size) same = refl
+call-same h a p b q r t v o at held (Clear n size) same = refl
+call-same h a p b q r t v o at held (CallValue to place sig x arguments) same = refl
+call-same h a p b q r t v o at held (PutByte x) same = refl
+call-same h a p b q r t v o at held (Write place x y) same = refl
+call-same h a p b q r t v o at held (Alloc d x) same = refl
 
 instructions-calls-same : (h : List (Option Home)) (a p b q : ℕ) (r t : List Reads) (v o : Extent) (sizes : List ℕ) (at : ℕ) (held : Option ℕ)
-    (is : List Instruction) →
+    (is : List Instruction) → v.counts ≡ o.counts →
     instructions_calls (laid h a p r v) sizes at held is ≡ instructions_calls (laid h b q t o) sizes at held is
-instructions-calls-same h a p b q r t v o sizes at held [] = refl
-instructions-calls-same h a p b q r t v o sizes at held (i ∷ is) =
+instructions-calls-same h a p b q r t v o sizes at held [] same = refl
+instructions-calls-same h a p b q r t v o sizes at held (i ∷ is) same =
     let A : List Instr = instruction_code (laid h a p r v) sizes (λ f. 0) 0 held i in
-    ap (λ z. z ++ instructions_calls (laid h a p r v) sizes (at + length A) (held_after i) is) (call-same h a p b q r t v o at held i)
+    ap (λ z. z ++ instructions_calls (laid h a p r v) sizes (at + length A) (held_after i) is) (call-same h a p b q r t v o at held i same)
     ∙ (ap (λ z. instruction_calls (laid h b q t o) at held i ++ z)
-    (instructions-calls-same h a p b q r t v o sizes (at + length A) (held_after i) is)
+    (instructions-calls-same h a p b q r t v o sizes (at + length A) (held_after i) is same)
     ∙ ap (λ z. instruction_calls (laid h b q t o) at held i ++ instructions_calls (laid h b q t o) sizes (at + length z) (held_after i) is)
-    (instruction-same h a p b q r t v o sizes (λ f. 0) 0 held i))
+    (instruction-same h a p b q r t v o sizes (λ f. 0) 0 held i same))
 
 pub blocks-calls-same : (h : List (Option Home)) (a p b q : ℕ) (r : List Reads) (v : Extent) (sizes : List ℕ) (at : ℕ) (ks : List Block) →
     blocks_calls (laid h a p r v) sizes at ks ≡ blocks_calls (laid h b q r v) sizes at ks
 blocks-calls-same h a p b q r v sizes at [] = refl
 blocks-calls-same h a p b q r v sizes at (k ∷ ks) =
     let A : List Instr = block_code (laid h a p r v) sizes (λ f. 0) (λ c. 0) 0 0 (length ks) k in
-    ap (λ z. z ++ blocks_calls (laid h a p r v) sizes (at + length A) ks) (instructions-calls-same h a p b q r r v v sizes at None (plain_of r k))
+    ap (λ z. z ++ blocks_calls (laid h a p r v) sizes (at + length A) ks) (instructions-calls-same h a p b q r r v v sizes at None (plain_of r k) refl)
     ∙ (ap (λ z. instructions_calls (laid h b q r v) sizes at None (plain_of r k) ++ z)
     (blocks-calls-same h a p b q r v sizes (at + length A) ks)
     ∙ ap (λ z. instructions_calls (laid h b q r v) sizes at None (plain_of r k) ++ blocks_calls (laid h b q r v) sizes (at + length z) ks)

@@ -11,7 +11,7 @@ use Rattle.tac_form.specs.declared.tac.Exit.TheVariants.{Branch, Fail, Jump, Ret
 use Rattle.tac_form.specs.declared.tac.Block.{Block}
 use Rattle.rv_select.specs.declared.pairs.Pair.{Pair}
 use Rattle.rv_select.specs.declared.settings.Setting.{Setting}
-use Rattle.rv_select.specs.Settings.{falls, follower, setting_of}
+use Rattle.rv_select.specs.Settings.{setting_of}
 use Rattle.rv_isa.specs.declared.operation.BranchCondition.TheVariants.{Ne}
 use Rattle.rv_operators.specs.Codes.{x0, x5}
 use Rattle.rv_select.specs.Compared.{condition_of, first_register, left_of, operands_taken, right_of, second_register}
@@ -20,7 +20,8 @@ use Rattle.rv_select.specs.Places.{Layout}
 use Rattle.rv_select.specs.Shapes.{first_read, held_after, read_in}
 use Rattle.rv_select.specs.Calls.{block_code, blocks_code, call_begun, call_ended, call_jump, end_code, exit_code, held_behind}
 use Rattle.rv_select.specs.Calls.{instruction_code, instructions_code, pair_code, part_given}
-use Rattle.rv_select.proofs.Jumps.{chosen-count, edge-count, last-count}
+use Rattle.rv_select.proofs.Jumps.{last-count}
+use Rattle.rv_select.proofs.Weighing.{edge-shape-count, parted-count}
 
 -- the code of an instruction is as long wherever it and functions stand
 pub instruction-length : (y : Layout) (sizes : List ℕ) (places others : FnId → ℕ) (at other : ℕ) (held : Option ℕ) (i : Instruction) →
@@ -53,13 +54,11 @@ exit-length y setting held at other last final starts others (Return v) =
     (last-count setting.short setting.next (at + 4 * length (part_given y held v)) last
     ∙ sym (last-count setting.short setting.next (other + 4 * length (part_given y held v)) final))
 exit-length y setting held at other last final starts others (Jump e) =
-    let b = falls setting.next e in
-    edge-count b setting.short at (starts e.block) ∙ sym (edge-count b setting.short other (others e.block))
+    edge-shape-count setting e at (starts e.block) ∙ sym (edge-shape-count setting e other (others e.block))
 exit-length y setting held at other last final starts others (Branch a e f) =
-    let o = follower setting.next e.block f.block in
     same-behind (first_read y held a) _ _
-    (chosen-count setting.near setting.short o Ne (read_in y x5 a) x0 (at + 4 * length (first_read y held a)) (starts e.block) (starts f.block)
-    ∙ sym (chosen-count setting.near setting.short o Ne (read_in y x5 a) x0 (other + 4 * length (first_read y held a)) (others e.block) (others f.block)))
+    (parted-count setting Ne (read_in y x5 a) x0 (at + 4 * length (first_read y held a)) e f (starts e.block) (starts f.block)
+    ∙ sym (parted-count setting Ne (read_in y x5 a) x0 (other + 4 * length (first_read y held a)) e f (others e.block) (others f.block)))
 exit-length y setting held at other last final starts others (Fail kind place) = refl
 
 pub end-length : (y : Layout) (setting : Setting) (held : Option ℕ) (at other last final : ℕ) (starts others : ℕ → ℕ) (o : Option Pair) (e : Exit) →
@@ -71,10 +70,9 @@ end-length y setting held at other last final starts others (Some pair) e =
     let l = left_of pair.operator (first_register y held pair.a pair.b) (second_register y held pair.a pair.b) in
     let r = right_of pair.operator (first_register y held pair.a pair.b) (second_register y held pair.a pair.b) in
     let c = condition_of pair.form.signed pair.operator in
-    let o = follower setting.next pair.first.block pair.second.block in
     same-behind T _ _
-    (chosen-count setting.near setting.short o c l r (at + 4 * length T) (starts pair.first.block) (starts pair.second.block)
-    ∙ sym (chosen-count setting.near setting.short o c l r (other + 4 * length T) (others pair.first.block)
+    (parted-count setting c l r (at + 4 * length T) pair.first pair.second (starts pair.first.block) (starts pair.second.block)
+    ∙ sym (parted-count setting c l r (other + 4 * length T) pair.first pair.second (others pair.first.block)
     (others pair.second.block)))
 
 pub instructions-length : (y : Layout) (sizes : List ℕ) (places others : FnId → ℕ) (at other : ℕ) (held : Option ℕ) (is : List Instruction) →

@@ -59,6 +59,11 @@ pub mod Returns
 pub mod Entrances
 pub mod Within
 pub mod Compares
+pub mod Counted
+pub mod Counts
+pub mod Parted
+pub mod Weighing
+pub mod Edges
 pub mod Weighed
 pub mod Reached
 pub mod Backs

@@ -99,6 +99,7 @@ pub near-keeps : (y : Layout) (base : ℕ) (m n : State) → Near m n → Keeps 
 near-keeps y base m n s = record {
   registers = λ r l u. s.keeps r (lasts-not r 5 l refl) (lasts-not r 6 l refl) (lasts-not r 7 l refl);
   link = s.keeps 1 (λ z. omega (arith, z)) (λ z. omega (arith, z)) (λ z. omega (arith, z));
+  count = s.keeps 9 (λ z. omega (arith, z)) (λ z. omega (arith, z)) (λ z. omega (arith, z));
   long = ap length s.private;
   outside = λ at k o. ap (λ z. take k (drop at z)) s.private;
 }
@@ -107,6 +108,7 @@ pub keeps-both : (y : Layout) (base : ℕ) (m n r : State) → Keeps y base m n 
 keeps-both y base m n r h k = record {
   registers = λ x l u. k.registers x l u ∙ h.registers x l u;
   link = k.link ∙ h.link;
+  count = k.count ∙ h.count;
   long = k.long ∙ h.long;
   outside = λ at c o. k.outside at c o ∙ h.outside at c o;
 }
@@ -120,6 +122,7 @@ pub put-keeps : (y : Layout) (base v : ℕ) (code : List Instr) (m : State) (h :
 put-keeps y base v code m h p i = record {
   registers = λ r l u. p.keeps r (lasts-not r 5 l refl) (lasts-not r 6 l refl) (lasts-not r 7 l refl) (used-register y h r i u);
   link = p.keeps 1 (λ z. omega (arith, z)) (λ z. omega (arith, z)) (λ z. omega (arith, z)) (λ e. let g : IsHome y (homes.Register 1) = subst (IsHome y) e i in omega (arith, g.0));
+  count = p.keeps 9 (λ z. omega (arith, z)) (λ z. omega (arith, z)) (λ z. omega (arith, z)) (λ e. let g : IsHome y (homes.Register 9) = subst (IsHome y) e i in omega (arith, g.0));
   long = p.memory.long;
   outside = λ at n o.
       let inside = home-inside y h i in

@@ -289,6 +289,9 @@ constant-count d n = either (nat_eq (extended_word n) n)
     either true = let h : length (short_constant d n) ≤ 2 = short-count d n in omega arith
     either false = let h : length (long_constant d n) ≤ 6 = long-count d n in omega arith
 
+pub constant_count : (d : Register) (n : ℕ) → length (constant d n) ≤ 8
+constant_count = constant-count
+
 -- which numbers are the extension of their low 32 bits
 both-tests : (a b c d : ℕ) → (a < b → c ≡ d) → (b ≤ a → c ≢ d) → nat_lt a b ≡ nat_eq c d
 both-tests a b c d f g =

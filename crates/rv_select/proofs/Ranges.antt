@@ -156,17 +156,17 @@ module _ (program : List (Option Instr)) (t : State) (at : Place) (F : List Inst
       let last : length (failed BadAddress at) ≡ length F = ap length (sym is) in
       ⊎_elim
       (λ h.
-      later-ends program BadAddress at 3 (length (failed BadAddress at)) (6 + length F) t low_fails (to-low h)
+      later-ends program BadAddress at 3 (length (failed BadAddress at)) (6 + length F) t low_fails (to-low h) refl
       (fails program low_fails BadAddress at (low-below (s2.pc + 16)) place (omega arith) (omega arith)
       (subst (λ c. Stands program low_fails.pc c) is (subst (λ q. Stands program q F) (pc-sixteen s1.pc) fault-there))) (omega (arith, last)))
       (λ h.
       ⊎_elim
       (λ far.
-      later-ends program BadAddress at 4 (length (failed BadAddress at)) (6 + length F) t far_fails (to-far h.0 far)
+      later-ends program BadAddress at 4 (length (failed BadAddress at)) (6 + length F) t far_fails (to-far h.0 far) refl
       (fails program far_fails BadAddress at (low-below (s3.pc + 12)) place (omega arith) (omega arith)
       (subst (λ c. Stands program far_fails.pc c) is (subst (λ q. Stands program q F) (pc-twelve s2.pc) fault-there))) (omega (arith, last)))
       (λ near.
-      later-ends program BadAddress at 6 (length (failed BadAddress at)) (6 + length F) t high_fails (to-high h.0 near h.1)
+      later-ends program BadAddress at 6 (length (failed BadAddress at)) (6 + length F) t high_fails (to-high h.0 near h.1) refl
       (fails program high_fails BadAddress at (low-below (s5.pc + 4)) place (omega arith) (omega arith)
       (subst (λ c. Stands program high_fails.pc c) is fault-there)) (omega (arith, last)))
       (cases_lt end va))
@@ -257,7 +257,7 @@ range-ends y Used Next w base va vb at A program m t p h f place first calm to s
           (subst (λ q. q < 2 ^ 64) (sym g.3) (low-below _)) (omega arith) (omega (arith, whole))
           (behind-both A (tail at) m.pc t.pc g.0.pc to (g.3 ∙ ap (λ n. low (t.pc + 4 * n)) (sym (tail-count at))));
       outside = λ many o.
-          later-ends program BadAddress at (length A) (6 + length (failed BadAddress at)) (length (A ++ tail at)) m t first
+          later-ends program BadAddress at (length A) (6 + length (failed BadAddress at)) (length (A ++ tail at)) m t first (calm.keeps 9 refl)
           (outside program t at (failed BadAddress at) va vb (end_address w.region) eleven twelve four (omega arith) many short there refl place o) (omega (arith, whole));
     }
 

@@ -153,11 +153,11 @@ module _ (program : List (Option Instr)) (m : State) (at : Place) (F : List Inst
       let last : length (failed BadAddress at) ≡ length F = ap length (sym is) in
       ⊎_elim
       (λ h.
-      later-ends program BadAddress at 2 (length (failed BadAddress at)) (suc (suc (suc (suc (length F))))) m low_fails (to-low h)
+      later-ends program BadAddress at 2 (length (failed BadAddress at)) (suc (suc (suc (suc (length F))))) m low_fails (to-low h) refl
       (fails program low_fails BadAddress at (low-below (one.pc + 12)) place (omega arith) (omega arith)
       (subst (λ c. Stands program low_fails.pc c) is (subst (λ q. Stands program q F) (pc-three m.pc) there.1.1.1.1))) (omega (arith, last)))
       (λ h.
-      later-ends program BadAddress at 4 (length (failed BadAddress at)) (suc (suc (suc (suc (length F))))) m high_fails (to-high h.0 h.1)
+      later-ends program BadAddress at 4 (length (failed BadAddress at)) (suc (suc (suc (suc (length F))))) m high_fails (to-high h.0 h.1) refl
       (fails program high_fails BadAddress at (low-below (three.pc + 4)) place (omega arith) (omega arith)
       (subst (λ c. Stands program high_fails.pc c) is there.1.1.1.1)) (omega (arith, last)))
       o
@@ -207,6 +207,7 @@ module _ (y : Layout) (Used : ℕ → Type 0) (w : World) (base : ℕ) (program 
   word-outside place o =
       let e = end-small y Used w base m p in
       later-ends program BadAddress at (length A) (length (bounds_tested r at size)) (length (A ++ bounds_tested r at size)) m l.after taken-way
+      (l.scratch.keeps 9 (λ z. omega (arith, z)) (λ z. omega (arith, z)) (λ z. omega (arith, z)))
       (outside program l.after at (failed BadAddress at) r l.apart v (end_address w.region) size l.gives taken-four e.0 some few (omega (arith, e.1))
       (failed-count BadAddress at) taken-rest refl place o) (omega (arith, length-append A (bounds_tested r at size)))
 
@@ -315,7 +316,8 @@ outside-false r a size o =
     o
 
 pub weaker-ends : (program : List (Option Instr)) (at : Place) (few more : ℕ) (m : State) → few ≤ more → Ends program BadAddress at few m → Ends program BadAddress at more m
-weaker-ends program at few more m h e = record { steps = e.steps; last = e.last; few = omega (arith, e.few); runs = e.runs }
+weaker-ends program at few more m h e =
+    record { steps = e.steps; last = e.last; few = omega (arith, e.few); runs = e.runs; count = e.count }
 
 -- a load by whether the access is inside
 load-cases : (y : Layout) (d : ℕ) (form : Number) (at : Place) (Next : ℕ → Type 0) (w : World) (base weight target a : ℕ) (program : List (Option Instr)) (m : State) →

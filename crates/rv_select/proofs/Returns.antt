@@ -47,6 +47,7 @@ pub record BackIn (program : List (Option Instr)) (y : Layout) (bytes base over 
   pub pointer : after.registers 2 ≡ 2 ^ 32 + (base + bytes)
   pub eight : after.registers 8 ≡ over
   pub others : (r : ℕ) → (r ≡ 3) ⊎ ((r ≡ 4) ⊎ (r ≡ 28)) → after.registers r ≡ m.registers r
+  pub count : after.registers 9 ≡ m.registers 9
   pub registers : (r : ℕ) → 18 ≤ r → r < 28 →
       after.registers r ≡ (if uses y r then private_word m (base + kept_offset r) else m.registers r)
   pub same : SameAbove (base + bytes) (restored y base m) after
@@ -153,6 +154,9 @@ goes-back program y held Used w base frame last link from v m setting p h five r
       pointer = q.pointer;
       eight = q.eight;
       others = other;
+      count = q.others 9 (λ z. omega (arith, z)) (λ z. omega (arith, z)) (λ z. omega (arith, z)) (λ z. omega (arith, z))
+          (λ z. omega (arith, z)) (λ z. omega (arith, z)) (λ z. omega (arith, z)) (inl (omega arith))
+          ∙ same-2 9 (λ z. omega (arith, z)) (λ z. omega (arith, z)) (λ z. omega (arith, z)) (λ z. omega (arith, z));
       registers = back;
       same = record {
         registers = λ r lo hi small. back r lo hi;

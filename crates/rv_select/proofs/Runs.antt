@@ -1,5 +1,5 @@
 -- Steps and runs of a program of several functions.
-use Rattle.std.proofs.Common.{◌≡◌, ◌≢◌, ℕ, zero, suc, ◌+◌, ◌-◌, ◌*◌, ◌<◌, ◌≤◌, true, List, [], ◌∷◌, ◌++◌, length, append_assoc, Option}
+use Rattle.std.proofs.Common.{◌≡◌, ◌≢◌, ℕ, zero, suc, ◌+◌, ◌-◌, ◌*◌, ◌<◌, ◌≤◌, Bool, true, false, List, [], ◌∷◌, ◌++◌, length, append_assoc, Option}
 use Rattle.std.proofs.Common.{Some, None, refl, sym, ap, ◌∙◌, subst, ⊎_elim, arith}
 use Rattle.std.specs.Prelude.{if◌then◌else◌, slice_get}
 use Rattle.std.specs.List.{list_all}
@@ -30,11 +30,13 @@ use Rattle.rv_select.specs.Entering.{left}
 use Rattle.rv_select.specs.Calls.{block_code, block_has_code, block_starts, has_code, has_exit_code, head_code, instruction_code}
 use Rattle.rv_select.specs.Calls.{last_address, starts_from}
 use Rattle.rv_select.specs.Waiting.{Arrives, Image, IsLinked, IsPlaced, Placed, StandsIn, Stepped, entries_of, instruction_at, place_in}
-use Rattle.rv_select.specs.Waiting.{held_in, plain_in}
-use Rattle.rv_select.specs.Whole.{AreShort, Ended, RunsAreCarried, StepsAreCarried, block_count, bytes_left, pair_count, steps_at_once}
+use Rattle.rv_select.specs.Waiting.{counts_in, held_in, plain_in}
+use Rattle.rv_select.specs.Steps.{Breaks, CountsLeft, OnMore}
+use Rattle.rv_select.specs.Whole.{AreShort, Ended, RunBreaks, RunsAreCarried, StepsAreCarried, block_count, bytes_left, pair_count, steps_at_once}
 use Rattle.rv_select.proofs.Backs.{return-steps, return_most}
 use Rattle.rv_select.proofs.Calling.{call-step, call_most}
-use Rattle.rv_select.proofs.Coupled.{falls-pair, pair-steps}
+use Rattle.rv_select.proofs.Coupled.{falls-pair, pair-left, pair-steps}
+use Rattle.tac_counts.specs.Counts.{left_after, left_behind, left_in}
 use Rattle.rv_select.proofs.Falls.{FallsIf, falls-call, falls-exit, falls-inner, falls-return}
 use Rattle.rv_select.proofs.Inner.{act-stays, leave-to}
 use Rattle.rv_select.proofs.Pairing.{IsPair, pair-parts, past, plain-get}
@@ -89,9 +91,11 @@ pub record Done (p : Program) (image : Image) (program : List (Option Instr)) (m
   pub some : 1 ≤ count
   pub count_is : count ≡ steps_at_once (p.code s.here.function) s.here.block s.here.at
   pub bound : ℕ
-  pub stepped : Stepped p image program most size bound s m (steps p count (Goes s))
+  pub stepped : Stepped p image program most size (left_behind p s) bound s m (steps p count (Goes s))
   pub falls : AreShort p image words → FallsIf p image words bound s (steps p count (Goes s))
   pub there : (out : List ℕ) → steps p count (Goes s) ≡ Stops (More out) → m.pc ≢ 0
+  pub left_is : (k : ℕ) (r : Run) → steps p k (Goes s) ≡ Stops r →
+      left_in p k s ≡ left_after (steps p count (Goes s)) (left_in p (k - count)) (left_behind p s)
 
 -- how many steps there are at once, by what stands at the place
 one-inside : (o : Option Pair) (k n : ℕ) → k < n → pair_count o k n ≡ 1
@@ -103,6 +107,12 @@ one-inside (Some pair) k n h = ap (λ b. if b then 2 else 1) (ne_eqb k n (differ
 
 two-at-end : (pair : Pair) (k n : ℕ) → k ≤ n → n ≤ k → pair_count (Some pair) k n ≡ 2
 two-at-end pair k n h g = ap (λ b. if b then 2 else 1) (eq-eqb k n (omega (arith, h, g)))
+
+-- what is left behind one step
+one-left : (p : Program) (s : tac.State) (k : ℕ) (r : Run) → steps p k (Goes s) ≡ Stops r →
+    left_in p k s ≡ left_after (steps p 1 (Goes s)) (left_in p (k - 1)) (left_behind p s)
+one-left p s zero r e = cc
+one-left p s (suc k) r e = let same : suc k - 1 ≡ k = omega arith in ap (λ n. left_after (step p s) (left_in p n) (left_behind p s)) (sym same)
 
 pub a-step : (p : Program) (image : Image) (program : List (Option Instr)) (most size words : ℕ) → IsLinked p image program most →
     (s : tac.State) (base : ℕ) (m : State) →
@@ -147,9 +157,10 @@ a-step p image program most size words linked s base m x = in-block (slice_get x
       some = omega arith;
       count_is = sym (ap (λ o. steps_at_once o s.here.block s.here.at) x.function ∙ ap (λ o. block_count (reads_of x.code) o s.here.at) e);
       bound = 0;
-      stepped = subst (λ moved. Stepped p image program most size 0 s m moved) (sym (stuck-is e)) tt;
+      stepped = subst (λ moved. Stepped p image program most size (left_behind p s) 0 s m moved) (sym (stuck-is e)) tt;
       falls = λ short. subst (λ moved. FallsIf p image words 0 s moved) (sym (stuck-is e)) tt;
       there = λ out q. absurd (not-more Stuck s.out out (sym (stuck-is e) ∙ q));
+      left_is = one-left p s;
     }
 
     parts : (block : Block) → slice_get x.code.blocks s.here.block ≡ Some block → (list_all has_code block.instructions ≡ true) ×
@@ -205,6 +216,7 @@ a-step p image program most size words linked s base m x = in-block (slice_get x
           (last-within p image program most x.code (image s.here.function) pl))
           (let e1 = x.function in rw (e1, e, here) (act-stays p i s h));
       there = λ out q. high block e;
+      left_is = one-left p s;
     }
 
     leaving : (block : Block) → slice_get x.code.blocks s.here.block ≡ Some block →
@@ -221,6 +233,7 @@ a-step p image program most size words linked s base m x = in-block (slice_get x
       falls = λ short. falls-exit p image program most words short x.code block s.here.at s.here.temps s (step p s) pl x.function e None
           (held_in x.code s.here.block s.here.at) found (let e1 = x.function in rw (e1, e, g) (leave-to p block.exit s h));
       there = λ out q. high block e;
+      left_is = one-left p s;
     }
 
     returns : (block : Block) (v : Part) → slice_get x.code.blocks s.here.block ≡ Some block →
@@ -237,6 +250,7 @@ a-step p image program most size words linked s base m x = in-block (slice_get x
       stepped = return-steps p image program most size linked s base m x block v e g alone is found;
       falls = λ short. falls-return p image program most words x.code block v s pl x.function e g is (held_in x.code s.here.block s.here.at) found;
       there = λ out q. high block e;
+      left_is = one-left p s;
     }
 
     calls : (block : Block) (to : Destination) (place : Place) (f : FnId) (arguments : List Part) →
@@ -246,12 +260,13 @@ a-step p image program most size words linked s base m x = in-block (slice_get x
       count = 1;
       some = omega arith;
       count_is = one-here block (Call to place f arguments) e g;
-      bound = call_most p image x.code s.here place f arguments;
+      bound = call_most p image x.code s.here s.left place f arguments;
       stepped = call-step p image program most size linked s base m x block to place f arguments e g;
       falls = λ short. falls-call p image program most words linked short x.code block to place f arguments s x.function e
           (whole block (Call to place f arguments) g)
           (at-instruction p image program most x.code (image s.here.function) s.here.block s.here.at block (Call to place f arguments) pl e g);
       there = λ out q. high block e;
+      left_is = one-left p s;
     }
 
     an-exit : (block : Block) → slice_get x.code.blocks s.here.block ≡ Some block →
@@ -298,6 +313,7 @@ a-step p image program most size words linked s base m x = in-block (slice_get x
           stepped = pair-steps p image program most size linked s base m x block pair e g q k found;
           falls = λ short. falls-pair p image program most size words linked short s base m x block pair e g q k found;
           there = λ out q. high block e;
+          left_is = pair-left p x.code s block pair x.function e g x.before_end q k;
         }
 
     at-it : (block : Block) → slice_get x.code.blocks s.here.block ≡ Some block → (o : Option Instruction) →
@@ -312,7 +328,7 @@ a-step p image program most size words linked s base m x = in-block (slice_get x
 
 pub steps-carried : StepsAreCarried
 steps-carried p image program most size s base m linked x = let d = a-step p image program most size 0 linked s base m x in
-    (d.bound, subst (λ n. Stepped p image program most size d.bound s m (steps p n (Goes s))) d.count_is d.stepped)
+    (d.bound, subst (λ n. Stepped p image program most size (left_behind p s) d.bound s m (steps p n (Goes s))) d.count_is d.stepped)
 
 -- a run that is over stays so
 steps-stopped : (p : Program) (k : ℕ) (r : Run) → steps p k (Stops r) ≡ Stops r
@@ -335,7 +351,7 @@ FallsTo p image words top bound s (Goes t) = (4 * bound + bytes_left p image wor
 FallsTo p image words top bound s (Stops (Over (Returned v) out)) = bound ≤ top
 FallsTo p image words top bound s (Stops (Over (Fault kind at) out)) = bound ≤ top
 FallsTo p image words top bound s (Stops (Over Stuck out)) = Unit {0}
-FallsTo p image words top bound s (Stops (More out)) = Unit {0}
+FallsTo p image words top bound s (Stops (More out)) = bound ≤ top
 
 falls-to : (p : Program) (image : Image) (words bound top : ℕ) (s : tac.State) (moved : tac.Moved) → bytes_left p image words s ≤ 4 * top →
     FallsIf p image words bound s moved → FallsTo p image words top bound s moved
@@ -353,14 +369,17 @@ falls-to p image words bound top s (Stops (Over (Fault kind at) out)) few h = fo
     fourth : (a b c : ℕ) → 4 * a ≤ b → b ≤ 4 * c → a ≤ c
     fourth a b c g i = omega (arith, g, i)
 falls-to p image words bound top s (Stops (Over Stuck out)) few h = tt
-falls-to p image words bound top s (Stops (More out)) few h = tt
+falls-to p image words bound top s (Stops (More out)) few h = fourth bound (bytes_left p image words s) top h few
+  where
+    fourth : (a b c : ℕ) → 4 * a ≤ b → b ≤ 4 * c → a ≤ c
+    fourth a b c g i = omega (arith, g, i)
 
 -- some steps, and a run from there
-then-ended : (p : Program) (image : Image) (program : List (Option Instr)) (most size bound top : ℕ) (out : List ℕ) (s t : tac.State)
-    (m : State) (r : Run) → t.out ≡ s.out ++ out →
-    (a : Arrives p image program most size bound s.left out t m) → bound ≤ top → Ended program (top - bound) t a.after r →
-    Ended program top s m r
-then-ended p image program most size bound top out s t m (Over (Returned v) all) e a falls (rest, o, d) = (
+then-ended : (p : Program) (image : Image) (program : List (Option Instr)) (most size bound top left : ℕ) (counts : Bool) (out : List ℕ)
+    (s t : tac.State) (m : State) (r : Run) → t.out ≡ s.out ++ out →
+    (a : Arrives p image program most size bound s.left out t m) → bound ≤ top → Ended counts program (top - bound) left t a.after r →
+    Ended counts program top left s m r
+then-ended p image program most size bound top left counts out s t m (Over (Returned v) all) e a falls (rest, o, d) = (
   out ++ rest,
   outs-both s.out t.out all out rest e o,
   record {
@@ -371,12 +390,30 @@ then-ended p image program most size bound top out s t m (Over (Returned v) all)
         let split : a.steps + d.count + more ≡ a.steps + (d.count + more) = omega arith in
         ap (run_of program m) split ∙ (a.runs (d.count + more) ∙ (ap (after_output out) (d.runs more) ∙ both-outputs out rest _));
     gives = d.gives;
+    counted = d.counted;
   },
 )
   where
     sum : (n k c : ℕ) → bound ≤ n → k ≤ bound → c ≤ n - bound → k + c ≤ n
     sum n k c f g h = omega (arith, f, g, h)
-then-ended p image program most size bound top out s t m (Over (Fault kind at) all) e a falls (rest, o, d) = (
+then-ended p image program most size bound top left counts out s t m (Over (Fault kind at) all) e a falls (rest, o, d) = (
+  out ++ rest,
+  outs-both s.out t.out all out rest e o,
+  record {
+    count = a.steps + d.count;
+    last = d.last;
+    few = sum top a.steps d.count falls a.few d.few;
+    runs = λ more.
+        let split : a.steps + d.count + more ≡ a.steps + (d.count + more) = omega arith in
+        ap (run_of program m) split ∙ (a.runs (d.count + more) ∙ (ap (after_output out) (d.runs more) ∙ both-outputs out rest _));
+    counted = d.counted;
+  },
+)
+  where
+    sum : (n k c : ℕ) → bound ≤ n → k ≤ bound → c ≤ n - bound → k + c ≤ n
+    sum n k c f g h = omega (arith, f, g, h)
+then-ended p image program most size bound top left counts out s t m (Over Stuck all) e a falls d = tt
+then-ended p image program most size bound top left true out s t m (More all) e a falls (rest, o, d) = (
   out ++ rest,
   outs-both s.out t.out all out rest e o,
   record {
@@ -391,8 +428,7 @@ then-ended p image program most size bound top out s t m (Over (Fault kind at) a
   where
     sum : (n k c : ℕ) → bound ≤ n → k ≤ bound → c ≤ n - bound → k + c ≤ n
     sum n k c f g h = omega (arith, f, g, h)
-then-ended p image program most size bound top out s t m (Over Stuck all) e a falls d = tt
-then-ended p image program most size bound top out s t m (More all) e a falls (rest, o, d) = (
+then-ended p image program most size bound top left false out s t m (More all) e a falls (rest, o, d) = (
   out ++ rest,
   outs-both s.out t.out all out rest e o,
   record {
@@ -414,10 +450,10 @@ then-ended p image program most size bound top out s t m (More all) e a falls (r
     least l n k c f g = omega (arith, f, g)
 
 -- the step by which the run is over
-at-end : (p : Program) (image : Image) (program : List (Option Instr)) (most size words bound top : ℕ) (s : tac.State) (m : State)
-    (r : Run) → ((out : List ℕ) → Stops r ≡ Stops (More out) → m.pc ≢ 0) → Stepped p image program most size bound s m (Stops r) →
-    FallsTo p image words top bound s (Stops r) → Ended program top s m r
-at-end p image program most size words bound top s m (Over (Returned v) out) live (e, d) falls = (
+at-end : (p : Program) (image : Image) (program : List (Option Instr)) (most size words left bound top : ℕ) (counts : Bool) (s : tac.State)
+    (m : State) (r : Run) → counts_in (p.code s.here.function) ≡ counts → ((out : List ℕ) → Stops r ≡ Stops (More out) → m.pc ≢ 0) → Stepped p image program most size left bound s m (Stops r) →
+    FallsTo p image words top bound s (Stops r) → Ended counts program top left s m r
+at-end p image program most size words left bound top counts s m (Over (Returned v) out) same live (e, d) falls = (
   [],
   sym (append-nil s.out ∙ sym e),
   record {
@@ -426,12 +462,13 @@ at-end p image program most size words bound top s m (Over (Returned v) out) liv
     few = under d.steps top d.few falls;
     runs = λ more. d.runs more;
     gives = d.gives;
+    counted = subst (λ c. CountsLeft c left d.last) same d.count;
   },
 )
   where
     under : (a b : ℕ) → a ≤ bound → bound ≤ b → a ≤ b
     under a b h g = omega (arith, h, g)
-at-end p image program most size words bound top s m (Over (Fault kind at) out) live (e, d) falls = (
+at-end p image program most size words left bound top counts s m (Over (Fault kind at) out) same live (e, d) falls = (
   [],
   sym (append-nil s.out ∙ sym e),
   record {
@@ -439,13 +476,25 @@ at-end p image program most size words bound top s m (Over (Fault kind at) out) 
     last = d.last;
     few = under d.steps top d.few falls;
     runs = λ more. d.runs more;
+    counted = subst (λ c. CountsLeft c left d.last) same d.count;
   },
 )
   where
     under : (a b : ℕ) → a ≤ bound → bound ≤ b → a ≤ b
     under a b h g = omega (arith, h, g)
-at-end p image program most size words bound top s m (Over Stuck out) live d falls = tt
-at-end p image program most size words bound top s m (More out) live (e, none) falls = (
+at-end p image program most size words left bound top counts s m (Over Stuck out) same live d falls = tt
+at-end p image program most size words left bound top true s m (More out) same live (e, none, d) falls = (
+  [],
+  sym (append-nil s.out ∙ sym e),
+  breaks (subst (λ c. OnMore c program bound m) same d),
+)
+  where
+    under : (a b : ℕ) → a ≤ bound → bound ≤ b → a ≤ b
+    under a b h g = omega (arith, h, g)
+
+    breaks : Breaks program bound m → RunBreaks program top [] m
+    breaks b = record { count = b.steps; last = b.last; few = under b.steps top b.few falls; runs = λ more. b.runs more }
+at-end p image program most size words left bound top false s m (More out) same live (e, none, d) falls = (
   [],
   sym (append-nil s.out ∙ sym e),
   record {
@@ -454,21 +503,21 @@ at-end p image program most size words bound top s m (More out) live (e, none) f
     there = live out refl;
     enough = omega (arith, none);
     few = omega arith;
-    runs = λ more. let same : 0 + more ≡ more = omega arith in ap (run_of program m) same ∙ nothing-first (run_of program m more);
+    runs = λ more. let none-more : 0 + more ≡ more = omega arith in ap (run_of program m) none-more ∙ nothing-first (run_of program m more);
   },
 )
 
 same-run : (a b : Run) → Stops a ≡ Stops b → a ≡ b
 same-run a b e = cc
 
-pub behind-step : (p : Program) (image : Image) (program : List (Option Instr)) (most size words k bound top : ℕ) (r : Run) (s : tac.State)
-    (m : State) →
+pub behind-step : (p : Program) (image : Image) (program : List (Option Instr)) (most size words k left bound top : ℕ) (counts : Bool) (r : Run)
+    (s : tac.State) (m : State) → counts_in (p.code s.here.function) ≡ counts →
     ((t : tac.State) (base : ℕ) (n : State) (rest : ℕ) → StandsIn p image program most size t base n → bytes_left p image words t ≤ 4 * rest →
-    steps p k (Goes t) ≡ Stops r → Ended program rest t n r) → (moved : tac.Moved) → ((out : List ℕ) → moved ≡ Stops (More out) → m.pc ≢ 0) →
-    Stepped p image program most size bound s m moved → FallsTo p image words top bound s moved → steps p k moved ≡ Stops r →
-    Ended program top s m r
-behind-step p image program most size words k bound top r s m more (Goes t) live (out, e, a) falls ends =
-    then-ended p image program most size bound top out s t m r e a (fits (bytes_left p image words t) falls.0)
+    steps p k (Goes t) ≡ Stops r → Ended counts program rest (left_in p k t) t n r) → (moved : tac.Moved) → ((out : List ℕ) → moved ≡ Stops (More out) → m.pc ≢ 0) →
+    Stepped p image program most size left bound s m moved → FallsTo p image words top bound s moved → steps p k moved ≡ Stops r →
+    Ended counts program top (left_after moved (left_in p k) left) s m r
+behind-step p image program most size words k left bound top counts r s m same more (Goes t) live (out, e, a) falls ends =
+    then-ended p image program most size bound top (left_in p k t) counts out s t m r e a (fits (bytes_left p image words t) falls.0)
     (more t a.base a.after (top - bound) a.stands (rest (bytes_left p image words t) falls.0) ends)
   where
     fits : (l : ℕ) → 4 * bound + l ≤ 4 * top → bound ≤ top
@@ -476,9 +525,9 @@ behind-step p image program most size words k bound top r s m more (Goes t) live
 
     rest : (l : ℕ) → 4 * bound + l ≤ 4 * top → l ≤ 4 * (top - bound)
     rest l h = omega (arith, h)
-behind-step p image program most size words k bound top r s m more (Stops q) live d falls ends =
-    let same : q ≡ r = same-run q r (sym (steps-stopped p k q) ∙ ends) in
-    subst (λ z. Ended program top s m z) same (at-end p image program most size words bound top s m q live d falls)
+behind-step p image program most size words k left bound top counts r s m same more (Stops q) live d falls ends =
+    let is : q ≡ r = same-run q r (sym (steps-stopped p k q) ∙ ends) in
+    subst (λ z. Ended counts program top left s m z) is (at-end p image program most size words left bound top counts s m q same live d falls)
 
 -- steps one after the other
 steps-both : (p : Program) (a b : ℕ) (moved : tac.Moved) → steps p (a + b) moved ≡ steps p b (steps p a moved)
@@ -513,26 +562,30 @@ steps-behind p count k r moved e = ⊎_elim
 
 -- a run of at most so many steps
 runs-within : (p : Program) (image : Image) (program : List (Option Instr)) (most size words : ℕ) → IsLinked p image program most →
-    AreShort p image words →
+    AreShort p image words → (counts : Bool) → ((f : FnId) (code : Tac) → p.code f ≡ Some code → code.counts ≡ counts) →
     (fuel k : ℕ) → k ≤ fuel → (r : Run) (s : tac.State) (base : ℕ) (m : State) (top : ℕ) → StandsIn p image program most size s base m →
-    bytes_left p image words s ≤ 4 * top → steps p k (Goes s) ≡ Stops r → Ended program top s m r
-runs-within p image program most size words linked short zero k h r s base m top x few e =
+    bytes_left p image words s ≤ 4 * top → steps p k (Goes s) ≡ Stops r → Ended counts program top (left_in p k s) s m r
+runs-within p image program most size words linked short counts alike zero k h r s base m top x few e =
     let none : k ≡ 0 = omega (arith, h) in
     let no : Goes s ≡ Stops r = ap (λ n. steps p n (Goes s)) (sym none) ∙ e in
     cc
-runs-within p image program most size words linked short (suc fuel) k h r s base m top x few e =
+runs-within p image program most size words linked short counts alike (suc fuel) k h r s base m top x few e =
     let d = a-step p image program most size words linked s base m x in
-    behind-step p image program most size words (k - d.count) d.bound top r s m
-    (λ t b n rest y l g. runs-within p image program most size words linked short fuel (k - d.count) (less k d.count h d.some) r t b n rest y l g)
+    subst (λ n. Ended counts program top n s m r) (sym (d.left_is k r e))
+    (behind-step p image program most size words (k - d.count) (left_behind p s) d.bound top counts r s m
+    (ap counts_in x.function ∙ alike s.here.function x.code x.function)
+    (λ t b n rest y l g. runs-within p image program most size words linked short counts alike fuel (k - d.count) (less k d.count h d.some) r t b n rest y l g)
     (steps p d.count (Goes s)) d.there d.stepped
-    (falls-to p image words d.bound top s (steps p d.count (Goes s)) few (d.falls short)) (steps-behind p d.count k r (Goes s) e)
+    (falls-to p image words d.bound top s (steps p d.count (Goes s)) few (d.falls short)) (steps-behind p d.count k r (Goes s) e))
   where
     less : (k c : ℕ) → k ≤ suc fuel → 1 ≤ c → k - c ≤ fuel
     less k c h g = omega (arith, h, g)
 
 pub runs-carried : RunsAreCarried
 runs-carried p image program most size words top k r s base m linked short x few e =
-    runs-within p image program most size words linked short k k (at-most k) r s base m top x few e
+    subst (λ c. Ended c program top (left_in p k s) s m r) (sym (ap counts_in x.function))
+    (runs-within p image program most size words linked short x.code.counts
+    (λ f code g. (linked s.here.function x.code x.function).alike f code g) k k (at-most k) r s base m top x few e)
   where
     at-most : (n : ℕ) → n ≤ n
     at-most n = omega arith

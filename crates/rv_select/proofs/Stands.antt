@@ -103,6 +103,7 @@ pub record AtExit (p : Program) (image : Image) (program : List (Option Instr)) 
   pub setting : Setting
   pub near_is : setting.near ≡ is_near code
   pub short_is : setting.short ≡ is_short code
+  pub counts_is : setting.counts ≡ code.counts
   pub stands : Stands program at
       (end_code (layout_of code x.homes) setting held at (start_of (block_starts (layout_of code x.homes) code x.at))
       (last_address (layout_of code x.homes) code x.at) o e)
@@ -204,6 +205,7 @@ at-exit p image program most code x b k block h e g =
       setting = setting_of y.extent (length (drop (suc b) code.blocks));
       near_is = refl;
       short_is = refl;
+      counts_is = refl;
       stands = fe.1;
       next_there = λ n g.
           let i = next-some (length code.blocks) (length (drop (suc b) code.blocks)) n g in

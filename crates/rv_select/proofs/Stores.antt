@@ -145,7 +145,7 @@ store-ends y size b Used Next w base a q code program m r p h f rb small low-end
       at = behind-both code (B ++ i ∷ []) m.pc n.pc z.pc r.pc (behind-both B (i ∷ []) n.pc t.pc z.pc l.scratch.behind (low-first t.pc));
       holds = region-holds y Used Next w base t new (stored-region w.region a bs) s f is (stored-count w.region a bs low-end (omega (arith, count))) refl
           (overwritten-bytes w.region.bytes bs (a - first_address) p.bytes (low-are-bytes (bytes_of size) v));
-      keeps = record { registers = k.registers; link = k.link; long = k.long; outside = k.outside };
+      keeps = record { registers = k.registers; link = k.link; count = k.count; long = k.long; outside = k.outside };
     }
 
 -- what a write of bytes to the region gives

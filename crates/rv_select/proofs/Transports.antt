@@ -322,6 +322,7 @@ from-area y n offset size Used Next w base a F program m r stands there source l
       keeps = record {
         registers = λ x i u. keeps x (lasts-not x 5 i refl) (lasts-not x 6 i refl) (lasts-not x 7 i refl);
         link = keeps 1 (λ z. omega (arith, z)) (λ z. omega (arith, z)) (λ z. omega (arith, z));
+        count = keeps 9 (λ z. omega (arith, z)) (λ z. omega (arith, z)) (λ z. omega (arith, z));
         long = ap length private;
         outside = λ at k o. ap (λ i. take k (drop at i)) private;
       };

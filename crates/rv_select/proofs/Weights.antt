@@ -21,11 +21,10 @@ use Rattle.tac_form.specs.declared.tac.Instruction.TheVariants.{Store, TestDivis
 use Rattle.tac_form.specs.declared.tac.Exit.TheVariants.{Branch, Fail, Jump, Return}
 use Rattle.tac_form.specs.declared.tac.Edge.{Edge}
 use Rattle.tac_form.specs.Flow.{bytes_of, width_of}
-use Rattle.tac_form.specs.Weights as weights
 use Rattle.tac_form.specs.Weights.{operand_words, operator_words, words_of}
 use Rattle.rv_operators.specs.Codes.{code_of, x0, x5, x6, zero_immediate}
 use Rattle.rv_select.specs.Places.{Layout, area_offset, home_of, in_register}
-use Rattle.rv_select.specs.Shapes.{address_read, all_carried, applied_to, area_reached, both_moved, bounds_tested, branched_over, brought, byte_taken, bytes_given, chosen}
+use Rattle.rv_select.specs.Shapes.{address_read, all_carried, applied_to, area_reached, both_moved, bounds_tested, branched_over, brought, byte_taken, bytes_given, parted}
 use Rattle.rv_select.specs.Shapes.{exit_shape, failed, first_taken, framed, from_area, heap_aligned, is_never_zero, is_turned}
 use Rattle.rv_select.specs.Shapes.{first_read, five_or_six, is_five, is_there, is_zero, limit_found, put_behind, read_in, result_in, second_read}
 use Rattle.rv_select.specs.Shapes.{load_of, located, moved, operated, operated_second, over, put_at, put_from, range_tested, reached}
@@ -41,9 +40,8 @@ use Rattle.rv_select.proofs.Divisors.{located-count}
 use Rattle.rv_select.proofs.Clears.{zeros-count}
 use Rattle.rv_select.proofs.Transports.{area-count, carried-count, moved-count}
 use Rattle.rv_select.proofs.Printed.{byte-count}
-use Rattle.rv_select.specs.declared.settings.Follows.{Follows}
-use Rattle.rv_select.specs.Settings.{falls, follower}
-use Rattle.rv_select.proofs.Jumps.{chosen-count, chosen-few, chosen_words, edge-count, edge-few, edge_words}
+use Rattle.rv_select.specs.declared.settings.Setting.{Setting}
+use Rattle.rv_select.proofs.Weighing.{edge-shape-count, edge-weight, edge_shape_words, parted-count, parted-weight, parted_words}
 
 -- most words of two pieces of code
 pub both : (a b : List Instr) (n k : ℕ) → length a ≤ n → length b ≤ k → length (a ++ b) ≤ n + k
@@ -201,31 +199,23 @@ within y held (Alloc d a) h =
     (both (first_taken y held a) (heap_aligned ++ (limit_found ++ (bytes_given ++ put_at y d))) (operand_words a) 16 (first-count y held a) (omega (arith, put-few y d)))
 
 -- exits
-branch-count : (y : Layout) (near short : Bool) (o : Follows) (held : Option ℕ) (a : Operand) (at first second : ℕ) →
-    length (first_read y held a ++ chosen near short o Ne (read_in y x5 a) x0 at first second) ≡ length (first_read y held a) + chosen_words near short o
-branch-count y near short o held a at first second =
-    length-append (first_read y held a) (chosen near short o Ne (read_in y x5 a) x0 at first second)
-    ∙ ap (λ n. length (first_read y held a) + n) (chosen-count near short o Ne (read_in y x5 a) x0 at first second)
-
-pub edge-least : (e : Edge) → 2 ≤ weights.edge_words e
-edge-least e = either e.counts
-  where
-    either : (b : Bool) → 2 ≤ (if b then 5 else 2)
-    either true = omega arith
-    either false = omega arith
+branch-count : (y : Layout) (setting : Setting) (held : Option ℕ) (a : Operand) (at : ℕ) (e f : Edge) (first second : ℕ) →
+    length (first_read y held a ++ parted setting Ne (read_in y x5 a) x0 at e f first second)
+    ≡ length (first_read y held a) + parted_words setting e f
+branch-count y setting held a at e f first second =
+    length-append (first_read y held a) (parted setting Ne (read_in y x5 a) x0 at e f first second)
+    ∙ ap (λ n. length (first_read y held a) + n) (parted-count setting Ne (read_in y x5 a) x0 at e f first second)
 
 pub exits-within : ExitsKeepWithin
 exits-within y setting held (Jump e) at other starts others h =
-    let b : Bool = falls setting.next e in
-    let n : length (exit_shape y setting held at starts (Jump e)) ≡ edge_words b setting.short = edge-count b setting.short at (starts e.block) in (
-      omega (arith, n, edge-few b setting.short, edge-least e),
-      n ∙ sym (edge-count b setting.short other (others e.block)),
+    let n : length (exit_shape y setting held at starts (Jump e)) ≡ edge_shape_words setting e = edge-shape-count setting e at (starts e.block) in (
+      omega (arith, n, edge-weight setting e),
+      n ∙ sym (edge-shape-count setting e other (others e.block)),
     )
 exits-within y setting held (Branch a e f) at other starts others h =
-    let o : Follows = follower setting.next e.block f.block in
-    let n = branch-count y setting.near setting.short o held a (at + 4 * length (first_read y held a)) (starts e.block) (starts f.block) in (
-      omega (arith, n, chosen-few setting.near setting.short o, read-count y held a, edge-least e, edge-least f),
-      n ∙ sym (branch-count y setting.near setting.short o held a (other + 4 * length (first_read y held a)) (others e.block) (others f.block)),
+    let n = branch-count y setting held a (at + 4 * length (first_read y held a)) e f (starts e.block) (starts f.block) in (
+      omega (arith, n, parted-weight setting e f, read-count y held a),
+      n ∙ sym (branch-count y setting held a (other + 4 * length (first_read y held a)) e f (others e.block) (others f.block)),
     )
 exits-within y setting held (Return v) at other starts others h = cc
 exits-within y setting held (Fail kind place) at other starts others h = (failed-count kind place, refl)

@@ -20,7 +20,7 @@ use Rattle.tac_form.specs.declared.tac.Part.{Part}
 use Rattle.rv_operators.specs.Codes.{x0, x5, zero_immediate}
 use Rattle.rv_select.specs.Numbers.{below_zero, constant, lower_of, register_of}
 use Rattle.rv_select.specs.Places.{Layout}
-use Rattle.rv_select.specs.Shapes.{far_part, framed, limit_found, place_number, x2, x7, x8, x11}
+use Rattle.rv_select.specs.Shapes.{counted_if, far_part, framed, limit_found, place_number, x2, x7, x8, x11}
 use Rattle.rv_select.specs.Entering.{arguments_stored, entered, frame_taken, frames_given, left, link_put_back, link_saved, region_given}
 use Rattle.rv_select.specs.Entering.{region_taken, stack_tested, x1, most_arguments, place_given, pointer_down, pointer_up, put_back}
 use Rattle.rv_select.specs.Entering.{parameter_words, received, received_one, is_received, receiving, result_put, result_words, saved, size_in}
@@ -36,6 +36,7 @@ use Rattle.rv_select.proofs.Numbers.{constant-count}
 use Rattle.rv_select.proofs.Passes.{below-count, given-count, first-part-count}
 use Rattle.rv_select.proofs.Pointers.{down-count, up-count}
 use Rattle.rv_select.proofs.Quits.{put-back-count}
+use Rattle.rv_select.proofs.Weighing.{counted-most}
 use Rattle.rv_select.proofs.Weights.{both, to-count}
 use Rattle.rv_select.proofs.Jumps.{last-count, last-few}
 
@@ -121,7 +122,7 @@ result-count y sizes (Area n) h = to-count y n 0 (size_in sizes n) (size-small s
 result-count y sizes Nothing h = omega arith
 
 call-weight : (to : Destination) (place : Place) (f : FnId) (arguments : List Part) (n : ℕ) →
-    n ≤ 8 + (5 + (11 * length arguments + 1)) + (2 + (2 + result_words to)) → n ≤ words_of (Call to place f arguments)
+    n ≤ 8 + (3 + (5 + (11 * length arguments + 1))) + (2 + (2 + result_words to)) → n ≤ words_of (Call to place f arguments)
 call-weight (Temp d) place f arguments n h = omega (arith, h)
 call-weight (Area k) place f arguments n h = omega (arith, h)
 call-weight Nothing place f arguments n h = omega (arith, h)
@@ -156,9 +157,11 @@ calls-within y sizes places at held to place f arguments small =
     let parts : length P ≤ 11 * length arguments = passed-count y held 0 arguments in
     let tail : length (P ++ one_more) ≤ 11 * length arguments + 1 = both P one_more (11 * length arguments) 1 parts (omega arith) in
     let deep : length (depth_tested ++ (P ++ one_more)) ≤ 5 + (11 * length arguments + 1) = both depth_tested (P ++ one_more) 5 (11 * length arguments + 1) (omega arith) tail in
-    let begins : length (A ++ (depth_tested ++ (P ++ one_more))) ≤ 8 + (5 + (11 * length arguments + 1)) = both A (depth_tested ++ (P ++ one_more)) 8 (5 + (11 * length arguments + 1)) first deep in
+    let X = counted_if y.extent.counts (depth_tested ++ (P ++ one_more)) in
+    let counts : length X ≤ 3 + (5 + (11 * length arguments + 1)) = counted-most y.extent.counts (depth_tested ++ (P ++ one_more)) (5 + (11 * length arguments + 1)) deep in
+    let begins : length (A ++ X) ≤ 8 + (3 + (5 + (11 * length arguments + 1))) = both A X 8 (3 + (5 + (11 * length arguments + 1))) first counts in
     let put : length (result_put y sizes to) ≤ result_words to = result-count y sizes to small in
     call-weight to place f arguments (length (called y sizes places at held to place f arguments))
-    (both (A ++ (depth_tested ++ (P ++ one_more)))
+    (both (A ++ X)
     (call_jump (at + 4 * length (call_begun y held place arguments)) (places f) ++ call_ended y sizes to)
-    (8 + (5 + (11 * length arguments + 1))) (2 + (2 + result_words to)) begins (omega (arith, put)))
+    (8 + (3 + (5 + (11 * length arguments + 1)))) (2 + (2 + result_words to)) begins (omega (arith, put)))

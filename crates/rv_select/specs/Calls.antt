@@ -35,7 +35,7 @@ use Rattle.rv_select.specs.Compared.{compared_shape}
 use Rattle.rv_select.specs.Pairs.{pair_of, plain_of}
 use Rattle.rv_select.specs.Numbers.{below_zero, constant, immediate_of, lower_of, upper_of}
 use Rattle.rv_select.specs.Places.{Layout, frame_bytes, layout_of}
-use Rattle.rv_select.specs.Shapes.{area_reached, distance, exit_shape, fault_call, has_exit_shape, has_shape, held_after, jump}
+use Rattle.rv_select.specs.Shapes.{area_reached, counted_if, distance, exit_shape, fault_call, has_exit_shape, has_shape, held_after, jump}
 use Rattle.rv_select.specs.Shapes.{brought, moved, over, place_number, shape_of, small, start_of, taken, x10, x11, first_taken}
 use Rattle.rv_select.specs.Entering.{begun, entered, left, received, result_put, stored_below, words_offset, x1, x28}
 
@@ -61,11 +61,11 @@ passed y held i (p ∷ ps) = part_passed y held p ++ (stored_below x5 (8 * (i + 
 abbrev pub one_more : List Instr
 one_more = RegisterImmediate Addi x28 x28 (immediate_of 1) ∷ []
 
--- what comes before the jump of a call: its place is in x11, and one more call waits
+-- what comes before the jump of a call: its place is in x11, a count is taken, and one more call waits
 abbrev pub call_begun : Layout → (held : Option ℕ) → Place → List Part → List Instr
 call_begun y held at arguments =
     constant x11 (place_number at)
-    ++ (depth_tested ++ (passed y held 0 arguments ++ one_more))
+    ++ counted_if y.extent.counts (depth_tested ++ (passed y held 0 arguments ++ one_more))
 
 -- a jump from an address to a function, with the return address in x1
 abbrev pub call_jump : (from to : ℕ) → List Instr
@@ -206,7 +206,7 @@ pub record KeepsWithin (code : Tac) (homes : List (Option Home)) (selected : Cod
   pub words : IsTrue (list_all area_fits code.areas) → length selected.words.items ≤ code_words code
   pub frame : length homes ≤ code.temps → selected.frame ≤ private_bytes code
 
--- which code has machine code: all but calls of function values, which the machine of this version has no fault for
+-- which code has machine code: all but calls of function values, and exits by the fault of such a call
 abbrev pub has_code : Instruction → Bool
 has_code (Call to place f arguments) = true
 has_code i = has_shape i

@@ -26,13 +26,11 @@ use Rattle.tac_form.specs.Live.{InUse, IsLive}
 use Rattle.tac_form.specs.Weights.{exit_words, words_of}
 use Rattle.rv_operators.specs.Codes.{is_comparison, x5, x6}
 use Rattle.rv_operators.specs.Runs.{Stands}
-use Rattle.rv_select.specs.declared.settings.Follows.{Follows}
 use Rattle.rv_select.specs.declared.settings.Setting.{Setting}
-use Rattle.rv_select.specs.Settings.{follower}
 use Rattle.rv_select.specs.Asked.{compared_asks}
 use Rattle.rv_select.specs.Places.{HaveHomes, IsHeld, Layout, Holds, is_near, is_short, layout_of}
-use Rattle.rv_select.specs.Shapes.{chosen, first_read, is_second, read_in, second_read}
-use Rattle.rv_select.specs.Steps.{IsReached, Left, world_of}
+use Rattle.rv_select.specs.Shapes.{first_read, is_second, parted, read_in, second_read}
+use Rattle.rv_select.specs.Steps.{CountsLeft, IsReached, Left, world_of}
 
 -- the branches on "below" and on "not below", of numbers with a sign and without
 abbrev pub below_condition : Bool → BranchCondition
@@ -62,10 +60,10 @@ right_of Greater a b = a
 right_of LessEqual a b = a
 right_of _ a b = b
 
-abbrev pub compared : (near short : Bool) → Follows → (signed : Bool) → BinaryOperator → (a b : Register) → (at first second : ℕ) →
+abbrev pub compared : Setting → (signed : Bool) → BinaryOperator → (a b : Register) → (at : ℕ) → (e f : Edge) → (first second : ℕ) →
     List Instr
-compared near short behind signed op a b at first second =
-    chosen near short behind (condition_of signed op) (left_of op a b) (right_of op a b) at first second
+compared setting signed op a b at e f first second =
+    parted setting (condition_of signed op) (left_of op a b) (right_of op a b) at e f first second
 
 -- two operands, where they are read
 abbrev pub both_taken : Layout → (held : Option ℕ) → (a b : Operand) → List Instr
@@ -85,8 +83,8 @@ abbrev pub compared_shape : Layout → Setting → (held : Option ℕ) → (at :
     (a b : Operand) → (e f : Edge) → List Instr
 compared_shape y setting held at starts op form a b e f =
     operands_taken y held a b
-    ++ compared setting.near setting.short (follower setting.next e.block f.block) form.signed op (first_register y held a b)
-    (second_register y held a b) (at + 4 * length (operands_taken y held a b)) (starts e.block) (starts f.block)
+    ++ compared setting form.signed op (first_register y held a b) (second_register y held a b)
+    (at + 4 * length (operands_taken y held a b)) e f (starts e.block) (starts f.block)
 
 -- Where a function's code stands at the last instruction of a block, a comparison, whose result the block's branch tests and nothing
 -- reads after that: its temporary is live at the begin of neither block. So no home gets it. Behind this code stands the next block.
@@ -112,11 +110,13 @@ pub record StandsAtCompare (p : Program) (code : Tac) (homes : List (Option Home
   pub setting : Setting
   pub near_is : setting.near ≡ is_near code
   pub short_is : setting.short ≡ is_short code
+  pub counts_is : setting.counts ≡ code.counts
   pub stands : Stands program m.pc (compared_shape (layout_of code homes) setting held m.pc starts op form a b e f)
   pub next_there : (n : ℕ) → setting.next ≡ Some n →
       starts n ≡ m.pc + 4 * length (compared_shape (layout_of code homes) setting held m.pc starts op form a b e f)
   pub holds : Holds (layout_of code homes) (InUse (graph_of code) s.here.block s.here.at) (world_of s) base m
   pub five : IsHeld (layout_of code homes) held s.here.temps m
+  pub counts : CountsLeft code.counts s.left m
 
 -- The code carries out the two steps, in at most as many of its own as it has words.
 abbrev pub ComparesAreCarried : Type 0
@@ -128,12 +128,12 @@ ComparesAreCarried =
     Left (layout_of code homes) (graph_of code) program base
     (length (compared_shape (layout_of code homes) x.setting held m.pc starts op form a b e f)) starts s m (steps p 2 (Goes s))
 
--- It has at most 21 words, fewer than the two weigh, and as many wherever it and the blocks stand.
+-- It has at most 27 words, fewer than the two weigh, and as many wherever it and the blocks stand.
 abbrev pub ComparesKeepWithin : Type 0
 ComparesKeepWithin =
     (y : Layout) (setting : Setting) (held : Option ℕ) (d : ℕ) (op : BinaryOperator) (form : Number) (a b : Operand) (e f : Edge)
     (at other : ℕ) (starts others : ℕ → ℕ) →
-    (length (compared_shape y setting held at starts op form a b e f) ≤ 21)
+    (length (compared_shape y setting held at starts op form a b e f) ≤ 27)
     × (length (compared_shape y setting held at starts op form a b e f) < words_of (Compute d op form a b) + exit_words
     (Branch (Temp d) e f))
     × (length (compared_shape y setting held at starts op form a b e f)

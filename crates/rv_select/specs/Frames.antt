@@ -30,7 +30,7 @@ use Rattle.rv_select.specs.declared.settings.Setting.{Setting}
 use Rattle.rv_select.specs.Places.{AreBytes, Holds, IsFirst, IsHeld, IsRead, Keeps, Layout, World, area_offset, frame_bytes, layout_of}
 use Rattle.rv_select.specs.Places.{link_in, private_word, uses, value_in}
 use Rattle.rv_select.specs.Shapes.{place_number}
-use Rattle.rv_select.specs.Steps.{Ends}
+use Rattle.rv_select.specs.Steps.{CountsLeft, Ends, EndsLeft, OnMore, with_count}
 use Rattle.rv_select.specs.Entering.{begun, entered, kept_offset, left, received, receiving, words_offset}
 use Rattle.rv_select.specs.Calls.{call_begun, called, returned}
 
@@ -106,9 +106,10 @@ FunctionsAreEntered =
     Enters program y (top - bytes) (placed - frame) (length (entered y bytes frame)) (low (m.pc + 4 * length (entered y bytes frame))) m)
 
 -- A call has come to its jump: the words of all that it passes lie below the frame, the first uppermost, one more call waits, and
--- x11 is the place of the call. The caller's frame and all above it are as they were, and so is all below these words.
+-- x11 is the place of the call. Where code counts x9 has so many counts that are left. The caller's frame and all above it are as they
+-- were, and so is all below these words.
 pub record Calls (program : List (Option Instr)) (y : Layout) (held : Option ℕ) (base : ℕ) (w : World) (at : Place) (ps : List Part)
-    (m : State) : Type 0 where
+    (left : ℕ) (m : State) : Type 0 where
   pub steps : ℕ
   pub after : State
   pub few : steps ≤ length (call_begun y held at ps)
@@ -116,7 +117,8 @@ pub record Calls (program : List (Option Instr)) (y : Layout) (held : Option ℕ
   pub pc : after.pc ≡ low (m.pc + 4 * length (call_begun y held at ps))
   pub place : after.registers 11 ≡ place_number at
   pub waiting : after.registers 28 ≡ suc w.depth
-  pub others : (r : ℕ) → r ≢ 5 → r ≢ 6 → r ≢ 7 → r ≢ 11 → r ≢ 28 → after.registers r ≡ m.registers r
+  pub others : (r : ℕ) → r ≢ 5 → r ≢ 6 → r ≢ 7 → r ≢ 9 → r ≢ 11 → r ≢ 28 → after.registers r ≡ m.registers r
+  pub count : after.registers 9 ≡ (with_count y.extent.counts left m).registers 9
   pub region : after.region ≡ m.region
   pub long : length after.private ≡ length m.private
   pub bytes : AreBytes m.private → AreBytes after.private
@@ -124,8 +126,8 @@ pub record Calls (program : List (Option Instr)) (y : Layout) (held : Option ℕ
   pub below : (at k : ℕ) → at + k ≤ base - 8 * length ps → take k (drop at after.private) ≡ take k (drop at m.private)
   pub words : (k : ℕ) (p : Part) → slice_get ps k ≡ Some p → private_word after (base - 8 * (k + 1)) ≡ part_value y base w p
 
--- A call where 511 calls wait already ends the run by a fault at its place, before it passes anything, and any other comes to its
--- jump where there is room for what it passes.
+-- A call that finds no count left breaks the run off, where code counts. Any other takes one; where 511 calls wait already it ends the run
+-- by a fault at its place, before it passes anything, and else it comes to its jump where there is room for what it passes.
 abbrev pub CallsAreBegun : Type 0
 CallsAreBegun =
     (code : Tac) (homes : List (Option Home)) (held : Option ℕ) (block step : ℕ) (program : List (Option Instr)) (w : World) (base : ℕ)
@@ -134,8 +136,10 @@ CallsAreBegun =
     let Used : ℕ → Type 0 = InUse (graph_of code) block step in
     IsRight code homes → Holds y Used w base m → IsHeld y held w.temps m → place_number at < 2 ^ 64 →
     Stands program m.pc (call_begun y held at ps) →
-    (511 ≤ w.depth → Ends program CallDepth at (length (call_begun y held at ps)) m) ×
-    (w.depth < 511 → ArePassed y held Used ps → 8 * length ps ≤ base → Calls program y held base w at ps m)
+    (CountsLeft code.counts 0 m → OnMore code.counts program (length (call_begun y held at ps)) m) ×
+    ((left : ℕ) → CountsLeft code.counts (suc left) m →
+    (511 ≤ w.depth → EndsLeft code.counts program CallDepth at (length (call_begun y held at ps)) left m) ×
+    (w.depth < 511 → ArePassed y held Used ps → 8 * length ps ≤ base → Calls program y held base w at ps left m))
 
 -- A function is left: x10 has its result, and the machine goes on at the return address, with the caller's frames, and its
 -- registers as the function found them.
@@ -152,6 +156,7 @@ pub record Returns (program : List (Option Instr)) (y : Layout) (base over link 
   pub heap : after.registers 3 ≡ m.registers 3
   pub limit : after.registers 4 ≡ m.registers 4
   pub waiting : after.registers 28 ≡ m.registers 28
+  pub count : after.registers 9 ≡ m.registers 9
   pub registers : (r : ℕ) → 18 ≤ r → r < 28 →
       after.registers r ≡ (if uses y r then private_word m (base + kept_offset r) else m.registers r)
   pub region : after.region ≡ m.region

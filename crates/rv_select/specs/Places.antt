@@ -4,7 +4,7 @@
 -- address of the frame in the region, and x28 the number of calls that wait. x18 to x27 hold temporaries, and x1 the return address of a
 -- function that makes no calls. x5 to x7 and x10 to x17 are scratch: between two instructions of three-address code they hold nothing,
 -- but for x5, which behind an instruction of a block may hold the word that this one wrote, unless its home is a register. A temporary whose word is only ever taken from
--- x5 has no home.
+-- x5 has no home. In code that counts x9 holds the counts that are left, and in any other it is as it was at the start.
 --
 -- The private frame has, from x2 upwards, a word for the return address, in which a function that makes calls keeps it, and a word for
 -- each of x18 to x27, in which a function that uses one keeps its caller's word; then the slots, a word each; then 128 bytes for each
@@ -52,9 +52,15 @@ has_call b = list_any is_call b.instructions
 unfoldable pub makes_calls : Tac → Bool
 makes_calls code = list_any has_call code.blocks
 
--- how long a function is, how many blocks it has, and whether it makes calls
+-- how long a function is, how many blocks it has, whether it makes calls, and whether it counts
 abbrev pub extent_of : Tac → Extent
-extent_of code = record { near = is_near code; short = is_short code; blocks = length code.blocks; calls = makes_calls code }
+extent_of code = record {
+  near = is_near code;
+  short = is_short code;
+  blocks = length code.blocks;
+  calls = makes_calls code;
+  counts = code.counts;
+}
 
 -- A function's layout: the homes of its temporaries that have one, how many areas and parameters it has, how often each temporary is read,
 -- and its extent.
@@ -74,12 +80,16 @@ layout_with code homes = record {
   extent = extent_of code;
 }
 
+-- the same code, counting or not
+abbrev pub as_counting : Bool → Tac → Tac
+as_counting counts code = record code { counts = counts }
+
 -- by an assignment, which gives a home to temporaries that need none too
 abbrev pub layout_of : Tac → List (Option Home) → Layout
 layout_of code homes = layout_with code (asked_homes code homes)
 
--- Code of one instruction depends on the homes alone, that of blocks on how often temporaries are read and on the extent besides, and that
--- which enters and leaves a function on the homes and the extent.
+-- Code of one instruction depends on the homes alone, that of a call on whether the function counts too, that of blocks on how often
+-- temporaries are read and on the extent besides, and that which enters and leaves a function on the homes and the extent.
 abbrev pub with_homes : List (Option Home) → Layout
 with_homes homes =
     record {
@@ -87,7 +97,7 @@ with_homes homes =
       areas = 0;
       parameters = 0;
       reads = [];
-      extent = record { near = false; short = false; blocks = 0; calls = false };
+      extent = record { near = false; short = false; blocks = 0; calls = false; counts = false };
     }
 
 abbrev pub with_reads : List (Option Home) → List Reads → Extent → Layout
@@ -95,6 +105,10 @@ with_reads homes reads extent = record { homes = homes; areas = 0; parameters = 
 
 abbrev pub with_extent : List (Option Home) → Extent → Layout
 with_extent homes extent = with_reads homes [] extent
+
+abbrev pub with_counting : List (Option Home) → (counts : Bool) → Layout
+with_counting homes counts =
+    with_extent homes (record { near = false; short = false; blocks = 0; calls = false; counts = counts })
 
 -- where slots and areas lie in the frame, and its bytes
 abbrev pub slot_offset : ℕ → ℕ
@@ -210,13 +224,14 @@ pub record Housed (y : Layout) (Used : ℕ → Type 0) : Type 0 where
   pub apart : (t u : ℕ) → Used t → Used u → HasHome y t → HasHome y u → home_of y t ≡ home_of y u → t ≡ u
 
 -- What callers rest on. The registers that no instruction uses as scratch are the same, those apart that the function keeps for
--- its caller; and so are x1, the words that it keeps, and all that lies behind or below its frame.
+-- its caller; and so are x1, the count in x9, the words that it keeps, and all that lies behind or below its frame.
 abbrev pub is_lasting : ℕ → Bool
 is_lasting r = nat_eq r 2 || nat_le 18 r && nat_le r 27
 
 pub record Keeps (y : Layout) (base : ℕ) (m after : State) : Type 0 where
   pub registers : (r : ℕ) → IsTrue (is_lasting r) → uses y r ≡ false → after.registers r ≡ m.registers r
   pub link : after.registers 1 ≡ m.registers 1
+  pub count : after.registers 9 ≡ m.registers 9
   pub long : length after.private ≡ length m.private
   pub outside : (at n : ℕ) → (at + n ≤ base + kept_bytes) ⊎ (base + frame_bytes y ≤ at) →
       take n (drop at after.private) ≡ take n (drop at m.private)

@@ -12,7 +12,7 @@ next_of blocks zero = None
 next_of blocks (suc n) = Some (blocks - suc n)
 
 abbrev pub setting_of : Extent → (rest : ℕ) → Setting
-setting_of x rest = record { near = x.near; short = x.short; next = next_of x.blocks rest }
+setting_of x rest = record { near = x.near; short = x.short; next = next_of x.blocks rest; counts = x.counts }
 
 -- which blocks of an exit stand behind it
 abbrev pub is_next : (next : Option ℕ) → ℕ → Bool

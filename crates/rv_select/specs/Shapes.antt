@@ -1,13 +1,13 @@
 -- Which instructions carry out those of three-address code that stay within a function.
 use Rattle.std.specs.Prelude.{◌≡◌, ℕ, suc, zero, ◌+◌, ◌-◌, ◌*◌, ◌/◌, ◌%◌, ◌^◌, pos, negsuc, Bool, true, false, nat_eq, nat_le}
-use Rattle.std.specs.Prelude.{nat_lt, if◌then◌else◌, List, [], ◌∷◌, ◌++◌, length, Option, Some, slice_get, unwrap_or}
+use Rattle.std.specs.Prelude.{nat_lt, if◌then◌else◌, ◌&&◌, ◌||◌, List, [], ◌∷◌, ◌++◌, length, Option, Some, slice_get, unwrap_or}
 use Rattle.std.proofs.Common.{lit≤, subst, sym, refl, eqb→eq}
 use Rattle.tl_base.specs.declared.limits.TheConstants.{REGION_ADDRESS}
 use lib.Dec.{T}
 use Rattle.tl_base.specs.declared.place.Place.{Place}
 use Rattle.rv_isa.specs.declared.instr.Instr.{Instr}
 use Rattle.rv_isa.specs.declared.instr.Instr.TheVariants.{Lui, Auipc, Jal, Jalr, Branch, Load, Store, RegisterImmediate, Shift}
-use Rattle.rv_isa.specs.declared.instr.Instr.TheVariants.{RegisterRegister, Ecall}
+use Rattle.rv_isa.specs.declared.instr.Instr.TheVariants.{RegisterRegister, Ecall, Ebreak}
 use Rattle.rv_isa.specs.declared.operation.BranchCondition.{BranchCondition}
 use Rattle.rv_isa.specs.declared.operation.BranchCondition.TheVariants.{Eq, Ne, Lt, Ge, Ltu, Geu}
 use Rattle.rv_isa.specs.declared.operation.ImmediateOp.TheVariants.{Addi}
@@ -38,6 +38,7 @@ use Rattle.tac_form.specs.declared.tac.Address.{Address}
 use Rattle.tac_form.specs.declared.tac.Address.TheVariants.{Word, Frame}
 use Rattle.tac_form.specs.declared.tac.Spot.{Spot}
 use Rattle.tac_form.specs.declared.tac.Spot.TheVariants as spots
+use Rattle.tac_form.specs.declared.tac.Edge.{Edge}
 use Rattle.tac_form.specs.declared.tac.Exit.{Exit}
 use Rattle.tac_form.specs.declared.tac.Exit.TheVariants as exits
 use Rattle.tac_form.specs.declared.tac.Instruction.{Instruction}
@@ -55,7 +56,7 @@ pub use Rattle.rv_select.specs.Numbers.{x7}
 use Rattle.rv_select.specs.Numbers.{constant, immediate_of, below_zero, lower_of, register_of, upper_of}
 use Rattle.rv_select.specs.Places.{Layout, area_offset, home_of, in_five, in_register, slot_offset}
 
--- the frame, the end of the heap, the end of the region, the frame in the region, and the registers in
+-- the frame, the end of the heap, the end of the region, the frame in the region, the counts that are left, and the registers in
 -- which the machine takes the parts of a call
 abbrev pub x2 : Register
 x2 = record { number = 2; in_range = lit≤ tt }
@@ -68,6 +69,9 @@ x4 = record { number = 4; in_range = lit≤ tt }
 
 abbrev pub x8 : Register
 x8 = record { number = 8; in_range = lit≤ tt }
+
+abbrev pub x9 : Register
+x9 = record { number = 9; in_range = lit≤ tt }
 
 abbrev pub x10 : Register
 x10 = record { number = 10; in_range = lit≤ tt }
@@ -559,18 +563,49 @@ chosen near short Neither condition a b at first second =
 chosen near short First condition a b at first second = branched near short (negated condition) a b at second
 chosen near short Second condition a b at first second = branched near short condition a b at first
 
+-- Code that counts takes one of the counts in x9 before each, and breaks the run off where none is left.
+abbrev pub take_count : List Instr
+take_count = Branch Ne x9 x0 (offset_of 8) ∷ Ebreak ∷ RegisterImmediate Addi x9 x9 (below_zero 0) ∷ []
+
+abbrev pub counted_if : (counts : Bool) → List Instr → List Instr
+counted_if true code = take_count ++ code
+counted_if false code = code
+
+-- a jump to a block, before which a count may be taken
+abbrev pub counted_jump : (counts short : Bool) → (at to : ℕ) → List Instr
+counted_jump true short at to = take_count ++ jump short (at + 12) to
+counted_jump false short at to = jump short at to
+
+-- the way along an edge: none where its block stands behind and it takes no count
+abbrev pub edge_shape : Setting → Edge → (at to : ℕ) → List Instr
+edge_shape setting e at to = if falls setting.next e then [] else counted_jump (setting.counts && e.counts) setting.short at to
+
+-- The words behind all functions by which one that counts is entered as the entry: they put counts into x9, and jump to where it begins.
+abbrev pub units_given : (units at to : ℕ) → List Instr
+units_given units at to = constant x9 units ++ jump false (at + 4 * length (constant x9 units)) to
+
+-- A branch to two blocks in code that counts, where a way to one of them takes a count: over the first way to the second.
+abbrev pub counting : Setting → BranchCondition → (a b : Register) → (at : ℕ) → (e f : Edge) → (first second : ℕ) → List Instr
+counting setting condition a b at e f first second =
+    Branch (negated condition) a b (over (counted_jump (setting.counts && e.counts) setting.short (at + 4) first))
+    ∷ (counted_jump (setting.counts && e.counts) setting.short (at + 4) first
+    ++ edge_shape setting f (at + 4 + 4 * length (counted_jump (setting.counts && e.counts) setting.short (at + 4) first)) second)
+
+abbrev pub parted : Setting → BranchCondition → (a b : Register) → (at : ℕ) → (e f : Edge) → (first second : ℕ) → List Instr
+parted setting condition a b at e f first second =
+    if setting.counts && (e.counts || f.counts) then counting setting condition a b at e f first second
+    else chosen setting.near setting.short (follower setting.next e.block f.block) condition a b at first second
+
 -- where a block begins, by a list of all
 abbrev pub start_of : List ℕ → ℕ → ℕ
 start_of starts block = unwrap_or (slice_get starts block) 0
 
 -- the code of an exit that stands at an address, by the addresses of the blocks
 abbrev pub exit_shape : Layout → Setting → (held : Option ℕ) → (at : ℕ) → (starts : ℕ → ℕ) → Exit → List Instr
-exit_shape y setting held at starts (exits.Jump e) =
-    if falls setting.next e then [] else jump setting.short at (starts e.block)
+exit_shape y setting held at starts (exits.Jump e) = edge_shape setting e at (starts e.block)
 exit_shape y setting held at starts (exits.Branch a e f) =
     first_read y held a
-    ++ chosen setting.near setting.short (follower setting.next e.block f.block) Ne (read_in y x5 a) x0
-    (at + 4 * length (first_read y held a)) (starts e.block) (starts f.block)
+    ++ parted setting Ne (read_in y x5 a) x0 (at + 4 * length (first_read y held a)) e f (starts e.block) (starts f.block)
 exit_shape y setting held at starts (exits.Return v) = []
 exit_shape y setting held at starts (exits.Fail kind at_place) = failed kind at_place
 

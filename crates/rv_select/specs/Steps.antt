@@ -1,13 +1,14 @@
 -- What the code of an instruction promises: one step of three-address code is at least one of the machine's steps and at most as many
 -- as this code has words, and the machine holds afterwards what three-address code sees then.
-use Rattle.std.specs.Prelude.{◌≡◌, ℕ, ◌+◌, ◌*◌, ◌^◌, ◌<◌, ◌≤◌, ◌%◌, List, [], ◌++◌, length, Option, Some, None, slice_get, IsTrue}
-use Rattle.std.specs.Prelude.{◌⊎◌}
+use Rattle.std.specs.Prelude.{◌≡◌, ℕ, ◌+◌, ◌*◌, ◌^◌, ◌<◌, ◌≤◌, ◌%◌, Bool, true, false, nat_eq, if◌then◌else◌, List, ◌++◌, length, Option}
+use Rattle.std.specs.Prelude.{Some, None, slice_get, IsTrue, ◌⊎◌}
 use Rattle.std.specs.List.{list_all}
 use Rattle.tl_base.specs.declared.place.Place.{Place}
 use Rattle.rv_isa.specs.declared.instr.Instr.{Instr}
 use Rattle.reg_alloc.specs.declared.assignment.Home.{Home}
 use Rattle.reg_alloc.specs.Right.{IsRight}
-use Rattle.rv_machine.specs.declared.stops.Stop.TheVariants.{TerraFault}
+use Rattle.rv_machine.specs.declared.stops.MachineKind.TheVariants.{Break}
+use Rattle.rv_machine.specs.declared.stops.Stop.TheVariants.{MachineFault, TerraFault}
 use Rattle.rv_machine.specs.Word.{low}
 use Rattle.rv_machine.specs.Machine.{State, after_output, run_of, stands}
 use Rattle.terra_memory.specs.Region.{end_address}
@@ -56,12 +57,43 @@ pub record Comes (y : Layout) (program : List (Option Instr)) (Next : ℕ → Ty
   pub holds : Holds y Next w base after
   pub keeps : Keeps y base m after
 
--- The machine writes nothing, and ends the run in at most so many steps by a fault.
+-- The machine writes nothing, and ends the run in at most so many steps by a fault. Then x9 is as it was.
 pub record Ends (program : List (Option Instr)) (kind : FaultKind) (at : Place) (most : ℕ) (m : State) : Type 0 where
   pub steps : ℕ
   pub last : State
   pub few : steps ≤ most
   pub runs : (more : ℕ) → run_of program m (steps + more) ≡ stands (TerraFault (fault_number kind) (place_number at)) last
+  pub count : last.registers 9 ≡ m.registers 9
+
+-- The machine writes nothing, and breaks the run off in at most so many steps.
+pub record Breaks (program : List (Option Instr)) (most : ℕ) (m : State) : Type 0 where
+  pub steps : ℕ
+  pub last : State
+  pub few : steps ≤ most
+  pub runs : (more : ℕ) → run_of program m (steps + more) ≡ stands (MachineFault Break last.pc) last
+
+-- In code that counts x9 holds so many counts that are left.
+abbrev pub CountsLeft : (counts : Bool) → (left : ℕ) → State → Type 0
+CountsLeft true left m = (m.registers 9 ≡ left) × (left < 2 ^ 64)
+CountsLeft false left m = Unit {0}
+
+abbrev pub with_count : (counts : Bool) → (left : ℕ) → State → State
+with_count true left m = record m { registers = λ r. if nat_eq r 9 then left else m.registers r }
+with_count false left m = m
+
+-- The machine ends the run so where code counts and has so many counts left then.
+pub record EndsLeft (counts : Bool) (program : List (Option Instr)) (kind : FaultKind) (at : Place) (most left : ℕ) (m : State) :
+    Type 0 where
+  pub steps : ℕ
+  pub last : State
+  pub few : steps ≤ most
+  pub runs : (more : ℕ) → run_of program m (steps + more) ≡ stands (TerraFault (fault_number kind) (place_number at)) last
+  pub count : CountsLeft counts left last
+
+-- Where three-address code needs one more count, code that counts breaks the run off, and of any other nothing is promised.
+abbrev pub OnMore : (counts : Bool) → List (Option Instr) → (most : ℕ) → State → Type 0
+OnMore true program most m = Breaks program most m
+OnMore false program most m = Unit {0}
 
 -- what is in use after an instruction that writes no temporary was in use before it
 abbrev pub AreFewer : (Used Next : ℕ → Type 0) → Type 0
@@ -131,19 +163,33 @@ pub record Remains (y : Layout) (Next : ℕ → Type 0) (w : World) (base target
   pub at : m.pc ≡ target
   pub holds : Holds y Next w base m
 
+-- The machine comes, in at least one and at most so many steps, and writes nothing, to this address, where it holds this, and what callers
+-- rest on is as in another state.
+pub record LeadsTo (y : Layout) (program : List (Option Instr)) (Next : ℕ → Type 0) (w : World) (base most target : ℕ) (before m : State) :
+    Type 0 where
+  pub steps : ℕ
+  pub after : State
+  pub some : 1 ≤ steps
+  pub few : steps ≤ most
+  pub runs : (more : ℕ) → run_of program m (steps + more) ≡ run_of program after more
+  pub at : after.pc ≡ target
+  pub holds : Holds y Next w base after
+  pub keeps : Keeps y base before after
+
 -- The machine does from a state what an exit does that stays in its function, in at most so many steps: it comes to the address of the
--- block at which three-address code stands then, or stands there already, where that takes no count. Where three-address code needs one
--- more count, nothing is promised.
+-- block at which three-address code stands then, and what callers rest on is as it was, but for x9, which has the counts that are left
+-- then, where code counts; or it stands there already, where that takes no count.
 abbrev pub Left : Layout → List FlowBlock → List (Option Instr) → (base most : ℕ) → (starts : ℕ → ℕ) → tac.State → State → tac.Moved →
     Type 0
 Left y graph program base most starts s m (Goes t) =
     (t.out ≡ s.out) ×
-    (Comes y program (InUse graph t.here.block t.here.at) (world_of t) base most (starts t.here.block) [] m
+    (LeadsTo y program (InUse graph t.here.block t.here.at) (world_of t) base most (starts t.here.block)
+    (with_count y.extent.counts t.left m) m
     ⊎ ((s.left ≡ t.left) × Remains y (InUse graph t.here.block t.here.at) (world_of t) base (starts t.here.block) m))
 Left y graph program base most starts s m (Stops (Over (Fault kind at) out)) = (out ≡ s.out) × Ends program kind at most m
 Left y graph program base most starts s m (Stops (Over (Returned v) out)) = ⊥
 Left y graph program base most starts s m (Stops (Over Stuck out)) = Unit {0}
-Left y graph program base most starts s m (Stops (More out)) = Unit {0}
+Left y graph program base most starts s m (Stops (More out)) = OnMore y.extent.counts program most m
 
 -- Each block begins at most as far from an address as a function's code is long by its weight.
 abbrev pub IsReached : Tac → (starts : ℕ → ℕ) → (from : ℕ) → Type 0
@@ -167,11 +213,13 @@ pub record StandsAtExit (p : Program) (code : Tac) (homes : List (Option Home)) 
   pub setting : Setting
   pub near_is : setting.near ≡ is_near code
   pub short_is : setting.short ≡ is_short code
+  pub counts_is : setting.counts ≡ code.counts
   pub stands : Stands program m.pc (exit_shape (layout_of code homes) setting held m.pc starts exit)
   pub next_there : (n : ℕ) → setting.next ≡ Some n →
       starts n ≡ m.pc + 4 * length (exit_shape (layout_of code homes) setting held m.pc starts exit)
   pub holds : Holds (layout_of code homes) (InUse (graph_of code) s.here.block s.here.at) (world_of s) base m
   pub five : IsHeld (layout_of code homes) held s.here.temps m
+  pub counts : CountsLeft code.counts s.left m
 
 -- Each exit that has code so far is carried out by it, in at most as many steps as this code has words.
 abbrev pub ExitsAreCarried : Type 0

@@ -1,6 +1,6 @@
 -- A program of several functions in the machine, and what the machine holds for the calls that wait.
 use Rattle.std.specs.Prelude.{◌≡◌, ◌≢◌, ℕ, zero, suc, ◌+◌, ◌*◌, ◌%◌, ◌^◌, ◌<◌, ◌≤◌, if◌then◌else◌, List, [], ◌∷◌, ◌++◌, length, take, drop}
-use Rattle.std.specs.Prelude.{Option, Some, None, slice_get, IsTrue}
+use Rattle.std.specs.Prelude.{Bool, false, Option, Some, None, slice_get, IsTrue}
 use Rattle.tl_base.specs.declared.limits.TheConstants.{REGION_ADDRESS}
 use Rattle.tl_base.specs.declared.ids.FnId.{FnId}
 use Rattle.tl_base.specs.declared.place.Place.{Place}
@@ -29,7 +29,7 @@ use Rattle.rv_select.specs.Places.{private_word, uses, word_at}
 use Rattle.rv_select.specs.declared.pairs.Reads.{Reads}
 use Rattle.rv_select.specs.Pairs.{plain_of, reads_of}
 use Rattle.rv_select.specs.Shapes.{held_after, start_of}
-use Rattle.rv_select.specs.Steps.{Ends, world_of}
+use Rattle.rv_select.specs.Steps.{CountsLeft, EndsLeft, OnMore, world_of}
 use Rattle.rv_select.specs.Entering.{begun, kept_offset}
 use Rattle.rv_select.specs.Calls.{all_has_code, block_starts, call_begun, function_code, instruction_code}
 
@@ -56,14 +56,19 @@ PassesAll p code =
     slice_get code.blocks b ≡ Some block → slice_get block.instructions k ≡ Some (Call to at f arguments) → p.code f ≡ Some callee →
     length arguments ≡ length callee.parameters
 
--- The code of a function stands in the machine: it is right, and below 2 ^ 30, its frame has at most so many bytes, and its temporaries
--- have right homes.
+-- all functions count where one does
+abbrev pub CountsAlike : Program → Tac → Type 0
+CountsAlike p code = (f : FnId) (other : Tac) → p.code f ≡ Some other → other.counts ≡ code.counts
+
+-- The code of a function stands in the machine: it is right, and below 2 ^ 30, its frame has at most so many bytes, its temporaries
+-- have right homes, and it counts where the others do.
 pub record IsPlaced (p : Program) (image : Image) (program : List (Option Instr)) (most : ℕ) (code : Tac) (x : Placed) : Type 0 where
   pub fits : Fits code
   pub counted : Counted code
   pub right : IsRight code x.homes
   pub has_code : IsTrue (all_has_code code)
   pub passes : PassesAll p code
+  pub alike : CountsAlike p code
   pub aligned : x.at % 4 ≡ 0
   pub near : x.at + 4 * length (function_code (layout_of code x.homes) code (entries_of p image) x.at) + 256 ≤ 2 ^ 30
   pub frame : frame_bytes (layout_of code x.homes) ≤ most
@@ -150,8 +155,9 @@ Waits p image most size (c ∷ cs) link base placed m =
     (restored (layout_of w.code (image c.waits.function).homes) base m)
 
 -- The machine stands where three-address code does in a state: before the code of the next instruction, or of what ends the block. Between
--- a comparison and its branch, where both have one code, it never stands. It holds what three-address code sees, and in x5 what the
--- instruction before left there, and all callers wait; and below the frame there is room for each call that may still be made.
+-- a comparison and its branch, where both have one code, it never stands. It holds what three-address code sees, in x5 what the
+-- instruction before left there, and in x9 the counts that are left, where code counts, and all callers wait; and below the frame there
+-- is room for each call that may still be made.
 pub record StandsIn (p : Program) (image : Image) (program : List (Option Instr)) (most size : ℕ) (s : tac.State) (base : ℕ) (m : State) :
     Type 0 where
   pub code : Tac
@@ -160,6 +166,7 @@ pub record StandsIn (p : Program) (image : Image) (program : List (Option Instr)
   pub pc : m.pc ≡ place_in p image code (image s.here.function) s.here.block s.here.at
   pub holds : Holds (layout_of code (image s.here.function).homes) (InUse (graph_of code) s.here.block s.here.at) (world_of s) base m
   pub five : IsHeld (layout_of code (image s.here.function).homes) (held_in code s.here.block s.here.at) s.here.temps m
+  pub counts : CountsLeft code.counts s.left m
   pub frame : s.here.base + code.frame ≤ end_address s.region
   pub region : length s.region.bytes ≡ size
   pub room : HasRoom most (length s.callers) base
@@ -179,24 +186,34 @@ pub record Arrives (p : Program) (image : Image) (program : List (Option Instr))
   pub runs : (more : ℕ) → run_of program m (steps + more) ≡ after_output out (run_of program after more)
   pub stands : StandsIn p image program most size t base after
 
--- The machine writes nothing, and ends the run in so many steps by giving back a word: that of the value, if it is one.
-pub record Finishes (program : List (Option Instr)) (v : Value) (bound : ℕ) (m : State) : Type 0 where
+-- The machine writes nothing, and ends the run in so many steps by giving back a word: that of the value, if it is one. Where code counts,
+-- so many counts are left then.
+pub record Finishes (counts : Bool) (program : List (Option Instr)) (v : Value) (bound left : ℕ) (m : State) : Type 0 where
   pub steps : ℕ
   pub last : State
   pub few : steps ≤ bound
   pub runs : (more : ℕ) → run_of program m (steps + more) ≡ stands (stops.Returned (last.registers 10)) last
   pub gives : (x : ℕ) → v ≡ word x → last.registers 10 ≡ x
+  pub count : CountsLeft counts left last
+
+-- whether a function counts
+abbrev pub counts_in : Option Tac → Bool
+counts_in None = false
+counts_in (Some code) = code.counts
 
 -- What the machine does for a step of three-address code, in at most so many steps of its own: it comes to where three-address code is
--- then, and writes what that writes, or ends the run as that does. Where one more count is needed it only stands there; and of code that is
--- stuck nothing is promised.
-abbrev pub Stepped : Program → Image → List (Option Instr) → (most size bound : ℕ) → tac.State → State → tac.Moved → Type 0
-Stepped p image program most size bound s m (Goes t) =
+-- then, and writes what that writes, or ends the run as that does, with so many counts left if code counts. Where one more count is
+-- needed it breaks the run off, if code counts, and else it only stands there; and of code that is stuck nothing is promised.
+abbrev pub Stepped : Program → Image → List (Option Instr) → (most size left bound : ℕ) → tac.State → State → tac.Moved → Type 0
+Stepped p image program most size left bound s m (Goes t) =
     (out : List ℕ) × (t.out ≡ s.out ++ out) × Arrives p image program most size bound s.left out t m
-Stepped p image program most size bound s m (Stops (Over (Fault kind at) out)) = (out ≡ s.out) × Ends program kind at bound m
-Stepped p image program most size bound s m (Stops (Over (Returned v) out)) = (out ≡ s.out) × Finishes program v bound m
-Stepped p image program most size bound s m (Stops (Over Stuck out)) = Unit {0}
-Stepped p image program most size bound s m (Stops (More out)) = (out ≡ s.out) × (s.left ≡ 0)
+Stepped p image program most size left bound s m (Stops (Over (Fault kind at) out)) =
+    (out ≡ s.out) × EndsLeft (counts_in (p.code s.here.function)) program kind at bound left m
+Stepped p image program most size left bound s m (Stops (Over (Returned v) out)) =
+    (out ≡ s.out) × Finishes (counts_in (p.code s.here.function)) program v bound left m
+Stepped p image program most size left bound s m (Stops (Over Stuck out)) = Unit {0}
+Stepped p image program most size left bound s m (Stops (More out)) =
+    (out ≡ s.out) × (s.left ≡ 0) × OnMore (counts_in (p.code s.here.function)) program bound m
 
 -- What waits goes on waiting where a function keeps what its callers rest on.
 abbrev pub CallersGoOnWaiting : Type 0

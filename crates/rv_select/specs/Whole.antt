@@ -1,10 +1,11 @@
 -- Runs of a whole program in the machine, and how many steps they take.
 use Rattle.std.specs.Prelude.{◌≡◌, ◌≢◌, ℕ, ◌+◌, ◌-◌, ◌*◌, ◌^◌, ◌<◌, ◌≤◌, List, [], ◌∷◌, ◌++◌, length, map, if◌then◌else◌}
-use Rattle.std.specs.Prelude.{nat_eq, Option, Some, None, slice_get}
+use Rattle.std.specs.Prelude.{Bool, true, false, nat_eq, Option, Some, None, slice_get}
 use Rattle.tl_base.specs.declared.limits.TheConstants.{MAX_CALLS, MAX_PRIVATE, PRIVATE_ADDRESS}
 use Rattle.tl_base.specs.declared.ids.FnId.{FnId}
 use Rattle.tl_base.specs.declared.place.Place.{Place}
 use Rattle.rv_isa.specs.declared.instr.Instr.{Instr}
+use Rattle.rv_machine.specs.declared.stops.MachineKind.TheVariants.{Break}
 use Rattle.rv_machine.specs.declared.stops.Stop.TheVariants as stops
 use Rattle.rv_machine.specs.Machine.{State, after_output, run_of, stands}
 use Rattle.terra_words.specs.declared.words.FaultKind.{FaultKind}
@@ -14,7 +15,8 @@ use Rattle.tac_form.specs.declared.tac.Block.{Block}
 use Rattle.tac_form.specs.declared.tac.Destination.{Destination}
 use Rattle.tac_form.specs.declared.tac.Tac.{Tac}
 use Rattle.tac_form.specs.Flow as tac
-use Rattle.tac_form.specs.Flow.{Caller, Program, Goes, Stops, TacRun, enter, steps}
+use Rattle.tac_form.specs.Flow.{Caller, Program, Goes, Stops, TacRun, begun, enter, steps}
+use Rattle.tac_counts.specs.Counts.{left_after, left_behind, left_in}
 use Rattle.terra_memory.specs.Region.{Contents, IsLawful, end_address, fresh}
 use Rattle.rv_select.specs.declared.pairs.Reads.{Reads}
 use Rattle.rv_select.specs.declared.pairs.Pair.{Pair}
@@ -22,7 +24,8 @@ use Rattle.rv_select.specs.Pairs.{pair_of, plain_of, reads_of}
 use Rattle.rv_select.specs.Places.{AreBytes, layout_of}
 use Rattle.rv_select.specs.Calls.{call_ended, function_code, head_code}
 use Rattle.rv_select.specs.Shapes.{place_number}
-use Rattle.rv_select.specs.Waiting.{Image, IsLinked, Placed, StandsIn, Stepped, entries_of, place_in}
+use Rattle.rv_select.specs.Steps.{CountsLeft}
+use Rattle.rv_select.specs.Waiting.{Image, IsLinked, Placed, StandsIn, Stepped, counts_in, entries_of, place_in}
 
 -- where the code of a function ends
 abbrev pub end_in : Program → Image → Tac → Placed → ℕ
@@ -59,20 +62,32 @@ AreShort p image words =
     (f : FnId) (code : Tac) → p.code f ≡ Some code →
     length (function_code (layout_of code (image f).homes) code (entries_of p image) (image f).at) ≤ words
 
--- The machine writes these bytes, and then the run is over in at most so many steps: it gives back a word, or fails.
-pub record RunReturns (program : List (Option Instr)) (most : ℕ) (v : Value) (out : List ℕ) (m : State) : Type 0 where
+-- The machine writes these bytes, and then the run is over in at most so many steps: it gives back a word, or fails. Where code counts, so
+-- many counts are left then.
+pub record RunReturns (counts : Bool) (program : List (Option Instr)) (most : ℕ) (v : Value) (left : ℕ) (out : List ℕ) (m : State) :
+    Type 0 where
   pub count : ℕ
   pub last : State
   pub few : count ≤ most
   pub runs : (more : ℕ) → run_of program m (count + more) ≡ after_output out (stands (stops.Returned (last.registers 10)) last)
   pub gives : (x : ℕ) → v ≡ word x → last.registers 10 ≡ x
+  pub counted : CountsLeft counts left last
 
-pub record RunFails (program : List (Option Instr)) (most : ℕ) (kind : FaultKind) (at : Place) (out : List ℕ) (m : State) : Type 0 where
+pub record RunFails (counts : Bool) (program : List (Option Instr)) (most : ℕ) (kind : FaultKind) (at : Place) (left : ℕ) (out : List ℕ)
+    (m : State) : Type 0 where
   pub count : ℕ
   pub last : State
   pub few : count ≤ most
   pub runs : (more : ℕ) → run_of program m (count + more) ≡ after_output out
       (stands (stops.TerraFault (fault_number kind) (place_number at)) last)
+  pub counted : CountsLeft counts left last
+
+-- It writes them, and then breaks the run off.
+pub record RunBreaks (program : List (Option Instr)) (most : ℕ) (out : List ℕ) (m : State) : Type 0 where
+  pub count : ℕ
+  pub last : State
+  pub few : count ≤ most
+  pub runs : (more : ℕ) → run_of program m (count + more) ≡ after_output out (stands (stops.MachineFault Break last.pc) last)
 
 -- The machine writes these bytes in at least and at most so many steps, and then goes on from a state, which isn't at address 0: the run
 -- isn't over there.
@@ -84,13 +99,22 @@ pub record RunGoesOn (program : List (Option Instr)) (least most : ℕ) (out : L
   pub few : count ≤ most
   pub runs : (more : ℕ) → run_of program m (count + more) ≡ after_output out (run_of program after more)
 
--- The machine's run ends as that of three-address code does, which may have written something before; and where that needs more counts
--- than are left, it has taken at least as many steps as were left. Of code that is stuck nothing is promised.
-abbrev pub Ended : List (Option Instr) → (most : ℕ) → tac.State → State → Run → Type 0
-Ended program most s m (Over (Returned v) out) = (rest : List ℕ) × (out ≡ s.out ++ rest) × RunReturns program most v rest m
-Ended program most s m (Over (Fault kind at) out) = (rest : List ℕ) × (out ≡ s.out ++ rest) × RunFails program most kind at rest m
-Ended program most s m (Over Stuck out) = Unit {0}
-Ended program most s m (More out) = (rest : List ℕ) × (out ≡ s.out ++ rest) × RunGoesOn program s.left most rest m
+-- Where three-address code needs more counts than are left, code that counts breaks the run off, and any other has taken at least as many
+-- steps as were left, and goes on.
+abbrev pub RunNeedsMore : (counts : Bool) → List (Option Instr) → (least most : ℕ) → (out : List ℕ) → State → Type 0
+RunNeedsMore true program least most out m = RunBreaks program most out m
+RunNeedsMore false program least most out m = RunGoesOn program least most out m
+
+-- The machine's run ends as that of three-address code does, which may have written something before, with so many counts left if code
+-- counts. Of code that is stuck nothing is promised.
+abbrev pub Ended : (counts : Bool) → List (Option Instr) → (most left : ℕ) → tac.State → State → Run → Type 0
+Ended counts program most left s m (Over (Returned v) out) =
+    (rest : List ℕ) × (out ≡ s.out ++ rest) × RunReturns counts program most v left rest m
+Ended counts program most left s m (Over (Fault kind at) out) =
+    (rest : List ℕ) × (out ≡ s.out ++ rest) × RunFails counts program most kind at left rest m
+Ended counts program most left s m (Over Stuck out) = Unit {0}
+Ended counts program most left s m (More out) =
+    (rest : List ℕ) × (out ≡ s.out ++ rest) × RunNeedsMore counts program s.left most rest m
 
 -- How many steps are carried out at once from a place on: two where a comparison has one code with its branch, and else one.
 abbrev pub pair_count : Option Pair → (at plain : ℕ) → ℕ
@@ -111,7 +135,8 @@ StepsAreCarried =
     (p : Program) (image : Image) (program : List (Option Instr)) (most size : ℕ) (s : tac.State) (base : ℕ) (m : State) →
     IsLinked p image program most → StandsIn p image program most size s base m →
     (bound : ℕ) ×
-    Stepped p image program most size bound s m (steps p (steps_at_once (p.code s.here.function) s.here.block s.here.at) (Goes s))
+    Stepped p image program most size (left_behind p s) bound s m
+    (steps p (steps_at_once (p.code s.here.function) s.here.block s.here.at) (Goes s))
 
 -- So is each run, from a state on in which the machine stands where three-address code does, in at most so many steps if no more than
 -- four bytes are left for each.
@@ -120,7 +145,8 @@ RunsAreCarried =
     (p : Program) (image : Image) (program : List (Option Instr)) (most size words top k : ℕ) (r : Run) (s : tac.State) (base : ℕ)
     (m : State) →
     IsLinked p image program most → AreShort p image words → StandsIn p image program most size s base m →
-    bytes_left p image words s ≤ 4 * top → steps p k (Goes s) ≡ Stops r → Ended program top s m r
+    bytes_left p image words s ≤ 4 * top → steps p k (Goes s) ≡ Stops r →
+    Ended (counts_in (p.code s.here.function)) program top (left_in p k s) s m r
 
 -- The machine at its start: before the code of a function, whose arguments stand in the registers from x10 on, with all of private memory
 -- below x2, and a region.
@@ -148,26 +174,29 @@ before_entry f region n = record {
   out = [];
 }
 
--- A function begins as the entry, with at most eight words as arguments: the machine comes to where its first block begins, in at most as
--- many steps as the code before that has words; or the run ends, where the data stack has no room for its frame.
+-- A function begins as the entry, with at most eight words as arguments, and with a number of counts in x9 if it counts: the machine comes
+-- to where its first block begins, in at most as many steps as the code before that has words; or the run ends, where the data stack has
+-- no room for its frame.
 abbrev pub EntriesAreCarried : Type 0
 EntriesAreCarried =
     (p : Program) (image : Image) (program : List (Option Instr)) (most n : ℕ) (f : FnId) (code : Tac) (arguments : List ℕ)
     (region : Contents) (m : State) →
-    IsLinked p image program most → p.code f ≡ Some code → Starts (image f).at region arguments m → length arguments ≤ 8 →
-    length arguments ≡ length code.parameters → MAX_CALLS * most ≤ length m.private →
-    Stepped p image program most (length region.bytes) (length (head_code (layout_of code (image f).homes) code)) (before_entry f region n) m
+    IsLinked p image program most → p.code f ≡ Some code → Starts (image f).at region arguments m → CountsLeft code.counts n m →
+    length arguments ≤ 8 → length arguments ≡ length code.parameters → MAX_CALLS * most ≤ length m.private →
+    Stepped p image program most (length region.bytes) n (length (head_code (layout_of code (image f).homes) code)) (before_entry f region n)
+    m
     (enter code.place f (Some code) (map word arguments) (end_address region) [] (before_entry f region n))
 
 -- A whole run of a program, from the machine's start at the count n: it ends as that of three-address code does, with the same output, in
 -- at most n + 1 times the words that a function may have. Where three-address code needs more counts than n, the machine has written
--- the same output in at least n steps, and goes on.
+-- the same output in at least n steps, and goes on; or it has written it and breaks the run off, if code counts.
 abbrev pub ProgramsAreCarried : Type 0
 ProgramsAreCarried =
     (p : Program) (image : Image) (program : List (Option Instr)) (most words memory n : ℕ) (statics : List ℕ) (f : FnId) (code : Tac)
     (arguments : List ℕ) (m : State)
     (r : Run) → IsLinked p image program most → AreShort p image words → p.code f ≡ Some code →
-    Starts (image f).at (fresh memory statics) arguments m →
+    Starts (image f).at (fresh memory statics) arguments m → CountsLeft code.counts n m →
     length arguments ≤ 8 → length arguments ≡ length code.parameters → MAX_CALLS * most ≤ length m.private →
-    TacRun p statics memory n f (map word arguments) r →
-    Ended program ((n + 1) * words) (before_entry f (fresh memory statics) n) m r
+    (ran : TacRun p statics memory n f (map word arguments) r) →
+    Ended code.counts program ((n + 1) * words)
+    (left_after (begun p statics memory n f (map word arguments)) (left_in p ran.0) n) (before_entry f (fresh memory statics) n) m r

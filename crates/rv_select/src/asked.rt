@@ -8,8 +8,10 @@ ghost use Rattle.rv_select.specs.Asked.{slot_instead, spot_asks, with_given, wit
 ghost use Rattle.rv_select.specs.Pairs.{reads_of};
 ghost use Rattle.tac_form.specs.Graph.{exit_reads, instruction_reads, operand_reads, part_reads, parts_reads};
 
-use crate::instructions::{held_after, is_held, is_second, is_turned};
+use crate::computing::is_turned;
+use crate::instructions::held_after;
 use crate::pairs::{Pair, Reads, pair_of, plain_of};
+use crate::reading::{is_held, is_second};
 use reg_alloc::Home;
 use std::alloc::Global;
 use tac_form::{Address, Block, Destination, Exit, Instruction, Operand, Part, Spot, Tac};

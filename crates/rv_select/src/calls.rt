@@ -8,17 +8,17 @@ ghost use Rattle.rv_operators.specs.Codes.{x5};
 ghost use Rattle.rv_select.specs.Calls.{call_begun, call_ended, call_jump, called, depth_tested, one_more, part_given, part_taken, passed};
 ghost use Rattle.rv_select.specs.Calls.{word_given, part_passed};
 ghost use Rattle.rv_select.specs.Entering.{result_put};
-ghost use Rattle.rv_select.specs.Places.{has_call, is_call, makes_calls, with_homes};
-ghost use Rattle.rv_select.specs.Shapes.{jump, area_reached, x10};
+ghost use Rattle.rv_select.specs.Numbers.{constant};
+ghost use Rattle.rv_select.specs.Places.{has_call, is_call, makes_calls, with_counting, with_homes};
+ghost use Rattle.rv_select.specs.Shapes.{jump, area_reached, counted_if, units_given, x9, x10};
 
-use crate::emit::{X5, X6, push_constant, push_moved, push_taken, put};
+use crate::accessing::push_area_address;
+use crate::emit::{X5, X6, X9, X10, X11, push_constant, push_moved, push_taken, put};
 use crate::entries::{X1, X28, push_result_put, push_stored_below};
-use crate::exits::{distance, push_jump};
-use crate::instructions::{
-    X10, X11, place_number, push_area_address, push_brought, push_fault_call, push_first,
-    push_small,
-};
+use crate::exits::{distance, push_jump, push_take_count};
+use crate::failing::{place_number, push_fault_call, push_small};
 use crate::operands::{below_zero, immediate, lower, offset, upper};
+use crate::reading::{push_brought, push_first};
 use reg_alloc::Home;
 use rv_isa::{BranchCondition, ImmediateOp, Instr, Register};
 use tac_form::{Block, Destination, Instruction, Operand, Part, Tac};
@@ -192,15 +192,27 @@ fn push_all_passed(
 pub(crate) fn push_call_begun(
     code: &mut Vec<u32>,
     homes: &[Option<Home>],
+    counts: bool,
     held: Option<u64>,
     at: Place,
     arguments: &[Part],
 ) -> Result<(), NoMemory>
-    ensures { OnOk result (code.new.items ≡ code.old.items ++ map word_of (call_begun (with_homes homes.now) held at arguments.now)) }
+    ensures { OnOk result (code.new.items ≡ code.old.items
+        ++ map word_of (call_begun (with_counting homes.now counts) held at arguments.now)) }
 {
     push_constant(code, X11, place_number(at))?;
-    push_depth_test(code)?;
+    push_counted_test(code, counts)?;
     push_all_passed(code, homes, held, arguments)
+}
+
+/// A count is taken where code counts, and the depth is tested.
+fn push_counted_test(code: &mut Vec<u32>, counts: bool) -> Result<(), NoMemory>
+    ensures { OnOk result (code.new.items ≡ code.old.items ++ map word_of (counted_if counts depth_tested)) }
+{
+    if counts {
+        push_take_count(code)?;
+    }
+    push_depth_test(code)
 }
 
 /// A jump from an address to a function, with the return address in x1.
@@ -224,6 +236,28 @@ pub fn push_call_jump(code: &mut Vec<u32>, from: u64, to: u64) -> Result<(), NoM
             offset: lower(bytes),
         },
     )
+}
+
+/// Counts to x9. The answer is how many words that takes.
+#[tactic(auto, using(crate::proofs::Numbers::pushed_words, crate::proofs::Numbers::constant_count))]
+fn push_counts(code: &mut Vec<u32>, units: u64) -> Result<u64, NoMemory>
+    ensures code { OnOk result (code.new.items ≡ code.old.items ++ map word_of (constant x9 units)) }
+    ensures words { IfOk result (λ words. words ≡ length (constant x9 units)) }
+    ensures few { IfOk result (λ words. words ≤ 8) }
+{
+    let before = code.len();
+    push_constant(code, X9, units)?;
+    Ok((code.len() - before) as u64)
+}
+
+/// The words, at an address, by which a function that counts is entered as the entry with so many counts: they put these into x9 and jump
+/// to where it begins.
+pub fn push_units(code: &mut Vec<u32>, units: u64, at: u64, to: u64) -> Result<(), NoMemory>
+    requires { at ≤ 2 ^ 31 }
+    ensures { OnOk result (code.new.items ≡ code.old.items ++ map word_of (units_given units at to)) }
+{
+    let words = push_counts(code, units)?;
+    push_jump(code, false, at + 4 * words, to)
 }
 
 /// What follows the jump of a call.

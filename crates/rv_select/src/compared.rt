@@ -6,13 +6,12 @@ ghost use Rattle.rv_select.specs.Places.{with_homes};
 ghost use Rattle.rv_select.specs.Compared.{below_condition, both_taken, compared, compared_shape, condition_of, first_register};
 ghost use Rattle.rv_select.specs.Compared.{least_condition, left_of};
 ghost use Rattle.rv_select.specs.Compared.{operands_taken, right_of, second_register};
-ghost use Rattle.rv_select.specs.Settings.{follower};
 ghost use Rattle.rv_select.specs.Shapes.{start_of};
 
 use crate::emit::{X5, X6};
-use crate::exits::{push_chosen, start_of};
-use crate::instructions::{is_second, push_first_read, push_second_read, read_in};
-use crate::settings::{Follows, Setting, follower};
+use crate::exits::{push_parted, start_of};
+use crate::reading::{is_second, push_first_read, push_second_read, read_in};
+use crate::settings::Setting;
 use reg_alloc::Home;
 use rv_isa::{BranchCondition, Register};
 use tac_form::{Edge, Number, Operand};
@@ -50,13 +49,14 @@ pub fn push_compared(
         code,
         homes,
         setting,
-        follower(setting.next, first.block, second.block),
         held,
         form.signed,
         operator,
         a,
         b,
         at + 4 * words,
+        first,
+        second,
         to,
         other,
     )
@@ -67,25 +67,36 @@ fn push_read_test(
     code: &mut Vec<u32>,
     homes: &[Option<Home>],
     setting: Setting,
-    follows: Follows,
     held: Option<u64>,
     signed: bool,
     operator: BinaryOperator,
     a: Operand,
     b: Operand,
     at: u64,
+    first_edge: Edge,
+    second_edge: Edge,
     first: u64,
     second: u64,
 ) -> Result<(), NoMemory>
-    requires { at + 12 ≤ 2 ^ 32 }
+    requires { at + 64 ≤ 2 ^ 32 }
     ensures { OnOk result (code.new.items ≡ code.old.items
-        ++ map word_of (compared setting.near setting.short follows signed operator (first_register (with_homes homes.now) held a b)
-        (second_register (with_homes homes.now) held a b) at first second)) }
+        ++ map word_of (compared setting signed operator (first_register (with_homes homes.now) held a b)
+        (second_register (with_homes homes.now) held a b) at first_edge second_edge first second)) }
 {
     let ra = first_register(homes, held, a, b);
     let rb = second_register(homes, held, a, b);
     push_test(
-        code, setting, follows, signed, operator, ra, rb, at, first, second,
+        code,
+        setting,
+        signed,
+        operator,
+        ra,
+        rb,
+        at,
+        first_edge,
+        second_edge,
+        first,
+        second,
     )
 }
 
@@ -157,32 +168,34 @@ fn second_register(homes: &[Option<Home>], held: Option<u64>, a: Operand, b: Ope
     }
 }
 
-/// The branch on a comparison of two registers, and the jumps.
+/// The branch on a comparison of two registers, and the ways to both blocks.
 fn push_test(
     code: &mut Vec<u32>,
     setting: Setting,
-    follows: Follows,
     signed: bool,
     operator: BinaryOperator,
     a: Register,
     b: Register,
     at: u64,
+    first_edge: Edge,
+    second_edge: Edge,
     first: u64,
     second: u64,
 ) -> Result<(), NoMemory>
-    requires { at + 12 ≤ 2 ^ 32 }
+    requires { at + 64 ≤ 2 ^ 32 }
     ensures { OnOk result (code.new.items ≡ code.old.items
-        ++ map word_of (compared setting.near setting.short follows signed operator a b at first second)) }
+        ++ map word_of (compared setting signed operator a b at first_edge second_edge first second)) }
 {
     let condition = condition_of(signed, operator);
-    push_chosen(
+    push_parted(
         code,
         setting,
-        follows,
         condition,
         left_of(operator, a, b),
         right_of(operator, a, b),
         at,
+        first_edge,
+        second_edge,
         first,
         second,
     )

@@ -26,12 +26,24 @@ use tl_base::limits::MAX_VALUE_BYTES;
 pub(crate) const X0: Register = Register { number: 0 };
 /// The address of the frame.
 pub(crate) const X2: Register = Register { number: 2 };
+/// The end of the region.
+pub(crate) const X4: Register = Register { number: 4 };
 /// The first operand and the result.
 pub(crate) const X5: Register = Register { number: 5 };
 /// The second operand.
 pub(crate) const X6: Register = Register { number: 6 };
 /// Upper parts of offsets.
 pub(crate) const X7: Register = Register { number: 7 };
+/// The address of the frame in the region.
+pub(crate) const X8: Register = Register { number: 8 };
+/// The counts that are left.
+pub(crate) const X9: Register = Register { number: 9 };
+/// What calls of the machine and of functions take and give.
+pub(crate) const X10: Register = Register { number: 10 };
+
+pub(crate) const X11: Register = Register { number: 11 };
+
+pub(crate) const X17: Register = Register { number: 17 };
 
 /// One instruction.
 pub(crate) fn put(code: &mut Vec<u32>, instruction: Instr) -> Result<(), NoMemory>

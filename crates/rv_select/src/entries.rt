@@ -16,10 +16,10 @@ ghost use Rattle.rv_select.specs.Places.{is_register, uses, with_extent, with_ho
 ghost use Rattle.rv_select.specs.Shapes.{place_number, to_area, x2, x7, x11};
 
 use crate::emit::{
-    X0, X2, X5, X7, push_constant, push_far, push_frame_load, push_moved, push_put,
+    X0, X2, X4, X5, X7, X8, X11, push_constant, push_far, push_frame_load, push_moved, push_put,
     push_short_constant, put, slot_offset,
 };
-use crate::instructions::{X4, X8, X11, place_number, push_fault_call};
+use crate::failing::{place_number, push_fault_call};
 use crate::moving::push_to_area;
 use crate::operands::{below_zero, immediate, lower, offset, register, upper};
 use crate::outputs::push_limit_found;

@@ -1,6 +1,6 @@
 // The words of exits of blocks.
 
-ghost use Rattle.std.specs.Prelude.{◌≡◌, ◌*◌, ◌+◌, ◌%◌, ◌^◌, ◌<◌, ◌≤◌, [], ◌∷◌, ◌++◌, map, length, false, if◌then◌else◌, IsTrue, IfOk};
+ghost use Rattle.std.specs.Prelude.{◌≡◌, ℕ, ◌*◌, ◌+◌, ◌%◌, ◌^◌, ◌<◌, ◌≤◌, [], ◌∷◌, ◌++◌, map, length, false, IsTrue, IfOk};
 ghost use Rattle.std.specs.Prelude.{OnOk};
 ghost use Rattle.rv_isa.specs.declared.instr.Instr.TheVariants.{Auipc, Branch, Jal, Jalr};
 ghost use Rattle.rv_isa.specs.declared.operation.BranchCondition.TheVariants.{Ne};
@@ -8,16 +8,17 @@ ghost use Rattle.rv_isa.specs.Table.{word_of};
 ghost use Rattle.rv_operators.specs.Codes.{x0, x5};
 ghost use Rattle.rv_select.specs.Numbers.{lower_of, upper_of};
 ghost use Rattle.rv_select.specs.Places.{with_homes};
-ghost use Rattle.rv_select.specs.Settings.{falls, follower};
-ghost use Rattle.rv_select.specs.Shapes.{branch_bytes, branch_offset, branched, branched_bytes, chosen, distance, exit_shape, first_read, read_in};
-ghost use Rattle.rv_select.specs.Shapes.{has_exit_shape, jump, jump_offset, negated, start_of};
+ghost use Rattle.rv_select.specs.Shapes.{branch_bytes, branch_offset, branched, branched_bytes, chosen, counted_jump, counting, distance};
+ghost use Rattle.rv_select.specs.Shapes.{edge_shape, exit_shape, first_read, has_exit_shape, jump, jump_offset, negated, parted, read_in};
+ghost use Rattle.rv_select.specs.Shapes.{start_of, take_count};
 
-use crate::emit::{X0, X5, put};
-use crate::instructions::{push_failed, push_first_read, read_in};
-use crate::operands::{branch_offset, jump_offset, lower, offset, upper};
+use crate::emit::{X0, X5, X9, put};
+use crate::failing::push_failed;
+use crate::operands::{below_zero, branch_offset, jump_offset, lower, offset, upper};
+use crate::reading::{push_first_read, read_in};
 use crate::settings::{Follows, Setting, falls, follower};
 use reg_alloc::Home;
-use rv_isa::{BranchCondition, Instr, Register};
+use rv_isa::{BranchCondition, ImmediateOp, Instr, Register};
 use tac_form::{Edge, Exit, Operand};
 use tl_base::NoMemory;
 
@@ -43,14 +44,15 @@ pub fn push_exit(
             let words = push_tested(code, homes, held, *a)?;
             let to = start_of(starts, first.block);
             let other = start_of(starts, second.block);
-            push_read_chosen(
+            push_read_parted(
                 code,
                 homes,
                 setting,
-                follower(setting.next, first.block, second.block),
                 *a,
                 X0,
                 at + 4 * words,
+                *first,
+                *second,
                 to,
                 other,
             )
@@ -60,37 +62,83 @@ pub fn push_exit(
     }
 }
 
-/// A branch where a word, which stays where it is read, isn't that of a register, and the jumps.
-fn push_read_chosen(
+/// A branch where a word, which stays where it is read, isn't that of a register, and the ways to both blocks.
+fn push_read_parted(
     code: &mut Vec<u32>,
     homes: &[Option<Home>],
     setting: Setting,
-    follows: Follows,
     a: Operand,
     b: Register,
     at: u64,
+    first_edge: Edge,
+    second_edge: Edge,
     first: u64,
     second: u64,
 ) -> Result<(), NoMemory>
-    requires { at + 12 ≤ 2 ^ 32 }
+    requires { at + 64 ≤ 2 ^ 32 }
     ensures { OnOk result (code.new.items ≡ code.old.items
-        ++ map word_of (chosen setting.near setting.short follows Ne (read_in (with_homes homes.now) x5 a) b at first second)) }
+        ++ map word_of (parted setting Ne (read_in (with_homes homes.now) x5 a) b at first_edge second_edge first second)) }
 {
     let ra = read_in(homes, X5, a);
-    push_chosen(
+    push_parted(
         code,
         setting,
-        follows,
         BranchCondition::Ne,
         ra,
         b,
         at,
+        first_edge,
+        second_edge,
         first,
         second,
     )
 }
 
-/// A jump to a block, unless the code comes there by itself.
+/// A count is taken, or the run breaks off where none is left.
+pub(crate) fn push_take_count(code: &mut Vec<u32>) -> Result<(), NoMemory>
+    ensures { OnOk result (code.new.items ≡ code.old.items ++ map word_of take_count) }
+{
+    put(
+        code,
+        Instr::Branch {
+            condition: BranchCondition::Ne,
+            rs1: X9,
+            rs2: X0,
+            offset: offset(8),
+        },
+    )?;
+    put(code, Instr::Ebreak)?;
+    put(
+        code,
+        Instr::RegisterImmediate {
+            op: ImmediateOp::Addi,
+            rd: X9,
+            rs1: X9,
+            imm: below_zero(0),
+        },
+    )
+}
+
+/// A jump from an address to a block, before which a count may be taken.
+fn push_counted_jump(
+    code: &mut Vec<u32>,
+    counts: bool,
+    short: bool,
+    at: u64,
+    to: u64,
+) -> Result<(), NoMemory>
+    requires { at + 12 ≤ 2 ^ 32 }
+    ensures { OnOk result (code.new.items ≡ code.old.items ++ map word_of (counted_jump counts short at to)) }
+{
+    if counts {
+        push_take_count(code)?;
+        push_jump(code, short, at + 12, to)
+    } else {
+        push_jump(code, short, at, to)
+    }
+}
+
+/// The way to a block along an edge, unless the code comes there by itself.
 fn push_edge(
     code: &mut Vec<u32>,
     setting: Setting,
@@ -98,14 +146,14 @@ fn push_edge(
     at: u64,
     to: u64,
 ) -> Result<(), NoMemory>
-    requires { at ≤ 2 ^ 32 }
-    ensures { OnOk result (code.new.items ≡ code.old.items
-        ++ map word_of (if falls setting.next edge then [] else jump setting.short at to)) }
+    requires { at + 12 ≤ 2 ^ 32 }
+    ensures { OnOk result (code.new.items ≡ code.old.items ++ map word_of (edge_shape setting edge at to)) }
 {
     if falls(setting.next, edge) {
         return Ok(());
     }
-    push_jump(code, setting.short, at, to)
+    let counts = setting.counts && edge.counts;
+    push_counted_jump(code, counts, setting.short, at, to)
 }
 
 /// Where a block begins.
@@ -295,8 +343,88 @@ fn push_branched(
     }
 }
 
+/// How many words a jump has, before which a count may be taken.
+#[tactic(auto, using(crate::proofs::Weighing::counted_words_are))]
+fn counted_words(counts: bool, short: bool) -> u64
+    ensures words { (at to : ℕ) → length (counted_jump counts short at to) ≡ result }
+    ensures few { result ≤ 5 }
+{
+    let jump = if short { 1 } else { 2 };
+    if counts { 3 + jump } else { jump }
+}
+
+/// A branch to two blocks in code that counts: over the way to the first to that to the second.
+fn push_counting(
+    code: &mut Vec<u32>,
+    setting: Setting,
+    condition: BranchCondition,
+    rs1: Register,
+    rs2: Register,
+    at: u64,
+    first_edge: Edge,
+    second_edge: Edge,
+    first: u64,
+    second: u64,
+) -> Result<(), NoMemory>
+    requires { at + 64 ≤ 2 ^ 32 }
+    ensures { OnOk result (code.new.items ≡ code.old.items
+        ++ map word_of (counting setting condition rs1 rs2 at first_edge second_edge first second)) }
+{
+    let counts = setting.counts && first_edge.counts;
+    let words = counted_words(counts, setting.short);
+    put(
+        code,
+        Instr::Branch {
+            condition: negated(condition),
+            rs1,
+            rs2,
+            offset: offset(4 * (words + 1)),
+        },
+    )?;
+    push_counted_jump(code, counts, setting.short, at + 4, first)?;
+    push_edge(code, setting, second_edge, at + 4 + 4 * words, second)
+}
+
+/// A branch to two blocks, of which one may stand behind it, and to which a way may take a count.
+pub(crate) fn push_parted(
+    code: &mut Vec<u32>,
+    setting: Setting,
+    condition: BranchCondition,
+    rs1: Register,
+    rs2: Register,
+    at: u64,
+    first_edge: Edge,
+    second_edge: Edge,
+    first: u64,
+    second: u64,
+) -> Result<(), NoMemory>
+    requires { at + 64 ≤ 2 ^ 32 }
+    ensures { OnOk result (code.new.items ≡ code.old.items
+        ++ map word_of (parted setting condition rs1 rs2 at first_edge second_edge first second)) }
+{
+    if setting.counts && (first_edge.counts || second_edge.counts) {
+        push_counting(
+            code,
+            setting,
+            condition,
+            rs1,
+            rs2,
+            at,
+            first_edge,
+            second_edge,
+            first,
+            second,
+        )
+    } else {
+        let follows = follower(setting.next, first_edge.block, second_edge.block);
+        push_chosen(
+            code, setting, follows, condition, rs1, rs2, at, first, second,
+        )
+    }
+}
+
 /// A branch to two blocks, of which one may stand behind it.
-pub(crate) fn push_chosen(
+fn push_chosen(
     code: &mut Vec<u32>,
     setting: Setting,
     follows: Follows,

@@ -10,8 +10,8 @@ ghost use Rattle.rv_operators.specs.Codes.{cut, one_immediate, x0};
 ghost use Rattle.rv_select.specs.Folded.{by_number, count_of, differing, folded, is_folded, is_near, is_power, opposite, shift_down};
 ghost use Rattle.rv_select.specs.Folded.{shift_for, shifted_up, sum_of, test_of, turned_round, word_count_of};
 
+use crate::computing::{bytes_of, width_of};
 use crate::emit::{X0, put};
-use crate::instructions::{bytes_of, width_of};
 use crate::operands::lower;
 use rv_isa::{
     Immediate, ImmediateOp, Instr, Register, RegisterOp, ShiftCount, ShiftOp, WordShiftCount,

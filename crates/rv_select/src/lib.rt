@@ -6,12 +6,15 @@
 //! machine holds afterwards what three-address code sees then. The laws of `law` have that of each instruction.
 #![tactic(auto)]
 
+mod accessing;
 mod asked;
 mod calls;
 pub mod compared;
+mod computing;
 mod emit;
 mod entries;
 pub mod exits;
+mod failing;
 mod folded;
 pub mod instructions;
 pub mod law;
@@ -19,13 +22,14 @@ mod moving;
 mod operands;
 mod outputs;
 pub mod pairs;
+mod reading;
 pub mod selectable;
 pub mod selected;
 pub mod selection;
 pub mod settings;
 mod short;
 
-pub use calls::push_call_jump;
+pub use calls::{push_call_jump, push_units};
 pub use compared::push_compared;
 pub use exits::push_exit;
 pub use instructions::{held_after, push_instruction};
@@ -37,4 +41,4 @@ pub use law::{
 };
 pub use selectable::all_has_code;
 pub use selected::{Call, Code};
-pub use selection::select;
+pub use selection::{select, select_counted};

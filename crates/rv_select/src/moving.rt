@@ -8,8 +8,8 @@ ghost use Rattle.rv_select.specs.Places.{with_homes};
 ghost use Rattle.rv_select.specs.Shapes.{all_carried, bytes_moved, carried, carried_eights, carried_if, carried_rest, from_area};
 ghost use Rattle.rv_select.specs.Shapes.{some_moved, to_area};
 
+use crate::accessing::{push_area_address, push_reached};
 use crate::emit::{X0, X5, X6, X7, push_moved, put};
-use crate::instructions::{push_area_address, push_reached};
 use crate::operands::immediate;
 use reg_alloc::Home;
 use rv_isa::{Instr, LoadOp, Register, StoreOp};

@@ -6,11 +6,12 @@ ghost use Rattle.rv_select.specs.Places.{with_homes};
 ghost use Rattle.rv_select.specs.Shapes.{allocated, byte_put, byte_stored, byte_taken, byte_written, bytes_given, heap_aligned};
 ghost use Rattle.rv_select.specs.Shapes.{limit_found, range_call, range_tested, range_written, taken, write_call, x11, x12};
 
-use crate::emit::{X0, X2, X5, X6, X7, push_constant, push_moved, push_put, push_taken, put};
-use crate::instructions::{
-    X4, X10, X11, X17, failed_words, push_branch_over, push_first, push_first_temp, push_small,
+use crate::emit::{
+    X0, X2, X4, X5, X6, X7, X10, X11, X17, push_constant, push_moved, push_put, push_taken, put,
 };
+use crate::failing::{failed_words, push_branch_over, push_small};
 use crate::operands::{immediate, offset, upper};
+use crate::reading::{push_first, push_first_temp};
 use reg_alloc::Home;
 use rv_isa::{
     BranchCondition, Immediate, ImmediateOp, Instr, LoadOp, Register, RegisterOp, ShiftCount,

@@ -30,7 +30,8 @@ fn has_exit_code(exit: &Exit) -> bool
     }
 }
 
-/// Whether the machine has a number for a fault: it has none for a call of a value that is no function.
+/// Whether a fault is one of code that has machine code: all are but that of calling a value that is no function, since calls of values
+/// have no machine code yet.
 fn has_number(kind: FaultKind) -> bool
     ensures { result ≡ nat_le (fault_number kind) 5 }
 {

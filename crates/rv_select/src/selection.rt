@@ -1,6 +1,6 @@
 // The code of a function.
 
-ghost use Rattle.std.specs.Prelude.{◌≡◌, ◌*◌, ◌+◌, ◌^◌, ◌<◌, ◌≤◌, ◌&&◌, [], ◌∷◌, ◌++◌, map, length, IfOk, IsTrue, None, OnOk};
+ghost use Rattle.std.specs.Prelude.{◌≡◌, true, ◌*◌, ◌+◌, ◌^◌, ◌<◌, ◌≤◌, ◌&&◌, [], ◌∷◌, ◌++◌, map, length, IfOk, IsTrue, None, OnOk};
 ghost use Rattle.std.specs.List.{list_all};
 ghost use Rattle.rv_isa.specs.Table.{word_of};
 ghost use Rattle.rv_select.specs.Calls.{IsSelected, KeepsWithin, all_has_code, block_code, block_has_code, block_starts, blocks_calls};
@@ -9,7 +9,7 @@ ghost use Rattle.rv_select.specs.Calls.{held_behind, instruction_calls, instruct
 ghost use Rattle.rv_select.specs.Calls.{jump_unless_last, last_address, pair_code, returned, starts_from};
 ghost use Rattle.rv_select.specs.Entering.{begun, entered, received, words_offset};
 ghost use Rattle.rv_select.specs.Pairs.{pair_of, plain_of, reads_of};
-ghost use Rattle.rv_select.specs.Places.{extent_of, frame_bytes, layout_with, with_homes, with_reads};
+ghost use Rattle.rv_select.specs.Places.{as_counting, extent_of, frame_bytes, layout_with, with_counting, with_homes, with_reads};
 ghost use Rattle.rv_select.specs.Settings.{setting_of};
 ghost use Rattle.rv_select.specs.Shapes.{jump, start_of};
 ghost use Rattle.tac_form.specs.declared.tac.Instruction.TheVariants as instructions;
@@ -61,6 +61,7 @@ fn push_called(
     calls: &mut Vec<Call>,
     homes: &[Option<Home>],
     sizes: &[u64],
+    counts: bool,
     held: Option<u64>,
     to: Destination,
     at: Place,
@@ -68,11 +69,12 @@ fn push_called(
     arguments: &[Part],
 ) -> Result<(), NoMemory>
     ensures code { OnOk result (code.new.items ≡ code.old.items
-        ++ map word_of (called (with_homes homes.now) sizes.now (λ f. 0) (4 * length code.old.items) held to at callee arguments.now)) }
+        ++ map word_of (called (with_counting homes.now counts) sizes.now (λ f. 0) (4 * length code.old.items) held to at callee
+        arguments.now)) }
     ensures calls { OnOk result (calls.new.items ≡ calls.old.items
-        ++ instruction_calls (with_homes homes.now) (length code.old.items) held (instructions.Call to at callee arguments.now)) }
+        ++ instruction_calls (with_counting homes.now counts) (length code.old.items) held (instructions.Call to at callee arguments.now)) }
 {
-    push_call_begun(code, homes, held, at, arguments)?;
+    push_call_begun(code, homes, counts, held, at, arguments)?;
     push_jump_to(code, calls, callee)?;
     push_call_ended(code, homes, sizes, to)
 }
@@ -83,14 +85,16 @@ fn push_one(
     calls: &mut Vec<Call>,
     homes: &[Option<Home>],
     sizes: &[u64],
+    counts: bool,
     held: Option<u64>,
     instruction: &Instruction,
 ) -> Result<(), NoMemory>
     requires { IsTrue (has_code instruction.now) }
     ensures code { OnOk result (code.new.items ≡ code.old.items
-        ++ map word_of (instruction_code (with_homes homes.now) sizes.now (λ f. 0) (4 * length code.old.items) held instruction.now)) }
+        ++ map word_of (instruction_code (with_counting homes.now counts) sizes.now (λ f. 0) (4 * length code.old.items) held
+        instruction.now)) }
     ensures calls { OnOk result (calls.new.items ≡ calls.old.items
-        ++ instruction_calls (with_homes homes.now) (length code.old.items) held instruction.now) }
+        ++ instruction_calls (with_counting homes.now counts) (length code.old.items) held instruction.now) }
 {
     match instruction {
         Instruction::Call(to, at, callee, arguments) => push_called(
@@ -98,6 +102,7 @@ fn push_one(
             calls,
             homes,
             sizes,
+            counts,
             held,
             *to,
             *at,
@@ -114,18 +119,20 @@ fn push_all(
     calls: &mut Vec<Call>,
     homes: &[Option<Home>],
     sizes: &[u64],
+    counts: bool,
     instructions: &[Instruction],
 ) -> Result<Option<u64>, NoMemory>
     requires { IsTrue (list_all has_code instructions.now) }
     ensures code { OnOk result (code.new.items ≡ code.old.items
-        ++ map word_of (instructions_code (with_homes homes.now) sizes.now (λ f. 0) (4 * length code.old.items) None instructions.now)) }
+        ++ map word_of (instructions_code (with_counting homes.now counts) sizes.now (λ f. 0) (4 * length code.old.items) None
+        instructions.now)) }
     ensures calls { OnOk result (calls.new.items ≡ calls.old.items
-        ++ instructions_calls (with_homes homes.now) sizes.now (length code.old.items) None instructions.now) }
+        ++ instructions_calls (with_counting homes.now counts) sizes.now (length code.old.items) None instructions.now) }
     ensures held { IfOk result (λ held. held ≡ held_behind None instructions.now) }
 {
     let mut held = None;
     for instruction in instructions {
-        push_one(code, calls, homes, sizes, held, instruction)?;
+        push_one(code, calls, homes, sizes, counts, held, instruction)?;
         held = held_after(instruction);
     }
     Ok(held)
@@ -264,7 +271,7 @@ fn push_block(
 {
     let pair = pair_of(reads, block);
     let plain = plain_of(block.instructions.as_slice(), pair);
-    let held = push_all(code, calls, homes, sizes, plain)?;
+    let held = push_all(code, calls, homes, sizes, extent.counts, plain)?;
     let setting = setting_of(extent, rest);
     push_block_end(code, homes, setting, held, starts, last, pair, &block.exit)
 }
@@ -338,12 +345,12 @@ fn push_call_head(
     words: u64,
     bytes: u64,
 ) -> Result<(), NoMemory>
-    requires extent { extent ≡ extent_of tac.now }
+    requires extent { extent ≡ extent_of (as_counting extent.counts tac.now) }
     requires words { words < 2 ^ 63 }
     requires bytes { 1 ≤ bytes }
     ensures { OnOk result (code.new.items ≡ code.old.items
-        ++ map word_of (entered (layout_with tac.now homes.now) bytes tac.now.frame
-        ++ received (layout_with tac.now homes.now) tac.now.areas words tac.now.parameters)) }
+        ++ map word_of (entered (layout_with (as_counting extent.counts tac.now) homes.now) bytes tac.now.frame
+        ++ received (layout_with (as_counting extent.counts tac.now) homes.now) tac.now.areas words tac.now.parameters)) }
 {
     push_entered(code, homes, extent, bytes, tac.frame)?;
     push_received(
@@ -369,10 +376,11 @@ fn push_head(
     extent: Extent,
     tac: &Tac,
 ) -> Result<Head, NoMemory>
-    requires { extent ≡ extent_of tac.now }
-    ensures code { OnOk result (code.new.items ≡ code.old.items ++ map word_of (head_code (layout_with tac.now homes.now) tac.now)) }
+    requires { extent ≡ extent_of (as_counting extent.counts tac.now) }
+    ensures code { OnOk result (code.new.items ≡ code.old.items
+        ++ map word_of (head_code (layout_with (as_counting extent.counts tac.now) homes.now) (as_counting extent.counts tac.now))) }
     ensures entry { IfOk result (λ head. head.entry ≡ length (begun tac.now)) }
-    ensures frame { IfOk result (λ head. head.frame ≡ frame_bytes (layout_with tac.now homes.now)) }
+    ensures frame { IfOk result (λ head. head.frame ≡ frame_bytes (layout_with (as_counting extent.counts tac.now) homes.now)) }
 {
     let (words, frame) = frame_of(homes, tac)?;
     let entry = push_entry(code, tac)?;
@@ -393,15 +401,17 @@ fn push_body(
     extent: Extent,
 ) -> Result<(), NoMemory>
     requires has_code { IsTrue (all_has_code tac.now) }
-    requires reads { reads.now ≡ reads_of tac.now }
-    requires extent { extent ≡ extent_of tac.now }
+    requires reads { reads.now ≡ reads_of (as_counting extent.counts tac.now) }
+    requires extent { extent ≡ extent_of (as_counting extent.counts tac.now) }
     ensures code { OnOk result (code.new.items ≡ code.old.items
-        ++ map word_of (blocks_code (layout_with tac.now homes.now) tac.now.areas (λ f. 0) (start_of starts.now) last
-        (4 * length code.old.items) tac.now.blocks)) }
+        ++ map word_of (blocks_code (layout_with (as_counting extent.counts tac.now) homes.now) tac.now.areas (λ f. 0)
+        (start_of starts.now) last (4 * length code.old.items) tac.now.blocks)) }
     ensures calls { OnOk result (calls.new.items ≡ calls.old.items
-        ++ blocks_calls (layout_with tac.now homes.now) tac.now.areas (length code.old.items) tac.now.blocks) }
+        ++ blocks_calls (layout_with (as_counting extent.counts tac.now) homes.now) tac.now.areas (length code.old.items)
+        tac.now.blocks) }
     ensures begins { OnOk result (begins.new.items ≡ begins.old.items
-        ++ starts_from (layout_with tac.now homes.now) tac.now.areas (4 * length code.old.items) tac.now.blocks) }
+        ++ starts_from (layout_with (as_counting extent.counts tac.now) homes.now) tac.now.areas (4 * length code.old.items)
+        tac.now.blocks) }
 {
     push_blocks(
         code,
@@ -424,15 +434,17 @@ struct Places {
     last: u64,
 }
 
-/// Whether a function is near and whether it is short, how many blocks it has, and whether it makes calls.
-fn extent_of(tac: &Tac) -> Extent
-    ensures { result ≡ extent_of tac.now }
+/// Whether a function is near and whether it is short, how many blocks it has, whether it makes calls, and whether it is to count.
+#[tactic(auto, unfolding(crate::specs::Places::is_near, crate::specs::Places::is_short, crate::specs::Places::makes_calls))]
+fn extent_of(tac: &Tac, counts: bool) -> Extent
+    ensures { result ≡ extent_of (as_counting counts tac.now) }
 {
     Extent {
         near: is_near(tac),
         short: is_short(tac),
         blocks: tac.blocks.as_slice().len() as u64,
         calls: makes_calls(tac),
+        counts,
     }
 }
 
@@ -445,10 +457,12 @@ fn find_places(
     extent: Extent,
 ) -> Result<Places, NoMemory>
     requires has_code { IsTrue (all_has_code tac.now) }
-    requires reads { reads.now ≡ reads_of tac.now }
-    requires extent { extent ≡ extent_of tac.now }
-    ensures starts { IfOk result (λ places. places.starts.items ≡ block_starts (layout_with tac.now homes.now) tac.now 0) }
-    ensures last { IfOk result (λ places. places.last ≡ last_address (layout_with tac.now homes.now) tac.now 0) }
+    requires reads { reads.now ≡ reads_of (as_counting extent.counts tac.now) }
+    requires extent { extent ≡ extent_of (as_counting extent.counts tac.now) }
+    ensures starts { IfOk result (λ places. places.starts.items
+        ≡ block_starts (layout_with (as_counting extent.counts tac.now) homes.now) (as_counting extent.counts tac.now) 0) }
+    ensures last { IfOk result (λ places. places.last
+        ≡ last_address (layout_with (as_counting extent.counts tac.now) homes.now) (as_counting extent.counts tac.now) 0) }
 {
     let mut code = Vec::new(alloc);
     let mut calls = Vec::new(alloc);
@@ -469,19 +483,21 @@ fn find_places(
     Ok(Places { starts, last })
 }
 
-/// The machine's code of a function by its three-address code and an assignment. Its temporaries stand where the assignment says, but for
-/// those whose words are only ever taken from x5, and parameters that have a slot, which stay where they are passed.
-pub fn select(alloc: Global, tac: &Tac, assignment: &Assignment) -> Result<Code, NoMemory>
+/// The machine's code of a function by its three-address code and an assignment, which counts or does not.
+fn select_with(
+    alloc: Global,
+    tac: &Tac,
+    assignment: &Assignment,
+    counts: bool,
+) -> Result<Code, NoMemory>
     requires { IsTrue (all_has_code tac.now) }
-    ensures selected { IfOk result (λ code. IsSelected tac.now assignment.now code) }
-    // By the weights of three-address code: at most 250 words and 136 private bytes a typed node, and 65,536 bytes more, where the code
-    // is sized.
-    ensures within { IfOk result (λ code. KeepsWithin tac.now assignment.now code) }
+    ensures selected { IfOk result (λ code. IsSelected (as_counting counts tac.now) assignment.now code) }
+    ensures within { IfOk result (λ code. KeepsWithin (as_counting counts tac.now) assignment.now code) }
 {
     let reads = reads_of(alloc, tac)?;
     let given = asked_homes(alloc, tac, &reads, assignment.as_slice())?;
     let homes = given.as_slice();
-    let extent = extent_of(tac);
+    let extent = extent_of(tac, counts);
     let places = find_places(alloc, homes, tac, &reads, extent)?;
     let mut words = Vec::new(alloc);
     let mut calls = Vec::new(alloc);
@@ -505,4 +521,26 @@ pub fn select(alloc: Global, tac: &Tac, assignment: &Assignment) -> Result<Code,
         entry: head.entry,
         frame: head.frame,
     })
+}
+
+/// The machine's code of a function by its three-address code and an assignment. Its temporaries stand where the assignment says, but for
+/// those whose words are only ever taken from x5, and parameters that have a slot, which stay where they are passed.
+pub fn select(alloc: Global, tac: &Tac, assignment: &Assignment) -> Result<Code, NoMemory>
+    requires { IsTrue (all_has_code tac.now) }
+    ensures selected { IfOk result (λ code. IsSelected tac.now assignment.now code) }
+    // By the weights of three-address code: at most 250 words and 136 private bytes a typed node, and 65,536 bytes more, where the code
+    // is sized.
+    ensures within { IfOk result (λ code. KeepsWithin tac.now assignment.now code) }
+{
+    select_with(alloc, tac, assignment, tac.counts)
+}
+
+/// The same of code that counts, whether the three-address code says so or not: x9 holds the counts that are left, and before each count
+/// one is taken from it, or an EBREAK is reached where x9 is 0.
+pub fn select_counted(alloc: Global, tac: &Tac, assignment: &Assignment) -> Result<Code, NoMemory>
+    requires { IsTrue (all_has_code tac.now) }
+    ensures selected { IfOk result (λ code. IsSelected (as_counting true tac.now) assignment.now code) }
+    ensures within { IfOk result (λ code. KeepsWithin tac.now assignment.now code) }
+{
+    select_with(alloc, tac, assignment, true)
 }

@@ -5,22 +5,24 @@ ghost use Rattle.rv_select.specs.Settings.{falls, follower, is_next, next_of, se
 
 use tac_form::Edge;
 
-/// Whether a function is near and whether it is short, how many blocks it has, and whether it makes calls.
+/// Whether a function is near and whether it is short, how many blocks it has, whether it makes calls, and whether it counts.
 #[derive(Clone, Copy, PartialEq, Eq)]
 pub struct Extent {
     pub near: bool,
     pub short: bool,
     pub blocks: u64,
     pub calls: bool,
+    pub counts: bool,
 }
 
-/// Where a block's end stands: whether in a near or a short function, and before which block. Behind the last block stands the code
-/// that leaves the function.
+/// Where a block's end stands: whether in a near or a short function, and in one that counts, and before which block. Behind the last
+/// block stands the code that leaves the function.
 #[derive(Clone, Copy, PartialEq, Eq)]
 pub struct Setting {
     pub near: bool,
     pub short: bool,
     pub next: Option<u64>,
+    pub counts: bool,
 }
 
 /// Which of a branch's blocks stands behind it.
@@ -50,6 +52,7 @@ pub(crate) fn setting_of(extent: Extent, rest: u64) -> Setting
         near: extent.near,
         short: extent.short,
         next: next_of(extent.blocks, rest),
+        counts: extent.counts,
     }
 }
 

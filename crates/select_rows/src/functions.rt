@@ -40,6 +40,7 @@ pub fn program(alloc: Global, name: &str) -> Result<Vec<Tac>, NoMemory> {
             functions.push(passing(alloc)?)?;
             functions.push(passed(alloc)?)?;
         }
+        "free" => functions.push(free(alloc)?)?,
         "none" => functions.push(failing(alloc)?)?,
         _ => (),
     }
@@ -67,6 +68,14 @@ fn edge(block: u64) -> Edge {
     Edge {
         block,
         counts: true,
+    }
+}
+
+/// A way that takes no count.
+fn free_edge(block: u64) -> Edge {
+    Edge {
+        block,
+        counts: false,
     }
 }
 
@@ -131,6 +140,16 @@ fn greater(alloc: Global) -> Result<Tac, NoMemory> {
     add(&mut blocks, Vec::new(alloc), give(temp(1)))?;
     add(&mut blocks, Vec::new(alloc), give(temp(0)))?;
     function(alloc, 2, 3, blocks)
+}
+
+/// Whether a number isn't zero: one way takes no count, and the other one.
+fn free(alloc: Global) -> Result<Tac, NoMemory> {
+    let mut blocks = Vec::new(alloc);
+    let exit = Exit::Branch(temp(0), free_edge(2), edge(1));
+    add(&mut blocks, Vec::new(alloc), exit)?;
+    add(&mut blocks, Vec::new(alloc), give(constant(0)))?;
+    add(&mut blocks, Vec::new(alloc), give(constant(1)))?;
+    function(alloc, 1, 1, blocks)
 }
 
 /// The sum of the numbers up to one.

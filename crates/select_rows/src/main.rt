@@ -6,13 +6,16 @@
 //! A row that begins with `run` is the name of a program of `functions` and its arguments: its functions are selected with the
 //! homes that `assign` gives, and run. What comes of them is worked out by hand.
 //!
+//! A row that begins with `counted` is a number of counts and such a program, whose functions count and are entered with so many:
+//! each call takes one, and so does each way to a block that counts.
+//!
 //! A row that begins with `words` is the name of an instruction, and its words are written: addiw x18, x0, 5 of the copy;
 //! ld x5, 88(x2), ld x6, 96(x2), add x5, x5, x6 and sd x5, 88(x2) of the sum.
 #![tactic(auto)]
 
 mod functions;
 
-ghost use Rattle.std.specs.Prelude.{◌≤◌, length, IfOk};
+ghost use Rattle.std.specs.Prelude.{◌≡◌, ◌+◌, ◌*◌, ◌^◌, ◌≤◌, length, IfOk};
 ghost use Rattle.rv_link.specs.Linked.{AreSelected, AreThere};
 
 use elf_image::{Entries, Image, Symbol, Symbols, Words, is_lawful};
@@ -20,8 +23,8 @@ use functions::program;
 use reg_alloc::{Home, assign};
 use row_words::{number_at, operator_of, word_at};
 use rv_link::{Function, blocks_there, is_near, link};
-use rv_machine::{Stop, run_image};
-use rv_select::{all_has_code, push_instruction, select};
+use rv_machine::{MachineKind, Stop, run_image};
+use rv_select::{all_has_code, push_instruction, push_units, select};
 use std::alloc::Global;
 use tac_form::{Instruction, Number, Operand, Size, Tac};
 use terra_words::BinaryOperator;
@@ -58,6 +61,7 @@ fn main(rt: HostRuntime) -> anyhow::Result<()> {
 fn row_answer(alloc: Global, words: &[&str]) -> Result<String, NoMemory> {
     match word_at(words, 0) {
         "run" => program_answer(alloc, words),
+        "counted" => counted_answer(alloc, words),
         "words" => words_answer(alloc, word_at(words, 1)),
         _ => answer(alloc, words),
     }
@@ -103,14 +107,54 @@ fn program_answer(alloc: Global, words: &[&str]) -> Result<String, NoMemory> {
         return Ok(String::from_str(alloc, "no jump reaches so far")?);
     }
     let text = link(alloc, &functions)?.words;
+    run_answer(alloc, text, TEXT_ADDRESS, words, 2)
+}
+
+/// What comes of a program whose functions count, from the words on that give the first of them its counts.
+fn counted_answer(alloc: Global, words: &[&str]) -> Result<String, NoMemory> {
+    let functions = selected(alloc, counting(program(alloc, word_at(words, 2))?))?;
+    if !is_near(&functions) {
+        return Ok(String::from_str(alloc, "no jump reaches so far")?);
+    }
+    let linked = link(alloc, &functions)?;
+    let at = behind(&linked.words);
+    let mut text = linked.words;
+    push_units(&mut text, number_at(words, 1), at, TEXT_ADDRESS)?;
+    run_answer(alloc, text, at, words, 3)
+}
+
+/// The address behind a text.
+fn behind(text: &[u32]) -> u64
+    requires { 65536 + 4 * length text.now ≤ 2 ^ 30 }
+    ensures { result ≡ 65536 + 4 * length text.now }
+{
+    TEXT_ADDRESS + 4 * text.len() as u64
+}
+
+/// The same functions, which count.
+fn counting(mut program: Vec<Tac>) -> Vec<Tac> {
+    for tac in &mut program {
+        tac.counts = true;
+    }
+    program
+}
+
+/// What comes of a text from an address on, with the arguments that stand in a row from a place on.
+fn run_answer(
+    alloc: Global,
+    text: Vec<u32>,
+    at: u64,
+    words: &[&str],
+    first: usize,
+) -> Result<String, NoMemory> {
     let mut arguments = Vec::new(alloc);
-    for place in 2..words.len() {
+    for place in first..words.len() {
         arguments.push(number_at(words, place))?;
     }
     if arguments.len() > 8 {
         return Ok(String::from_str(alloc, "more than eight arguments")?);
     }
-    shown(alloc, run(alloc, text, &arguments)?)
+    shown(alloc, run(alloc, text, at, &arguments)?)
 }
 
 /// The functions of a program, selected, each with its place as its number.
@@ -187,28 +231,28 @@ fn result(
     push_instruction(&mut code, &homes, None, &compute)?;
     code.push(RESULT)?;
     code.push(LEAVE)?;
-    run(alloc, code, &[])
+    run(alloc, code, TEXT_ADDRESS, &[])
 }
 
-/// How the run of a text stops, if there is an image with it.
-fn run(alloc: Global, code: Vec<u32>, arguments: &[u64]) -> Result<Option<Stop>, NoMemory>
+/// How the run of a text from an address on stops, if there is an image with it.
+fn run(alloc: Global, code: Vec<u32>, at: u64, arguments: &[u64]) -> Result<Option<Stop>, NoMemory>
     requires { length arguments.now ≤ 8 }
 {
-    let image = image_of(alloc, code)?;
+    let image = image_of(alloc, code, at)?;
     if !is_lawful(&image) {
         return Ok(None);
     }
     let mut out = MemSink::new(alloc, 0, Vec::new(alloc))?;
-    let stop = run_image(alloc, &image, TEXT_ADDRESS, arguments, STEPS, &mut out)?;
+    let stop = run_image(alloc, &image, at, arguments, STEPS, &mut out)?;
     Ok(Some(stop))
 }
 
-/// An image with this text, and one export at the first word.
-fn image_of(alloc: Global, code: Vec<u32>) -> Result<Image, NoMemory> {
+/// An image with this text, and one export at an address.
+fn image_of(alloc: Global, code: Vec<u32>, at: u64) -> Result<Image, NoMemory> {
     let mut exports = Symbols::new(alloc);
     exports.push(Symbol {
         name: Bytes::from_vec(b"f".to_vec(alloc)?),
-        address: TEXT_ADDRESS,
+        address: at,
         params: Bytes::new(alloc),
         result: 3,
     })?;
@@ -228,6 +272,12 @@ fn shown(alloc: Global, stop: Option<Stop>) -> Result<String, NoMemory> {
         Some(Stop::Returned(value)) => Ok(format!(in alloc; "{value}")?),
         Some(Stop::TerraFault { kind: 2, place: _ }) => Ok(String::from_str(alloc, "fault")?),
         Some(Stop::TerraFault { kind, place: _ }) => Ok(format!(in alloc; "fault {kind}")?),
+        Some(
+            Stop::MachineFault {
+                kind: MachineKind::Break,
+                pc: _,
+            },
+        ) => Ok(String::from_str(alloc, "no count left")?),
         _ => Ok(String::from_str(alloc, "no result")?),
     }
 }

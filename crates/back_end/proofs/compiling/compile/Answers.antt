@@ -1,4 +1,4 @@
-use Rattle.std.proofs.Common.{rules, refl, ◌∙◌, ◌≡◌, ◌+◌, ◌*◌, ◌++◌, ◌^◌, ◌<◌, ◌≤◌, map, ap, subst, sym, List, ℕ, arith}
+use Rattle.std.proofs.Common.{false, rules, refl, ◌∙◌, ◌≡◌, ◌+◌, ◌*◌, ◌++◌, ◌^◌, ◌<◌, ◌≤◌, map, ap, subst, sym, List, ℕ, arith}
 use Rattle.std.specs.Prelude.{◌/◌, length, slice_index}
 use Rattle.tl_base.specs.declared.ids.FnId.{FnId}
 use Rattle.terra_term.specs.Stores.{contents_of}
@@ -21,23 +21,23 @@ use Rattle.back_end.proofs.compiling.compile.Goals as goal
 pub link-requires-clause-selected : goal.link-requires-clause-selected
 link-requires-clause-selected c =
     subst AreSelected (sym c.deref.ensures.value)
-    (are-selected (contents_of c.args.store.now) c.in_ok-compiled.compiled.functions.items c.in_ok-compiled.ensures.whole.made)
+    (are-selected false (contents_of c.args.store.now) c.in_ok-compiled.compiled.functions.items c.in_ok-compiled.ensures.whole.made)
 
 pub link-requires-clause-there : goal.link-requires-clause-there
 link-requires-clause-there c =
     subst AreThere (sym c.deref.ensures.value)
-    (are-there (contents_of c.args.store.now) c.in_ok-compiled.compiled.functions.items c.in_ok-compiled.ensures.whole.made)
+    (are-there false (contents_of c.args.store.now) c.in_ok-compiled.compiled.functions.items c.in_ok-compiled.ensures.whole.made)
 
 pub link-requires-clause-near : goal.link-requires-clause-near
 link-requires-clause-near c =
     subst (λ (xs : List Function). 65536 + 4 * words_in xs + 256 ≤ 2 ^ 30) (sym c.deref.ensures.value)
-    (text-near (contents_of c.args.store.now) c.args.exports.now c.in_ok-compiled.compiled.functions.items c.requires.few
+    (text-near false (contents_of c.args.store.now) c.args.exports.now c.in_ok-compiled.compiled.functions.items c.requires.few
     c.in_ok-compiled.ensures.whole)
 
 pub overflow_mul-result-2 : goal.overflow_mul-result-2
 overflow_mul-result-2 c =
     let few : c.in_ok-linked.linked.frame ≤ 1179648 =
-    frame-fits (contents_of c.args.store.now) c.args.exports.now c.in_ok-compiled.compiled.functions.items c.in_ok-linked.linked
+    frame-fits false (contents_of c.args.store.now) c.args.exports.now c.in_ok-compiled.compiled.functions.items c.in_ok-linked.linked
     c.requires.exports c.requires.names c.requires.few c.in_ok-compiled.ensures.whole
     (subst (λ (xs : List Function). IsLinkedText xs c.in_ok-linked.linked) c.deref.ensures.value c.in_ok-linked.ensures) in
     omega (arith, few)
@@ -72,7 +72,7 @@ returns c =
     let bytes : (k : ℕ) → slice_index image.statics k < 2 ^ 8 =
     λ k. subst (λ (xs : List ℕ). slice_index xs k < 2 ^ 8) (c.deref-4.ensures.value ∙ sym c.from_vec-2.ensures) (c.are_bytes.ensures k) in
     let can : IsLawful image =
-    lawful (contents_of c.args.store.now) c.args.exports.now c.in_ok-compiled.compiled.functions.items c.in_ok-linked.linked c.requires.exports
+    lawful false (contents_of c.args.store.now) c.args.exports.now c.in_ok-compiled.compiled.functions.items c.in_ok-linked.linked c.requires.exports
     c.requires.names c.requires.few c.in_ok-compiled.ensures.whole text image c.from_vec.ensures (c.from_vec-2.ensures ∙ c.in_ok-statics.ensures) memory
     c.requires.half heap refl c.new-entries.ensures symbols words bytes in
     let store = contents_of c.args.store.now in
@@ -84,7 +84,7 @@ returns c =
     (subst AreTypes (sym is.types) (subst AreTypes c.types.ensures c.are_types.ensures)) is.typed memory
     (subst (λ (bytes : List ℕ). length bytes ≤ c.args.limits.memory / 2) (sym is.statics) c.requires.half)
     (outward-part store c.args.exports.now part is c.requires.exports)
-    (whole-part store c.args.exports.now part is fs c.in_ok-compiled.ensures.whole) text can
+    (whole-part store c.args.exports.now part is false fs c.in_ok-compiled.ensures.whole) text can
     (c.from_vec-2.ensures ∙ c.in_ok-statics.ensures ∙ sym is.statics) c.from_vec.ensures c.new-entries.ensures refl
     c.in_ok-compiled.ensures.rising
     (symbols ∙ symbols-part store c.args.exports.now part is (map id_of fs) c.in_ok-linked.linked.starts.items c.args.exports.now

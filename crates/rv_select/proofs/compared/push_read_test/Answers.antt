@@ -11,8 +11,8 @@ returns c =
     let r = c.push_test.result in
     let new = c.push_test.new.code.items in
     let first = first_register y a.held a.a a.b in
-    read-at r old new (λ z. compared a.setting.near a.setting.short a.follows a.signed a.operator first z a.at a.first a.second)
+    read-at r old new (λ z. compared a.setting a.signed a.operator first z a.at a.first_edge a.second_edge a.first a.second)
     c.second_register-rb.result (second_register y a.held a.a a.b) c.second_register-rb.ensures
     (read-at r old new
-    (λ z. compared a.setting.near a.setting.short a.follows a.signed a.operator z c.second_register-rb.result a.at a.first a.second)
+    (λ z. compared a.setting a.signed a.operator z c.second_register-rb.result a.at a.first_edge a.second_edge a.first a.second)
     c.first_register-ra.result first c.first_register-ra.ensures c.push_test.ensures)

@@ -1,4 +1,4 @@
-use Rattle.rv_select.specs.Places.{with_homes}
+use Rattle.rv_select.specs.Places.{with_counting}
 use Rattle.rv_select.proofs.Loops.{calls-end, calls-turn, has-turn, held-end, held-turn, instructions-end, instructions-turn, items-end}
 use Rattle.rv_select.proofs.selection.push_all.Goals as goal
 
@@ -9,7 +9,7 @@ push_one-requires c =
 
 pub loop-instruction-preserved : goal.loop-instruction-preserved
 loop-instruction-preserved c =
-    let y = with_homes c.args.homes.now in
+    let y = with_counting c.args.homes.now c.args.counts in
     let held = c.loop-instruction.held in
     let next = c.held_after-held.result in
     let i = c.loop-instruction.instruction-index in
@@ -28,13 +28,13 @@ loop-instruction-preserved c =
 pub returns-clause-code : goal.returns-clause-code
 returns-clause-code c =
     items-end c.loop-instruction.code.items _ _ c.loop-instruction.invariant.0
-    (instructions-end (with_homes c.args.homes.now) c.args.sizes.now c.loop-instruction.held _ c.loop-instruction.instruction-index
+    (instructions-end (with_counting c.args.homes.now c.args.counts) c.args.sizes.now c.loop-instruction.held _ c.loop-instruction.instruction-index
     c.args.instructions.now c.loop-instruction-test.false)
 
 pub returns-clause-calls : goal.returns-clause-calls
 returns-clause-calls c =
     items-end c.loop-instruction.calls.items _ _ c.loop-instruction.invariant.1
-    (calls-end (with_homes c.args.homes.now) c.args.sizes.now c.loop-instruction.held _ c.loop-instruction.instruction-index
+    (calls-end (with_counting c.args.homes.now c.args.counts) c.args.sizes.now c.loop-instruction.held _ c.loop-instruction.instruction-index
     c.args.instructions.now c.loop-instruction-test.false)
 
 pub returns-clause-held : goal.returns-clause-held

@@ -1,0 +1,16 @@
+use Rattle.std.proofs.Common.{refl}
+use Rattle.rv_isa.specs.declared.operation.BranchCondition.TheVariants.{Ne}
+use Rattle.rv_operators.specs.Codes.{x5}
+use Rattle.rv_select.specs.Shapes.{parted, read_in}
+use Rattle.rv_select.specs.Places.{with_homes}
+use Rattle.rv_select.proofs.Pushed.{read-at, register-as}
+use Rattle.rv_select.proofs.exits.push_read_parted.Goals as goal
+
+pub returns : goal.returns
+returns c =
+    let a = c.args in
+    let y = with_homes a.homes.now in
+    let old = a.code.now.items in
+    read-at c.push_parted.result old c.push_parted.new.code.items
+    (λ z. parted a.setting Ne z a.b a.at a.first_edge a.second_edge a.first a.second) c.read_in-ra.result
+    (read_in y x5 a.a) (register-as (λ q. read_in y q a.a) c.read_in-ra.result _ x5 c.read_in-ra.ensures refl) c.push_parted.ensures
