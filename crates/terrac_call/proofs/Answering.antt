@@ -48,7 +48,7 @@ module _ (due : Due) (found : due.status ≢ statuses.NoMemory) where
   pub due_of_owed : (asked : Asked) (bytes : List ℕ) → IsOwed asked bytes due → IsDue asked bytes due
   due_of_owed (Named (Make what)) bytes is = is
   due_of_owed (Named (Stage task)) bytes is = source_due task (text_of task bytes) is
-  due_of_owed (Named (Exec call steps)) bytes is = is
+  due_of_owed (Named (Exec call stepping)) bytes is = is
   due_of_owed Refused bytes is = is
   due_of_owed Unlawful bytes is = is
 

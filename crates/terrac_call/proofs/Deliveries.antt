@@ -5,7 +5,7 @@ use Rattle.tl_base.specs.Outside.{with_back, IsFront, IsRisen}
 use Rattle.rv_isa.specs.declared.instr.Instr.{Instr}
 use Rattle.rv_machine.specs.declared.stops.Stop.{Stop}
 use Rattle.rv_machine.specs.declared.stops.Stop.TheVariants as stops
-use Rattle.rv_machine.specs.Machine.{Ran, State, run_of}
+use Rattle.rv_machine.specs.Machine.{State, run_of}
 use Rattle.rv_machine.specs.Runs.{Agrees, IsBeforeWrite}
 use Rattle.rv_machine.specs.Steps.{Counted}
 use Rattle.rv_machine.proofs.Reaches.{writes_front, writes_more}
@@ -17,6 +17,7 @@ use Rattle.terrac_call.specs.Exec.{due_of_stop}
 use Rattle.terrac_call.specs.DueView.{due_of_ran, due_with}
 use Rattle.terrac_call.specs.Writing.{IsCutOff, IsWritten}
 use Rattle.terrac_call.specs.Delivery.{Delivered, IsSaid, StopsShort}
+use Rattle.terrac_call.specs.Tracing.{TookAll, TookPart}
 
 -- ---- fronts
 
@@ -37,7 +38,7 @@ front_behind whole part rest f = (f.0, ap (λ (o : List ℕ). whole ++ o) f.1 �
 front_longer : (part whole rest : List ℕ) → IsFront part whole → IsFront part (whole ++ rest)
 front_longer part whole rest f = (f.0 ++ rest, ap (λ (o : List ℕ). o ++ rest) f.1 ∙ append_assoc part f.0 rest)
 
-took_both : (old mid new : Option (List ℕ)) (a b : List ℕ) → mid ≡ with_back old a → new ≡ with_back mid b → new ≡ with_back old (a ++ b)
+pub took_both : (old mid new : Option (List ℕ)) (a b : List ℕ) → mid ≡ with_back old a → new ≡ with_back mid b → new ≡ with_back old (a ++ b)
 took_both old mid new a b first second = second ∙ ap (λ (o : Option (List ℕ)). with_back o b) first ∙ with_back-both old a b
 
 no_result : (status : Status) → status ≡ statuses.WriteFault → status ≡ statuses.Ok → ⊥
@@ -117,7 +118,7 @@ noted_short rest piece status out nb nm nn o n0 n1 n2 SameOut SameNotes same sho
 
 -- ---- what went out before
 
-rose_from : (a b c : ℕ) → b ≡ a → IsRisen b c → IsRisen a c
+pub rose_from : (a b c : ℕ) → b ≡ a → IsRisen b c → IsRisen a c
 rose_from a b c same rose = subst (λ (x : ℕ). IsRisen x c) same rose
 
 -- `out` took this before
@@ -296,6 +297,34 @@ refusal_short status after bytes out nb nm nn o n0 n1 n2 SameOut SameNotes other
 
 -- ---- runs
 
+module _ (written : List ℕ) (front : List ℕ) (code : ℕ) (ends : Stop) (oo on nb nn : Option (List ℕ)) (SameNotes : Type 0) where
+  -- a run that `out` stopped
+  pub run_short : (status : Status) (o0 o1 n0 n1 : ℕ) (SameOut : Type 0) → TookPart written oo on o0 o1
+      → status ≡ statuses.WriteFault → IsSaid nb nn n0 n1
+      → Delivered (due_of_ran front code written ends) status oo on nb nn o0 o1 n0 n1 SameOut SameNotes
+  run_short status o0 o1 n0 n1 SameOut cut is said =
+      let short : StopsShort written oo on o0 o1 = record {
+        front = cut.part;
+        is_front = (cut.rest, cut.front);
+        took = cut.took;
+        rose = cut.rose;
+      } in
+      out_short (due_of_ran front code written ends) written (due_of_stop front code ends).out status oo on nb nn o0 o1 n0 n1 SameOut SameNotes
+      refl cut.some short is said
+
+  -- a run that ended by itself, and the line of its end
+  pub run_whole : (stop : Stop) (om : Option (List ℕ)) (due : Due) (status : Status) (o0 o1 o2 n0 n1 : ℕ) (SameMid SameLast SameOut : Type 0)
+      → TookAll written oo om o0 o1 SameMid → ends ≡ stop → (SameMid → SameLast → SameOut) → due ≡ due_of_stop front code stop
+      → Delivered due status om on nb nn o1 o2 n0 n1 SameLast SameNotes
+      → Delivered (due_of_ran front code written ends) status oo on nb nn o0 o2 n0 n1 SameOut SameNotes
+  run_whole stop om due status o0 o1 o2 n0 n1 SameMid SameLast SameOut all ended same is d =
+      let due_is : due ≡ due_of_stop front code ends = is ∙ ap (λ (x : Stop). due_of_stop front code x) (sym ended) in
+      subst (λ (x : Due). Delivered (after written x) status oo on nb nn o0 o2 n0 n1 SameOut SameNotes) due_is
+      (behind_out written due status oo om on nb nn o0 o1 o2 n0 n1 SameLast SameOut SameNotes all.took all.quiet
+      (λ none last. same (all.none none) last) d)
+
+-- ---- what the program writes
+
 counted_quiet : (stop : Stop) (f0 f1 : ℕ) → Counted stop f0 f1 → stop ≢ stops.WriteFault → f1 ≡ f0
 counted_quiet (stops.MachineFault kind pc) f0 f1 h other = h
 counted_quiet (stops.TerraFault kind place) f0 f1 h other = h
@@ -303,37 +332,26 @@ counted_quiet stops.WriteFault f0 f1 h other = absurd (other refl)
 counted_quiet (stops.Returned value) f0 f1 h other = h
 counted_quiet stops.Unfinished f0 f1 h other = h
 
-module _ (program : List (Option Instr)) (start : State) (steps : ℕ) (front : List ℕ) (code : ℕ) (stop : Stop)
-    (oo on nb nn : Option (List ℕ)) (SameNotes : Type 0) where
-  -- a run that `out` stopped
-  pub run_short : (s : State) (status : Status) (o0 o1 n0 n1 : ℕ) (SameOut : Type 0) → IsBeforeWrite program start steps s oo on
-      → Counted stop o0 o1 → stop ≡ stops.WriteFault → status ≡ statuses.WriteFault → IsSaid nb nn n0 n1
-      → Delivered (due_of_ran front code (run_of program start steps)) status oo on nb nn o0 o1 n0 n1 SameOut SameNotes
-  run_short s status o0 o1 n0 n1 SameOut h counted fault is said =
-      let ran : Ran = run_of program start steps in
+module _ (program : List (Option Instr)) (start : State) (steps : ℕ) (stop : Stop) (s : State) (oo on : Option (List ℕ)) (o0 o1 : ℕ) where
+  pub output_whole : (Same : Type 0) → Agrees (run_of program start steps) stop s oo on → Counted stop o0 o1 → stop ≢ stops.WriteFault
+      → ((run_of program start steps).output ≡ [] → Same) → TookAll (run_of program start steps).output oo on o0 o1 Same
+  output_whole Same agrees counted other none = record {
+    took = agrees.took;
+    quiet = counted_quiet stop o0 o1 counted other;
+    none = none;
+  }
+
+  pub output_cut_off : IsBeforeWrite program start steps s oo on → Counted stop o0 o1 → stop ≡ stops.WriteFault
+      → TookPart (run_of program start steps).output oo on o0 o1
+  output_cut_off h counted fault =
       let part = h.output ++ take h.front h.bytes in
       let behind = drop h.front h.bytes ++ (run_of program h.next (steps - h.done - 1)).output in
-      let cut : ran.output ≡ part ++ behind = writes_front program start steps s oo on h in
-      let some : ran.output ≢ [] =
-      λ none. writes_more program start steps s oo on h (back_none part behind (sym cut ∙ none)) in
-      let short : StopsShort ran.output oo on o0 o1 = record {
-        front = part;
-        is_front = (behind, cut);
+      let cut : (run_of program start steps).output ≡ part ++ behind = writes_front program start steps s oo on h in
+      record {
+        part = part;
+        rest = behind;
+        front = cut;
+        some = λ none. writes_more program start steps s oo on h (back_none part behind (sym cut ∙ none));
         took = h.took;
         rose = subst (λ (x : Stop). Counted x o0 o1) fault counted;
-      } in
-      out_short (due_of_ran front code ran) ran.output (due_of_stop front code ran.stop).out status oo on nb nn o0 o1 n0 n1 SameOut SameNotes
-      refl some short is said
-
-  -- a run that ended by itself, and the line of its end
-  pub run_whole : (s : State) (om : Option (List ℕ)) (due : Due) (status : Status) (o0 o1 o2 n0 n1 : ℕ) (SameMid SameLast SameOut : Type 0)
-      → Agrees (run_of program start steps) stop s oo om → Counted stop o0 o1 → stop ≢ stops.WriteFault
-      → ((run_of program start steps).output ≡ [] → SameMid) → (SameMid → SameLast → SameOut) → due ≡ due_of_stop front code stop
-      → Delivered due status om on nb nn o1 o2 n0 n1 SameLast SameNotes
-      → Delivered (due_of_ran front code (run_of program start steps)) status oo on nb nn o0 o2 n0 n1 SameOut SameNotes
-  run_whole s om due status o0 o1 o2 n0 n1 SameMid SameLast SameOut agrees counted other quiet same is d =
-      let ran : Ran = run_of program start steps in
-      let due_is : due ≡ due_of_stop front code ran.stop = is ∙ ap (λ (x : Stop). due_of_stop front code x) (sym agrees.stops) in
-      subst (λ (x : Due). Delivered (after ran.output x) status oo on nb nn o0 o2 n0 n1 SameOut SameNotes) due_is
-      (behind_out ran.output due status oo om on nb nn o0 o1 o2 n0 n1 SameLast SameOut SameNotes agrees.took
-      (counted_quiet stop o0 o1 counted other) (λ none last. same (quiet none) last) d)
+      }

@@ -25,4 +25,6 @@ pub mod Sources
 pub mod Statuses
 pub mod Telling
 pub mod Top
+pub mod TracedRuns
+pub mod Traces
 pub mod Whole

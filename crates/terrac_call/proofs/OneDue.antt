@@ -1,5 +1,5 @@
 -- A job on some bytes has one thing due.
-use Rattle.std.proofs.Common.{◌≡◌, ◌+◌, ◌≤◌, ℕ, List, [], Option, Some, None, sym, ap, subst, ◌∙◌, arith}
+use Rattle.std.proofs.Common.{◌≡◌, ◌+◌, ◌≤◌, ℕ, List, [], Option, Some, None, sym, ap, ap₂, subst, ◌∙◌, arith}
 use Rattle.tl_tree.specs.Code.{Items}
 use Rattle.tl_tree.specs.Nodes.{lay}
 use Rattle.tl_base.specs.declared.place.Place.{Place}
@@ -13,19 +13,22 @@ use Rattle.elf_image.specs.declared.image.Symbol.{Symbol}
 use Rattle.elf_image.specs.Calls.{symbol_named}
 use Rattle.elf_image.specs.Loads.{Loads, BadBytes}
 use Rattle.rv_machine.specs.Machine.{Ran}
+use Rattle.rv_isa.specs.declared.instr.Instr.{Instr}
 use Rattle.rv_machine.proofs.ImageRuns.{one_run}
+use Rattle.rv_machine.proofs.Programs.{one_program}
 use Rattle.terrac_call.specs.declared.status.ImageFault.TheVariants as faults
 use Rattle.rv_listing.specs.Listing.{Listing, OneListing}
 use Rattle.rv_listing.specs.Assembly.{OneAnswer}
 use Rattle.rv_listing.specs.declared.assembly.AsmKind.{AsmKind}
 use Rattle.terrac_call.specs.declared.status.Status.TheVariants as statuses
-use Rattle.terrac_call.specs.Words.{Call, Make, Stage, Exec, Task, Check, Terms, Emit, Run, Making, Rename, ListImage, Assemble}
+use Rattle.terrac_call.specs.Words.{Call, Stepping, Make, Stage, Exec, Task, Check, Terms, Emit, Run, Making, Rename, ListImage, Assemble}
 use Rattle.terrac_call.specs.Words.{Asked, Named, Refused, Unlawful, asked_of, text_of}
 use Rattle.terrac_call.specs.Arguments.{Arguments, Good, Bad, arguments_of}
 use Rattle.elf_image.specs.Written as files
 use Rattle.terrac_call.specs.Due.{Due, Reading, IsReadingDue, IsRefused, IsTree, refused, given, after, noting}
 use Rattle.terrac_call.specs.Exec.{Manner, plain, shown_file, due_of_bad_image, due_of_stop, IsRunDue, IsCallDue, IsExecDue, IsLong}
 use Rattle.terrac_call.specs.Exec.{IsBad, IsImage}
+use Rattle.terrac_call.specs.Traced.{shown_run}
 use Rattle.terrac_call.specs.Staged.{Compiles, IsDone, IsEndDue, IsRestDue, IsTreeDue, bytes_of, limits_of, mode_of, told}
 use Rattle.terrac_call.specs.Rename as renames
 use Rattle.terrac_call.specs.Listed as listed
@@ -35,16 +38,20 @@ use Rattle.terrac_call.specs.Answer.{IsDue}
 use Rattle.terrac_call.specs.Call.{CompilesNothing, OneDue}
 use Rattle.terrac_call.proofs.OneReading.{one_reading}
 
-due_of_ran : Image → Symbol → Manner → Ran → Due
-due_of_ran image symbol manner ran =
-    noting (shown_file manner image) (after ran.output (due_of_stop manner.front symbol.result ran.stop))
+due_of_ran : Image → Symbol → Manner → List ℕ → Ran → List (Option Instr) → Due
+due_of_ran image symbol manner values ran program =
+    noting (shown_file manner image) (after (shown_run manner.traced image symbol.address values manner.steps program ran)
+    (due_of_stop manner.front symbol.result ran.stop))
 
 one_of_run : (image : Image) (symbol : Symbol) (manner : Manner) (given : Arguments) (one other : Due)
     → IsRunDue image symbol manner given one → IsRunDue image symbol manner given other → one ≡ other
 unfolding due_of_ran
 one_of_run image symbol manner (Bad position) one other p q = p ∙ sym q
 one_of_run image symbol manner (Good values) one other p q =
-    p.2 ∙ ap (due_of_ran image symbol manner) (one_run image symbol.address values manner.steps p.0 q.0 p.1 q.1) ∙ sym q.2
+    p.2
+    ∙ ap₂ (due_of_ran image symbol manner values) (one_run image symbol.address values manner.steps p.0 q.0 p.1 q.1)
+    (one_program image.text p.1.program q.1.program p.1.decoded q.1.decoded)
+    ∙ sym q.2
 
 one_of_call : (image : Image) (call : Call) (manner : Manner) (symbol : Option Symbol) (one other : Due)
     → IsCallDue image call manner symbol one → IsCallDue image call manner symbol other → one ≡ other
@@ -58,21 +65,21 @@ one_fault bytes e f p q = let same : ◌≡◌ {A = Option ImageError} (Some e) 
 no_both : (bytes : List ℕ) (e : ImageError) (image : Image) → BadBytes bytes e → Loads bytes image → ⊥
 no_both bytes e image p q = let bad : ◌≡◌ {A = Option ImageError} (Some e) None = sym p ∙ q.0 in absurd cc
 
-one_of_exec : (call : Call) (steps : ℕ) (bytes : List ℕ) (one other : Due) → IsExecDue call steps bytes one
-    → IsExecDue call steps bytes other → one ≡ other
-one_of_exec call steps bytes one other (IsLong more p) (IsLong long q) = p ∙ sym q
-one_of_exec call steps bytes one other (IsLong more p) (IsBad f few bad q) = absurd (omega arith)
-one_of_exec call steps bytes one other (IsLong more p) (IsImage i few loads q) = absurd (omega arith)
-one_of_exec call steps bytes one other (IsBad e few bad p) (IsLong long q) = absurd (omega arith)
-one_of_exec call steps bytes one other (IsBad e few bad p) (IsBad f less worse q) = p
+one_of_exec : (call : Call) (stepping : Stepping) (bytes : List ℕ) (one other : Due) → IsExecDue call stepping bytes one
+    → IsExecDue call stepping bytes other → one ≡ other
+one_of_exec call stepping bytes one other (IsLong more p) (IsLong long q) = p ∙ sym q
+one_of_exec call stepping bytes one other (IsLong more p) (IsBad f few bad q) = absurd (omega arith)
+one_of_exec call stepping bytes one other (IsLong more p) (IsImage i few loads q) = absurd (omega arith)
+one_of_exec call stepping bytes one other (IsBad e few bad p) (IsLong long q) = absurd (omega arith)
+one_of_exec call stepping bytes one other (IsBad e few bad p) (IsBad f less worse q) = p
     ∙ ap (λ (x : ImageError). due_of_bad_image (faults.Refused x)) (one_fault bytes e f bad worse) ∙ sym q
-one_of_exec call steps bytes one other (IsBad e few bad p) (IsImage i less loads q) = absurd (no_both bytes e i bad loads)
-one_of_exec call steps bytes one other (IsImage i few loads p) (IsLong long q) = absurd (omega arith)
-one_of_exec call steps bytes one other (IsImage i few loads p) (IsBad f less bad q) = absurd (no_both bytes f i bad loads)
-one_of_exec call steps bytes one other (IsImage i few loads p) (IsImage j less read q) =
+one_of_exec call stepping bytes one other (IsBad e few bad p) (IsImage i less loads q) = absurd (no_both bytes e i bad loads)
+one_of_exec call stepping bytes one other (IsImage i few loads p) (IsLong long q) = absurd (omega arith)
+one_of_exec call stepping bytes one other (IsImage i few loads p) (IsBad f less bad q) = absurd (no_both bytes f i bad loads)
+one_of_exec call stepping bytes one other (IsImage i few loads p) (IsImage j less read q) =
     let same : j ≡ i = read.1 ∙ sym loads.1 in
-    one_of_call i call (plain steps []) (symbol_named call.entry i.exports) one other p
-    (subst (λ (x : Image). IsCallDue x call (plain steps []) (symbol_named call.entry x.exports) other) same q)
+    one_of_call i call (plain stepping) (symbol_named call.entry i.exports) one other p
+    (subst (λ (x : Image). IsCallDue x call (plain stepping) (symbol_named call.entry x.exports) other) same q)
 
 -- an image has one listing
 one_of_list : OneListing → (bytes : List ℕ) (one other : Due) → listed.IsListDue bytes one → listed.IsListDue bytes other → one ≡ other
@@ -170,7 +177,7 @@ one_of_job : Laws → (asked : Asked) (bytes : List ℕ) (one other : Due) → C
     → IsDue asked bytes other → one ≡ other
 one_of_job laws Refused bytes one other none p q = absurd none
 one_of_job laws Unlawful bytes one other none p q = p ∙ sym q
-one_of_job laws (Named (Exec call steps)) bytes one other none p q = one_of_exec call steps bytes one other p q
+one_of_job laws (Named (Exec call stepping)) bytes one other none p q = one_of_exec call stepping bytes one other p q
 one_of_job laws (Named (Stage task)) bytes one other none p q =
     one_of_reading laws.settled task none p.0 one other p.2
     (subst (λ (r : Reading). IsReadingDue (IsTreeDue task) r other) (one_reading (text_of task bytes) q.0 p.0 q.1 p.1) q.2)

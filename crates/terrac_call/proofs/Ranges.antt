@@ -14,11 +14,11 @@ use Rattle.clap.specs.declared.builder.value_parser.ValueParser.TheVariants as p
 use Rattle.clap.specs.declared.error.ErrorKind.{ErrorKind}
 use Rattle.clap.proofs.OnLiterals.{clap_on_literals}
 use Rattle.clap.proofs.ValueTestLemmas.{accepts-Accepts}
-use Rattle.terrac_call.specs.Words.{budget_rule, memory_rule, steps_rule, count_rule, command_line, asked_of, asked_job}
+use Rattle.terrac_call.specs.Words.{budget_rule, memory_rule, steps_rule, count_rule, traced_rule, command_line, asked_of, asked_job}
 use Rattle.terrac_call.specs.Words.{Job, Make, Stage, Exec, Rename, ListImage, Assemble, Named, Refused, Unlawful, asm_command}
 use Rattle.terrac_call.specs.Words.{job_of_command, limits_of, number_found, check_command, emit_command, exec_command, gen_command}
-use Rattle.terrac_call.specs.Words.{run_command, terms_command}
-use Rattle.terrac_call.specs.Ranges.{AreLimits, AreSteps, AreWorked, IsCount, IsLawfulJob, IsLawfulTask, JobsAreLawful}
+use Rattle.terrac_call.specs.Words.{run_command, terms_command, trace_command}
+use Rattle.terrac_call.specs.Ranges.{AreLimits, AreSteps, AreTraced, AreWorked, CanStep, IsCount, IsLawfulJob, IsLawfulTask, JobsAreLawful}
 use Rattle.terrac_call.proofs.Found.{Each, HasId, IsDefault, IsNumber, IsOne, all_found, number_in, or_both}
 
 no : false ≡ true → ⊥
@@ -80,6 +80,17 @@ count_in s words one negates fault =
     let number : IsNumber (codes "N") 1 2000 numbered = record { id = refl; set = refl; range = refl; parser = refl } in
     number_in (codes "N") 1 2000 numbered number s one.ones tt words fault one.has (inr (refl, negates))
 
+abbrev first_of_trace : Rule
+first_of_trace = with_index 1 (filled traced_rule)
+
+traced_in : (s : Shape) (words : List Text) → HasOne (codes "K") first_of_trace s → s.subcommand_negates_reqs ≡ false → Takes s words
+    → AreTraced (number_found (codes "K") (rows_of s words))
+traced_in s words one negates fault =
+    let number : IsNumber (codes "K") 1 1000000 first_of_trace = record { id = refl; set = refl; range = refl; parser = refl } in
+    let both =
+    number_in (codes "K") 1 1000000 first_of_trace number s one.ones tt words fault one.has (inr (refl, negates)) in
+    record { least = both.0; most = both.1 }
+
 limits_in : (s : Shape) (words : List Text) → HasOne (codes "budget") (filled budget_rule) s
     → HasOne (codes "memory") (filled memory_rule) s → Takes s words → AreLimits (limits_of (rows_of s words))
 limits_in s words budget memory fault =
@@ -95,7 +106,7 @@ IsInRange (Make Rename) = Unit {0}
 IsInRange (Make ListImage) = Unit {0}
 IsInRange (Make (Assemble entry memory)) = (64 ≤ memory) × (memory ≤ 65536)
 IsInRange (Stage task) = IsLawfulTask task
-IsInRange (Exec call steps) = AreSteps steps
+IsInRange (Exec call stepping) = CanStep stepping.traced stepping.steps
 
 abbrev IsLawfulSub : Shape → Type 0
 IsLawfulSub s = (words : List Text) → Takes s words → IsInRange (job_of_command (Some (s.name, rows_of s words)))
@@ -191,9 +202,18 @@ asm_sub words fault =
       has = inl refl;
     }) fault
 
+trace_sub : IsLawfulSub (sub trace_command.top)
+unfolding clap_on_literals
+trace_sub words fault =
+    traced_in (sub trace_command.top) words
+    (record {
+      ones = (λ e. refl, (λ e. absurd (no e), (λ e. absurd (no e), (λ e. absurd (no e), tt))));
+      has = inl refl;
+    }) refl fault
+
 subs_lawful : Each IsLawfulSub (built command_line).subs
 unfolding clap_on_literals
-subs_lawful = (run_sub, (emit_sub, (exec_sub, (check_sub, (terms_sub, (λ words fault. tt, (gen_sub, (λ words fault. tt, (asm_sub, (λ words fault. tt, tt))))))))))
+subs_lawful = (run_sub, (emit_sub, (exec_sub, (check_sub, (terms_sub, (λ words fault. tt, (gen_sub, (λ words fault. tt, (asm_sub, (trace_sub, (λ words fault. tt, tt)))))))))))
 
 -- ---- the job
 
@@ -224,7 +244,7 @@ asked_lawful (Make (Assemble entry memory)) job range named = by (is_name entry)
     by true e named = let same : Make (Assemble entry memory) ≡ job = cc in subst IsLawfulJob same (range.0, range.1, e)
     by false e named = absurd cc
 asked_lawful (Stage task) job range named = let same : Stage task ≡ job = cc in subst IsLawfulJob same range
-asked_lawful (Exec call steps) job range named = let same : Exec call steps ≡ job = cc in subst IsLawfulJob same range
+asked_lawful (Exec call stepping) job range named = let same : Exec call stepping ≡ job = cc in subst IsLawfulJob same range
 
 pub jobs_are_lawful : JobsAreLawful
 unfolding asked_of
@@ -253,10 +273,12 @@ are_worked = record {
   nameless = refl;
   run = refl;
   exec = refl;
+  trace = refl;
   gen = refl;
   given = refl;
   below = refl;
   above = refl;
+  untold = refl;
   other = refl;
   twice = refl;
   none = refl;

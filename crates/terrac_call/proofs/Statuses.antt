@@ -8,9 +8,11 @@ use Rattle.rv_machine.specs.declared.stops.Stop.TheVariants as stops
 use Rattle.stage_model.specs.Staging.{Ending}
 use Rattle.stage_model.specs.declared.staging.End.{End}
 use Rattle.stage_model.specs.declared.staging.End.TheVariants.{Done, Raised, Spent}
+use Rattle.stage_image.specs.Emitted.{defined_count}
+use Rattle.terrac_call.specs.Run.{manner_of}
 use Rattle.terrac_call.specs.declared.status.Status.{Status}
 use Rattle.terrac_call.specs.declared.status.Status.TheVariants as statuses
-use Rattle.terrac_call.specs.Words.{Call, Job, Make, Stage, Exec, Task, Check, Terms, Emit, Run, Making, Rename, ListImage, Assemble}
+use Rattle.terrac_call.specs.Words.{Call, Stepping, Job, Make, Stage, Exec, Task, Check, Terms, Emit, Run, Making, Rename, ListImage, Assemble}
 use Rattle.terrac_call.specs.Words.{Asked, Named, Refused, Unlawful}
 use Rattle.terrac_call.specs.Arguments.{Arguments, Good, Bad, arguments_of}
 use Rattle.terrac_call.specs.Due.{Due, Reading, IsReadingDue, IsRefused, IsTree}
@@ -64,10 +66,10 @@ of_call : (image : Image) (call : Call) (manner : Manner) (symbol : Option Symbo
 of_call image call manner None due is = as_that due _ is refl
 of_call image call manner (Some symbol) due is = of_run image symbol manner (arguments_of symbol.params 1 call.arguments) due is
 
-of_exec : (call : Call) (steps : ℕ) (bytes : List ℕ) (due : Due) → IsExecDue call steps bytes due → EndsJob due
-of_exec call steps bytes due (IsLong more is) = as_that due _ is refl
-of_exec call steps bytes due (IsBad error few bad is) = as_that due _ is refl
-of_exec call steps bytes due (IsImage image few loads is) = of_call image call (plain steps [])
+of_exec : (call : Call) (stepping : Stepping) (bytes : List ℕ) (due : Due) → IsExecDue call stepping bytes due → EndsJob due
+of_exec call stepping bytes due (IsLong more is) = as_that due _ is refl
+of_exec call stepping bytes due (IsBad error few bad is) = as_that due _ is refl
+of_exec call stepping bytes due (IsImage image few loads is) = of_call image call (plain stepping)
     (symbol_named call.entry image.exports) due is
 
 of_rename : (bytes : List ℕ) (reading : Reading) (due : Due) → IsReadingDue (renames.IsTreeDue bytes) reading due → EndsJob due
@@ -93,7 +95,9 @@ of_done : (task : Task) (it : Ending) (due : Due) → IsDone task it due → End
 of_done (Check limits) it due is = as_that due _ is refl
 of_done (Terms limits) it due is = as_that due _ is refl
 of_done (Emit limits) it due is = as_that due _ is.is refl
-of_done (Run asking) it due is = of_call is.image asking.call _ (symbol_named asking.call.entry is.image.exports) due is.due_is
+of_done (Run asking) it due is =
+    of_call is.image asking.call (manner_of asking (defined_count it.left.world.typing.stage.store))
+    (symbol_named asking.call.entry is.image.exports) due is.due_is
 
 of_end : (task : Task) (it : Ending) (end : End) (due : Due) → IsEndDue task it end due → EndsJob due
 of_end task it Done due is = of_done task it due is
@@ -113,7 +117,7 @@ of_reading task (IsTree tree finish) due is =
 of_owed : (job : Job) (bytes : List ℕ) (due : Due) → IsOwed (Named job) bytes due → EndsJob due
 of_owed (Make what) bytes due is = of_making what bytes due is
 of_owed (Stage task) bytes due is = of_reading task is.0 due is.2
-of_owed (Exec call steps) bytes due is = of_exec call steps bytes due is
+of_owed (Exec call stepping) bytes due is = of_exec call stepping bytes due is
 
 not_ending : (due : Due) (status : Status) → ends_job status ≡ false → EndsJob due → due.status ≢ status
 not_ending due status never ends is = let bad : true ≡ false = sym ends ∙ ap ends_job is ∙ never in absurd cc

@@ -4,7 +4,7 @@ use Rattle.std.proofs.Common.{append-nil, length-append}
 use Rattle.tl_base.specs.declared.place.Place.{Place}
 use Rattle.tl_base.specs.Outside.{with_front, IsAtEnd}
 use Rattle.tl_tree.specs.Code.{Items}
-use Rattle.terrac_call.specs.Words.{Call, Job, Make, Stage, Exec, Task, Making, Rename, ListImage, Assemble, Named, generated_of, source_of}
+use Rattle.terrac_call.specs.Words.{Call, Stepping, Job, Make, Stage, Exec, Task, Making, Rename, ListImage, Assemble, Named, generated_of, source_of}
 use Rattle.terrac_call.specs.Due.{Due, IsDueOfSource, IsNotUtf8, IsReadAs, IsReadingDue, IsText, IsTooLong, Reading, longest}
 use Rattle.terrac_call.specs.Exec.{IsBad, IsExecDue, IsImage, IsLong, longest_image}
 use Rattle.terrac_call.specs.Staged.{IsSourceOwed, IsTreeOwed}
@@ -78,17 +78,17 @@ run_whole task (Some count) text bytes due read is = is
 
 -- ---- an image
 
-exec_longer : (call : Call) (steps : ℕ) (text rest : List ℕ) (due : Due) → longest_image + 1 ≤ length text
-    → IsExecDue call steps text due → IsExecDue call steps (text ++ rest) due
-exec_longer call steps text rest due long (IsLong more is) = IsLong (omega (arith, length-append text rest)) is
-exec_longer call steps text rest due long (IsBad error few bad is) = absurd (omega arith)
-exec_longer call steps text rest due long (IsImage image few loads is) = absurd (omega arith)
+exec_longer : (call : Call) (stepping : Stepping) (text rest : List ℕ) (due : Due) → longest_image + 1 ≤ length text
+    → IsExecDue call stepping text due → IsExecDue call stepping (text ++ rest) due
+exec_longer call stepping text rest due long (IsLong more is) = IsLong (omega (arith, length-append text rest)) is
+exec_longer call stepping text rest due long (IsBad error few bad is) = absurd (omega arith)
+exec_longer call stepping text rest due long (IsImage image few loads is) = absurd (omega arith)
 
-exec_whole : (call : Call) (steps : ℕ) (text bytes : List ℕ) (due : Due) → IsRead (longest_image + 1) text bytes
-    → IsExecDue call steps text due → IsExecDue call steps bytes due
-exec_whole call steps text bytes due (inl same) is = subst (λ (b : List ℕ). IsExecDue call steps b due) same is
-exec_whole call steps text bytes due (inr long) is =
-    subst (λ (b : List ℕ). IsExecDue call steps b due) (sym long.1.1) (exec_longer call steps text long.1.0 due long.0 is)
+exec_whole : (call : Call) (stepping : Stepping) (text bytes : List ℕ) (due : Due) → IsRead (longest_image + 1) text bytes
+    → IsExecDue call stepping text due → IsExecDue call stepping bytes due
+exec_whole call stepping text bytes due (inl same) is = subst (λ (b : List ℕ). IsExecDue call stepping b due) same is
+exec_whole call stepping text bytes due (inr long) is =
+    subst (λ (b : List ℕ). IsExecDue call stepping b due) (sym long.1.1) (exec_longer call stepping text long.1.0 due long.0 is)
 
 -- ---- what is made of bytes
 
@@ -129,7 +129,7 @@ job_whole : (job : Job) (text bytes : List ℕ) (due : Due) → IsRead (most_rea
     → IsOwed (Named job) bytes due
 job_whole (Make what) text bytes due read is = making_whole what text bytes due read is
 job_whole (Stage task) text bytes due read is = run_whole task (generated_of task) text bytes due read is
-job_whole (Exec call steps) text bytes due read is = exec_whole call steps text bytes due read is
+job_whole (Exec call stepping) text bytes due read is = exec_whole call stepping text bytes due read is
 
 -- what is owed on what was read is owed for what the source has left
 pub owed_read : (job : Job) (left new : Option (List ℕ)) (Rose : Type 0) (text : List ℕ) (due : Due)

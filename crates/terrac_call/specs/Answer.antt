@@ -16,7 +16,7 @@ use Rattle.terrac_call.specs.Writing.{Delivers}
 abbrev pub IsDueBy : (Task → List ℕ → Due → Type 0) → Asked → List ℕ → Due → Type 0
 IsDueBy IsOfSource (Named (Make what)) bytes due = IsMakingDue what bytes due
 IsDueBy IsOfSource (Named (Stage task)) bytes due = IsOfSource task (text_of task bytes) due
-IsDueBy IsOfSource (Named (Exec call steps)) bytes due = IsExecDue call steps bytes due
+IsDueBy IsOfSource (Named (Exec call stepping)) bytes due = IsExecDue call stepping bytes due
 IsDueBy IsOfSource Refused bytes due = (text : List ℕ) × (due ≡ due_of_usage text)
 IsDueBy IsOfSource Unlawful bytes due = due ≡ due_of_usage []
 

@@ -29,7 +29,7 @@ AnswersExactly words left RoseSource RoseOut RoseNotes status out_old out_new no
 abbrev pub CompilesNothing : Asked → Type 0
 CompilesNothing (Named (Make what)) = Unit {0}
 CompilesNothing (Named (Stage task)) = Compiles task → ⊥
-CompilesNothing (Named (Exec call steps)) = Unit {0}
+CompilesNothing (Named (Exec call stepping)) = Unit {0}
 CompilesNothing Refused = ⊥
 CompilesNothing Unlawful = Unit {0}
 

@@ -1,5 +1,7 @@
--- What is due for `exec`: an image is read, a function of it is called, and the run of the image says how that ends.
-use Rattle.std.specs.Prelude.{ℕ, ◌≡◌, ◌/◌, ◌%◌, ◌^◌, ◌<◌, ◌≤◌, ◌==◌, if◌then◌else◌, Bool, false, List, [], length, Option, Some, None}
+-- What is due for `exec` and `trace`: an image is read, a function of it is called, and the run of the image says how that
+-- ends.
+use Rattle.std.specs.Prelude.{ℕ, ◌≡◌, ◌/◌, ◌%◌, ◌^◌, ◌<◌, ◌≤◌, ◌==◌, if◌then◌else◌, Bool, false, true, List, []}
+use Rattle.std.specs.Prelude.{length, Option, Some, None}
 use Rattle.tl_base.specs.declared.place.Place.{Place}
 use Rattle.elf_image.specs.declared.error.ImageError.{ImageError}
 use Rattle.elf_image.specs.declared.image.Image.{Image}
@@ -18,9 +20,10 @@ use Rattle.terrac_call.specs.declared.status.FaultKind.{FaultKind}
 use Rattle.terrac_call.specs.declared.status.FaultKind.TheVariants.{BadAddress, DivZero, StackFull, CallDepth, NoReturn, BadCall}
 use Rattle.terrac_call.specs.declared.status.ImageFault.{ImageFault}
 use Rattle.terrac_call.specs.declared.status.ImageFault.TheVariants.{TooLong, Refused}
-use Rattle.terrac_call.specs.Words.{Call}
+use Rattle.terrac_call.specs.Words.{Call, Stepping}
 use Rattle.terrac_call.specs.Arguments.{Arguments, Good, Bad, arguments_of}
 use Rattle.terrac_call.specs.Due.{Due, refused, after, noting, due_of_result, due_of_bad_argument, due_of_no_entry}
+use Rattle.terrac_call.specs.Traced.{shown_run}
 
 -- ---- bytes that are no image
 
@@ -63,16 +66,17 @@ due_of_stop front code stops.WriteFault = refused statuses.WriteFault
 
 -- ---- the whole
 
--- How a call on an image is carried out: for at most how many steps, with which text before the line of its result, and whether the image
--- goes to `notes` before it runs.
+-- How a call on an image is carried out: for at most how many steps, with which text before the line of its result, whether
+-- the image goes to `notes` before it runs, and whether lines of its steps go out in place of what it writes.
 pub record Manner : Type 0 where
   pub steps : ℕ
   pub front : List ℕ
   pub shows : Bool
+  pub traced : Bool
 
--- where no image goes to `notes`
-abbrev pub plain : (steps : ℕ) → (front : List ℕ) → Manner
-plain steps front = record { steps = steps; front = front; shows = false }
+-- the call on an image that is read: it isn't shown, and nothing stands before its result
+abbrev pub plain : Stepping → Manner
+plain it = record { steps = it.steps; front = []; shows = false; traced = it.traced }
 
 -- the file of an image, where it is to be shown
 abbrev pub file_shown : Bool → Image → List ℕ
@@ -84,8 +88,10 @@ shown_file manner image = file_shown manner.shows image
 -- for a function of an image that is called with these values
 abbrev pub IsGoodDue : Image → Symbol → Manner → List ℕ → Due → Type 0
 IsGoodDue image symbol manner values due =
-    (ran : Ran) × RvRun image symbol.address values manner.steps ran
-    × (due ≡ noting (shown_file manner image) (after ran.output (due_of_stop manner.front symbol.result ran.stop)))
+    (ran : Ran) × (run : RvRun image symbol.address values manner.steps ran)
+    × (due ≡ noting (shown_file manner image) (after
+    (shown_run manner.traced image symbol.address values manner.steps run.program ran)
+    (due_of_stop manner.front symbol.result ran.stop)))
 
 -- for these arguments
 abbrev pub IsRunDue : Image → Symbol → Manner → Arguments → Due → Type 0
@@ -98,9 +104,14 @@ IsCallDue image call manner None due = due ≡ due_of_no_entry call.entry
 IsCallDue image call manner (Some symbol) due = IsRunDue image symbol manner (arguments_of symbol.params 1 call.arguments) due
 
 -- for bytes: too many of them; none that are an image; or the image that they are
-pub data IsExecDue (call : Call) (steps : ℕ) (bytes : List ℕ) (due : Due) : Type 0 where
-  IsLong : longest_image < length bytes → due ≡ due_of_bad_image TooLong → IsExecDue call steps bytes due
+pub data IsExecDue (call : Call) (stepping : Stepping) (bytes : List ℕ) (due : Due) : Type 0 where
+  IsLong : longest_image < length bytes → due ≡ due_of_bad_image TooLong → IsExecDue call stepping bytes due
   IsBad : (error : ImageError) → length bytes ≤ longest_image → BadBytes bytes error
-      → due ≡ due_of_bad_image (Refused error) → IsExecDue call steps bytes due
+      → due ≡ due_of_bad_image (Refused error) → IsExecDue call stepping bytes due
   IsImage : (image : Image) → length bytes ≤ longest_image → Loads bytes image
-      → IsCallDue image call (plain steps []) (symbol_named call.entry image.exports) due → IsExecDue call steps bytes due
+      → IsCallDue image call (plain stepping) (symbol_named call.entry image.exports) due
+      → IsExecDue call stepping bytes due
+
+-- for a run of so many steps that is traced
+abbrev pub IsTraceDue : Call → (steps : ℕ) → List ℕ → Due → Type 0
+IsTraceDue call steps bytes due = IsExecDue call (record { steps = steps; traced = true }) bytes due

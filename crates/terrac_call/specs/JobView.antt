@@ -6,6 +6,7 @@ use Rattle.terrac_call.specs.Statuses.{text_of}
 use Rattle.terrac_call.specs.declared.words.Call.{Call as CallValue}
 use Rattle.terrac_call.specs.declared.words.Limits.{Limits as LimitsValue}
 use Rattle.terrac_call.specs.declared.words.Running.{Running as RunningValue}
+use Rattle.terrac_call.specs.declared.words.Stepping.{Stepping as SteppingValue}
 use Rattle.terrac_call.specs.declared.words.Asking.{Asking as AskingValue}
 use Rattle.terrac_call.specs.declared.words.Making.{Making as MakingValue}
 use Rattle.terrac_call.specs.declared.words.Making.TheVariants as makings
@@ -18,7 +19,8 @@ use Rattle.terrac_call.specs.declared.words.Asked.{Asked as AskedValue}
 use Rattle.terrac_call.specs.declared.words.Asked.TheVariants as asked
 use Rattle.terrac_call.specs.declared.arguments.Arguments.{Arguments as ArgumentsValue}
 use Rattle.terrac_call.specs.declared.arguments.Arguments.TheVariants as values
-use Rattle.terrac_call.specs.Words.{Call, Limits, Running, Asking, Making, Rename, ListImage, Assemble, Task, Check, Terms, Emit, Run}
+use Rattle.terrac_call.specs.Words.{Call, Limits, Running, Stepping, Asking, Making, Rename, ListImage, Assemble}
+use Rattle.terrac_call.specs.Words.{Task, Check, Terms, Emit, Run}
 use Rattle.terrac_call.specs.Words.{Job, Make, Stage, Exec, Asked, Named, Refused, Unlawful}
 use Rattle.terrac_call.specs.Arguments.{Arguments, Good, Bad}
 use Rattle.terrac_call.specs.Due.{line}
@@ -37,11 +39,14 @@ shown_limits limits = record { budget = limits.budget; memory = limits.memory }
 abbrev pub shown_running : RunningValue → Running
 shown_running running = record { limits = shown_limits running.limits; steps = running.steps; shows = running.shows }
 
+abbrev pub shown_stepping : SteppingValue → Stepping
+shown_stepping it = record { steps = it.steps; traced = it.traced }
+
 abbrev pub shown_asking : AskingValue → Asking
 shown_asking it = record { call = shown_call it.call; running = shown_running it.running; generated = it.generated }
 
 abbrev pub shown_manner : MannerValue → Manner
-shown_manner manner = record { steps = manner.steps; front = manner.front.now; shows = manner.shows }
+shown_manner it = record { steps = it.steps; front = it.front.now; shows = it.shows; traced = it.traced }
 
 abbrev pub shown_making : MakingValue → Making
 shown_making makings.Rename = Rename
@@ -57,7 +62,7 @@ shown_task (tasks.Run asking) = Run (shown_asking asking)
 abbrev pub shown_job : JobValue → Job
 shown_job (jobs.Make what) = Make (shown_making what)
 shown_job (jobs.Stage task) = Stage (shown_task task)
-shown_job (jobs.Exec call steps) = Exec (shown_call call) steps
+shown_job (jobs.Exec call stepping) = Exec (shown_call call) (shown_stepping stepping)
 
 abbrev pub shown_asked : AskedValue → Asked
 shown_asked (asked.Job job) = Named (shown_job job)

@@ -9,8 +9,10 @@ pub mod Ranges
 pub mod Arguments
 -- what is due to the caller, and how a source reads
 pub mod Due
--- what is due for `exec`
+-- what is due for `exec` and `trace`
 pub mod Exec
+-- what a run writes
+pub mod Traced
 -- what is due for a call of what a source exports, by a run of its image
 pub mod Run
 -- what is due for a source that is staged: `run`, `emit`, `check`, `terms` and `gen`
@@ -44,3 +46,4 @@ pub mod EndView
 pub mod ParsedView
 pub mod MadeView
 pub mod Delivery
+pub mod Tracing

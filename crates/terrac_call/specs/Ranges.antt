@@ -1,5 +1,5 @@
 -- The ranges of what the words name: `clap` refuses words that name a number beyond its range.
-use Rattle.std.specs.Prelude.{ℕ, ◌≡◌, ◌≤◌, List, [], ◌∷◌, Option, Some, None, IsTrue, codes, false}
+use Rattle.std.specs.Prelude.{ℕ, ◌≡◌, ◌≤◌, Bool, true, false, List, [], ◌∷◌, Option, Some, None, IsTrue, codes}
 use Rattle.clap.specs.Words.{Text}
 use Rattle.elf_image.specs.Lawful.{is_name}
 use Rattle.terrac_call.specs.Words.{Limits, Running, Making, Rename, ListImage, Assemble, Task, Check, Terms, Emit, Run, Job, Make, Stage, Exec}
@@ -16,6 +16,15 @@ pub record AreLimits (limits : Limits) : Type 0 where
 pub record AreSteps (steps : ℕ) : Type 0 where
   pub least : 1 ≤ steps
   pub most : steps ≤ 1000000000000
+
+-- from 1 to 1,000,000 steps, where each is told
+pub record AreTraced (steps : ℕ) : Type 0 where
+  pub least : 1 ≤ steps
+  pub most : steps ≤ 1000000
+
+abbrev pub CanStep : (traced : Bool) → (steps : ℕ) → Type 0
+CanStep true steps = AreTraced steps
+CanStep false steps = AreSteps steps
 
 -- from 1 to 2,000 functions of a generated source
 abbrev pub IsCount : Option ℕ → Type 0
@@ -37,7 +46,7 @@ IsLawfulMaking (Assemble entry memory) = (64 ≤ memory) × (memory ≤ 65536) �
 abbrev pub IsLawfulJob : Job → Type 0
 IsLawfulJob (Make what) = IsLawfulMaking what
 IsLawfulJob (Stage task) = IsLawfulTask task
-IsLawfulJob (Exec call steps) = AreSteps steps
+IsLawfulJob (Exec call stepping) = CanStep stepping.traced stepping.steps
 
 -- so each job is that words name
 abbrev pub JobsAreLawful : Type 0
@@ -69,13 +78,16 @@ pub record AreWorked : Type 0 where
         generated = None;
       })))
   pub exec : asked_of (codes "terrac" ∷ codes "exec" ∷ codes "add" ∷ [])
-      ≡ Named (Exec (record { entry = codes "add"; arguments = [] }) 100000000)
+      ≡ Named (Exec (record { entry = codes "add"; arguments = [] }) (record { steps = 100000000; traced = false }))
+  pub trace : asked_of (codes "terrac" ∷ codes "trace" ∷ codes "+5" ∷ codes "add" ∷ codes "2" ∷ [])
+      ≡ Named (Exec (record { entry = codes "add"; arguments = codes "2" ∷ [] }) (record { steps = 5; traced = true }))
   pub gen : asked_of (codes "terrac" ∷ codes "gen" ∷ codes "2000" ∷ [])
       ≡ Named (Stage (Run (record { call = main_call; running = default_running; generated = Some 2000 })))
   pub given : asked_of (codes "terrac" ∷ codes "check" ∷ codes "--budget" ∷ codes "4000000" ∷ codes "--memory=64" ∷ [])
       ≡ Named (Stage (Check (record { budget = 4000000; memory = 64 })))
   pub below : asked_of (codes "terrac" ∷ codes "check" ∷ codes "--budget" ∷ codes "0" ∷ []) ≡ Refused
   pub above : asked_of (codes "terrac" ∷ codes "gen" ∷ codes "2001" ∷ []) ≡ Refused
+  pub untold : asked_of (codes "terrac" ∷ codes "trace" ∷ codes "1000001" ∷ codes "add" ∷ []) ≡ Refused
   pub other : asked_of (codes "terrac" ∷ codes "check" ∷ codes "--steps" ∷ codes "1" ∷ []) ≡ Refused
   pub twice : asked_of (codes "terrac" ∷ codes "emit" ∷ codes "--memory" ∷ codes "64" ∷ codes "--memory" ∷ codes "64" ∷ []) ≡ Refused
   pub none : asked_of (codes "terrac" ∷ []) ≡ Refused

@@ -28,6 +28,6 @@ most_of_making (Assemble entry memory) = longest + 1
 abbrev pub most_read : Asked → ℕ
 most_read (Named (Make what)) = most_of_making what
 most_read (Named (Stage task)) = most_of_source (generated_of task)
-most_read (Named (Exec call steps)) = longest_image + 1
+most_read (Named (Exec call stepping)) = longest_image + 1
 most_read Refused = 0
 most_read Unlawful = 0

@@ -1,5 +1,5 @@
 -- What is due for a call of what a source exports: that is compiled to one image, whose run says what it prints, and its result.
-use Rattle.std.specs.Prelude.{ℕ, ◌++◌, ◌*◌, List, [], Option, Some, None, codes}
+use Rattle.std.specs.Prelude.{ℕ, false, ◌++◌, ◌*◌, List, [], Option, Some, None, codes}
 use Rattle.std.specs.Fmt.{decimal}
 use Rattle.tl_base.specs.declared.limits.TheConstants.Limits.{MEMORY_UNIT}
 use Rattle.elf_image.specs.declared.image.Image.{Image}
@@ -22,6 +22,7 @@ manner_of it functions = record {
   steps = it.running.steps;
   front = front_of it.generated functions;
   shows = it.running.shows;
+  traced = false;
 }
 
 -- the bytes of the memory of what is compiled

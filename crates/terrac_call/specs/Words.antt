@@ -1,6 +1,6 @@
 -- What the words of a command line ask for, by what `clap` says of a simple command: which words it takes, and what it makes of them.
 use Rattle.std.specs.Prelude.{ℕ, ◌≡◌, ◌^◌, Bool, ◌&&◌, ◌==◌, nat_lt, List, [], ◌∷◌, length, Option, Some, None, unwrap_or}
-use Rattle.std.specs.Prelude.{if◌then◌else◌, true, codes}
+use Rattle.std.specs.Prelude.{if◌then◌else◌, true, false, codes}
 use Rattle.std.specs.List.{list_all}
 use Rattle.std.specs.Char.{digit_value}
 use Rattle.std.specs.Str.{bytes_eq}
@@ -64,6 +64,10 @@ image_rule = record (new_rule (codes "image")) {
 abbrev pub count_rule : Rule
 count_rule = record (new_rule (codes "N")) { required = true; parser = Some (parsers.Unsigned 1 2000) }
 
+-- K: a number of steps from 1 to 1,000,000, required
+abbrev pub traced_rule : Rule
+traced_rule = record (new_rule (codes "K")) { required = true; parser = Some (parsers.Unsigned 1 1000000) }
+
 -- a command with the limits of a staging
 abbrev pub staging_command : App → App
 staging_command app = with_rule (with_rule app budget_rule) memory_rule
@@ -106,6 +110,10 @@ list_command = new_app (codes "list")
 abbrev pub asm_command : App
 asm_command = with_rule (with_rule (new_app (codes "asm")) memory_rule) entry_rule
 
+-- trace K ENTRY ARG.., without options
+abbrev pub trace_command : App
+trace_command = with_rule (with_rule (with_rule (new_app (codes "trace")) traced_rule) entry_rule) arguments_rule
+
 -- the program without a command
 abbrev pub program : App
 program = record { top = record (new_shape (codes "terrac")) { subcommand_required = true }; subs = [] }
@@ -119,13 +127,15 @@ command_line =
     (with_subcommand
     (with_subcommand
     (with_subcommand
+    (with_subcommand
     (with_subcommand (with_subcommand (with_subcommand program run_command.top) emit_command.top) exec_command.top)
     check_command.top)
     terms_command.top)
     rename_command.top)
     gen_command.top)
     list_command.top)
-    asm_command.top
+    asm_command.top)
+    trace_command.top
 
 -- ---- the job
 
@@ -151,6 +161,11 @@ pub record Asking : Type 0 where
   pub running : Running
   pub generated : Option ℕ
 
+-- how a function of an image is run: for at most how many steps, and whether a line tells of each in place of what it writes
+pub record Stepping : Type 0 where
+  pub steps : ℕ
+  pub traced : Bool
+
 -- what is made of bytes, with nothing written before it: a source with its locals renamed; the listing of an image; or the image of lines
 -- of instructions, with a function of this name and so many KiB of memory
 pub data Making : Type 0 where
@@ -166,11 +181,11 @@ pub data Task : Type 0 where
   Emit : (limits : Limits) → Task
   Run : (asking : Asking) → Task
 
--- to make something of bytes; to stage a source; or to run an entry of an image for at most so many steps
+-- to make something of bytes; to stage a source; or to run an entry of an image
 pub data Job : Type 0 where
   Make : (what : Making) → Job
   Stage : (task : Task) → Job
-  Exec : (call : Call) (steps : ℕ) → Job
+  Exec : (call : Call) (stepping : Stepping) → Job
 
 -- how many functions the source of a task has, where it is generated
 abbrev pub generated_of : Task → Option ℕ
@@ -209,7 +224,7 @@ call_of rows = record {
   arguments = unwrap_or (all_of (codes "ARG") rows) [];
 }
 
--- the number that was found for an option or for N
+-- the number that was found for an option, for N or for K
 abbrev pub number_found : Text → List Row → ℕ
 number_found id rows = number_or_zero (text_or_none (first_of id rows))
 
@@ -238,18 +253,26 @@ gen_of rows = record { call = main_call; running = running_of rows; generated = 
 abbrev pub assembly_of : List Row → Making
 assembly_of rows = Assemble (text_or_none (first_of (codes "ENTRY") rows)) (number_found (codes "memory") rows)
 
--- the job of a command with what was found for its arguments; there is one of nine
+-- the run of an image, and one that is traced
+abbrev pub exec_of : List Row → Job
+exec_of rows = Exec (call_of rows) (record { steps = number_found (codes "steps") rows; traced = false })
+
+abbrev pub trace_of : List Row → Job
+trace_of rows = Exec (call_of rows) (record { steps = number_found (codes "K") rows; traced = true })
+
+-- the job of a command with what was found for its arguments; there is one of ten
 abbrev pub job_of_command : Option (Text × List Row) → Job
 job_of_command None = Make Rename
 job_of_command (Some found) =
     if bytes_eq found.0 (codes "run") then Stage (Run (run_of found.1))
-    else (if bytes_eq found.0 (codes "exec") then Exec (call_of found.1) (number_found (codes "steps") found.1)
+    else (if bytes_eq found.0 (codes "exec") then exec_of found.1
     else (if bytes_eq found.0 (codes "check") then Stage (Check (limits_of found.1))
     else (if bytes_eq found.0 (codes "terms") then Stage (Terms (limits_of found.1))
     else (if bytes_eq found.0 (codes "emit") then Stage (Emit (limits_of found.1))
     else (if bytes_eq found.0 (codes "gen") then Stage (Run (gen_of found.1))
     else (if bytes_eq found.0 (codes "list") then Make ListImage
-    else (if bytes_eq found.0 (codes "asm") then Make (assembly_of found.1) else Make Rename)))))))
+    else (if bytes_eq found.0 (codes "asm") then Make (assembly_of found.1)
+    else (if bytes_eq found.0 (codes "trace") then trace_of found.1 else Make Rename))))))))
 
 -- ---- what is asked for
 
@@ -268,7 +291,7 @@ asked_making (Assemble entry memory) = if is_name entry then Named (Make (Assemb
 abbrev pub asked_job : Job → Asked
 asked_job (Make what) = asked_making what
 asked_job (Stage task) = Named (Stage task)
-asked_job (Exec call steps) = Named (Exec call steps)
+asked_job (Exec call stepping) = Named (Exec call stepping)
 
 -- what the words ask for, the program's own name first: refused exactly where `clap` refuses them
 unfoldable pub asked_of : List Text → Asked

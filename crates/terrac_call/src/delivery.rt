@@ -2,15 +2,19 @@
 
 ghost use Rattle.std.specs.Prelude.{◌≡◌, ◌≢◌, ◌<◌};
 ghost use Rattle.rv_machine.specs.declared.stops.Stop.TheVariants as stops;
+ghost use Rattle.rv_machine.specs.Machine.{run_of};
+ghost use Rattle.rv_machine.specs.Shown.{program_of, state_of};
 ghost use Rattle.terrac_call.specs.Delivery.{Delivered, IsSaid};
 ghost use Rattle.terrac_call.specs.DueView.{due_of_ready, due_of_rest, due_of_run, due_of_work, due_with, shown_due};
+ghost use Rattle.terrac_call.specs.Tracing.{IsTextOf, TookAll, TookPart, words_in, written_of};
 ghost use Rattle.terrac_call.specs.declared.status.Status.TheVariants as statuses;
 
 use crate::due::{Due, Ready, Rest, Stream, Work};
 use crate::ends::stop_due;
 use crate::status::Status;
+use crate::tracing::trace;
 use crate::writing::write_piece;
-use rv_machine::Stop;
+use rv_machine::{Machine, Stop};
 use tl_base::{Failed, Sink};
 
 /// Writes what work comes to, what a staging printed before the rest, and answers its status.
@@ -45,7 +49,7 @@ fn finish<K: Sink, N: Sink>(rest: Rest, out: &mut K, notes: &mut N) -> Status
     }
 }
 
-/// Runs a machine, whose program writes to `out`, and writes the line of its end.
+/// Runs a machine, and writes the line of its end behind what its program writes, or behind the lines of its steps.
 fn run<K: Sink, N: Sink>(ready: Ready, out: &mut K, notes: &mut N) -> Status
     ensures { Delivered (due_of_run ready) result (K.taken out.old) (K.taken out.new) (N.taken notes.old) (N.taken notes.new)
         (K.faults out.old) (K.faults out.new) (N.faults notes.old) (N.faults notes.new) (out.new ≡ out.old) (notes.new ≡ notes.old) }
@@ -56,12 +60,36 @@ fn run<K: Sink, N: Sink>(ready: Ready, out: &mut K, notes: &mut N) -> Status
         file: _,
         front,
         code,
+        words,
         line,
     } = ready;
-    let stop = machine.run(steps, out);
+    let stop = run_machine(&mut machine, &words, steps, out);
     match stop {
         Stop::WriteFault => write_fault(notes),
         _ => deliver(stop_due(front.as_str(), code, stop, line), out, notes),
+    }
+}
+
+/// Runs a machine, whose program writes to `out`, or which is traced there.
+fn run_machine<K: Sink>(
+    machine: &mut Machine,
+    words: &Option<Vec<u32>>,
+    steps: u64,
+    out: &mut K,
+) -> Stop
+    requires { IsTextOf (words_in words.now) (program_of machine.old) }
+    ensures whole { result ≢ stops.WriteFault →
+        TookAll (written_of (words_in words.now) (program_of machine.old) (state_of machine.old) steps)
+        (K.taken out.old) (K.taken out.new) (K.faults out.old) (K.faults out.new) (out.new ≡ out.old) }
+    ensures ended { result ≢ stops.WriteFault →
+        (run_of (program_of machine.old) (state_of machine.old) steps).stop ≡ result }
+    ensures cut_off { result ≡ stops.WriteFault →
+        TookPart (written_of (words_in words.now) (program_of machine.old) (state_of machine.old) steps)
+        (K.taken out.old) (K.taken out.new) (K.faults out.old) (K.faults out.new) }
+{
+    match words {
+        None => machine.run(steps, out),
+        Some(words) => trace(machine, words, steps, out),
     }
 }
 

@@ -1,6 +1,8 @@
 // What is due to the caller, and the work that a job comes to.
 
 ghost use Rattle.std.specs.Prelude.{◌≡◌, ◌≢◌, ◌+◌, ◌≤◌, [], length, string_bytes, vec_capacity};
+ghost use Rattle.rv_machine.specs.Shown.{program_of};
+ghost use Rattle.terrac_call.specs.Tracing.{IsTextOf, IsTextOf-prop, words_in};
 ghost use Rattle.terrac_call.specs.declared.status.Status.TheVariants as statuses;
 ghost use Rattle.terrac_call.specs.declared.due.TheConstants.{LONGEST_END};
 
@@ -66,8 +68,11 @@ pub(crate) struct Ready {
     pub front: String,
     /// The code of the result's type.
     pub code: u8,
+    /// The words of the text, where the run is traced.
+    pub words: Option<Vec<u32>>,
     /// Room for the line of each end.
     pub line: Vec<u8>,
     ghost empty: { (line.items ≡ []) },
+    ghost text: { IsTextOf (words_in words) (program_of machine) } by { IsTextOf-prop (words_in words) (program_of machine) },
     ghost room: { length (string_bytes front) + LONGEST_END ≤ vec_capacity line },
 }

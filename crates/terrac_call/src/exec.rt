@@ -7,14 +7,15 @@ ghost use Rattle.elf_image.specs.declared.error.ImageError.TheVariants as errors
 ghost use Rattle.terrac_call.specs.Arguments.{Good};
 ghost use Rattle.terrac_call.specs.declared.status.ImageFault.TheVariants.{Refused};
 ghost use Rattle.terrac_call.specs.Exec.{due_of_bad_image, file_shown, IsRunDue, IsCallDue, IsExecDue};
-ghost use Rattle.terrac_call.specs.DueView.{due_of_rest, shown_due};
-ghost use Rattle.terrac_call.specs.JobView.{shown_call, shown_manner};
+ghost use Rattle.terrac_call.specs.DueView.{due_of_rest, shown_due, words_traced};
+ghost use Rattle.terrac_call.specs.Tracing.{words_in};
+ghost use Rattle.terrac_call.specs.JobView.{shown_call, shown_manner, shown_stepping};
 
 use crate::arguments::{Arguments, arguments_of};
 use crate::due::{Due, LONGEST_END, Ready, Rest};
 use crate::lines::{bad_argument_due, bad_image_due, no_entry_due};
 use crate::status::ImageFault;
-use crate::words::Call;
+use crate::words::{Call, Stepping};
 use elf_image::{Image, ImageError, LONGEST_IMAGE, Symbol, read, write};
 use rv_machine::Machine;
 use std::alloc::Global;
@@ -29,25 +30,29 @@ pub(crate) struct Manner<'a> {
     pub front: &'a str,
     /// Whether the image goes to `notes` before it runs.
     pub shows: bool,
+    /// Whether its steps are told, in place of what the program writes.
+    pub traced: bool,
 }
 
 /// What is due for a call on the bytes of an image.
 pub(crate) fn exec(
     alloc: Global,
     call: &Call<'_>,
-    steps: u64,
+    stepping: Stepping,
     bytes: &[u8],
 ) -> Result<Rest, NoMemory>
-    ensures { IfOk result (λ rest. IsExecDue (shown_call call.now) steps bytes.now (due_of_rest rest)) }
+    ensures { IfOk result (λ rest.
+        IsExecDue (shown_call call.now) (shown_stepping stepping) bytes.now (due_of_rest rest)) }
 {
     if bytes.len() > LONGEST_IMAGE {
         let due = bad_image_due(alloc, ImageFault::TooLong)?;
         return Ok(Rest::Due(due));
     }
     let manner = Manner {
-        steps,
+        steps: stepping.steps,
         front: "",
         shows: false,
+        traced: stepping.traced,
     };
     match read(alloc, bytes) {
         Ok(image) => call_image(alloc, call, &manner, &image),
@@ -93,8 +98,8 @@ pub(crate) fn call_image(
     }
 }
 
-/// A run of a function of an image, with all the memory that it takes: the machine's, that of the image's file where it is shown, and
-/// room for the line of each end.
+/// A run of a function of an image, with all the memory that it takes: the machine's, that of the image's file where it is
+/// shown, of the words of text where the run is traced, and room for the line of each end.
 fn ready(
     alloc: Global,
     image: &Image,
@@ -109,6 +114,7 @@ fn ready(
     let mut machine = Machine::load(alloc, image)?;
     machine.start(symbol.address, values);
     let file = file_shown(alloc, manner.shows, image)?;
+    let words = words_traced(alloc, manner.traced, image)?;
     let front = String::from_str(alloc, manner.front)?;
     let line = Vec::with_capacity(alloc, front.len() + LONGEST_END)?;
     Ok(Rest::Run(Ready {
@@ -117,8 +123,20 @@ fn ready(
         file,
         front,
         code: symbol.result,
+        words,
         line,
     }))
+}
+
+/// The words of an image's text where its run is traced, and else none.
+fn words_traced(alloc: Global, traced: bool, image: &Image) -> Result<Option<Vec<u32>>, NoMemory>
+    ensures { IfOk result (λ words. words_in words ≡ words_traced traced image.now) }
+{
+    if !traced {
+        return Ok(None);
+    }
+    let words = Vec::from_slice(alloc, image.text.as_slice())?;
+    Ok(Some(words))
 }
 
 /// The file of an image where it is shown, and else nothing.

@@ -17,6 +17,7 @@ mod parsing;
 mod reading;
 mod source;
 pub mod status;
+mod tracing;
 mod words;
 mod work;
 mod writing;

@@ -253,6 +253,7 @@ fn call_exported(
         steps: asking.running.steps,
         front: front.as_str(),
         shows: asking.running.shows,
+        traced: false,
     };
     call_image(alloc, &asking.call, &manner, image)
 }

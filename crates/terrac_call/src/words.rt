@@ -10,7 +10,9 @@ ghost use Rattle.terrac_call.specs.Words.{entry_rule, arguments_rule, count_rule
 ghost use Rattle.clap.specs.declared.builder.command.Command.{out-Command};
 ghost use Rattle.terrac_call.specs.Words.{image_rule, run_command, emit_command, exec_command, check_command};
 ghost use Rattle.terrac_call.specs.Words.{terms_command, rename_command, gen_command, list_command, asm_command};
+ghost use Rattle.terrac_call.specs.Words.{trace_command, traced_rule};
 ghost use Rattle.terrac_call.specs.Words.{command_line, call_of, limits_of, running_of, run_of, gen_of, number_found, number_or_zero};
+ghost use Rattle.terrac_call.specs.Words.{exec_of, trace_of};
 ghost use Rattle.terrac_call.specs.Words.{text_or_none, generated_of, assembly_of, asked_job, asked_making, asked_of};
 ghost use Rattle.terrac_call.specs.Words.{job_of_command, AreTaken, Refused};
 ghost use Rattle.terrac_call.specs.JobView.{texts_of, shown_call, shown_limits, shown_running, shown_asking, shown_job, shown_asked};
@@ -47,6 +49,15 @@ pub(crate) struct Running {
     pub steps: u64,
     /// Whether the image goes to `notes` before it runs.
     pub shows: bool,
+}
+
+/// How a function of an image is run.
+#[derive(Clone, Copy, Drop)]
+pub(crate) struct Stepping {
+    /// How many instructions are executed at most.
+    pub steps: u64,
+    /// Whether a line tells of each, in place of what the program writes.
+    pub traced: bool,
 }
 
 /// Which function of a source is called, and how the source is run.
@@ -101,8 +112,8 @@ pub(crate) enum Job<'a> {
     Make(Making<'a>),
     /// To stage a source.
     Stage(Task<'a>),
-    /// To run an entry of an image for at most so many steps.
-    Exec(Call<'a>, u64),
+    /// To run an entry of an image.
+    Exec(Call<'a>, Stepping),
 }
 
 /// What words ask for.
@@ -200,7 +211,7 @@ fn job_named<'a>(alloc: Global, name: &str, found: &ArgMatches<'a>) -> Result<Jo
     if name == "run" {
         Ok(Job::Stage(Task::Run(run_of(alloc, found)?)))
     } else if name == "exec" {
-        Ok(Job::Exec(call_of(alloc, found)?, number_found(found, "steps")))
+        exec_of(alloc, found)
     } else if name == "check" {
         Ok(Job::Stage(Task::Check(limits_of(found))))
     } else if name == "terms" {
@@ -213,6 +224,8 @@ fn job_named<'a>(alloc: Global, name: &str, found: &ArgMatches<'a>) -> Result<Jo
         Ok(Job::Make(Making::ListImage))
     } else if name == "asm" {
         Ok(Job::Make(assembly_of(found)))
+    } else if name == "trace" {
+        trace_of(alloc, found)
     } else {
         Ok(Job::Make(Making::Rename))
     }
@@ -242,6 +255,34 @@ fn gen_of<'a>(alloc: Global, found: &ArgMatches<'a>) -> Asking<'a>
         running: running_of(found),
         generated: Some(number_found(found, "N")),
     }
+}
+
+// The run of an image that was found.
+fn exec_of<'a>(alloc: Global, found: &ArgMatches<'a>) -> Result<Job<'a>, NoMemory>
+    ensures { IfOk result (λ job. shown_job job ≡ exec_of (rows_of (found_of found.now))) }
+{
+    let call = call_of(alloc, found)?;
+    Ok(Job::Exec(
+        call,
+        Stepping {
+            steps: number_found(found, "steps"),
+            traced: false,
+        },
+    ))
+}
+
+// The run of an image that is traced, that was found.
+fn trace_of<'a>(alloc: Global, found: &ArgMatches<'a>) -> Result<Job<'a>, NoMemory>
+    ensures { IfOk result (λ job. shown_job job ≡ trace_of (rows_of (found_of found.now))) }
+{
+    let call = call_of(alloc, found)?;
+    Ok(Job::Exec(
+        call,
+        Stepping {
+            steps: number_found(found, "K"),
+            traced: true,
+        },
+    ))
 }
 
 // The image that is assembled, by what was found.
@@ -306,7 +347,7 @@ fn running_of(found: &ArgMatches<'_>) -> Running
     }
 }
 
-// The number that was found for an option or for N.
+// The number that was found for an option, for N or for K.
 fn number_found(found: &ArgMatches<'_>, id: &str) -> u64
     ensures { result ≡ number_found id.now (rows_of (found_of found.now)) }
 {
@@ -338,7 +379,8 @@ fn command_line<'a>(alloc: Global) -> Result<Command<'a>, AllocError>
         .subcommand(rename_command(alloc)?)?
         .subcommand(gen_command(alloc)?)?
         .subcommand(list_command(alloc)?)?
-        .subcommand(asm_command(alloc)?)?;
+        .subcommand(asm_command(alloc)?)?
+        .subcommand(trace_command(alloc)?)?;
     Ok(command)
 }
 
@@ -482,6 +524,22 @@ fn asm_command<'a>(alloc: Global) -> Result<Command<'a>, AllocError>
     Ok(command)
 }
 
+// trace K ENTRY ARG.., without options.
+fn trace_command<'a>(alloc: Global) -> Result<Command<'a>, AllocError>
+    ensures shape { IfOk result (λ command. app_of command ≡ trace_command) }
+    ensures local { IfOk result (λ command. (out-Command command).has_globals ≡ false) }
+{
+    let command = Command::new(alloc, "trace")
+        .about(
+            "Runs a function of an image, read on standard input; writes a line for each step, then `result` and a value.",
+        )
+        .after_help("Example: terrac trace 5 five < five.elf")
+        .arg(traced_argument(alloc))?
+        .arg(entry_argument(alloc))?
+        .arg(call_arguments(alloc))?;
+    Ok(command)
+}
+
 // --budget.
 fn budget_argument<'a>(alloc: Global) -> Arg<'a>
     ensures rule { rule_of result ≡ budget_rule }
@@ -543,6 +601,17 @@ fn count_argument<'a>(alloc: Global) -> Arg<'a>
         .required(true)
         .help("How many functions, from 1 to 2000")
         .value_parser(ValueParser::unsigned(1, 2_000))
+}
+
+// K.
+fn traced_argument<'a>(alloc: Global) -> Arg<'a>
+    ensures rule { rule_of result ≡ traced_rule }
+    ensures local { result.global ≡ false }
+{
+    Arg::new(alloc, "K")
+        .required(true)
+        .help("How many instructions are executed at most, from 1 to 1000000")
+        .value_parser(ValueParser::unsigned(1, 1_000_000))
 }
 
 // ENTRY.

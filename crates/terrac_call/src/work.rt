@@ -119,8 +119,8 @@ fn job_work(alloc: Global, job: &Job<'_>, bytes: &[u8]) -> Result<Work, NoMemory
             Ok(Work::of(alloc, Rest::Due(due)))
         }
         Job::Stage(task) => stage(alloc, task, bytes),
-        Job::Exec(call, steps) => {
-            let rest = exec(alloc, call, *steps, bytes)?;
+        Job::Exec(call, stepping) => {
+            let rest = exec(alloc, call, *stepping, bytes)?;
             Ok(Work::of(alloc, rest))
         }
     }

@@ -24,5 +24,7 @@ returns c =
     ∙ ap₂ with_subcommand with_rename (ap (λ (a : App). a.top) c.in_ok-gen_command.ensures.shape) in
     let with_list = c.in_ok-subcommand-8.ensures.shape c.in_ok-list_command.ensures.local
     ∙ ap₂ with_subcommand with_gen (ap (λ (a : App). a.top) c.in_ok-list_command.ensures.shape) in
-    c.in_ok-command.ensures.shape c.in_ok-asm_command.ensures.local
-    ∙ ap₂ with_subcommand with_list (ap (λ (a : App). a.top) c.in_ok-asm_command.ensures.shape)
+    let with_asm = c.in_ok-subcommand-9.ensures.shape c.in_ok-asm_command.ensures.local
+    ∙ ap₂ with_subcommand with_list (ap (λ (a : App). a.top) c.in_ok-asm_command.ensures.shape) in
+    c.in_ok-command.ensures.shape c.in_ok-trace_command.ensures.local
+    ∙ ap₂ with_subcommand with_asm (ap (λ (a : App). a.top) c.in_ok-trace_command.ensures.shape)
