@@ -28,6 +28,7 @@ pub mod selected;
 pub mod selection;
 pub mod settings;
 mod short;
+mod signatures;
 
 pub use calls::{push_call_jump, push_units};
 pub use compared::push_compared;
