@@ -1,6 +1,6 @@
 -- What a store holds, what each call reads of it, and what each call makes of it. Ids are places in these lists, and an id past
 -- the end names nothing.
-use Rattle.std.specs.Prelude.{ℕ, ◌<◌, ◌+◌, ◌*◌, ◌/◌, Bool, true, false, ◌&&◌, nat_eq, nat_le, if◌then◌else◌, List, [], ◌∷◌, ◌++◌, length}
+use Rattle.std.specs.Prelude.{◌≡◌, ℕ, ◌<◌, ◌+◌, ◌*◌, ◌/◌, Bool, true, false, ◌&&◌, nat_eq, nat_le, if◌then◌else◌, List, [], ◌∷◌, ◌++◌, length}
 use Rattle.std.specs.Prelude.{find, position, bytes_eq, Option, Some, None, slice_get, slice_set, option_map}
 use Rattle.std.specs.Option.{option_map_or}
 use Rattle.tl_base.specs.declared.place.Place.{Place}
@@ -200,9 +200,18 @@ end_from end (s ∷ ss) = end_from (s.address + length s.bytes) ss
 abbrev pub statics_end : List Static → ℕ
 statics_end statics = end_from first_static statics
 
+-- the first multiple of 16 at or after an address
+abbrev pub next_from : (end : ℕ) → ℕ
+next_from end = (end + 15) / 16 * 16
+
 -- the address of the next static: the first multiple of 16 at or after the last one's end
 abbrev pub next_static : List Static → ℕ
-next_static statics = (statics_end statics + 15) / 16 * 16
+next_static statics = next_from (statics_end statics)
+
+-- statics stand one behind the other, each at the first multiple of 16 at or after the end of the one before
+abbrev pub AreStacked : (end : ℕ) → List Static → Type 0
+AreStacked end [] = Unit {0}
+AreStacked end (s ∷ ss) = (s.address ≡ next_from end) × AreStacked (s.address + length s.bytes) ss
 
 -- whether statics with so many bytes more take at most half of the memory
 abbrev pub has_room : (memory : ℕ) → List Static → (size : ℕ) → Bool

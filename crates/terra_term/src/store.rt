@@ -7,7 +7,7 @@ ghost use Rattle.terra_term.specs.Held.{empty, next_symbol, with_symbol, next_fu
 ghost use Rattle.terra_term.specs.Held.{standing_of, with_defined, with_state, begun, finished, refused, next_quote, with_quote};
 ghost use Rattle.terra_term.specs.Held.{next_constant, with_constant, next_term, with_term, next_typed, with_typed, NamesTyped};
 ghost use Rattle.terra_term.specs.Held.{QuotesTyped, ended, text_address, room_for, placed_text, with_text, placed_global, with_global};
-ghost use Rattle.terra_term.specs.Held.{name_of, name_place, with_name};
+ghost use Rattle.terra_term.specs.Held.{name_of, name_place, with_name, first_static, AreStacked};
 ghost use Rattle.terra_term.specs.Sizes.{size_of_term, size_of_typed};
 ghost use Rattle.terra_term.specs.Finding.{texts_in, found_texts, ids_of};
 
@@ -423,6 +423,13 @@ impl Store {
             Some(node) => Some(node.size()),
             None => None,
         }
+    }
+
+    /// Statics stand one behind the other, each at the next multiple of 16. This is a law, and does nothing.
+    pub fn statics_are_stacked(&self)
+        ensures { AreStacked first_static self.now.statics }
+    {
+        let _statics = &self.statics;
     }
 
     /// Where a static of so many bytes comes to lie; `None` exactly where it would pass half of the memory, which is in bytes.
