@@ -1,4 +1,6 @@
 pub mod Called
 pub mod Compiling
 pub mod Few
+pub mod FaultPlaces
+pub mod Placed
 pub mod Plains

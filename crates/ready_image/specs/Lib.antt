@@ -1,2 +1,4 @@
 -- What compiling asks of a store.
 pub mod Ready
+-- Faults have places of a text.
+pub mod Places

@@ -20,7 +20,6 @@ use Rattle.spec_model.specs.Meaning.{spec}
 use Rattle.spec_model.specs.declared.question.SpecQuestion.{SpecQuestion}
 use Rattle.spec_model.specs.declared.question.SpecQuestion.TheVariants as spec_questions
 use Rattle.exotype.specs.World.{StageState}
-use Rattle.lua_ops.specs.declared.fault.Fault.TheVariants.{CallsTerra}
 use Rattle.lua_table.specs.declared.call.LibCall.{LibCall}
 use Rattle.lua_table.specs.declared.call.LibNext.{LibNext}
 use Rattle.lua_table.specs.declared.call.LibTurn.{LibTurn}
@@ -58,10 +57,10 @@ use Rattle.stage_check.specs.declared.asking.Asker.TheVariants as begins
 use Rattle.stage_check.specs.Asking as of_asking
 use Rattle.stage_check.specs.Asking.{called, exporting}
 use Rattle.stage_check.specs.Results.{result_meaning}
-use Rattle.stage_model.specs.Calling.{raised, refusing}
-use Rattle.stage_model.specs.Stage.{typing_meaning, checking_fitting, stage}
+use Rattle.stage_model.specs.Stage.{checking_fitting, meaning, stage}
 use Rattle.stage_check.specs.Layers.{stage_fitting, asking_fitting, body_fitting, result_fitting, check_fitting, layout_fitting}
 use Rattle.stage_check.specs.Layers.{stage_asks, body_asks, check_asks, layout_asks, job_of, job_meaning}
+use Rattle.stage_alike.proofs.Calls.{called-same}
 
 -- ---- what is asked for
 
@@ -226,23 +225,11 @@ job-same items other alike (jobs.Layout t at) proper =
     within_means_same Any (IsJobAsked items other) layout_fitting (layout (record { of = t; at = at })) (layout (record { of = t; at = at }))
     (layout-asks items other) (itself (layout (record { of = t; at = at })))
 
--- a call of a Terra function reads no tree
-refusing-same : (items other : Items) (place : Place) → MeanSame (IsJob items other) (refusing place) (refusing place)
-refusing-same items other place first later =
-    (refl, asking-turn-only items other place (asks.Turn (raised first.state place CallsTerra).turn) (raised first.state place CallsTerra).left)
-
-asked-same : (items other : Items) → AreAlike items other → (question : Asked) → IsJobAsked items other question
-    → MeanSame (IsJobAsked items other) (typing_meaning items question) (typing_meaning other question)
-asked-same items other alike (asked.Job job) proper = job-same items other alike job proper
-asked-same items other alike (asked.Terra f vs place) proper =
-    within_means_same (IsJob items other) (IsJobAsked items other) asking_fitting (refusing place) (refusing place) (λ q h. h)
-    (refusing-same items other place)
-
 pub stage-same : (items other : Items) → AreAlike items other → StagesSame (IsJobAsked items other) (stage items) (stage other)
-stage-same items other alike = record {
-  go = refl;
-  answer_of = λ end. refl;
-  meaning = λ question proper.
-      within_means_same (IsJobAsked items other) (IsJobAsked items other) checking_fitting (typing_meaning items question)
-      (typing_meaning other question) (λ q h. h) (asked-same items other alike question proper);
-}
+stage-same items other alike = record { go = refl; answer_of = λ end. refl; meaning = same }
+  where
+    same : (question : Asked) → IsJobAsked items other question → MeanSame (IsJobAsked items other) (meaning items question) (meaning other question)
+    same (asked.Job job) proper =
+        within_means_same (IsJobAsked items other) (IsJobAsked items other) checking_fitting (job_meaning items job) (job_meaning other job)
+        (λ q h. h) (job-same items other alike job proper)
+    same (asked.Terra f vs at) proper = called-same (IsJobAsked items other) f vs at tt

@@ -1,3 +1,11 @@
+pub mod Adding
+pub mod Calls
+pub mod Compiling
+pub mod Ended
+pub mod Least
 pub mod Lines
+pub mod Machines
+pub mod Raises
 pub mod Sound
 pub mod Turning
+pub mod Passing

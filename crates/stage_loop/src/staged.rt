@@ -8,18 +8,17 @@ ghost use Rattle.lua_eval.specs.Slots.{ArePaths};
 ghost use Rattle.spec_sound.specs.Sound.{ArePlaced};
 ghost use Rattle.check_expr.specs.Frames.{is_go};
 ghost use Rattle.stage_check.specs.Layers.{rest as job_rest, Fits as JobFits};
-ghost use Rattle.stage_model.specs.Calling.{calling};
 ghost use Rattle.stage_model.specs.Stage.{checking_fitting};
 ghost use Rattle.stage_loop.specs.Layers.{StagingGiven, Keeps};
 
-use crate::calling::resume_calling;
+use crate::calling::Calling;
 use crate::world::Staging;
 use check_model::CheckAnswer;
 use stage_check::jobs::answer_of;
 use stage_check::{Asked, CheckStage, JobEnd, Staged as JobLayer};
 use stage_form::Stages;
 use std::alloc::Global;
-use tl_base::{Budget, Layer, NoMemory, Place, Turn};
+use tl_base::{Budget, Layer, NoMemory, Turn};
 use tl_rename::Slots;
 use tl_tree::Tree;
 
@@ -48,37 +47,17 @@ fn resume_job(
     Ok(turn)
 }
 
-/// Calls a Terra function, whatever begins that.
-fn resume_call(
-    place: Place,
-    staging: &mut Staging,
-    budget: &mut Budget,
-    answer: CheckAnswer,
-) -> Result<Turn<Asked, JobEnd>, NoMemory>
-    ensures turn { IfOk result (λ turn. within checking_fitting (calling place) (given answer staging.old budget.old) []
-        ≡ seen turn (state staging.new budget.new)) }
-    ensures reads_no_more { IfOk result (λ turn. UnlessAsk turn ((later : List StagingGiven) →
-        within checking_fitting (calling place) (given answer staging.old budget.old) later
-        ≡ seen turn (state staging.new budget.new))) }
-    ensures ends { IfOk result (λ turn. OnAsk turn (λ _. ⊥)) }
-    ensures kept { OnOk result (Keeps staging.old staging.new) }
-    ensures paid { OnOk result (budget.new ≤ budget.old) }
-{
-    let turn = resume_calling(place, &mut staging.typing, budget, answer)?;
-    Ok(turn)
-}
-
 /// A layer of the stage, which is to begin, or is suspended.
 #[derive(Drop)]
 pub enum Layered<'a> {
     /// What does a job.
     Job(JobLayer<'a>),
-    /// It is to call a Terra function, at this place.
-    Calling(Place),
+    /// What calls a Terra function.
+    Calling(Calling),
 }
 
 impl Layer for Layered<'_> {
-    ghost use Rattle.stage_loop.specs.Layers.{rest, Fits};
+    ghost use Rattle.stage_loop.specs.Layers.{rest, Fits, Follows};
 
     type World = Staging;
 
@@ -92,7 +71,7 @@ impl Layer for Layered<'_> {
 
     ghost fits = { Fits };
 
-    ghost follows = { λ question s next. is_go next.answer ≡ false };
+    ghost follows = { Follows };
 
     ghost keeps = { Keeps };
 
@@ -104,7 +83,7 @@ impl Layer for Layered<'_> {
     ) -> Result<Turn<Asked, JobEnd>, NoMemory> {
         match self {
             Layered::Job(layer) => resume_job(layer, staging, budget, answer),
-            Layered::Calling(place) => resume_call(*place, staging, budget, answer),
+            Layered::Calling(calling) => calling.resume(staging, budget, answer),
         }
     }
 }
@@ -130,6 +109,7 @@ impl<'a> Stagings<'a> {
 }
 
 impl<'a> Stages for Stagings<'a> {
+    ghost use Rattle.std.specs.Prelude.{refl};
     ghost use Rattle.stage_library.proofs.Keeping.{keeps_itself, keeps_then};
     ghost use Rattle.stage_check.specs.Layers.{ends_follow};
     ghost use Rattle.stage_model.specs.Stage.{stage};
@@ -154,7 +134,7 @@ impl<'a> Stages for Stagings<'a> {
 
     ghost layers_hold = { λ stages. stages_hold_sound (items_of stages.inner.inner.tree.now) stages.placed };
 
-    ghost ends_follow = { λ stages question asked now end kept paid left. ends_follow end };
+    ghost ends_follow = { λ stages question asked now end kept paid left. (ends_follow end, end, (refl, left)) };
 
     ghost keeps_self = { λ w. keeps_itself w.typing.stage };
 
@@ -163,7 +143,9 @@ impl<'a> Stages for Stagings<'a> {
     fn start(&self, alloc: Global, asked: Asked) -> Layered<'a> {
         match asked {
             Asked::Job(job) => Layered::Job(self.inner.start(alloc, job)),
-            Asked::Terra(_, _, place) => Layered::Calling(place),
+            Asked::Terra(f, arguments, place) => {
+                Layered::Calling(Calling::new(f, arguments, place))
+            }
         }
     }
 

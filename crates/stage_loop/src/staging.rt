@@ -1,8 +1,8 @@
 // The staging of a source, and its outcome.
 
-ghost use Rattle.std.specs.Prelude.{ℕ, ◌≡◌, ◌≤◌, [], length, IfOk, OnOk, Some};
+ghost use Rattle.std.specs.Prelude.{ℕ, ◌≡◌, ◌≤◌, ◌%◌, [], length, IfOk, OnOk, Some};
 ghost use Rattle.tl_base.specs.Layer.{state};
-ghost use Rattle.tl_base.specs.declared.limits.TheConstants.Limits.{MAX_MEMORY};
+ghost use Rattle.tl_base.specs.declared.limits.TheConstants.Limits.{MAX_BUDGET, MAX_MEMORY, MEMORY_UNIT, MIN_MEMORY};
 ghost use Rattle.stage_form.specs.Stage.{final_of};
 ghost use Rattle.tl_tree.specs.Arena.{items_of, end_of as finish_of};
 ghost use Rattle.spec_model.specs.Making.{is_undefined};
@@ -11,7 +11,9 @@ ghost use Rattle.stage_form.specs.Holding.{OnEnds};
 ghost use Rattle.stage_model.specs.Staging.{ending, begun, after_check, by_mode, checks};
 ghost use Rattle.stage_model.specs.Staging.{checked_final, gave_values, line_of, lines_in, raised_text, end_in, outcome, outcome_from};
 ghost use Rattle.stage_loop.specs.Layers.{Keeps};
+ghost use Rattle.stage_loop.specs.Runs.{AreSteps, IsMemory};
 
+use crate::runs::{Runs, Steps};
 use crate::staged::Stagings;
 use crate::world::Staging;
 use check_model::Typing;
@@ -32,13 +34,15 @@ use tl_rename::resolve;
 use tl_tree::Tree;
 
 /// What a staging comes to: the end, the checks that were made in order where all functions were to be checked and units lacked for none,
-/// and what the staging worked in and the units that are left then.
+/// what the staging worked in and the units that are left then; and for each run of a Terra function that Lua code called the number of
+/// steps that its image took.
 #[derive(Drop)]
 pub struct Outcome {
     pub end: End,
     pub checks: Vec<CheckLine>,
     pub staging: Box<Staging>,
     pub left: u64,
+    pub steps: Steps,
 }
 
 /// Stages a source with so many units, for a program with so many bytes of memory: its chunk is evaluated over the opening
@@ -50,9 +54,13 @@ pub fn stage(
     memory: u64,
     mode: Mode,
 ) -> Result<Outcome, NoMemory>
-    requires { memory ≤ MAX_MEMORY }
+    requires units { units ≤ MAX_BUDGET }
+    requires least { MIN_MEMORY ≤ memory }
+    requires most { memory ≤ MAX_MEMORY }
+    requires whole { memory % MEMORY_UNIT ≡ 0 }
     ensures means { IfOk result (λ it. (n : ℕ) × (outcome (items_of tree.now) (finish_of tree.now) mode n units memory
         ≡ Some (ending it.end it.checks.items (state it.staging.value it.left)))) }
+    ensures steps { IfOk result (λ it. AreSteps memory it.staging.value.runs it.steps) }
     ensures paid { IfOk result (λ it. it.left ≤ units) }
 {
     let slots = resolve(alloc, tree)?;
@@ -76,6 +84,7 @@ fn stage_from(
     ensures means { IfOk result (λ it. (n : ℕ)
         × (outcome_from (items_of stages.now.inner.inner.tree.now) place mode n (state staging.value units)
         ≡ Some (ending it.end it.checks.items (state it.staging.value it.left)))) }
+    ensures steps { IfOk result (λ it. AreSteps staging.value.typing.stage.memory it.staging.value.runs it.steps) }
     ensures paid { IfOk result (λ it. it.left ≤ units) }
 {
     let mut budget = Budget::new(units);
@@ -99,24 +108,26 @@ fn stage_from(
     )?;
     settle(&mut lines, &came);
     let end = end_of(&staging, &came)?;
+    let steps = staging.steps(alloc)?;
     Ok(Outcome {
         end,
         checks: lines,
         staging,
         left: budget.left(),
+        steps,
     })
 }
 
 /// What a staging works in at the begin of a source.
 fn open(alloc: Global, memory: u64) -> Result<Box<Staging>, NoMemory>
-    requires { memory ≤ MAX_MEMORY }
+    requires { IsMemory memory }
     ensures { IfOk result (λ staging. staging.value ≡ begun memory) }
 {
-    let world = World::new(alloc, Types::new(alloc)?, memory);
+    let mut world = World::new(alloc, Types::new(alloc)?, memory);
+    world.heap = terra_lib::opening(alloc)?;
     let typing = Typing::new(alloc, world);
-    let mut staging = Box::new(alloc, Staging { typing })?;
-    staging.typing.world.heap = terra_lib::opening(alloc)?;
-    Ok(staging)
+    let runs = Runs::new(alloc, memory);
+    Ok(Box::new(alloc, Staging { typing, runs })?)
 }
 
 /// Goes on behind a chunk, as the mode says.

@@ -1,7 +1,7 @@
 // What is written of a staging: texts alone, for a caller that has no use for the world.
 
-ghost use Rattle.std.specs.Prelude.{◌≡◌, ◌≤◌, ◌++◌, Some, IfOk, OnOk};
-ghost use Rattle.tl_base.specs.declared.limits.TheConstants.Limits.{MAX_MEMORY};
+ghost use Rattle.std.specs.Prelude.{◌≡◌, ◌≤◌, ◌%◌, ◌++◌, Some, IfOk, OnOk};
+ghost use Rattle.tl_base.specs.declared.limits.TheConstants.Limits.{MAX_BUDGET, MAX_MEMORY, MEMORY_UNIT, MIN_MEMORY};
 ghost use Rattle.tl_tree.specs.Arena.{items_of, end_of as finish_of};
 ghost use Rattle.stage_text.specs.Terms.{terms_text};
 ghost use Rattle.check_model.specs.Typing.{function_at};
@@ -29,7 +29,10 @@ pub fn stage_checks(
     units: u64,
     memory: u64,
 ) -> Result<Written, NoMemory>
-    requires { memory ≤ MAX_MEMORY }
+    requires units { units ≤ MAX_BUDGET }
+    requires least { MIN_MEMORY ≤ memory }
+    requires most { memory ≤ MAX_MEMORY }
+    requires whole { memory % MEMORY_UNIT ≡ 0 }
     ensures { IfOk result (λ it. AreChecks (items_of tree.now) (finish_of tree.now) units memory it) }
 {
     let outcome = stage(alloc, tree, units, memory, Mode::CheckAll)?;
@@ -45,7 +48,10 @@ pub fn stage_terms(
     units: u64,
     memory: u64,
 ) -> Result<Written, NoMemory>
-    requires { memory ≤ MAX_MEMORY }
+    requires units { units ≤ MAX_BUDGET }
+    requires least { MIN_MEMORY ≤ memory }
+    requires most { memory ≤ MAX_MEMORY }
+    requires whole { memory % MEMORY_UNIT ≡ 0 }
     ensures { IfOk result (λ it. AreTerms (items_of tree.now) (finish_of tree.now) units memory it) }
 {
     let outcome = stage(alloc, tree, units, memory, Mode::Exports)?;

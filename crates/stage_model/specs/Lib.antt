@@ -8,8 +8,7 @@ pub mod Places
 -- The stage: its world, and what each question means.
 pub mod Stage
 pub mod World
--- Calls of Terra functions by Lua code: as they are answered yet, and in the six steps in which they will run.
-pub mod Calling
+-- Calls of Terra functions by Lua code, in their six steps.
 pub mod Calls
 -- What Lua code and Terra functions give one another.
 pub mod Words

@@ -12,23 +12,19 @@ use Rattle.stage_check.specs.declared.jobs.Asked.TheVariants as asked
 use Rattle.stage_check.specs.declared.jobs.Job.{Job}
 use Rattle.stage_check.specs.declared.jobs.JobEnd.{JobEnd}
 use Rattle.stage_check.specs.Layers.{job_meaning, answer_of}
-use Rattle.stage_model.specs.Calling.{calling}
+use Rattle.stage_model.specs.Calls.{called}
 use Rattle.stage_model.specs.World.{with_typing}
 pub use Rattle.stage_model.specs.World.{TerraRun, StagingState}
 
 -- ---- what each question means
 
--- among functions that are typed
-abbrev pub typing_meaning : Items → Asked → Meaning TypingState Asked CheckAnswer JobEnd
-typing_meaning items (asked.Job job) = job_meaning items job
-typing_meaning items (asked.Terra f vs place) = calling place
-
--- these have what bodies are typed in, and the runs stay while they work
+-- jobs have what bodies are typed in, and the runs stay while they work
 abbrev pub checking_fitting : Fitting StagingState TypingState Asked Asked CheckAnswer CheckAnswer JobEnd JobEnd
 checking_fitting = record { part = λ w. w.typing; with_part = with_typing; question = λ q. q; answer = λ a. a; end = λ e. e }
 
 abbrev pub meaning : Items → Asked → Meaning StagingState Asked CheckAnswer JobEnd
-meaning items question = within checking_fitting (typing_meaning items question)
+meaning items (asked.Job job) = within checking_fitting (job_meaning items job)
+meaning items (asked.Terra f vs at) = called f vs at
 
 -- ---- the stage
 

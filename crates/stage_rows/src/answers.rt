@@ -1,10 +1,13 @@
 // What comes of a row.
 
+ghost use Rattle.std.specs.Prelude.{◌≤◌};
+ghost use Rattle.tl_base.specs.declared.limits.TheConstants.Limits.{MAX_BUDGET};
+
 use row_words::SourceRow;
 use stage_loop::{stage, stage_checks, stage_terms};
 use stage_model::{End, Mode, Written};
 use std::alloc::Global;
-use tl_base::{Bytes, NoMemory};
+use tl_base::{Bytes, Limits, NoMemory};
 use tl_lex::LONGEST_TEXT;
 use tl_parse::{SyntaxError, parse};
 use tl_tree::Tree;
@@ -61,6 +64,10 @@ pub fn answer(alloc: Global, row: &Row) -> Result<Bytes, NoMemory> {
         out.push_all(b"-- too long\n")?;
         return Ok(out);
     }
+    if row.source.units > Limits::MAX_BUDGET {
+        out.push_all(b"-- too many units\n")?;
+        return Ok(out);
+    }
     match parse(alloc, source) {
         Ok(tree) => {
             push_runs(alloc, &mut out, &tree, row)?;
@@ -76,7 +83,9 @@ pub fn answer(alloc: Global, row: &Row) -> Result<Bytes, NoMemory> {
 }
 
 /// Puts what comes of a row's tree behind other text: with all its units, and where it has units, with one less.
-fn push_runs(alloc: Global, out: &mut Bytes, tree: &Tree<'_>, row: &Row) -> Result<(), NoMemory> {
+fn push_runs(alloc: Global, out: &mut Bytes, tree: &Tree<'_>, row: &Row) -> Result<(), NoMemory>
+    requires { row.now.source.units ≤ MAX_BUDGET }
+{
     let units = row.source.units;
     match row.kind {
         Kind::Ends => push_staging(alloc, out, tree, units)?,
@@ -94,15 +103,13 @@ fn push_runs(alloc: Global, out: &mut Bytes, tree: &Tree<'_>, row: &Row) -> Resu
 }
 
 /// Stages a source with so many units, and puts what it prints and a line with its end behind other text.
-fn push_staging(
-    alloc: Global,
-    out: &mut Bytes,
-    tree: &Tree<'_>,
-    units: u64,
-) -> Result<(), NoMemory> {
+fn push_staging(alloc: Global, out: &mut Bytes, tree: &Tree<'_>, units: u64) -> Result<(), NoMemory>
+    requires { units ≤ MAX_BUDGET }
+{
     let outcome = stage(alloc, tree, units, MEMORY, Mode::Exports)?;
     let printed = outcome.staging.world().printed()?;
     out.push_all(printed.as_slice())?;
+    push_ran(alloc, out, outcome.steps.as_slice())?;
     let left = outcome.left;
     match &outcome.end {
         End::Done => {
@@ -121,6 +128,16 @@ fn push_staging(
             out.push_all(b"\n")
         }
     }
+}
+
+/// Puts a line behind other text with how many images of Terra functions ran, if any did.
+fn push_ran(alloc: Global, out: &mut Bytes, steps: &[u64]) -> Result<(), NoMemory> {
+    let ran = steps.iter().filter(|number| **number > 0).count();
+    if ran == 0 {
+        return Ok(());
+    }
+    let line = format!(in alloc; "-- {ran} images ran\n")?;
+    out.push_all(line.as_bytes())
 }
 
 /// Puts what is written of a staging, and a line with its end, behind other text.

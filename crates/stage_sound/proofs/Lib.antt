@@ -4,6 +4,7 @@ pub mod Parts
 pub mod OfChecks
 pub mod OfTasks
 pub mod OfAsking
+pub mod OfCalls
 pub mod Whole
 pub mod Outcomes
 pub mod Making

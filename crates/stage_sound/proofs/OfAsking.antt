@@ -6,8 +6,6 @@ use Rattle.tl_base.specs.declared.ids.TypeId.{TypeId}
 use Rattle.tl_base.specs.Layer.{State, Given, Meaning}
 use Rattle.stage_form.specs.Within.{given_part, within}
 use Rattle.tl_tree.specs.Code.{Items}
-use Rattle.lua_value.specs.declared.value.Value.{Value}
-use Rattle.lua_ops.specs.declared.fault.Fault.TheVariants.{CallsTerra}
 use Rattle.lua_table.specs.declared.call.LibCall.{LibCall}
 use Rattle.lua_table.specs.declared.call.LibTurn.{LibTurn}
 use Rattle.lua_table.specs.declared.call.LibTurn.TheVariants as turns
@@ -32,7 +30,6 @@ use Rattle.stage_check.specs.declared.jobs.JobEnd.TheVariants as ends
 use Rattle.stage_check.specs.declared.asking.Asker.{Asker}
 use Rattle.stage_check.specs.declared.asking.Asker.TheVariants as begins
 use Rattle.stage_check.specs.Asking.{begun, place_of, end_seen, turn_seen, asking_seen, asking_going}
-use Rattle.stage_model.specs.Calling.{raised, refusing, calling}
 use Rattle.stage_check.specs.Layers.{answer_of, with_stage, asking_fitting}
 use Rattle.stage_form.specs.Holding.{IsBackFor, Shows, Holds}
 use Rattle.stage_sound.specs.Jobs.{Begins, Says, Leaves, Came}
@@ -201,29 +198,3 @@ module _ (items : Items) (k : LayersKeep items) where
   export-holds place first begin =
       going-in-stage (asking_going (begins.Export place) None) (asked.Job (jobs.Export place)) (export-says place) first
       (going-holds (begins.Export place) (given_part asking_fitting first) begin.0)
-
-  -- ---- calls of Terra functions by Lua code
-
-  -- the heap alone is another
-  refusing-holds : (place : Place) (first : Given StageState CheckAnswer) → IsSound first.state.world →
-      Holds IsAsked AskedBack (Ends first.state.world) (refusing place) first
-  refusing-holds place first sound later all =
-      let left = raised first.state place CallsTerra in
-      end-shows first.state.world left.turn left.left (k.heaps first.state.world sound left.left.world.heap)
-
-  terra-says : (f : FnId) (vs : List Value) (place : Place) (end : JobEnd) (v : StageState) → IsEnd end →
-      Says (asked.Terra f vs place) end v
-  terra-says f vs place (ends.Values us) v h = tt
-  terra-says f vs place (ends.Raised x at) v h = tt
-  terra-says f vs place (ends.Result t) v h = absurd h
-  terra-says f vs place (ends.Refused why) v h = absurd h
-  terra-says f vs place ends.Done v h = absurd h
-  terra-says f vs place (ends.NoLayout kind) v h = absurd h
-
-  pub refusal-holds : (f : FnId) (vs : List Value) (place : Place) (first : Given TypingState CheckAnswer) →
-      Begins (asked.Terra f vs place) first.state.world →
-      Holds Begins Came (Leaves (asked.Terra f vs place) first.state.world)
-      (calling place) first
-  refusal-holds f vs place first begin =
-      going-in-stage (refusing place) (asked.Terra f vs place) (terra-says f vs place) first
-      (refusing-holds place (given_part asking_fitting first) begin.0)

@@ -12,13 +12,15 @@ use Rattle.stage_check.specs.declared.jobs.Asked.TheVariants as asked
 use Rattle.stage_check.specs.declared.jobs.Job.{Job}
 use Rattle.stage_check.specs.declared.jobs.Job.TheVariants as jobs
 use Rattle.stage_check.specs.declared.jobs.JobEnd.{JobEnd}
-use Rattle.stage_model.specs.Stage.{StagingState, typing_meaning, checking_fitting, stage}
+use Rattle.stage_check.specs.Layers.{job_meaning}
+use Rattle.stage_model.specs.Stage.{StagingState, checking_fitting, stage}
 use Rattle.stage_sound.specs.Jobs.{Begins, Leaves, Came, Begun, Left}
 use Rattle.stage_sound.proofs.Feeding.{staged-holds}
 use Rattle.stage_sound.proofs.Layers.{LayersKeep}
 use Rattle.stage_sound.proofs.OfChecks.{JobHolds, check-holds, layout-holds, body-holds, result-holds}
 use Rattle.stage_sound.proofs.OfTasks.{stage-holds}
-use Rattle.stage_sound.proofs.OfAsking.{call-holds, export-holds, refusal-holds}
+use Rattle.stage_sound.proofs.OfAsking.{call-holds, export-holds}
+use Rattle.stage_sound.proofs.OfCalls.{terra-holds}
 use Rattle.stage_sound.proofs.Parts.{within-holds}
 
 module _ (items : Items) (k : LayersKeep items) where
@@ -32,18 +34,14 @@ module _ (items : Items) (k : LayersKeep items) where
   job-holds (jobs.Result f) first begin = result-holds items k f first begin
   job-holds (jobs.Layout t at) first begin = layout-holds items k t at first begin
 
-  typing-holds : (question : Asked) (first : Given TypingState CheckAnswer) → Begins question first.state.world →
-      Holds Begins Came (Leaves question first.state.world) (typing_meaning items question) first
-  typing-holds (asked.Job job) first begin = job-holds job first begin
-  typing-holds (asked.Terra f vs place) first begin = refusal-holds items k f vs place first begin
-
   -- the runs stay beside what bodies are typed in
   pub layers-hold : LayersHold (stage items) Begun Left
-  layers-hold question first begin =
-      within-holds checking_fitting Begins Came (Leaves question first.state.world.typing) Begun
-      (λ q s next. Comes (stage items) Left q s next) (Left question first.state.world)
+  layers-hold (asked.Job job) first begin =
+      within-holds checking_fitting Begins Came (Leaves (asked.Job job) first.state.world.typing) Begun
+      (λ q s next. Comes (stage items) Left q s next) (Left (asked.Job job) first.state.world)
       (λ w. Unit {0}) (λ w q p b h. h) (λ w end p b h. h) (λ w q s next b may h. (h, tt))
-      (typing_meaning items question) first tt (typing-holds question (given_part checking_fitting first) begin)
+      (job_meaning items job) first tt (job-holds job (given_part checking_fitting first) begin)
+  layers-hold (asked.Terra f vs at) first begin = terra-holds items k f vs at first begin
 
   -- what a question comes to
   pub question-leaves : (n : ℕ) (question : Asked) (s : State StagingState) (end : JobEnd) (t : State StagingState) →

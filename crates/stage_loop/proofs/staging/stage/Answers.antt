@@ -8,7 +8,7 @@ use Rattle.stage_sound.proofs.Promises.{opened-sound}
 use Rattle.stage_loop.proofs.staging.stage.Goals as goal
 
 pub stage_from-requires : goal.stage_from-requires
-stage_from-requires c = rw c.in_ok-staging.ensures (opened-sound c.args.memory c.requires)
+stage_from-requires c = rw c.in_ok-staging.ensures (opened-sound c.args.memory c.requires.most)
 
 pub returns-clause-means : goal.returns-clause-means
 returns-clause-means c =
