@@ -18,7 +18,7 @@ const MEMORY: u64 = 1_048_576;
 /// What is written of a row.
 #[derive(Clone, Copy, PartialEq, Eq)]
 pub enum Kind {
-    /// What it prints, how it ends and the units that are left, and the same with one unit less.
+    /// What it prints, how many images ran, how it ends and the units that are left, and the same with one unit less.
     Ends,
     /// What `terms` writes.
     Terms,
@@ -102,7 +102,7 @@ fn push_runs(alloc: Global, out: &mut Bytes, tree: &Tree<'_>, row: &Row) -> Resu
     }
 }
 
-/// Stages a source with so many units, and puts what it prints and a line with its end behind other text.
+/// Stages a source with so many units, and puts what it prints, how many images ran, and a line with its end behind other text.
 fn push_staging(alloc: Global, out: &mut Bytes, tree: &Tree<'_>, units: u64) -> Result<(), NoMemory>
     requires { units ≤ MAX_BUDGET }
 {
@@ -136,7 +136,7 @@ fn push_ran(alloc: Global, out: &mut Bytes, steps: &[u64]) -> Result<(), NoMemor
     if ran == 0 {
         return Ok(());
     }
-    let line = format!(in alloc; "-- {ran} images ran\n")?;
+    let line = format!(in alloc; "-- images that ran: {ran}\n")?;
     out.push_all(line.as_bytes())
 }
 
