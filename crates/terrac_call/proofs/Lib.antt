@@ -7,7 +7,6 @@ pub mod Calls
 pub mod Deliveries
 pub mod Found
 pub mod DueMeaning
-pub mod FaultPlaces
 pub mod Faults
 pub mod Headline
 pub mod Jobs
@@ -16,7 +15,6 @@ pub mod Numbers
 pub mod OneDue
 pub mod OneReading
 pub mod Pieces
-pub mod Placed
 pub mod Ranges
 pub mod Readies
 pub mod Refusing

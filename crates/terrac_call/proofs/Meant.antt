@@ -27,6 +27,8 @@ use Rattle.rv_machine.specs.ImageRun.{image_start}
 use Rattle.back_end.specs.Agrees.{SameEnd}
 use Rattle.back_end.specs.Compiled.{AreExported, AreReady, HasTypedPart, IsExported, codes_of, type_code}
 use Rattle.exotype.specs.World.{StageState}
+use Rattle.ready_image.specs.Places.{HasPlace}
+use Rattle.ready_image.proofs.FaultPlaces.{faults-have-places}
 use Rattle.stage_image.specs.Emitted.{defined_count}
 use Rattle.terrac_call.specs.Arguments.{Arguments, Good, Bad, arguments_of}
 use Rattle.terrac_call.specs.Due.{Due, after, given, line, noting}
@@ -39,10 +41,8 @@ use Rattle.terrac_call.specs.Words.{Asking}
 use Rattle.terrac_call.specs.Run.{IsImageDue, front_of, manner_of, memory_of}
 use Rattle.terrac_call.proofs.Calls.{is_true_or_false, scalar_params}
 use Rattle.terrac_call.proofs.DueMeaning.{are_of_types, export_at, good_due, named_at}
-use Rattle.terrac_call.proofs.FaultPlaces.{export_placed}
 use Rattle.terrac_call.proofs.Faults.{IsFewStop, few_kinds, read_back}
 use Rattle.terrac_call.proofs.Headline.{runs_tell_meaning}
-use Rattle.terrac_call.proofs.Placed.{HasPlace}
 use Rattle.terrac_call.proofs.Saying.{same_arguments, same_text}
 
 -- ---- how a run ends
@@ -204,7 +204,7 @@ module _ (it : Asking) (w : StageState) (due : Due) (x : IsImageDue it w due) (h
         let is : IsMeaningSaid source form it.running.steps most (shown_file manner x.image) front
         (noting (shown_file manner x.image) (after ran.output (due_of_stop front (type_code form) ran.stop))) =
         meaning_said store.types function.body.result source
-        (λ n. export_placed store w.exports.list has ready at.0 export.0 export.1 (memory_of it) n (map word values))
+        (λ n. faults-have-places store w.exports.list has ready at.0 export.0 export.1 (memory_of it) n (map word values))
         it.running.steps most (shown_file manner x.image) front ran few tells in
         let told : ℕ → Due = λ code. noting (shown_file manner x.image) (after ran.output (due_of_stop front code ran.stop)) in
         IsMeant named values (sym said ∙ good) are
