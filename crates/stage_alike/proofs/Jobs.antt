@@ -1,13 +1,11 @@
 -- Each task and each job means the same in alike trees, and asks only for Lua code that is read alike.
-use Rattle.std.proofs.Common.{◌≡◌, ℕ, List, [], ◌∷◌, refl, Option, Some, None, Bool, true, false, if◌then◌else◌}
+use Rattle.std.proofs.Common.{List, [], ◌∷◌, refl, None, Bool, true, false, if◌then◌else◌}
 use Rattle.tl_base.specs.declared.place.Place.{Place}
 use Rattle.tl_base.specs.Layer.{State, Given, Seen, Ended, SpentAt, Asks, Meaning}
 use Rattle.tl_tree.specs.Code.{Items}
 use Rattle.tl_alike.specs.Alike.{AreAlike}
 use Rattle.tl_alike.specs.Plans.{AsksOnly, MeanSame}
 use Rattle.tl_alike.proofs.Plans.{within_means_same, StagesSame}
-use Rattle.lua_model.specs.declared.job.LuaJob.TheVariants as lua_jobs
-use Rattle.lua_model.specs.declared.end.LuaEnd.{LuaEnd}
 use Rattle.lua_model.specs.declared.question.LuaQuestion.{LuaQuestion}
 use Rattle.lua_model.specs.declared.question.LuaQuestion.TheVariants as lua_questions
 use Rattle.lua_model.specs.declared.question.LuaAnswer.{LuaAnswer}
@@ -21,7 +19,6 @@ use Rattle.spec_model.specs.declared.question.SpecQuestion.{SpecQuestion}
 use Rattle.spec_model.specs.declared.question.SpecQuestion.TheVariants as spec_questions
 use Rattle.exotype.specs.World.{StageState}
 use Rattle.lua_table.specs.declared.call.LibCall.{LibCall}
-use Rattle.lua_table.specs.declared.call.LibNext.{LibNext}
 use Rattle.lua_table.specs.declared.call.LibTurn.{LibTurn}
 use Rattle.lua_table.specs.declared.call.LibTurn.TheVariants as turns
 use Rattle.stage_library.specs.declared.tasks.Task.{Task}
@@ -33,7 +30,6 @@ use Rattle.stage_code.specs.declared.asked.Asked.TheVariants as of_tasks
 use Rattle.stage_code.specs.Layers.{lua_fitting, spec_fitting, library_fitting, lua_asks, spec_asks, task_meaning}
 use Rattle.check_library.specs.declared.ask.AskTurn.{AskTurn}
 use Rattle.check_library.specs.declared.ask.AskTurn.TheVariants as asks
-use Rattle.check_library.specs.declared.ask.AskNext.{AskNext}
 use Rattle.check_library.specs.Calls as calls
 use Rattle.check_model.specs.declared.question.BodyQuestion.{BodyQuestion}
 use Rattle.check_model.specs.declared.question.BodyQuestion.TheVariants as of_bodies
@@ -42,14 +38,12 @@ use Rattle.check_model.specs.declared.question.CheckQuestion.TheVariants as of_c
 use Rattle.check_model.specs.declared.question.LayoutQuestion.{LayoutQuestion}
 use Rattle.check_model.specs.declared.question.LayoutQuestion.TheVariants as of_layouts
 use Rattle.check_model.specs.declared.question.CheckAnswer.{CheckAnswer}
-use Rattle.check_model.specs.Typing.{TypingState}
 use Rattle.check_model.specs.Bodies.{body}
 use Rattle.check_model.specs.Checks.{check}
 use Rattle.check_model.specs.Layouts.{layout}
 use Rattle.check_library.specs.Calls.{asks as may_ask}
 use Rattle.stage_check.specs.declared.jobs.Job.{Job}
 use Rattle.stage_check.specs.declared.jobs.Job.TheVariants as jobs
-use Rattle.stage_check.specs.declared.jobs.JobEnd.{JobEnd}
 use Rattle.stage_check.specs.declared.jobs.Asked.{Asked}
 use Rattle.stage_check.specs.declared.jobs.Asked.TheVariants as asked
 use Rattle.stage_check.specs.declared.asking.Asker.{Asker}

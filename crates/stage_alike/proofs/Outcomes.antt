@@ -2,13 +2,12 @@
 use Rattle.std.proofs.Common.{◌≡◌, ◌∙◌, ℕ, zero, suc, ◌+◌, List, [], ◌∷◌, ◌++◌, refl, ap, Option, Some, None, Bool, true, false, length, nat_lt}
 use Rattle.std.proofs.Common.{if◌then◌else◌}
 use Rattle.tl_base.specs.declared.place.Place.{Place}
-use Rattle.tl_base.specs.declared.ids.FnId.{FnId}
 use Rattle.tl_base.specs.Layer.{State, state}
 use Rattle.stage_form.specs.Stage.{Final, Finished, Exhausted}
 use Rattle.tl_tree.specs.Nodes.{lay}
 use Rattle.tl_tree.specs.Tokens.{finish_of}
 use Rattle.tl_tree.specs.Code.{Items}
-use Rattle.tl_tree.specs.Binding.{Alike, Bound}
+use Rattle.tl_tree.specs.Binding.{Bound}
 use Rattle.tl_alike.specs.Alike.{AreAlike}
 use Rattle.tl_alike.proofs.Plans.{staged_same}
 use Rattle.tl_alike.proofs.AlikeTrees.{alike_trees}
@@ -24,7 +23,7 @@ use Rattle.stage_model.specs.declared.staging.CheckLine.{CheckLine}
 use Rattle.stage_model.specs.declared.staging.Mode.{Mode}
 use Rattle.stage_model.specs.declared.staging.Mode.TheVariants.{Exports, CheckAll}
 use Rattle.stage_model.specs.Stage.{StagingState, stage, job_staged}
-use Rattle.stage_model.specs.Staging.{after_check, exported, by_mode, checks, line_of, Checked, checked_with, outcome, outcome_from, ending_if_any, begun}
+use Rattle.stage_model.specs.Staging.{after_check, exported, by_mode, checks, line_of, Checked, checked_with, outcome, ending_if_any, begun}
 use Rattle.stage_alike.specs.Same.{TreesStageAlike, TextsStageAlike}
 use Rattle.stage_alike.proofs.Jobs.{IsJob, IsJobAsked, stage-same}
 
