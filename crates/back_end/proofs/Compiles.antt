@@ -42,9 +42,9 @@ pub record IsMade (store : Contents) (functions : List Function) (linked : Linke
   pub memory : IsMemorySize image.memory
   pub statics : image.statics ≡ static_bytes store
   pub half : length (static_bytes store) ≤ image.memory / 2
-  pub selected : AreSelected functions
+  pub selected : AreSelected [] functions
   pub sound : AreSound (program_of functions []) functions
-  pub text : IsLinkedText functions linked
+  pub text : IsLinkedText functions [] linked
   pub lawful : IsLawful image
   pub text_is : image.text ≡ linked.words.items
   pub no_entries : image.entries ≡ []
@@ -74,8 +74,8 @@ module _ (store : Contents) (functions : List Function) (linked : Linked) (image
   ends-like count n =
       let run = lowering_keeps_runs store (all_lowered store) made.types made.typed none-few (λ g. refl) image.memory n f k
       (map word arguments) made.memory made.half there narrow values in
-      images-carried functions [] linked image f (compiled_code store k) n arguments (source n) made.selected made.sound made.text
-      made.lawful made.text_is made.no_entries made.room code-is (counts-nothing store k) args eight count
+      images-carried functions [] linked image f (compiled_code store k) n arguments (source n) made.selected made.sound tt made.text
+      made.lawful made.text_is (made.no_entries ∙ sym made.text.entries) made.room code-is (counts-nothing store k) args eight count
       (subst (λ bytes. Run_of bytes n) (sym made.statics)
       (same-run (all_compiled store) (program_of functions []) In made.closed made.same (static_bytes store) image.memory n f
       (map word arguments) (source n) here

@@ -83,7 +83,7 @@ text-long linked text units at e =
 -- ---- the image is lawful
 
 module _ (store : Contents) (f : FnId) (units at : ℕ) (functions : List Function) (linked : Linked) (image : Image) (out : IsOutward store f)
-    (few : AreFew store (alone f)) (whole : AreWhole true store (alone f) functions) (text : IsLinkedText functions linked)
+    (few : AreFew store (alone f)) (whole : AreWhole true store (alone f) functions) (text : IsLinkedText functions [] linked)
     (text_is : image.text ≡ linked.words.items ++ map word_of (units_given units (text_end linked) at)) where
   long : length image.text ≡ length linked.words.items + length (units_given units (text_end linked) at)
   long = text-long linked image.text units at text_is
@@ -101,7 +101,7 @@ module _ (store : Contents) (f : FnId) (units at : ℕ) (functions : List Functi
   short =
       most (length image.text) (length linked.words.items) (length (units_given units (text_end linked) at)) (nodes_in store (map id_of functions))
       long (subst (λ (ws : List ℕ). length ws ≤ 250 * nodes_in store (map id_of functions)) (sym text.words)
-      (text-short true store (places_of functions) text_address functions whole.made)) given.1
+      (text-short true store (places_of functions []) text_address functions whole.made)) given.1
     where
       most : (n linked given nodes : ℕ) → n ≡ linked + given → linked ≤ 250 * nodes → given ≤ 10 → n ≤ 250 * nodes + 16
       most n linked given nodes a b c = omega (arith, a, b, c)
@@ -228,7 +228,7 @@ module _ (types : List TypeForm) (result : TypeId) (scalar : is_aggregate types 
 module _ (store : Contents) (f : FnId) (units : ℕ) (functions : List Function) (linked : Linked) (image : Image)
     (types : AreTypes store.types) (typed : AreTyped store) (memory : IsMemorySize image.memory)
     (half : length (static_bytes store) ≤ image.memory / 2) (out : IsOutward store f) (whole : AreWhole true store (alone f) functions)
-    (text : IsLinkedText functions linked) (lawful : IsLawful image) (statics : image.statics ≡ static_bytes store)
+    (text : IsLinkedText functions [] linked) (lawful : IsLawful image) (statics : image.statics ≡ static_bytes store)
     (text_is : image.text ≡ linked.words.items ++ map word_of (units_given units (text_end linked) (image_of functions f).at))
     (no_entries : image.entries ≡ []) (room : image.private ≡ 512 * linked.frame) (small : units < 2 ^ 64)
     (symbols : image.exports ≡ symbol_of store (text_end linked) (export_of f) ∷ []) where
@@ -300,8 +300,8 @@ module _ (store : Contents) (f : FnId) (units : ℕ) (functions : List Function)
   carried arguments values =
       let long = values-long store.types k.body.parameters arguments values in
       counted-images-carried functions [] linked image f code units arguments (source arguments units)
-      (are-selected true store functions whole.made) (are-sound store true functions whole.made functions whole.made) text lawful text_is
-      no_entries (omega (arith, room)) code-there refl small (values-words store.types k.body.parameters arguments values)
+      (are-selected true store functions whole.made) (are-sound store true functions whole.made functions whole.made) tt text lawful text_is
+      (no_entries ∙ sym text.entries) (omega (arith, room)) code-there refl small (values-words store.types k.body.parameters arguments values)
       (subst (λ n. n ≤ 8) (sym long) out.eight) (long ∙ sym (as-many store k narrow)) (runs arguments values units)
 
   pub agrees-counted : AgreesCounted store image image.memory f units
@@ -370,7 +370,7 @@ one-symbol a b q = cc
 pub compiled-counted : (store : Contents) (f : FnId) (units : ℕ) (functions : List Function) (linked : Linked) (image : Image)
     (part : Contents) → IsTypedPart store (alone f) part → AreTypes store.types → IsMemorySize image.memory →
     length (static_bytes store) ≤ image.memory / 2 → IsOutward store f → AreFew store (alone f) → AreWhole true store (alone f) functions →
-    IsLinkedText functions linked → image.statics ≡ static_bytes store →
+    IsLinkedText functions [] linked → image.statics ≡ static_bytes store →
     image.text ≡ linked.words.items ++ map word_of (units_given units (text_end linked) (image_of functions f).at) → image.entries ≡ [] →
     image.heap ≡ heap_start (length image.statics) → image.private ≡ 512 * linked.frame → units < 2 ^ 64 →
     image.exports ≡ symbol_of store (text_end linked) (export_of f) ∷ [] → ((k : ℕ) → slice_index image.text k < 2 ^ 32) →

@@ -25,6 +25,7 @@ use Rattle.terra_term.specs.Stores.{Contents, callable_of, static_bytes}
 use Rattle.terra_meaning.specs.Values.{form_at}
 use Rattle.tac_form.specs.declared.tac.Tac.{Tac}
 use Rattle.tac_form.specs.Weights.{private_bytes}
+use Rattle.rv_select.specs.Calls.{CallPlaces}
 use Rattle.rv_link.specs.declared.function.Function.{Function}
 use Rattle.rv_link.specs.declared.function.Linked.{Linked}
 use Rattle.rv_link.specs.Filling.{words_in}
@@ -72,7 +73,7 @@ pub record Within (from at words : ℕ) : Type 0 where
   pub at_is : at ≡ from + 4 * before
   pub less : before < words
 
-within : (counts : Bool) (places : FnId → ℕ) (store : Contents) (at : ℕ) (xs : List Function) (f : FnId) (n : ℕ) → AreFunctionsBy counts store xs →
+within : (counts : Bool) (places : CallPlaces) (store : Contents) (at : ℕ) (xs : List Function) (f : FnId) (n : ℕ) → AreFunctionsBy counts store xs →
     slice_get (map id_of xs) n ≡ Some f → Within at (placed_in at xs f).at (length (text_from places at xs))
 within counts places store at [] f n h e = absurd (grind (arith, e))
 within counts places store at (x ∷ xs) f n h e = by (nat_eq x.id.0 f.0) refl (λ m i. within counts places store next xs f m h.1 i) n e
@@ -99,7 +100,7 @@ within counts places store at (x ∷ xs) f n h e = by (nat_eq x.id.0 f.0) refl (
     there a w = record {
       before = length x.code.words.items + w.before;
       at_is = far a at (length x.code.words.items) w.before w.at_is;
-      less = more (length x.code.words.items) w.before own (length (text_from places next xs)) _ (selected-length x places at h.0.selected)
+      less = more (length x.code.words.items) w.before own (length (text_from places next xs)) _ (selected-length x [] places at h.0.selected)
           w.less count;
     }
       where
@@ -237,13 +238,13 @@ few-names (e ∷ es) = more (length es) (name_bytes es) (length e.name) (few-nam
 -- ---- the text
 
 abbrev pub words : List Function → ℕ
-words functions = length (text_from (places_of functions) text_address functions)
+words functions = length (text_from (places_of functions []) text_address functions)
 
 module _ (counts : Bool) (store : Contents) (exports : List Export) (functions : List Function) (few : AreFew store exports)
     (whole : AreWhole counts store exports functions) where
   pub words-few : words functions ≤ 32768000
   words-few =
-      least (words functions) (nodes_in store (map id_of functions)) (text-short counts store (places_of functions) text_address functions whole.made)
+      least (words functions) (nodes_in store (map id_of functions)) (text-short counts store (places_of functions []) text_address functions whole.made)
       (few (map id_of functions) whole.reached)
     where
       least : (n nodes : ℕ) → n ≤ 250 * nodes → nodes ≤ 131072 → n ≤ 32768000
@@ -253,7 +254,7 @@ module _ (counts : Bool) (store : Contents) (exports : List Export) (functions :
   pub text-near : 65536 + 4 * words_in functions + 256 ≤ 2 ^ 30
   text-near =
       near (words_in functions) (words functions)
-      (text-length (places_of functions) text_address functions (are-selected counts store functions whole.made)) words-few
+      (text-length [] (places_of functions []) text_address functions (are-selected counts store functions whole.made)) words-few
     where
       near : (n m : ℕ) → m ≡ n → m ≤ 32768000 → 65536 + 4 * n + 256 ≤ 2 ^ 30
       near n m a b = omega (arith, a, b)
@@ -262,7 +263,7 @@ module _ (counts : Bool) (store : Contents) (exports : List Export) (functions :
 
 module _ (counts : Bool) (store : Contents) (exports : List Export) (functions : List Function) (linked : Linked) (outward : AreExports store exports)
     (named : AreNamed exports) (few : AreFew store exports) (whole : AreWhole counts store exports functions)
-    (text : IsLinkedText functions linked) where
+    (text : IsLinkedText functions [] linked) where
   abbrev ids : List FnId
   ids = map id_of functions
 
@@ -273,7 +274,7 @@ module _ (counts : Bool) (store : Contents) (exports : List Export) (functions :
       (both (is_in_text (4 * words functions) at) ((nat_le (length codes) 8 && list_all (allows param_rule) codes) && allows result_rule code)
       (subst (λ a. is_in_text (4 * words functions) a ≡ true) (sym start)
       (in-text (image_of functions e.function).at (words functions)
-      (within counts (places_of functions) store text_address functions e.function here.0 whole.made here.1)))
+      (within counts (places_of functions []) store text_address functions e.function here.0 whole.made here.1)))
       (both (nat_le (length codes) 8 && list_all (allows param_rule) codes) (allows result_rule code)
       (both (nat_le (length codes) 8) (list_all (allows param_rule) codes)
       (le-leb (length codes) 8 (subst (λ n. n ≤ 8) (sym (codes-long store.types (parameters_in (callable_of store e.function))))

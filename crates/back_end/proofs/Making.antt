@@ -35,6 +35,7 @@ use Rattle.rv_machine.specs.declared.stops.Stop.TheVariants as stops
 use Rattle.rv_machine.specs.Machine.{Ran, run_of}
 use Rattle.rv_machine.specs.ImageRun.{RvRun, image_start}
 use Rattle.rv_machine.proofs.ImageRuns.{one_run}
+use Rattle.rv_select.specs.Calls.{CallPlaces}
 use Rattle.rv_link.specs.declared.function.Function.{Function}
 use Rattle.rv_link.specs.declared.function.Linked.{Linked}
 use Rattle.rv_link.specs.Linked.{IsLinkedText, code_in, function_words, image_of, placed_in, places_of, starts_in, text_from}
@@ -167,7 +168,7 @@ module _ (counts : Bool) (store : Contents) where
       subst (λ n. code_words x.tac ≤ 250 * n)
       (ap (λ (t : Tac). t.nodes) h.tac ∙ same-nodes store h.term ∙ sym (ap nodes_of h.is)) h.good.sized.in_words
 
-  pub text-short : (places : FnId → ℕ) (at : ℕ) (xs : List Function) → AreFunctionsBy counts store xs →
+  pub text-short : (places : CallPlaces) (at : ℕ) (xs : List Function) → AreFunctionsBy counts store xs →
       length (text_from places at xs) ≤ 250 * nodes_in store (map id_of xs)
   text-short places at [] h = omega arith
   text-short places at (x ∷ xs) h =
@@ -175,7 +176,7 @@ module _ (counts : Bool) (store : Contents) where
       (length (text_from places next xs)) (length x.code.words.items) (code_words x.tac) (nodes_of (callable_of store x.id))
       (nodes_in store (map id_of xs))
       (length-append (function_words x places at) (text_from places next xs))
-      (selected-length x places at h.0.selected) (h.0.within.words (parts-within x.tac h.0.good.fits.within).1) (few-words x h.0)
+      (selected-length x [] places at h.0.selected) (h.0.within.words (parts-within x.tac h.0.good.fits.within).1) (few-words x h.0)
       (text-short places next xs h.1)
     where
       next : ℕ
@@ -217,7 +218,7 @@ module _ (counts : Bool) (store : Contents) where
 module _ (store : Contents) (exports : List Export) (functions : List Function) (linked : Linked) (image : Image)
     (types : AreTypes store.types) (typed : AreTyped store) (memory : IsMemorySize image.memory)
     (half : length (static_bytes store) ≤ image.memory / 2) (outward : AreExports store exports) (whole : AreWhole false store exports functions)
-    (text : IsLinkedText functions linked) (lawful : IsLawful image) (statics : image.statics ≡ static_bytes store)
+    (text : IsLinkedText functions [] linked) (lawful : IsLawful image) (statics : image.statics ≡ static_bytes store)
     (text_is : image.text ≡ linked.words.items) (no_entries : image.entries ≡ []) (room : image.private ≡ 512 * linked.frame)
     (rising : AreRising (map id_of functions))
     (symbols : image.exports ≡ symbols_of store (map id_of functions) linked.starts.items exports) where
@@ -308,7 +309,7 @@ module _ (store : Contents) (exports : List Export) (functions : List Function) 
     functions = ids;
     reached = whole.reached;
     short = subst (λ t. length t ≤ 250 * nodes_in store ids) (sym (text_is ∙ text.words))
-        (text-short false store (places_of functions) text_address functions whole.made);
+        (text-short false store (places_of functions []) text_address functions whole.made);
     laid_out = laid-out;
     exported = subst (AreExported store image most exports) (sym symbols) (all-exported exports outward whole.exported);
   }

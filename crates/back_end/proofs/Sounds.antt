@@ -101,7 +101,7 @@ are-there counts store [] h = tt
 are-there counts store (x ∷ xs) h =
     (all-there x.tac x.tac.blocks (parts-within x.tac h.0.good.fits.within).0, are-there counts store xs h.1)
 
-pub are-selected : (counts : Bool) (store : Contents) (xs : List Function) → AreFunctionsBy counts store xs → AreSelected xs
+pub are-selected : (counts : Bool) (store : Contents) (xs : List Function) → AreFunctionsBy counts store xs → AreSelected [] xs
 are-selected counts store [] h = tt
 are-selected counts store (x ∷ xs) h = (h.0.selected, are-selected counts store xs h.1)
 
@@ -208,16 +208,24 @@ module _ (store : Contents) where
       by false q later = later (sym (ap (λ b. if b then Some x.tac else code_in xs f) q) ∙ e)
 
   all-pass : (counts : Bool) (all : List Function) → AreFunctionsBy counts store all → (x : Function) → IsFunctionBy counts store x → PassesAll (program_of all []) x.tac
-  all-pass counts all are x h b n block to at f arguments callee in_code in_block there =
-      let named' = subst (λ (c : Tac). AllBlocks (Passes store) c.blocks) (sym h.tac) (named x.id h.term h.is h.ready) in
-      let at_block = block-at (Passes store) x.tac.blocks b block named' in_code in
-      let passes = instruction-at (Passes store) block.instructions n (Call to at f arguments) at_block.0 in_block in
-      let c = code-is counts all f callee are there in
-      let same : passes.0.0 ≡ c.0 = same-callable passes.0.0 c.0 (sym passes.0.1 ∙ c.1) in
-      passes.0.2
-      ∙ sym (as-many passes.0.0 passes.0.3)
-      ∙ ap (λ (k : Callable). length (compiled_code store k).parameters) same
-      ∙ ap (λ (t : Tac). length t.parameters) (sym c.2)
+  all-pass counts all are x h = record {
+    by_name = λ b n block to at f arguments callee in_code in_block there.
+        let passes = instruction-at (Passes store) block.instructions n (Call to at f arguments) (at-block b block in_code).0 in_block in
+        let c = code-is counts all f callee are there in
+        let same : passes.0.0 ≡ c.0 = same-callable passes.0.0 c.0 (sym passes.0.1 ∙ c.1) in
+        passes.0.2
+        ∙ sym (as-many passes.0.0 passes.0.3)
+        ∙ ap (λ (k : Callable). length (compiled_code store k).parameters) same
+        ∙ ap (λ (t : Tac). length t.parameters) (sym c.2);
+    by_value = λ b n block to at sig a arguments v f callee in_code in_block stands there same.
+        absurd (instruction-at (Passes store) block.instructions n (CallValue to at sig a arguments) (at-block b block in_code).0 in_block);
+  }
+    where
+      at-block : (b : ℕ) (block : Block) → slice_get x.tac.blocks b ≡ Some block →
+          AllNamed (Passes store) block.instructions × Exits (Passes store) block.exit
+      at-block b block in_code =
+          block-at (Passes store) x.tac.blocks b block
+          (subst (λ (c : Tac). AllBlocks (Passes store) c.blocks) (sym h.tac) (named x.id h.term h.is h.ready)) in_code
 
   pub are-sound : (counts : Bool) (all : List Function) → AreFunctionsBy counts store all → (xs : List Function) → AreFunctionsBy counts store xs →
       AreSound (program_of all []) xs

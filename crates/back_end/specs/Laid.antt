@@ -23,7 +23,7 @@ pub record IsLaidOut (store : Contents) (functions : List FnId) (exports : List 
   pub made : AreFunctions store code
   pub ids : map id_of code ≡ functions
   pub rising : AreRising functions
-  pub text : image.text ≡ text_of code
+  pub text : image.text ≡ text_of code []
   pub symbols : image.exports ≡ symbols_of store functions (starts_in text_address code) exports
   pub entries : image.entries ≡ []
   pub private : image.private ≡ MAX_CALLS * most_frame code

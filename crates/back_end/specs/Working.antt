@@ -51,7 +51,7 @@ pub record IsFunctionBy (counts : Bool) (store : Contents) (x : Function) : Type
   pub good : IsGood x.tac
   pub right : IsRight x.tac x.homes
   pub homes_few : length x.homes ≤ x.tac.temps
-  pub selected : IsSelected x.tac x.homes x.code
+  pub selected : IsSelected x.tac x.homes [] x.code
   pub within : KeepsWithin x.tac x.homes x.code
 
 abbrev pub AreFunctionsBy : (counts : Bool) → Contents → List Function → Type 0

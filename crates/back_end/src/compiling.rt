@@ -7,7 +7,7 @@ ghost use Rattle.back_end.specs.Compiled.{AreExports, AreFew, AreNamed, AreReady
 
 use crate::function::compile_functions;
 use crate::symbols::push_symbols;
-use elf_image::{Entries, Image, Symbols, Words};
+use elf_image::{Image, Symbols, Words};
 use rv_link::link;
 use std::alloc::Global;
 use terra_eval::static_bytes;
@@ -44,7 +44,7 @@ pub fn compile(
 {
     store.types().are_types();
     let compiled = compile_functions(alloc, store, exports, false)?;
-    let linked = link(alloc, &compiled.functions)?;
+    let linked = link(alloc, &compiled.functions, &[])?;
     let mut symbols = Vec::new(alloc);
     push_symbols(
         &mut symbols,
@@ -56,14 +56,12 @@ pub fn compile(
     )?;
     let statics = static_bytes(store)?;
     let end = REGION_ADDRESS + statics.len() as u64;
-    // No source makes function values so far.
-    let entries = Entries::new(alloc);
     are_words(&linked.words);
     are_bytes(&statics);
     Ok(Image {
         text: Words::from_vec(linked.words),
         statics: Bytes::from_vec(statics),
-        entries,
+        entries: linked.entries,
         memory: limits.memory,
         heap: (end + 15) / 16 * 16,
         private: MAX_CALLS * linked.frame,

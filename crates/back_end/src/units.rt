@@ -10,7 +10,7 @@ ghost use Rattle.back_end.specs.Units.{IsCompiledCounted, alone, export_of};
 use crate::compiling::{are_bytes, are_words};
 use crate::function::compile_functions;
 use crate::symbols::{start_of, symbol_of};
-use elf_image::{Entries, Image, Symbol, Symbols, Words};
+use elf_image::{Image, Symbol, Symbols, Words};
 use rv_link::link;
 use rv_select::push_units;
 use std::alloc::Global;
@@ -68,7 +68,7 @@ pub fn compile_counted(
     store.types().are_types();
     let exports = alone(alloc, function)?;
     let compiled = compile_functions(alloc, store, &exports, true)?;
-    let linked = link(alloc, &compiled.functions)?;
+    let linked = link(alloc, &compiled.functions, &[])?;
     let start = start_of(&compiled.ids, &linked.starts, function);
     let mut text = linked.words;
     let at = TEXT_ADDRESS + 4 * text.len() as u64;
@@ -83,7 +83,7 @@ pub fn compile_counted(
     Ok(Image {
         text: Words::from_vec(text),
         statics: Bytes::from_vec(statics),
-        entries: Entries::new(alloc),
+        entries: linked.entries,
         memory: limits.memory,
         heap: (end + 15) / 16 * 16,
         private: MAX_CALLS * linked.frame,

@@ -38,9 +38,9 @@ use Rattle.rv_select.specs.declared.settings.Setting.{Setting}
 use Rattle.rv_select.specs.Settings.{falls, follower, setting_of}
 use Rattle.rv_select.specs.Shapes.{branch_bytes, branch_offset, branched, branched_bytes, chosen, counted_jump, counting, distance}
 use Rattle.rv_select.specs.Shapes.{edge_shape, first_read, held_after, jump, jump_offset, negated, offset_of, over, parted, read_in}
-use Rattle.rv_select.specs.Shapes.{shape_of, start_of, take_count}
+use Rattle.rv_select.specs.Shapes.{start_of, take_count}
 use Rattle.rv_select.specs.Entering.{left}
-use Rattle.rv_select.specs.Calls.{block_code, block_starts, blocks_calls, blocks_code, body_code, call_begun, call_ended, call_jump}
+use Rattle.rv_select.specs.Calls.{CallPlaces, at_zero, nowhere, block_code, block_starts, blocks_calls, blocks_code, body_code, call_begun, call_ended, call_jump}
 use Rattle.rv_select.specs.Calls.{end_code, exit_code, function_calls, function_code, head_code, held_behind, instruction_calls}
 use Rattle.rv_select.specs.Calls.{instruction_code, instructions_calls, instructions_code, jump_unless_last, last_address, pair_code}
 use Rattle.rv_select.specs.Calls.{part_given, starts_from}
@@ -67,7 +67,7 @@ zero-first : (n : ℕ) → 0 + n ≡ n
 zero-first n = omega arith
 
 -- what lies behind a list
-drop-behind : (a b : List ℕ) (n : ℕ) → drop (length a + n) (a ++ b) ≡ drop n b
+pub drop-behind : (a b : List ℕ) (n : ℕ) → drop (length a + n) (a ++ b) ≡ drop n b
 drop-behind [] b n = ap (λ k. drop k b) (zero-first n)
 drop-behind (x ∷ a) b n =
     let same : suc (length a) + n ≡ suc (length a + n) = omega arith in ap (λ k. drop k (x ∷ (a ++ b))) same ∙ drop-behind a b n
@@ -128,27 +128,28 @@ filled-call places base from c cs a j ws e two =
     late : (n j c : ℕ) → c ≡ from + n → j ≡ 2 → c + 2 - from ≡ n + (j + 0)
     late n j c g h = omega (arith, g, h)
 
--- all other instructions have no call, and one code wherever they stand
-abbrev IsPlain : Instruction → Type 0
-IsPlain i =
+-- All other instructions have no call of a function by its number, and one code wherever they and functions stand.
+abbrev IsPlain : CallPlaces → Instruction → Type 0
+IsPlain others i =
     ((y : Layout) (at : ℕ) (held : Option ℕ) → instruction_calls y at held i ≡ [])
-    × ((y : Layout) (sizes : List ℕ) (places : FnId → ℕ) (at : ℕ) (held : Option ℕ) → instruction_code y sizes places at held i ≡ shape_of y held i)
+    × ((y : Layout) (sizes : List ℕ) (at other : ℕ) (held : Option ℕ) →
+    instruction_code y sizes (at_zero others.signatures) at held i ≡ instruction_code y sizes others other held i)
 
-by-kind : (P : Instruction → Type 0) → ((i : Instruction) → IsPlain i → P i) → (i : Instruction) →
+by-kind : (others : CallPlaces) (P : Instruction → Type 0) → ((i : Instruction) → IsPlain others i → P i) → (i : Instruction) →
     ((to : Destination) (place : Place) (f : FnId) (arguments : List Part) → i ≡ Call to place f arguments → P i) → P i
-by-kind P plain (Call to place f arguments) calls = calls to place f arguments refl
-by-kind P plain (Compute d op form a b) calls = plain (Compute d op form a b) (λ y at held. refl, λ y sizes places at held. refl)
-by-kind P plain (TestDivisor place a) calls = plain (TestDivisor place a) (λ y at held. refl, λ y sizes places at held. refl)
-by-kind P plain (Copy d a) calls = plain (Copy d a) (λ y at held. refl, λ y sizes places at held. refl)
-by-kind P plain (Locate d offset) calls = plain (Locate d offset) (λ y at held. refl, λ y sizes places at held. refl)
-by-kind P plain (Load d form spot) calls = plain (Load d form spot) (λ y at held. refl, λ y sizes places at held. refl)
-by-kind P plain (Store spot size a) calls = plain (Store spot size a) (λ y at held. refl, λ y sizes places at held. refl)
-by-kind P plain (Move to from size) calls = plain (Move to from size) (λ y at held. refl, λ y sizes places at held. refl)
-by-kind P plain (Clear n size) calls = plain (Clear n size) (λ y at held. refl, λ y sizes places at held. refl)
-by-kind P plain (CallValue to place sig a arguments) calls = plain (CallValue to place sig a arguments) (λ y at held. refl, λ y sizes places at held. refl)
-by-kind P plain (PutByte a) calls = plain (PutByte a) (λ y at held. refl, λ y sizes places at held. refl)
-by-kind P plain (Write place a b) calls = plain (Write place a b) (λ y at held. refl, λ y sizes places at held. refl)
-by-kind P plain (Alloc d a) calls = plain (Alloc d a) (λ y at held. refl, λ y sizes places at held. refl)
+by-kind others P plain (Call to place f arguments) calls = calls to place f arguments refl
+by-kind others P plain (Compute d op form a b) calls = plain (Compute d op form a b) (λ y at held. refl, λ y sizes at other held. refl)
+by-kind others P plain (TestDivisor place a) calls = plain (TestDivisor place a) (λ y at held. refl, λ y sizes at other held. refl)
+by-kind others P plain (Copy d a) calls = plain (Copy d a) (λ y at held. refl, λ y sizes at other held. refl)
+by-kind others P plain (Locate d offset) calls = plain (Locate d offset) (λ y at held. refl, λ y sizes at other held. refl)
+by-kind others P plain (Load d form spot) calls = plain (Load d form spot) (λ y at held. refl, λ y sizes at other held. refl)
+by-kind others P plain (Store spot size a) calls = plain (Store spot size a) (λ y at held. refl, λ y sizes at other held. refl)
+by-kind others P plain (Move to from size) calls = plain (Move to from size) (λ y at held. refl, λ y sizes at other held. refl)
+by-kind others P plain (Clear n size) calls = plain (Clear n size) (λ y at held. refl, λ y sizes at other held. refl)
+by-kind others P plain (CallValue to place sig a arguments) calls = plain (CallValue to place sig a arguments) (λ y at held. refl, λ y sizes at other held. refl)
+by-kind others P plain (PutByte a) calls = plain (PutByte a) (λ y at held. refl, λ y sizes at other held. refl)
+by-kind others P plain (Write place a b) calls = plain (Write place a b) (λ y at held. refl, λ y sizes at other held. refl)
+by-kind others P plain (Alloc d a) calls = plain (Alloc d a) (λ y at held. refl, λ y sizes at other held. refl)
 
 -- One instruction: its words, with its call filled in, and the calls of what follows.
 record Filled (places : FnId → ℕ) (base : ℕ) (y : Layout) (sizes : List ℕ) (from end : ℕ) (cs : List Site) (code : List Instr)
@@ -157,30 +158,25 @@ record Filled (places : FnId → ℕ) (base : ℕ) (y : Layout) (sizes : List �
       words placed ++ filled places base (from + length code) cs ws
   calls : AreIn from end (mine ++ cs)
 
-fill-instruction : (places others : FnId → ℕ) (agree : (f : FnId) → places f ≡ others f) (base : ℕ) (y : Layout) (sizes : List ℕ) (from end : ℕ) (cs : List Site)
-    (held : Option ℕ) (i : Instruction) →
-    AreIn (from + length (instruction_code y sizes (λ f. 0) (4 * from) held i)) end cs →
-    Filled places base y sizes from end cs (instruction_code y sizes (λ f. 0) (4 * from) held i)
+fill-instruction : (places : FnId → ℕ) (others : CallPlaces) (agree : (f : FnId) → places f ≡ others.enters f) (base : ℕ) (y : Layout)
+    (sizes : List ℕ) (from end : ℕ) (cs : List Site) (held : Option ℕ) (i : Instruction) →
+    AreIn (from + length (instruction_code y sizes (at_zero others.signatures) (4 * from) held i)) end cs →
+    Filled places base y sizes from end cs (instruction_code y sizes (at_zero others.signatures) (4 * from) held i)
     (instruction_code y sizes others (base + 4 * from) held i) (instruction_calls y from held i)
 fill-instruction places others agree base y sizes from end cs held i =
-    by-kind
-    (λ k. AreIn (from + length (instruction_code y sizes (λ f. 0) (4 * from) held k)) end cs →
-    Filled places base y sizes from end cs (instruction_code y sizes (λ f. 0) (4 * from) held k)
+    by-kind others
+    (λ k. AreIn (from + length (instruction_code y sizes (at_zero others.signatures) (4 * from) held k)) end cs →
+    Filled places base y sizes from end cs (instruction_code y sizes (at_zero others.signatures) (4 * from) held k)
     (instruction_code y sizes others (base + 4 * from) held k) (instruction_calls y from held k))
     plain i called
   where
-    plain : (k : Instruction) → IsPlain k → AreIn (from + length (instruction_code y sizes (λ f. 0) (4 * from) held k)) end cs →
-        Filled places base y sizes from end cs (instruction_code y sizes (λ f. 0) (4 * from) held k)
+    plain : (k : Instruction) → IsPlain others k → AreIn (from + length (instruction_code y sizes (at_zero others.signatures) (4 * from) held k)) end cs →
+        Filled places base y sizes from end cs (instruction_code y sizes (at_zero others.signatures) (4 * from) held k)
         (instruction_code y sizes others (base + 4 * from) held k) (instruction_calls y from held k)
     plain k e h =
-        let S : List Instr = shape_of y held k in
-        let one : instruction_code y sizes (λ f. 0) (4 * from) held k ≡ S = e.1 y sizes (λ f. 0) (4 * from) held in
-        let two : instruction_code y sizes others (base + 4 * from) held k ≡ S = e.1 y sizes others (base + 4 * from) held in
-        let g : AreIn (from + length S) end cs = subst (λ z. AreIn (from + length z) end cs) one h in
-        subst (λ z. Filled places base y sizes from end cs z (instruction_code y sizes others (base + 4 * from) held k) (instruction_calls y from held k))
-        (sym one)
-        (subst (λ z. Filled places base y sizes from end cs S z (instruction_calls y from held k)) (sym two)
-        (subst (λ z. Filled places base y sizes from end cs S S z) (sym (e.0 y from held)) (simple S g)))
+        let S : List Instr = instruction_code y sizes (at_zero others.signatures) (4 * from) held k in
+        subst (λ z. Filled places base y sizes from end cs S z (instruction_calls y from held k)) (e.1 y sizes (4 * from) (base + 4 * from) held)
+        (subst (λ z. Filled places base y sizes from end cs S S z) (sym (e.0 y from held)) (simple S h))
       where
         least : (a b : ℕ) → a ≤ a + b
         least a b = omega arith
@@ -195,10 +191,10 @@ fill-instruction places others agree base y sizes from end cs held i =
 
     made : (A E : List Instr) (f : FnId) → AreIn (from + length (A ++ (call_jump (4 * from + 4 * length A) 0 ++ E))) end cs →
         Filled places base y sizes from end cs (A ++ (call_jump (4 * from + 4 * length A) 0 ++ E))
-        (A ++ (call_jump (base + 4 * from + 4 * length A) (others f) ++ E)) (record { at = from + length A; callee = f } ∷ [])
+        (A ++ (call_jump (base + 4 * from + 4 * length A) (others.enters f) ++ E)) (record { at = from + length A; callee = f } ∷ [])
     made A E f h =
         let J : List Instr = call_jump (4 * from + 4 * length A) 0 in
-        let K : List Instr = call_jump (base + 4 * from + 4 * length A) (others f) in
+        let K : List Instr = call_jump (base + 4 * from + 4 * length A) (others.enters f) in
         let c : Site = record { at = from + length A; callee = f } in
         let long : length (A ++ (J ++ E)) ≡ length A + (2 + length E) = omega (arith, length-append A (J ++ E)) in
         let behind : AreIn (from + length A + 2) end cs =
@@ -222,38 +218,38 @@ fill-instruction places others agree base y sizes from end cs held i =
         }
 
     called : (to : Destination) (place : Place) (f : FnId) (arguments : List Part) → i ≡ Call to place f arguments →
-        AreIn (from + length (instruction_code y sizes (λ f. 0) (4 * from) held i)) end cs →
-        Filled places base y sizes from end cs (instruction_code y sizes (λ f. 0) (4 * from) held i)
+        AreIn (from + length (instruction_code y sizes (at_zero others.signatures) (4 * from) held i)) end cs →
+        Filled places base y sizes from end cs (instruction_code y sizes (at_zero others.signatures) (4 * from) held i)
         (instruction_code y sizes others (base + 4 * from) held i) (instruction_calls y from held i)
     called to place f arguments e =
         subst
-        (λ k. AreIn (from + length (instruction_code y sizes (λ f. 0) (4 * from) held k)) end cs →
-        Filled places base y sizes from end cs (instruction_code y sizes (λ f. 0) (4 * from) held k)
+        (λ k. AreIn (from + length (instruction_code y sizes (at_zero others.signatures) (4 * from) held k)) end cs →
+        Filled places base y sizes from end cs (instruction_code y sizes (at_zero others.signatures) (4 * from) held k)
         (instruction_code y sizes others (base + 4 * from) held k) (instruction_calls y from held k))
         (sym e) (made (call_begun y held place arguments) (call_ended y sizes to) f)
 
 -- Instructions.
-fill-instructions : (places others : FnId → ℕ) (agree : (f : FnId) → places f ≡ others f) (base : ℕ) (y : Layout) (sizes : List ℕ) (from end : ℕ) (cs : List Site)
-    (held : Option ℕ) (is : List Instruction) →
-    AreIn (from + length (instructions_code y sizes (λ f. 0) (4 * from) held is)) end cs →
-    Filled places base y sizes from end cs (instructions_code y sizes (λ f. 0) (4 * from) held is)
+fill-instructions : (places : FnId → ℕ) (others : CallPlaces) (agree : (f : FnId) → places f ≡ others.enters f) (base : ℕ) (y : Layout)
+    (sizes : List ℕ) (from end : ℕ) (cs : List Site) (held : Option ℕ) (is : List Instruction) →
+    AreIn (from + length (instructions_code y sizes (at_zero others.signatures) (4 * from) held is)) end cs →
+    Filled places base y sizes from end cs (instructions_code y sizes (at_zero others.signatures) (4 * from) held is)
     (instructions_code y sizes others (base + 4 * from) held is) (instructions_calls y sizes from held is)
 fill-instructions places others agree base y sizes from end cs held [] h = record {
   fills = λ ws. let none : from ≡ from + 0 = omega arith in ap (λ n. filled places base n cs ws) none;
   calls = in-less (from + 0) from end cs (omega arith) h;
 }
 fill-instructions places others agree base y sizes from end cs held (i ∷ is) h =
-    let A : List Instr = instruction_code y sizes (λ f. 0) (4 * from) held i in
-    let A0 : List Instr = instruction_code y sizes (λ f. 0) 0 held i in
+    let A : List Instr = instruction_code y sizes (at_zero others.signatures) (4 * from) held i in
+    let A0 : List Instr = instruction_code y sizes nowhere 0 held i in
     let P : List Instr = instruction_code y sizes others (base + 4 * from) held i in
     let n : ℕ = from + length A in
     let next : Option ℕ = held_after i in
-    let B : List Instr = instructions_code y sizes (λ f. 0) (4 * n) next is in
-    let same : length A0 ≡ length A = instruction-length y sizes (λ f. 0) (λ f. 0) 0 (4 * from) held i in
-    let long : length P ≡ length A = instruction-length y sizes others (λ f. 0) (base + 4 * from) (4 * from) held i in
+    let B : List Instr = instructions_code y sizes (at_zero others.signatures) (4 * n) next is in
+    let same : length A0 ≡ length A = instruction-length y sizes nowhere (at_zero others.signatures) 0 (4 * from) held i in
+    let long : length P ≡ length A = instruction-length y sizes others (at_zero others.signatures) (base + 4 * from) (4 * from) held i in
     let four : 4 * from + 4 * length A ≡ 4 * n = omega arith in
-    let whole : instructions_code y sizes (λ f. 0) (4 * from) held (i ∷ is) ≡ A ++ B =
-    ap (λ z. A ++ instructions_code y sizes (λ f. 0) z next is) four in
+    let whole : instructions_code y sizes (at_zero others.signatures) (4 * from) held (i ∷ is) ≡ A ++ B =
+    ap (λ z. A ++ instructions_code y sizes (at_zero others.signatures) z next is) four in
     let count : length (A ++ B) ≡ length A + length B = length-append A B in
     let sum : n + length B ≡ from + length (A ++ B) = omega (arith, count) in
     let h2 : AreIn (n + length B) end cs =
@@ -456,21 +452,22 @@ end-moved code y setting held b at last starts moved k (Some pair) q same fits n
         both-true (edge_there code pair.first) (edge_there code pair.second) (ap (exit_there code) (sym i.exit_is) ∙ fits)
 
 -- A block.
-fill-block : (code : Tac) (places others : FnId → ℕ) (agree : (f : FnId) → places f ≡ others f) (base : ℕ) (y : Layout) (sizes : List ℕ) (from end last follow : ℕ)
-    (starts moved : ℕ → ℕ) (cs : List Site) (k : Block) → ((j : ℕ) → j < length code.blocks → moved j ≡ base + starts j) → block_there code k ≡ true →
-    base + 4 * (from + length (block_code y sizes (λ f. 0) starts last (4 * from) follow k)) + 128 ≤ 2 ^ 32 →
-    AreIn (from + length (block_code y sizes (λ f. 0) starts last (4 * from) follow k)) end cs →
-    Filled places base y sizes from end cs (block_code y sizes (λ f. 0) starts last (4 * from) follow k)
+fill-block : (code : Tac) (places : FnId → ℕ) (others : CallPlaces) (agree : (f : FnId) → places f ≡ others.enters f) (base : ℕ) (y : Layout)
+    (sizes : List ℕ) (from end last follow : ℕ) (starts moved : ℕ → ℕ) (cs : List Site) (k : Block) →
+    ((j : ℕ) → j < length code.blocks → moved j ≡ base + starts j) → block_there code k ≡ true →
+    base + 4 * (from + length (block_code y sizes (at_zero others.signatures) starts last (4 * from) follow k)) + 128 ≤ 2 ^ 32 →
+    AreIn (from + length (block_code y sizes (at_zero others.signatures) starts last (4 * from) follow k)) end cs →
+    Filled places base y sizes from end cs (block_code y sizes (at_zero others.signatures) starts last (4 * from) follow k)
     (block_code y sizes others moved (base + last) (base + 4 * from) follow k) (instructions_calls y sizes from None (plain_of y.reads k))
 fill-block code places others agree base y sizes from end last follow starts moved cs k same fits near h =
     let is : List Instruction = plain_of y.reads k in
     let o : Option Pair = pair_of y.reads k in
-    let A : List Instr = instructions_code y sizes (λ f. 0) (4 * from) None is in
+    let A : List Instr = instructions_code y sizes (at_zero others.signatures) (4 * from) None is in
     let P : List Instr = instructions_code y sizes others (base + 4 * from) None is in
     let held : Option ℕ = held_behind None is in
     let setting : Setting = setting_of y.extent follow in
     let E : List Instr = end_code y setting held (4 * from + 4 * length A) starts last o k.exit in
-    let long : length P ≡ length A = instructions-length y sizes others (λ f. 0) (base + 4 * from) (4 * from) None is in
+    let long : length P ≡ length A = instructions-length y sizes others (at_zero others.signatures) (base + 4 * from) (4 * from) None is in
     let count : length (A ++ E) ≡ length A + length E = length-append A E in
     let index : from + length A + length (words E) ≡ from + length (A ++ E) = omega (arith, count, words-length E) in
     let later : AreIn (from + length A + length (words E)) end cs = subst (λ z. AreIn z end cs) (sym index) h in
@@ -493,12 +490,12 @@ fill-block code places others agree base y sizes from end last follow starts mov
     })
 
 -- Blocks.
-fill-blocks : (code : Tac) (places others : FnId → ℕ) (agree : (f : FnId) → places f ≡ others f) (base : ℕ) (y : Layout) (sizes : List ℕ) (from end last : ℕ) (starts moved : ℕ → ℕ)
-    (cs : List Site) (ks : List Block) → ((j : ℕ) → j < length code.blocks → moved j ≡ base + starts j) →
+fill-blocks : (code : Tac) (places : FnId → ℕ) (others : CallPlaces) (agree : (f : FnId) → places f ≡ others.enters f) (base : ℕ) (y : Layout)
+    (sizes : List ℕ) (from end last : ℕ) (starts moved : ℕ → ℕ) (cs : List Site) (ks : List Block) → ((j : ℕ) → j < length code.blocks → moved j ≡ base + starts j) →
     list_all (block_there code) ks ≡ true →
-    base + 4 * (from + length (blocks_code y sizes (λ f. 0) starts last (4 * from) ks)) + 128 ≤ 2 ^ 32 →
-    AreIn (from + length (blocks_code y sizes (λ f. 0) starts last (4 * from) ks)) end cs →
-    Filled places base y sizes from end cs (blocks_code y sizes (λ f. 0) starts last (4 * from) ks)
+    base + 4 * (from + length (blocks_code y sizes (at_zero others.signatures) starts last (4 * from) ks)) + 128 ≤ 2 ^ 32 →
+    AreIn (from + length (blocks_code y sizes (at_zero others.signatures) starts last (4 * from) ks)) end cs →
+    Filled places base y sizes from end cs (blocks_code y sizes (at_zero others.signatures) starts last (4 * from) ks)
     (blocks_code y sizes others moved (base + last) (base + 4 * from) ks) (blocks_calls y sizes from ks)
 fill-blocks code places others agree base y sizes from end last starts moved cs [] same fits near h = record {
   fills = λ ws. let none : from ≡ from + 0 = omega arith in ap (λ n. filled places base n cs ws) none;
@@ -506,16 +503,17 @@ fill-blocks code places others agree base y sizes from end last starts moved cs 
 }
 fill-blocks code places others agree base y sizes from end last starts moved cs (k ∷ ks) same fits near h =
     let both = both-true (block_there code k) (list_all (block_there code) ks) fits in
-    let A : List Instr = block_code y sizes (λ f. 0) starts last (4 * from) (length ks) k in
-    let A0 : List Instr = block_code y sizes (λ f. 0) (λ c. 0) 0 0 (length ks) k in
+    let A : List Instr = block_code y sizes (at_zero others.signatures) starts last (4 * from) (length ks) k in
+    let A0 : List Instr = block_code y sizes nowhere (λ c. 0) 0 0 (length ks) k in
     let P : List Instr = block_code y sizes others moved (base + last) (base + 4 * from) (length ks) k in
     let n : ℕ = from + length A in
-    let B : List Instr = blocks_code y sizes (λ f. 0) starts last (4 * n) ks in
-    let less : length A0 ≡ length A = block-length y sizes (λ f. 0) (λ f. 0) (λ c. 0) starts 0 last 0 (4 * from) (length ks) k in
-    let long : length P ≡ length A = block-length y sizes others (λ f. 0) moved starts (base + last) last (base + 4 * from) (4 * from) (length ks) k in
+    let B : List Instr = blocks_code y sizes (at_zero others.signatures) starts last (4 * n) ks in
+    let less : length A0 ≡ length A = block-length y sizes nowhere (at_zero others.signatures) (λ c. 0) starts 0 last 0 (4 * from) (length ks) k in
+    let long : length P ≡ length A =
+    block-length y sizes others (at_zero others.signatures) moved starts (base + last) last (base + 4 * from) (4 * from) (length ks) k in
     let four : 4 * from + 4 * length A ≡ 4 * n = omega arith in
-    let whole : blocks_code y sizes (λ f. 0) starts last (4 * from) (k ∷ ks) ≡ A ++ B =
-    ap (λ z. A ++ blocks_code y sizes (λ f. 0) starts last z ks) four in
+    let whole : blocks_code y sizes (at_zero others.signatures) starts last (4 * from) (k ∷ ks) ≡ A ++ B =
+    ap (λ z. A ++ blocks_code y sizes (at_zero others.signatures) starts last z ks) four in
     let count : length (A ++ B) ≡ length A + length B = length-append A B in
     let sum : n + length B ≡ from + length (A ++ B) = omega (arith, count) in
     let near2 : base + 4 * (from + length (A ++ B)) + 128 ≤ 2 ^ 32 = subst (λ z. base + 4 * (from + length z) + 128 ≤ 2 ^ 32) whole near in
@@ -553,17 +551,18 @@ starts-moved : (y : Layout) (sizes : List ℕ) (b at : ℕ) (ks : List Block) (j
 starts-moved y sizes b at [] j h = absurd (omega (arith, h))
 starts-moved y sizes b at (k ∷ ks) zero h = refl
 starts-moved y sizes b at (k ∷ ks) (suc j) h =
-    let n : ℕ = length (block_code y sizes (λ f. 0) (λ c. 0) 0 0 (length ks) k) in
+    let n : ℕ = length (block_code y sizes nowhere (λ c. 0) 0 0 (length ks) k) in
     let sum : b + at + 4 * n ≡ b + (at + 4 * n) = omega arith in
     ap (λ z. start_of (starts_from y sizes z ks) j) sum ∙ starts-moved y sizes b (at + 4 * n) ks j (omega (arith, h))
 
 -- A whole function: with its calls filled in it is its code where it stands.
-pub record FilledFunction (places others : FnId → ℕ) (base : ℕ) (y : Layout) (code : Tac) : Type 0 where
-  pub fills : filled places base 0 (function_calls y code) (words (function_code y code (λ f. 0) 0)) ≡ words (function_code y code others base)
-  pub calls : AreIn 0 (length (function_code y code (λ f. 0) 0)) (function_calls y code)
+pub record FilledFunction (places : FnId → ℕ) (others : CallPlaces) (base : ℕ) (y : Layout) (code : Tac) : Type 0 where
+  pub fills : filled places base 0 (function_calls y code) (words (function_code y code (at_zero others.signatures) 0)) ≡ words (function_code y code others base)
+  pub calls : AreIn 0 (length (function_code y code (at_zero others.signatures) 0)) (function_calls y code)
 
-pub fill-function : (places others : FnId → ℕ) (agree : (f : FnId) → places f ≡ others f) (base : ℕ) (y : Layout) (code : Tac) → list_all (block_there code) code.blocks ≡ true →
-    base + 4 * length (function_code y code (λ f. 0) 0) + 128 ≤ 2 ^ 32 → FilledFunction places others base y code
+pub fill-function : (places : FnId → ℕ) (others : CallPlaces) (agree : (f : FnId) → places f ≡ others.enters f) (base : ℕ) (y : Layout)
+    (code : Tac) → list_all (block_there code) code.blocks ≡ true →
+    base + 4 * length (function_code y code (at_zero others.signatures) 0) + 128 ≤ 2 ^ 32 → FilledFunction places others base y code
 fill-function places others agree base y code fits near =
     let H : List Instr = head_code y code in
     let L : List Instr = left y (frame_bytes y) code.frame in
@@ -571,10 +570,10 @@ fill-function places others agree base y code fits near =
     let starts : ℕ → ℕ = start_of (block_starts y code 0) in
     let moved : ℕ → ℕ = start_of (block_starts y code base) in
     let last : ℕ = last_address y code 0 in
-    let B : List Instr = blocks_code y code.areas (λ f. 0) starts last (4 * from) code.blocks in
+    let B : List Instr = blocks_code y code.areas (at_zero others.signatures) starts last (4 * from) code.blocks in
     let Q : List Instr = blocks_code y code.areas others moved (base + last) (base + 4 * from) code.blocks in
-    let here : body_code y code (λ f. 0) 0 ≡ B =
-    ap (λ n. blocks_code y code.areas (λ f. 0) starts last n code.blocks) (zero-first (4 * from)) in
+    let here : body_code y code (at_zero others.signatures) 0 ≡ B =
+    ap (λ n. blocks_code y code.areas (at_zero others.signatures) starts last n code.blocks) (zero-first (4 * from)) in
     let end : ℕ = length (H ++ (B ++ L)) in
     let near-all : base + 4 * end + 128 ≤ 2 ^ 32 = subst (λ z. base + 4 * length (H ++ (z ++ L)) + 128 ≤ 2 ^ 32) here near in
     let count : end ≡ from + (length B + length L) =

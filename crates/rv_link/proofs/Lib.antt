@@ -1,3 +1,4 @@
+pub mod Entries
 pub mod Fills
 pub mod Links
 pub mod Pushes

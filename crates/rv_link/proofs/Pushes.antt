@@ -11,26 +11,28 @@ use Rattle.elf_image.specs.Layout.{text_address}
 use Rattle.tac_form.specs.declared.tac.Exit.{Exit}
 use Rattle.tac_form.specs.declared.tac.Exit.TheVariants.{Branch, Fail, Jump, Return}
 use Rattle.tac_form.specs.declared.tac.Block.{Block}
+use Rattle.tac_form.specs.declared.tac.Signature.{Signature}
 use Rattle.tac_form.specs.declared.tac.Tac.{Tac}
 use Rattle.tac_form.specs.Fits.{area_fits, block_fits, destination_fits, edge_fits, exit_fits, instruction_fits, is_within, operand_fits}
 use Rattle.tac_form.specs.Fits.{place_fits}
 use Rattle.rv_select.specs.declared.selected.Call.{Call as Site}
 use Rattle.rv_select.specs.Places.{Layout, frame_bytes, layout_of}
 use Rattle.rv_select.specs.Entering.{begun, entered, left, received, words_offset}
-use Rattle.rv_select.specs.Calls.{IsSelected, body_code, call_jump, function_calls, function_code, head_code}
+use Rattle.rv_select.specs.Calls.{CallPlaces, IsSelected, at_zero, body_code, call_jump, function_calls, function_code, head_code}
 use Rattle.rv_select.proofs.Loops.{drop-item}
 use Rattle.rv_select.proofs.Stands.{both-true}
 use Rattle.rv_link.specs.declared.function.Function.{Function}
-use Rattle.rv_link.specs.Filling.{AreIn, entry_in, filled, words_in}
-use Rattle.rv_link.specs.Linked.{AreSelected, AreThere, block_there, blocks_there, exit_there, function_words, places_of, text_from}
+use Rattle.rv_link.specs.Filling.{AreEntered, AreIn, entry_in, filled, words_in}
+use Rattle.rv_link.specs.Linked.{AreSelected, AreThere, block_there, blocks_there, exit_there, function_words, places_of}
+use Rattle.rv_link.specs.Linked.{signatures_in, text_from}
 use Rattle.rv_link.proofs.Fills.{FilledFunction, fill-function}
 use Rattle.rv_link.proofs.Links.{entries-are, selected-length}
 
 -- calls enter a function within its words
-pub entry-within : (x : Function) → IsSelected x.tac x.homes x.code → x.code.entry ≤ length x.code.words.items
-entry-within x s =
+entry-within : (x : Function) (ss : List Signature) → IsSelected x.tac x.homes ss x.code → x.code.entry ≤ length x.code.words.items
+entry-within x ss s =
     least x.code.entry (length (begun x.tac)) (length head) (length rest) (length behind) (length x.code.words.items) s.entry
-    (length-append (begun x.tac) rest) (ap length s.words ∙ (length-map (function_code y x.tac (λ f. 0) 0) word_of ∙ length-append head behind))
+    (length-append (begun x.tac) rest) (ap length s.words ∙ (length-map (function_code y x.tac (at_zero ss) 0) word_of ∙ length-append head behind))
   where
     y : Layout
     y = layout_of x.tac x.homes
@@ -42,7 +44,7 @@ entry-within x s =
     head = head_code y x.tac
 
     behind : List Instr
-    behind = body_code y x.tac (λ f. 0) 0 ++ left y (frame_bytes y) x.tac.frame
+    behind = body_code y x.tac (at_zero ss) 0 ++ left y (frame_bytes y) x.tac.frame
 
     least : (entry begun head rest behind all : ℕ) → entry ≡ begun → head ≡ begun + rest → all ≡ head + behind → entry ≤ all
     least entry begun head rest behind all a b c = omega (arith, a, b, c)
@@ -113,20 +115,21 @@ within-there code h =
         (exit b.exit (both-true (list_all (instruction_fits code) b.instructions) (exit_fits code b.exit) one.0).1) ∙ each bs one.1
 
 -- a function's words at its place
-filled-words : (x : Function) (places others : FnId → ℕ) → ((f : FnId) → places f ≡ others f) → (base : ℕ) → IsSelected x.tac x.homes x.code →
+filled-words : (x : Function) (places : FnId → ℕ) (others : CallPlaces) → ((f : FnId) → places f ≡ others.enters f) → (base : ℕ) →
+    IsSelected x.tac x.homes others.signatures x.code →
     blocks_there x.tac ≡ true → base + 4 * length x.code.words.items + 256 ≤ 2 ^ 30 →
     FilledFunction places others base (layout_of x.tac x.homes) x.tac
 filled-words x places others agree base s h near =
     let y : Layout = layout_of x.tac x.homes in
-    let long : length x.code.words.items ≡ length (function_code y x.tac (λ f. 0) 0) =
-    ap length s.words ∙ length-map (function_code y x.tac (λ f. 0) 0) word_of in
+    let long : length x.code.words.items ≡ length (function_code y x.tac (at_zero others.signatures) 0) =
+    ap length s.words ∙ length-map (function_code y x.tac (at_zero others.signatures) 0) word_of in
     fill-function places others agree base y x.tac h (reach (length x.code.words.items) _ long near)
   where
     reach : (k n : ℕ) → k ≡ n → base + 4 * k + 256 ≤ 2 ^ 30 → base + 4 * n + 128 ≤ 2 ^ 32
     reach k n e h = omega (arith, e, h)
 
-pub function-turn : (x : Function) (places others : FnId → ℕ) → ((f : FnId) → places f ≡ others f) → (base : ℕ) →
-    IsSelected x.tac x.homes x.code → blocks_there x.tac ≡ true → base + 4 * length x.code.words.items + 256 ≤ 2 ^ 30 →
+pub function-turn : (x : Function) (places : FnId → ℕ) (others : CallPlaces) → ((f : FnId) → places f ≡ others.enters f) → (base : ℕ) →
+    IsSelected x.tac x.homes others.signatures x.code → blocks_there x.tac ≡ true → base + 4 * length x.code.words.items + 256 ≤ 2 ^ 30 →
     filled places base 0 x.code.calls.items x.code.words.items ≡ function_words x others base
 function-turn x places others agree base s h near =
     let f = filled-words x places others agree base s h near in
@@ -134,50 +137,55 @@ function-turn x places others agree base s h near =
     ∙ (ap (λ z. filled places base 0 (function_calls (layout_of x.tac x.homes) x.tac) z) s.words ∙ f.fills)
 
 -- where its calls stand
-pub calls-there : (x : Function) → IsSelected x.tac x.homes x.code → blocks_there x.tac ≡ true →
+pub calls-there : (x : Function) (ss : List Signature) → IsSelected x.tac x.homes ss x.code → blocks_there x.tac ≡ true →
     4 * length x.code.words.items + 256 ≤ 2 ^ 30 → AreIn 0 (length x.code.words.items) x.code.calls.items
-calls-there x s h near =
+calls-there x ss s h near =
     let y : Layout = layout_of x.tac x.homes in
-    let long : length x.code.words.items ≡ length (function_code y x.tac (λ f. 0) 0) =
-    ap length s.words ∙ length-map (function_code y x.tac (λ f. 0) 0) word_of in
-    let f = filled-words x (λ f. 0) (λ f. 0) (λ f. refl) 0 s h (omega (arith, near)) in
+    let long : length x.code.words.items ≡ length (function_code y x.tac (at_zero ss) 0) =
+    ap length s.words ∙ length-map (function_code y x.tac (at_zero ss) 0) word_of in
+    let f = filled-words x (λ f. 0) (at_zero ss) (λ f. refl) 0 s h (omega (arith, near)) in
     subst (λ z. AreIn 0 (length x.code.words.items) z) (sym s.calls)
     (subst (λ n. AreIn 0 n (function_calls y x.tac)) (sym long) f.calls)
 
 -- all words
-pub text-length : (places : FnId → ℕ) (at : ℕ) (xs : List Function) → AreSelected xs → length (text_from places at xs) ≡ words_in xs
-text-length places at [] s = refl
-text-length places at (x ∷ xs) s =
+pub text-length : (ss : List Signature) (places : CallPlaces) (at : ℕ) (xs : List Function) → AreSelected ss xs → length (text_from places at xs) ≡ words_in xs
+text-length ss places at [] s = refl
+text-length ss places at (x ∷ xs) s =
     length-append (function_words x places at) (text_from places (at + 4 * length x.code.words.items) xs)
-    ∙ (ap (λ n. n + length (text_from places (at + 4 * length x.code.words.items) xs)) (sym (selected-length x places at s.0))
-    ∙ ap (λ n. length x.code.words.items + n) (text-length places (at + 4 * length x.code.words.items) xs s.1))
+    ∙ (ap (λ n. n + length (text_from places (at + 4 * length x.code.words.items) xs)) (sym (selected-length x ss places at s.0))
+    ∙ ap (λ n. length x.code.words.items + n) (text-length ss places (at + 4 * length x.code.words.items) xs s.1))
 
 -- the next function is selected, its blocks are there, and so it is of all behind it
-pub next-selected : (xs : List Function) (i : ℕ) (x : Function) → x ≡ get_or xs i x → i < length xs →
-    AreSelected (drop i xs) × AreThere (drop i xs) →
-    (IsSelected x.tac x.homes x.code × (blocks_there x.tac ≡ true)) × (AreSelected (drop (i + 1) xs) × AreThere (drop (i + 1) xs))
-next-selected xs i x e h k =
-    let both : AreSelected (x ∷ drop (i + 1) xs) × AreThere (x ∷ drop (i + 1) xs) =
-    subst (λ z. AreSelected z × AreThere z) (drop-item xs i x e h) k in
+pub next-selected : (ss : List Signature) (xs : List Function) (i : ℕ) (x : Function) → x ≡ get_or xs i x → i < length xs →
+    AreSelected ss (drop i xs) × AreThere (drop i xs) →
+    (IsSelected x.tac x.homes ss x.code × (blocks_there x.tac ≡ true)) × (AreSelected ss (drop (i + 1) xs) × AreThere (drop (i + 1) xs))
+next-selected ss xs i x e h k =
+    let both : AreSelected ss (x ∷ drop (i + 1) xs) × AreThere (x ∷ drop (i + 1) xs) =
+    subst (λ z. AreSelected ss z × AreThere z) (drop-item xs i x e h) k in
     ((both.0.0, both.1.0), (both.0.1, both.1.1))
 
-selected-behind : (xs : List Function) (i : ℕ) → AreSelected xs → AreSelected (drop i xs)
-selected-behind [] zero s = tt
-selected-behind [] (suc i) s = tt
-selected-behind (x ∷ xs) zero s = s
-selected-behind (x ∷ xs) (suc i) s = selected-behind xs i s.1
+entered-behind : (xs : List Function) (i : ℕ) → AreEntered xs → AreEntered (drop i xs)
+entered-behind [] zero s = tt
+entered-behind [] (suc i) s = tt
+entered-behind (x ∷ xs) zero s = s
+entered-behind (x ∷ xs) (suc i) s = entered-behind xs i s.1
+
+pub all-entered : (ss : List Signature) (xs : List Function) → AreSelected ss xs → AreEntered xs
+all-entered ss [] s = tt
+all-entered ss (x ∷ xs) s = (entry-within x ss s.0, all-entered ss xs s.1)
 
 -- the next function's words are near, and its entry is among them
-pub next-fits : (xs : List Function) (i : ℕ) (x : Function) (at : ℕ) → x ≡ get_or xs i x → i < length xs → AreSelected xs →
+pub next-fits : (xs : List Function) (i : ℕ) (x : Function) (at : ℕ) → x ≡ get_or xs i x → i < length xs → AreEntered xs →
     at + 4 * words_in (drop i xs) ≡ text_address + 4 * words_in xs → text_address + 4 * words_in xs + 256 ≤ 2 ^ 30 →
     (at + 4 * length x.code.words.items + 256 ≤ 2 ^ 30) × (x.code.entry ≤ length x.code.words.items)
 next-fits xs i x at e h s sum near =
-    let here : AreSelected (x ∷ drop (i + 1) xs) = subst AreSelected (drop-item xs i x e h) (selected-behind xs i s) in
-    (omega (arith, words-turn xs i x e h, sum, near), entry-within x here.0)
+    let here : AreEntered (x ∷ drop (i + 1) xs) = subst AreEntered (drop-item xs i x e h) (entered-behind xs i s) in
+    (omega (arith, words-turn xs i x e h, sum, near), here.0)
 
 -- one more function's words
-pub text-turn : (xs : List Function) (i : ℕ) (x : Function) (places others : FnId → ℕ) → ((f : FnId) → places f ≡ others f) →
-    (old new total : List ℕ) → x ≡ get_or xs i x → i < length xs → IsSelected x.tac x.homes x.code → blocks_there x.tac ≡ true →
+pub text-turn : (xs : List Function) (i : ℕ) (x : Function) (places : FnId → ℕ) (others : CallPlaces) →
+    ((f : FnId) → places f ≡ others.enters f) →
+    (old new total : List ℕ) → x ≡ get_or xs i x → i < length xs → IsSelected x.tac x.homes others.signatures x.code → blocks_there x.tac ≡ true →
     text_address + 4 * length old + 4 * length x.code.words.items + 256 ≤ 2 ^ 30 →
     new ≡ old ++ filled places (text_address + 4 * length old) 0 x.code.calls.items x.code.words.items →
     old ++ text_from others (text_address + 4 * length old) (drop i xs) ≡ total →
@@ -188,7 +196,7 @@ text-turn xs i x places others agree old new total e h s there near put before =
     let W : List ℕ = function_words x others at in
     let is : new ≡ old ++ W = put ∙ ap (λ z. old ++ z) (function-turn x places others agree at s there near) in
     let count : length new ≡ length old + length x.code.words.items =
-    ap length is ∙ (length-append old W ∙ ap (λ n. length old + n) (sym (selected-length x others at s))) in
+    ap length is ∙ (length-append old W ∙ ap (λ n. length old + n) (sym (selected-length x others.signatures others at s))) in
     let next : text_address + 4 * length new ≡ at + 4 * length x.code.words.items = after (length new) (length old) (length x.code.words.items) count in (
       count,
       turn old new W (text_from others (text_address + 4 * length new) (drop (i + 1) xs)) (text_from others at (drop i xs)) total is before
@@ -199,6 +207,7 @@ text-turn xs i x places others agree old new total e h s there near put before =
     after m o w e = omega (arith, e)
 
 -- calls enter where the table says
-pub agreeing : (functions : List Function) (table : List ℕ) → AreSelected functions →
-    ((f : FnId) → get_or table f.0 0 ≡ entry_in text_address functions f) → (f : FnId) → get_or table f.0 0 ≡ places_of functions f
-agreeing functions table s e f = e f ∙ entries-are functions text_address f s
+pub agreeing : (functions : List Function) (values : List FnId) (table : List ℕ) → AreSelected (signatures_in functions values) functions →
+    ((f : FnId) → get_or table f.0 0 ≡ entry_in text_address functions f) → (f : FnId) →
+    get_or table f.0 0 ≡ (places_of functions values).enters f
+agreeing functions values table s e f = e f ∙ entries-are (signatures_in functions values) functions text_address f s

@@ -8,7 +8,6 @@ use Rattle.tl_base.specs.declared.ids.FnId.{FnId}
 use Rattle.rv_isa.specs.declared.instr.Instr.{Instr}
 use Rattle.elf_image.specs.declared.image.Image.{Image}
 use Rattle.elf_image.specs.Layout.{text_address}
-use Rattle.elf_image.specs.Written.{entries_bytes}
 use Rattle.rv_machine.specs.declared.stops.Stop.TheVariants as stops
 use Rattle.rv_isa.specs.Table.{word_of}
 use Rattle.rv_machine.specs.Machine.{State, after_output, run_of, stands, start_registers}
@@ -23,7 +22,7 @@ use Rattle.rv_select.specs.Places.{AreBytes}
 use Rattle.rv_select.proofs.Stands.{both-true}
 use Rattle.rv_select.specs.Steps.{CountsLeft}
 use Rattle.rv_select.specs.Numbers.{constant}
-use Rattle.rv_select.specs.Waiting.{IsLinked, IsPlaced}
+use Rattle.rv_select.specs.Waiting.{AreEntriesIn, IsLinked, IsPlaced}
 use Rattle.rv_select.specs.Whole.{AreShort, Ended, Starts, before_entry}
 use Rattle.rv_select.specs.Places.{layout_of}
 use Rattle.rv_select.specs.Shapes.{jump, place_number, units_given, x9}
@@ -39,24 +38,18 @@ use Rattle.tac_form.specs.Flow.{begun}
 use Rattle.terra_words.specs.Runs.{word}
 use Rattle.rv_machine.specs.declared.stops.MachineKind.TheVariants.{Break}
 use Rattle.std.proofs.Math.Nat.{suc-mul, mul-add}
-use Rattle.rv_select.specs.Calls.{function_code}
+use Rattle.rv_select.specs.Calls.{CallPlaces, function_code}
 use Rattle.rv_select.proofs.Entire.{programs-carried}
 use Rattle.rv_link.specs.declared.function.Function.{Function}
-use Rattle.rv_link.specs.Linked.{function_words, image_of, places_of, program_of, text_from}
+use Rattle.rv_link.specs.declared.function.Linked.{Linked}
+use Rattle.rv_link.specs.Linked.{IsLinkedText, function_words, image_of, places_of, program_of, text_from}
 use Rattle.rv_link.specs.Images.{CountedImagesAreCarried, EndsCounted, EndsLike, ImagesAreCarried, ImagesStart, text_end}
+use Rattle.rv_link.proofs.Entries.{bytes-both, entries-count, entries-in, private-are-bytes, private-length, zero-bytes}
 use Rattle.rv_link.proofs.Links.{texts-linked, texts-short}
 
 all-bytes : (xs : List ℕ) → ((k : ℕ) → slice_index xs k < 256) → AreBytes xs
 all-bytes [] h = tt
 all-bytes (x ∷ xs) h = (h 0, all-bytes xs (λ k. h (suc k)))
-
-bytes-both : (xs ys : List ℕ) → AreBytes xs → AreBytes ys → AreBytes (xs ++ ys)
-bytes-both [] ys h g = g
-bytes-both (x ∷ xs) ys h g = (h.0, bytes-both xs ys h.1 g)
-
-zero-bytes : (n : ℕ) → AreBytes (replicate n 0)
-zero-bytes zero = tt
-zero-bytes (suc n) = (omega arith, zero-bytes n)
 
 -- the register of an argument
 argument-register : (end heap limit : ℕ) (arguments : List ℕ) (k x : ℕ) → slice_get arguments k ≡ Some x →
@@ -79,13 +72,8 @@ argument-register end heap limit arguments k x e =
     found (z ∷ xs) zero x e = cc
     found (z ∷ xs) (suc k) x e = found xs k x e
 
--- the private memory of an image without entries
-zeros-only : (image : Image) → image.entries ≡ [] → private_bytes image ≡ replicate image.private 0
-unfolding entries_bytes
-zeros-only image none = ap (λ es. entries_bytes es ++ replicate image.private 0) none
-
 pub images-start : ImagesStart
-images-start image at arguments l none few small = record {
+images-start image at arguments l few small = record {
   pc = refl;
   link = refl;
   pointer = refl;
@@ -100,8 +88,8 @@ images-start image at arguments l none few small = record {
     begun = begun (length image.statics);
     limited = limited (length image.statics) (length (region_bytes image)) long sizes.1;
   };
-  private = subst (λ xs. length xs ≤ 603979776) (sym (zeros-only image none)) (subst (λ n. n ≤ 603979776) (sym (length-replicate image.private 0)) most);
-  are_bytes = subst AreBytes (sym (zeros-only image none)) (zero-bytes image.private);
+  private = long-private (length (private_bytes image)) (private-length image) l.many most;
+  are_bytes = private-are-bytes image;
 }
   where
     memory : (image.memory % 1024 == 0) ≡ true × ((65536 ≤ image.memory) × (image.memory ≤ 67108864))
@@ -145,6 +133,10 @@ images-start image at arguments l none few small = record {
     bytes = bytes-both image.statics (replicate (image.memory - length image.statics) 0) (all-bytes image.statics l.bytes)
         (zero-bytes (image.memory - length image.statics))
 
+    long-private : (n : ℕ) → n ≡ 16 * length image.entries + image.private → length image.entries ≤ 131072 → image.private ≤ 603979776 →
+        n ≤ 606076928
+    long-private n e h g = omega (arith, e, h, g)
+
     most : image.private ≤ 603979776
     most =
         let one = both-true (image.private % 512 == 0) (nat_le 0 image.private && nat_le image.private 603979776) l.private in
@@ -155,12 +147,12 @@ program-of : (code : List Instr) → IsProgram (map word_of code) (map Some code
 program-of [] = tt
 program-of (i ∷ code) = (refl, program-of code)
 
-abbrev code-from : (places : FnId → ℕ) (at : ℕ) → List Function → List Instr
+abbrev code-from : (places : CallPlaces) (at : ℕ) → List Function → List Instr
 code-from places at [] = []
 code-from places at (x ∷ xs) =
     function_code (layout_of x.tac x.homes) x.tac places at ++ code-from places (at + 4 * length x.code.words.items) xs
 
-text-is : (places : FnId → ℕ) (at : ℕ) (xs : List Function) → text_from places at xs ≡ map word_of (code-from places at xs)
+text-is : (places : CallPlaces) (at : ℕ) (xs : List Function) → text_from places at xs ≡ map word_of (code-from places at xs)
 text-is places at [] = refl
 text-is places at (x ∷ xs) =
     ap (λ z. function_words x places at ++ z) (text-is places (at + 4 * length x.code.words.items) xs)
@@ -226,17 +218,25 @@ ends-like image program at arguments n most lasts s (More out) few decoded none 
     below : (c : ℕ) → c ≤ most → c + 0 ≤ most
     below c h = omega (arith, h)
 
+-- private memory has room for all frames, and for the entries
+frames-fit : (functions : List Function) (values : List FnId) (linked : Linked) (image : Image) (n : ℕ) → IsLinkedText functions values linked →
+    image.entries ≡ linked.entries → 512 * linked.frame ≤ image.private → n ≡ 16 * length image.entries + image.private →
+    512 * linked.frame + 16 * length values ≤ n
+frames-fit functions values linked image n t listed room is =
+    omega (arith, room, is, ap length (listed ∙ t.entries) ∙ entries-count functions values values)
+
 pub images-carried : ImagesAreCarried
-images-carried functions values linked image f code n arguments r selected sound t lawful text none frame is plain args few count run =
+images-carried functions values linked image f code n arguments r selected sound there t lawful text listed frame is plain args few count run =
     let p : Program = program_of functions values in
     let start : State = image_start image (image_of functions f).at arguments in
-    let whole : image.text ≡ map word_of (code-from (places_of functions) text_address functions) =
-    text ∙ (t.words ∙ text-is (places_of functions) text_address functions) in
-    let program : List (Option Instr) = map Some (code-from (places_of functions) text_address functions) in
+    let whole : image.text ≡ map word_of (code-from (places_of functions values) text_address functions) =
+    text ∙ (t.words ∙ text-is (places_of functions values) text_address functions) in
+    let program : List (Option Instr) = map Some (code-from (places_of functions values) text_address functions) in
     let decoded : IsProgram image.text program =
-    subst (λ z. IsProgram z program) (sym whole) (program-of (code-from (places_of functions) text_address functions)) in
-    let room : 512 * linked.frame ≤ length start.private =
-    subst (λ xs. 512 * linked.frame ≤ length xs) (sym (zeros-only image none)) (subst (λ z. 512 * linked.frame ≤ z) (sym (length-replicate image.private 0)) frame) in
+    subst (λ z. IsProgram z program) (sym whole) (program-of (code-from (places_of functions values) text_address functions)) in
+    let room : 512 * linked.frame + 16 * length values ≤ length start.private =
+    frames-fit functions values linked image (length start.private) t listed frame (private-length image) in
+    let entries : AreEntriesIn p (image_of functions) start = entries-in functions values image start there lawful (listed ∙ t.entries) refl in
     let short : AreShort p (image_of functions) (length image.text) =
     subst (λ z. AreShort p (image_of functions) (length z)) (sym text) (texts-short functions values linked selected sound t) in
     let left : ℕ = left_after (begun p image.statics image.memory n f (map word arguments)) (left_in p run.0) n in
@@ -246,8 +246,8 @@ images-carried functions values linked image f code n arguments r selected sound
     (programs-carried p (image_of functions) program linked.frame (length image.text) image.memory n image.statics f code arguments start r
     (texts-linked functions values linked [] program selected sound t
     (subst (λ z. IsProgram z program) (text ∙ sym (append-nil linked.words.items)) decoded)) short is
-    (images-start image (image_of functions f).at arguments lawful none few args) (subst (λ c. CountsLeft c n start) (sym plain) tt) few count
-    room run))
+    (images-start image (image_of functions f).at arguments lawful few args) (subst (λ c. CountsLeft c n start) (sym plain) tt) few count
+    room entries run))
 
 -- the machine's start behind all functions, and where one of them begins with counts
 record Given (image : Image) (program : List (Option Instr)) (at units steps : ℕ) (arguments : List ℕ) (start : State) : Type 0 where
@@ -255,7 +255,7 @@ record Given (image : Image) (program : List (Option Instr)) (at units steps : �
   way : Way program steps start after
   begins : Starts at (fresh image.memory image.statics) arguments after
   counted : after.registers 9 ≡ units
-  long : length after.private ≡ length start.private
+  same : after.private ≡ start.private
 
 gives-units : (image : Image) (program : List (Option Instr)) (from at units : ℕ) (arguments : List ℕ) → from + 256 ≤ 2 ^ 30 → at < 2 ^ 30 →
     at % 2 ≡ 0 → units < 2 ^ 64 → length arguments ≤ 8 → Stands program from (units_given units from at) →
@@ -293,11 +293,11 @@ gives-units image program from at units arguments near low-at even small few the
         region_is = j.near.region ∙ (l.region ∙ s.region_is);
         bytes = s.bytes;
         lawful = s.lawful;
-        private = subst (λ z. length z ≤ 603979776) (sym (j.near.private ∙ l.private)) s.private;
+        private = subst (λ z. length z ≤ 606076928) (sym (j.near.private ∙ l.private)) s.private;
         are_bytes = subst AreBytes (sym (j.near.private ∙ l.private)) s.are_bytes;
       };
       counted = j.near.keeps 9 (λ z. omega (arith, z)) (λ z. omega (arith, z)) (λ z. omega (arith, z)) ∙ l.gives;
-      long = ap length (j.near.private ∙ l.private);
+      same = j.near.private ∙ l.private;
     }
   where
     differ : false ≡ true → ⊥
@@ -373,15 +373,15 @@ ends-counted image program at arguments first most whole left s m (More out) few
         ap (run_of program (image_start image at arguments)) sum ∙ way.runs (d.count + more)
 
 pub counted-images-carried : CountedImagesAreCarried
-counted-images-carried functions values linked image f code units arguments r selected sound t lawful text none frame is counts small args few count
+counted-images-carried functions values linked image f code units arguments r selected sound all t lawful text listed frame is counts small args few count
     run =
     let p : Program = program_of functions values in
     let at : ℕ = (image_of functions f).at in
     let from : ℕ = text_end linked in
     let G : List Instr = units_given units from at in
     let start : State = image_start image from arguments in
-    let C : List Instr = code-from (places_of functions) text_address functions in
-    let linked-is : linked.words.items ≡ map word_of C = t.words ∙ text-is (places_of functions) text_address functions in
+    let C : List Instr = code-from (places_of functions values) text_address functions in
+    let linked-is : linked.words.items ≡ map word_of C = t.words ∙ text-is (places_of functions values) text_address functions in
     let whole : image.text ≡ map word_of (C ++ G) = text ∙ (ap (λ z. z ++ map word_of G) linked-is ∙ sym (map-append word_of C G)) in
     let program : List (Option Instr) = map Some (C ++ G) in
     let decoded : IsProgram image.text program = subst (λ z. IsProgram z program) (sym whole) (program-of (C ++ G)) in
@@ -396,9 +396,10 @@ counted-images-carried functions values linked image f code units arguments r se
     (fits (length linked.words.items) (length G) end-near (given-few units from at)) in
     let g : Given image program at units (length (constant x9 units) + 2) arguments start =
     gives-units image program from at units arguments end-near (begins-near at _ pl.near) (begins-even at pl.aligned) small few there
-    (images-start image from arguments lawful none few args) in
-    let room : 512 * linked.frame ≤ length g.after.private =
-    subst (λ z. 512 * linked.frame ≤ z) (sym (g.long ∙ (ap length (zeros-only image none) ∙ length-replicate image.private 0))) frame in
+    (images-start image from arguments lawful few args) in
+    let room : 512 * linked.frame + 16 * length values ≤ length g.after.private =
+    frames-fit functions values linked image (length g.after.private) t listed frame (ap length g.same ∙ private-length image) in
+    let entries : AreEntriesIn p (image_of functions) g.after = entries-in functions values image g.after all lawful (listed ∙ t.entries) g.same in
     let left : ℕ = left_after (begun p image.statics image.memory units f (map word arguments)) (left_in p run.0) units in
     ends-counted image program from arguments (length (constant x9 units) + 2) ((units + 1) * length linked.words.items)
     ((units + 1) * length image.text) left (before_entry f (fresh image.memory image.statics) units) g.after r few decoded refl
@@ -411,7 +412,7 @@ counted-images-carried functions values linked image f code units arguments r se
     g.after r) counts
     (programs-carried p (image_of functions) program linked.frame (length linked.words.items) image.memory units image.statics f code arguments
     g.after r placed (texts-short functions values linked selected sound t) is g.begins
-    (subst (λ c. CountsLeft c units g.after) (sym counts) (g.counted, small)) few count room run))
+    (subst (λ c. CountsLeft c units g.after) (sym counts) (g.counted, small)) few count room entries run))
   where
     begins-near : (at n : ℕ) → at + 4 * n + 256 ≤ 2 ^ 30 → at < 2 ^ 30
     begins-near at n h = omega (arith, h)

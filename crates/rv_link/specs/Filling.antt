@@ -36,3 +36,8 @@ entry_in at (x ∷ xs) f =
 -- a number, or another where it is 0
 abbrev pub first_of : ℕ → ℕ → ℕ
 first_of a b = if nat_eq a 0 then b else a
+
+-- calls enter each function within its words
+abbrev pub AreEntered : List Function → Type 0
+AreEntered [] = Unit {0}
+AreEntered (x ∷ xs) = (x.code.entry ≤ length x.code.words.items) × AreEntered xs

@@ -1,5 +1,5 @@
 -- Runs of an image whose text was linked.
-use Rattle.std.specs.Prelude.{◌≡◌, ℕ, ◌+◌, ◌*◌, ◌^◌, ◌<◌, ◌≤◌, true, false, List, [], ◌++◌, length, map, Some, slice_get}
+use Rattle.std.specs.Prelude.{◌≡◌, ℕ, ◌+◌, ◌*◌, ◌^◌, ◌<◌, ◌≤◌, true, false, List, ◌++◌, length, map, Some, slice_get}
 use Rattle.tl_base.specs.declared.ids.FnId.{FnId}
 use Rattle.tl_base.specs.declared.limits.TheConstants.{MAX_CALLS}
 use Rattle.elf_image.specs.declared.image.Image.{Image}
@@ -21,16 +21,15 @@ use Rattle.rv_select.specs.Shapes.{place_number, units_given}
 use Rattle.rv_select.specs.Whole.{Starts}
 use Rattle.rv_link.specs.declared.function.Function.{Function}
 use Rattle.rv_link.specs.declared.function.Linked.{Linked}
-use Rattle.rv_link.specs.Linked.{AreSelected, AreSound, IsLinkedText, code_in, image_of, program_of}
+use Rattle.rv_link.specs.Linked.{AreFunctions, AreSelected, AreSound, IsLinkedText, code_in, image_of, program_of, signatures_in}
 
 abbrev pub AreWords : List ℕ → Type 0
 AreWords arguments = (k x : ℕ) → slice_get arguments k ≡ Some x → x < 2 ^ 64
 
--- A lawful image without entries begins, at an address, as functions that begin as the entry ask for: with its memory as a region that
--- has the statics.
+-- A lawful image begins, at an address, as functions that begin as the entry ask for: with its memory as a region that has the statics.
 abbrev pub ImagesStart : Type 0
 ImagesStart =
-    (image : Image) (at : ℕ) (arguments : List ℕ) → IsLawful image → image.entries ≡ [] → length arguments ≤ 8 → AreWords arguments →
+    (image : Image) (at : ℕ) (arguments : List ℕ) → IsLawful image → length arguments ≤ 8 → AreWords arguments →
     Starts at (fresh image.memory image.statics) arguments (image_start image at arguments)
 
 -- The image's run stops so, in that many steps and in all that are more, with this output.
@@ -105,14 +104,15 @@ EndsCounted image at arguments most left (Over (Fault kind place) out) =
 EndsCounted image at arguments most left (Over Stuck out) = Unit {0}
 EndsCounted image at arguments most left (More out) = CountedBreaks image at arguments most out
 
--- Linked functions in a lawful image without entries: a run of the image, from where one of them begins as the entry, ends as that of its
+-- Linked functions in a lawful image that has their entries: a run of the image, from where one of them begins as the entry, ends as that of its
 -- three-address code does at each count n, in at most n + 1 times as many steps as the image has instructions.
 abbrev pub ImagesAreCarried : Type 0
 ImagesAreCarried =
     (functions : List Function) (values : List FnId) (linked : Linked) (image : Image) (f : FnId) (code : Tac) (n : ℕ)
     (arguments : List ℕ) (r : Run) →
-    AreSelected functions → AreSound (program_of functions values) functions → IsLinkedText functions linked → IsLawful image →
-    image.text ≡ linked.words.items → image.entries ≡ [] → MAX_CALLS * linked.frame ≤ image.private →
+    AreSelected (signatures_in functions values) functions → AreSound (program_of functions values) functions →
+    AreFunctions functions values → IsLinkedText functions values linked → IsLawful image →
+    image.text ≡ linked.words.items → image.entries ≡ linked.entries → MAX_CALLS * linked.frame ≤ image.private →
     code_in functions f ≡ Some code → code.counts ≡ false → AreWords arguments → length arguments ≤ 8 →
     length arguments ≡ length code.parameters →
     TacRun (program_of functions values) image.statics image.memory n f (map word arguments) r →
@@ -124,9 +124,10 @@ abbrev pub CountedImagesAreCarried : Type 0
 CountedImagesAreCarried =
     (functions : List Function) (values : List FnId) (linked : Linked) (image : Image) (f : FnId) (code : Tac) (units : ℕ)
     (arguments : List ℕ) (r : Run) →
-    AreSelected functions → AreSound (program_of functions values) functions → IsLinkedText functions linked → IsLawful image →
+    AreSelected (signatures_in functions values) functions → AreSound (program_of functions values) functions →
+    AreFunctions functions values → IsLinkedText functions values linked → IsLawful image →
     image.text ≡ linked.words.items ++ map word_of (units_given units (text_end linked) (image_of functions f).at) →
-    image.entries ≡ [] → MAX_CALLS * linked.frame ≤ image.private →
+    image.entries ≡ linked.entries → MAX_CALLS * linked.frame ≤ image.private →
     code_in functions f ≡ Some code → code.counts ≡ true → units < 2 ^ 64 → AreWords arguments → length arguments ≤ 8 →
     length arguments ≡ length code.parameters →
     (ran : TacRun (program_of functions values) image.statics image.memory units f (map word arguments) r) →

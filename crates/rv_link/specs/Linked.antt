@@ -5,18 +5,22 @@ use Rattle.std.specs.List.{list_all}
 use Rattle.tl_base.specs.declared.ids.FnId.{FnId}
 use Rattle.rv_isa.specs.declared.instr.Instr.{Instr}
 use Rattle.rv_isa.specs.Table.{word_of}
+use Rattle.elf_image.specs.declared.image.Entry.{Entry}
 use Rattle.elf_image.specs.Layout.{text_address}
 use Rattle.rv_machine.specs.Program.{IsProgram}
 use Rattle.reg_alloc.specs.Right.{IsRight}
 use Rattle.tac_form.specs.declared.tac.Exit.{Exit}
 use Rattle.tac_form.specs.declared.tac.Exit.TheVariants.{Branch, Jump}
 use Rattle.tac_form.specs.declared.tac.Block.{Block}
+use Rattle.tac_form.specs.declared.tac.Signature.{Signature}
 use Rattle.tac_form.specs.declared.tac.Tac.{Tac}
 use Rattle.tac_form.specs.Flow.{Program}
 use Rattle.tac_form.specs.Fits.{Counted, Fits}
 use Rattle.rv_select.specs.Places.{layout_of}
-use Rattle.rv_select.specs.Calls.{IsSelected, all_has_code, function_code}
-use Rattle.rv_select.specs.Waiting.{CountsAlike, Image, IsLinked, PassesAll, entries_of}
+use Rattle.rv_select.specs.Calls.{CallPlaces, IsSelected, all_has_code, function_code}
+use Rattle.rv_select.specs.Signatures.{signature_number}
+use Rattle.rv_select.specs.Waiting as waiting
+use Rattle.rv_select.specs.Waiting.{CountsAlike, Image, IsLinked, PassesAll, signature_in, signatures_of}
 use Rattle.rv_link.specs.declared.function.Function.{Function}
 use Rattle.rv_link.specs.declared.function.Linked.{Linked}
 pub use Rattle.tac_form.specs.Fits.{edge_fits as edge_there}
@@ -39,20 +43,38 @@ placed_in at (x ∷ xs) f =
 abbrev pub image_of : List Function → Image
 image_of functions = placed_in text_address functions
 
--- where calls enter them
-abbrev pub places_of : List Function → FnId → ℕ
-places_of functions = entries_of (program_of functions []) (image_of functions)
+-- where calls enter them, and the signatures of those that stand as values
+abbrev pub signatures_in : List Function → (values : List FnId) → List Signature
+signatures_in functions values = signatures_of (program_of functions values)
+
+abbrev pub places_of : List Function → (values : List FnId) → CallPlaces
+places_of functions values = waiting.places_of (program_of functions values) (image_of functions)
+
+-- The entry of a function that stands as a value: where calls enter it, and the number of its signature among those of all entries.
+abbrev pub entry_for : List Function → (values : List FnId) → FnId → Entry
+entry_for functions values f = record {
+  address = (places_of functions values).enters f;
+  signature = signature_number (signatures_in functions values) (signature_in (code_in functions f));
+}
+
+abbrev pub entries_for : List Function → (values : List FnId) → List Entry
+entries_for functions values = map (entry_for functions values) values
+
+-- each of them is a function
+abbrev pub AreFunctions : List Function → (values : List FnId) → Type 0
+AreFunctions functions [] = Unit {0}
+AreFunctions functions (f ∷ fs) = ((code : Tac) × (code_in functions f ≡ Some code)) × AreFunctions functions fs
 
 -- The words of the text: each function's code as it is at its place, with its calls at the places where functions are entered.
-abbrev pub function_words : Function → (places : FnId → ℕ) → (at : ℕ) → List ℕ
+abbrev pub function_words : Function → (places : CallPlaces) → (at : ℕ) → List ℕ
 function_words x places at = map word_of (function_code (layout_of x.tac x.homes) x.tac places at)
 
-abbrev pub text_from : (places : FnId → ℕ) → (at : ℕ) → List Function → List ℕ
+abbrev pub text_from : (places : CallPlaces) → (at : ℕ) → List Function → List ℕ
 text_from places at [] = []
 text_from places at (x ∷ xs) = function_words x places at ++ text_from places (at + 4 * length x.code.words.items) xs
 
-abbrev pub text_of : List Function → List ℕ
-text_of functions = text_from (places_of functions) text_address functions
+abbrev pub text_of : List Function → (values : List FnId) → List ℕ
+text_of functions values = text_from (places_of functions values) text_address functions
 
 -- where each function begins as the entry, in order
 abbrev pub starts_in : (at : ℕ) → List Function → List ℕ
@@ -67,10 +89,10 @@ abbrev pub most_frame : List Function → ℕ
 most_frame [] = 0
 most_frame (x ∷ xs) = larger x.code.frame (most_frame xs)
 
--- Each function's code is what selection gives, by its assignment.
-abbrev pub AreSelected : List Function → Type 0
-AreSelected [] = Unit {0}
-AreSelected (x ∷ xs) = IsSelected x.tac x.homes x.code × AreSelected xs
+-- Each function's code is what selection gives, by its assignment, where functions that stand as values have these signatures.
+abbrev pub AreSelected : List Signature → List Function → Type 0
+AreSelected signatures [] = Unit {0}
+AreSelected signatures (x ∷ xs) = IsSelected x.tac x.homes signatures x.code × AreSelected signatures xs
 
 -- Each way on from a block of code leads to one of its blocks, as in all code that machine code may be made of.
 abbrev pub exit_there : Tac → Exit → Bool
@@ -102,17 +124,19 @@ abbrev pub AreSound : Program → List Function → Type 0
 AreSound p [] = Unit {0}
 AreSound p (x ∷ xs) = IsSound p x × AreSound p xs
 
--- What linking gives: the text, which begins at 0x10000 and ends below 2 ^ 30, where each function begins, and the largest frame.
-pub record IsLinkedText (functions : List Function) (linked : Linked) : Type 0 where
-  pub words : linked.words.items ≡ text_of functions
+-- What linking gives: the text, which begins at 0x10000 and ends below 2 ^ 30, where each function begins, the largest frame, and the
+-- entries of the functions that stand as values, in order.
+pub record IsLinkedText (functions : List Function) (values : List FnId) (linked : Linked) : Type 0 where
+  pub words : linked.words.items ≡ text_of functions values
   pub starts : linked.starts.items ≡ starts_in text_address functions
   pub frame : linked.frame ≡ most_frame functions
-  pub near : text_address + 4 * length (text_of functions) + 256 ≤ 2 ^ 30
+  pub entries : linked.entries ≡ entries_for functions values
+  pub near : text_address + 4 * length (text_of functions values) + 256 ≤ 2 ^ 30
 
 -- In such a text the program's functions stand as runs ask for, whatever words lie behind them.
 abbrev pub LinkedTextsAreLinked : Type 0
 LinkedTextsAreLinked =
     (functions : List Function) (values : List FnId) (linked : Linked) (behind : List ℕ) (program : List (Option Instr)) →
-    AreSelected functions → AreSound (program_of functions values) functions → IsLinkedText functions linked →
-    IsProgram (linked.words.items ++ behind) program →
+    AreSelected (signatures_in functions values) functions → AreSound (program_of functions values) functions →
+    IsLinkedText functions values linked → IsProgram (linked.words.items ++ behind) program →
     IsLinked (program_of functions values) (image_of functions) program linked.frame

@@ -1,5 +1,6 @@
 // What is linked, and what linking gives.
 
+use elf_image::Entries;
 use reg_alloc::Assignment;
 use rv_select::Code;
 use tac_form::Tac;
@@ -14,7 +15,7 @@ pub struct Function {
     pub code: Code,
 }
 
-/// The text of functions.
+/// The text of functions, and the entries of those that stand as values.
 #[derive(Drop)]
 pub struct Linked {
     /// The words of the text, which begins at address 0x10000.
@@ -23,4 +24,6 @@ pub struct Linked {
     pub starts: Vec<u64>,
     /// The largest frame of a function, in bytes of private memory.
     pub frame: u64,
+    /// The entries of the functions that stand as values, in order.
+    pub entries: Entries,
 }

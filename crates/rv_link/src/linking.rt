@@ -5,14 +5,15 @@ ghost use Rattle.tl_base.specs.declared.ids.FnId.{FnId};
 ghost use Rattle.rv_isa.specs.Table.{word_of};
 ghost use Rattle.rv_select.specs.Calls.{call_jump};
 ghost use Rattle.rv_link.specs.Filling.{AreIn, entry_at, filled, words_in};
-ghost use Rattle.rv_link.specs.Linked.{AreSelected, AreThere, IsLinkedText, places_of, text_of};
+ghost use Rattle.rv_link.specs.Linked.{AreSelected, AreThere, IsLinkedText, places_of, signatures_in, text_of};
 
 use crate::function::{Function, Linked};
+use crate::listing::list_entries;
 use crate::placing::{entry_of, largest_frame, place_all};
 use rv_select::{Call, push_call_jump};
 use std::alloc::Global;
-use tl_base::NoMemory;
 use tl_base::limits::TEXT_ADDRESS;
+use tl_base::{FnId, NoMemory};
 
 /// Words of a function from one on, as far as a call's, and the jump of the call to where its function is entered.
 fn push_to_call(
@@ -60,12 +61,13 @@ fn linked_words(
     alloc: Global,
     entries: &[u64],
     functions: &[Function],
+    values: &[FnId],
 ) -> Result<Vec<u32>, NoMemory>
-    requires selected { AreSelected functions.now }
+    requires selected { AreSelected (signatures_in functions.now values.now) functions.now }
     requires there { AreThere functions.now }
-    requires places { (f : FnId) → entry_at entries.now f ≡ places_of functions.now f }
+    requires places { (f : FnId) → entry_at entries.now f ≡ (places_of functions.now values.now).enters f }
     requires near { TEXT_ADDRESS + 4 * words_in functions.now + 256 ≤ 2 ^ 30 }
-    ensures { IfOk result (λ text. text.items ≡ text_of functions.now) }
+    ensures { IfOk result (λ text. text.items ≡ text_of functions.now values.now) }
 {
     let mut text = Vec::new(alloc);
     for function in functions {
@@ -82,18 +84,20 @@ fn linked_words(
 }
 
 /// The text of functions, in their order: calls go to where the functions of their numbers are entered. All of it is within reach of a
-/// jump.
-pub fn link(alloc: Global, functions: &[Function]) -> Result<Linked, NoMemory>
-    requires selected { AreSelected functions.now }
+/// jump. With it come the entries of the functions that stand as values, in order.
+pub fn link(alloc: Global, functions: &[Function], values: &[FnId]) -> Result<Linked, NoMemory>
+    requires selected { AreSelected (signatures_in functions.now values.now) functions.now }
     requires there { AreThere functions.now }
     requires near { TEXT_ADDRESS + 4 * words_in functions.now + 256 ≤ 2 ^ 30 }
-    ensures { IfOk result (λ linked. IsLinkedText functions.now linked) }
+    ensures { IfOk result (λ linked. IsLinkedText functions.now values.now linked) }
 {
     let places = place_all(alloc, functions)?;
-    let words = linked_words(alloc, &places.entries, functions)?;
+    let words = linked_words(alloc, &places.entries, functions, values)?;
+    let entries = list_entries(alloc, &places.entries, functions, values)?;
     Ok(Linked {
         words,
         starts: places.starts,
         frame: largest_frame(functions),
+        entries,
     })
 }

@@ -3,8 +3,8 @@
 ghost use Rattle.std.specs.Prelude.{◌≡◌, ℕ, ◌*◌, ◌+◌, ◌-◌, ◌^◌, ◌<◌, ◌≤◌, ◌++◌, length, replicate, slice_index, nat_eq, if◌then◌else◌, ◌↔◌};
 ghost use Rattle.std.specs.Prelude.{IfOk, IsTrue, OnOk};
 ghost use Rattle.tl_base.specs.declared.ids.FnId.{FnId};
-ghost use Rattle.rv_link.specs.Filling.{entry_at, entry_in, first_of, words_in};
-ghost use Rattle.rv_link.specs.Linked.{AreSelected, larger, most_frame, starts_in};
+ghost use Rattle.rv_link.specs.Filling.{AreEntered, entry_at, entry_in, first_of, words_in};
+ghost use Rattle.rv_link.specs.Linked.{larger, most_frame, starts_in};
 
 use crate::function::Function;
 use std::alloc::Global;
@@ -72,7 +72,7 @@ pub(crate) struct Places {
 
 /// Where functions stand that lie one behind the other from the begin of a text on. Of two that have one number the first counts.
 pub(crate) fn place_all(alloc: Global, functions: &[Function]) -> Result<Places, NoMemory>
-    requires selected { AreSelected functions.now }
+    requires entered { AreEntered functions.now }
     requires near { TEXT_ADDRESS + 4 * words_in functions.now + 256 ≤ 2 ^ 30 }
     ensures starts { IfOk result (λ places. places.starts.items ≡ starts_in TEXT_ADDRESS functions.now) }
     ensures entries { IfOk result (λ places. (f : FnId) → entry_at places.entries.items f ≡ entry_in TEXT_ADDRESS functions.now f) }

@@ -260,7 +260,7 @@ heap-holds y Used w base x m n p h k region private three begun limited small = 
   frame = record {
     pointer = k 2 (λ e. omega (arith, e)) (λ e. omega (arith, e)) (λ e. omega (arith, e)) (λ e. omega (arith, e)) ∙ p.frame.pointer;
     within = subst (λ z. base + frame_bytes y ≤ length z) (sym private) p.frame.within;
-    private = subst (λ z. length z ≤ 603979776) (sym private) p.frame.private;
+    private = subst (λ z. length z ≤ 606076928) (sym private) p.frame.private;
     bytes = subst AreBytes (sym private) p.frame.bytes;
   };
   pc = small;

@@ -51,7 +51,7 @@ area-room y base n k m f h l = omega (arith, f.within, h, l)
 pub area-near : (y : Layout) (base n k : ℕ) (m : State) → HasFrame y base m → n < y.areas → k ≤ most_moved → area_offset y n + k < 2 ^ 30
 area-near y base n k m f h l = omega (arith, f.within, f.private, h, l)
 
-frame-sum : (x base offset size : ℕ) → x ≡ 2 ^ 32 + base → base + offset ≤ size → size ≤ 603979776 → low (x + offset) ≡ 2 ^ 32 + (base + offset)
+frame-sum : (x base offset size : ℕ) → x ≡ 2 ^ 32 + base → base + offset ≤ size → size ≤ 606076928 → low (x + offset) ≡ 2 ^ 32 + (base + offset)
 unfolding low
 frame-sum x base offset size e h k = omega arith
 
@@ -131,7 +131,7 @@ area-holds y Used Next w base n bs m z p h f there s small = record {
   frame = record {
     pointer = s.keeps 2 (λ e. omega (arith, e)) (λ e. omega (arith, e)) (λ e. omega (arith, e)) ∙ p.frame.pointer;
     within = subst (λ k. base + frame_bytes y ≤ k) (sym s.long) p.frame.within;
-    private = subst (λ k. k ≤ 603979776) (sym s.long) p.frame.private;
+    private = subst (λ k. k ≤ 606076928) (sym s.long) p.frame.private;
     bytes = s.whole;
   };
   pc = small;

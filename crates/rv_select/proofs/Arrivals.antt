@@ -20,7 +20,7 @@ use Rattle.rv_select.specs.Entering.{kept_offset}
 use Rattle.rv_select.specs.Frames.{ArePassed, Enters, HasWords, IsPartFirst, IsWordOf, LiesAt, part_value, seen, without_words}
 use Rattle.rv_select.specs.Waiting.{HasRoom, restored}
 use Rattle.rv_select.proofs.Backs.{part-is}
-use Rattle.rv_select.proofs.Callings.{Begun, JumpedTo}
+use Rattle.rv_select.proofs.Callings.{AtJump}
 use Rattle.rv_select.proofs.Returns.{if-is}
 use Rattle.rv_select.proofs.Straight.{low-small}
 use Rattle.rv_select.proofs.Waits.{SameAbove, lasting, link-same}
@@ -41,35 +41,33 @@ pub record InFunction (z : Layout) (base bottom placed depth link : ℕ) (m n : 
   pub above : (at k : ℕ) → base ≤ at → take k (drop at n.private) ≡ take k (drop at m.private)
   pub below : (at k : ℕ) → at + k ≤ bottom → take k (drop at n.private) ≡ take k (drop at m.private)
 
-pub enters-call : (program : List (Option Instr)) (y : Layout) (held : Option ℕ) (z : Layout)
-    (base bytes frame placed target most to link : ℕ) (w : World) (at : Place) (ps : List Part) (left : ℕ) (rest : List Instr) (m : State)
-    (b : Begun program y held base w at ps left rest m) (j : JumpedTo program target b.after)
+pub enters-call : (program : List (Option Instr)) (y z : Layout) (base bytes frame placed target few most to link : ℕ) (w : World) (at : Place)
+    (ps : List Part) (left : ℕ) (m : State) (j : AtJump program y base w at ps left target link few m)
     (e : Enters program z (base - bytes) (placed - frame) most to j.after) → 88 ≤ bytes → bytes ≤ base →
-    8 * length ps ≤ bytes → low (b.after.pc + 8) ≡ link → link < 2 ^ 64 → InFunction z base (base - bytes) (placed - frame) (suc w.depth) link m e.after
-enters-call program y held z base bytes frame placed target most to link w at ps left rest m b j e least room passed link-is small = record {
+    8 * length ps ≤ bytes → link < 2 ^ 64 → InFunction z base (base - bytes) (placed - frame) (suc w.depth) link m e.after
+enters-call program y z base bytes frame placed target few most to link w at ps left m j e least room passed small = record {
   pointer = e.pointer;
   eight = e.placed;
   three = others 3 (λ q. omega (arith, q)) (λ q. omega (arith, q)) (λ q. omega (arith, q)) (λ q. omega (arith, q)) (λ q. omega (arith, q))
-      (λ q. omega (arith, q)) (λ q. omega (arith, q)) (λ q. omega (arith, q)) (λ q. omega (arith, q));
+      (λ q. omega (arith, q)) (λ q. omega (arith, q)) (λ q. omega (arith, q)) (λ q. omega (arith, q)) (λ q. omega (arith, q));
   four = others 4 (λ q. omega (arith, q)) (λ q. omega (arith, q)) (λ q. omega (arith, q)) (λ q. omega (arith, q)) (λ q. omega (arith, q))
-      (λ q. omega (arith, q)) (λ q. omega (arith, q)) (λ q. omega (arith, q)) (λ q. omega (arith, q));
+      (λ q. omega (arith, q)) (λ q. omega (arith, q)) (λ q. omega (arith, q)) (λ q. omega (arith, q)) (λ q. omega (arith, q));
   waiting = e.others 28 (λ q. omega (arith, q)) (λ q. omega (arith, q)) (λ q. omega (arith, q)) (λ q. omega (arith, q))
-      (λ q. omega (arith, q))
-      ∙ (j.others 28 (λ q. omega (arith, q)) (λ q. omega (arith, q)) ∙ b.waiting);
-  region = e.region ∙ (j.region ∙ b.region);
-  long = e.long ∙ (ap length j.private ∙ b.long);
-  bytes = λ are. e.bytes (subst AreBytes (sym j.private) (b.bytes are));
+      (λ q. omega (arith, q)) ∙ j.waiting;
+  region = e.region ∙ j.region;
+  long = e.long ∙ j.long;
+  bytes = λ are. e.bytes (j.bytes are);
   link_is = sym (if-is z.extent.calls link (private_word e.after (base - bytes)) (e.after.registers 1)
-      (λ u. sym (e.link u ∙ (ap low (j.link ∙ link-is) ∙ low-small link small)))
+      (λ u. sym (e.link u ∙ (ap low j.link_is ∙ low-small link small)))
       (λ u. sym (e.others 1 (λ q. omega (arith, q)) (λ q. omega (arith, q)) (λ q. omega (arith, q)) (λ q. omega (arith, q))
-      (λ q. omega (arith, q)) ∙ (j.link ∙ link-is))));
+      (λ q. omega (arith, q)) ∙ j.link_is)));
   kept = λ r lo hi few.
       sym (if-is (uses z r) (m.registers r) (private_word e.after (base - bytes + kept_offset r)) (e.after.registers r)
       (λ u. sym (e.kept r lo hi u ∙ (ap low (before r lo hi) ∙ low-small (m.registers r) few)))
       (λ u. sym (e.others r (λ q. omega (arith, q, lo)) (λ q. omega (arith, q, lo)) (λ q. omega (arith, q, lo)) (λ q. omega (arith, q, lo))
       (λ q. omega (arith, q, lo)) ∙ before r lo hi)));
-  above = λ a k o. e.above a k (higher base bytes a least room o) ∙ (ap (λ q. take k (drop a q)) j.private ∙ b.above a k o);
-  below = λ a k o. e.below a k o ∙ (ap (λ q. take k (drop a q)) j.private ∙ b.below a k (lower base bytes (8 * length ps) (a + k) passed o));
+  above = λ a k o. e.above a k (higher base bytes a least room o) ∙ j.above a k o;
+  below = λ a k o. e.below a k o ∙ j.below a k (lower base bytes (8 * length ps) (a + k) passed o);
 }
   where
     lower : (base bytes n a : ℕ) → n ≤ bytes → a ≤ base - bytes → a ≤ base - n
@@ -80,13 +78,12 @@ enters-call program y held z base bytes frame placed target most to link w at ps
 
     before : (r : ℕ) → 18 ≤ r → r < 28 → j.after.registers r ≡ m.registers r
     before r lo hi =
-        j.others r (λ q. omega (arith, q, lo)) (λ q. omega (arith, q, lo))
-        ∙ b.others r (λ q. omega (arith, q, lo)) (λ q. omega (arith, q, lo)) (λ q. omega (arith, q, lo)) (λ q. omega (arith, q, lo))
-        (λ q. omega (arith, q, lo)) (λ q. omega (arith, q, hi))
+        j.others r (λ q. omega (arith, q, lo)) (λ q. omega (arith, q, lo)) (λ q. omega (arith, q, lo)) (λ q. omega (arith, q, lo))
+        (λ q. omega (arith, q, lo)) (λ q. omega (arith, q, lo)) (λ q. omega (arith, q, lo)) (λ q. omega (arith, q, hi))
 
-    others : (r : ℕ) → r ≢ 1 → r ≢ 2 → r ≢ 5 → r ≢ 6 → r ≢ 7 → r ≢ 8 → r ≢ 9 → r ≢ 11 → r ≢ 28 → e.after.registers r ≡ m.registers r
-    others r one two five six seven eight nine eleven more = e.others r two five six seven eight ∙
-        (j.others r one five ∙ b.others r five six seven nine eleven more)
+    others : (r : ℕ) → r ≢ 1 → r ≢ 2 → r ≢ 5 → r ≢ 6 → r ≢ 7 → r ≢ 8 → r ≢ 9 → r ≢ 11 → r ≢ 12 → r ≢ 28 → e.after.registers r ≡ m.registers r
+    others r one two five six seven eight nine eleven twelve more =
+        e.others r two five six seven eight ∙ j.others r one five six seven nine eleven twelve more
 
 -- the caller's registers and memory, as the function will put them back
 pub same-after : (z : Layout) (base bottom placed depth link : ℕ) (m n q : State) → InFunction z base bottom placed depth link m n →
@@ -161,27 +158,27 @@ areas-lie y Used w base bottom last m n h above long low j there = record {
     inside a b k e g l = omega (arith, e, g, l, there)
 
 -- below the frame there is room for each call that may be made then
-pub room-next : (most depth base bytes : ℕ) → HasRoom most depth base → depth < 511 → bytes ≤ most → (bytes ≤ base) ×
-    HasRoom most (suc depth) (base - bytes)
-room-next most depth base bytes h shallow few = go h.rest h.calls h.room
+pub room-next : (entries most depth base bytes : ℕ) → HasRoom entries most depth base → depth < 511 → bytes ≤ most → (bytes ≤ base) ×
+    HasRoom entries most (suc depth) (base - bytes)
+room-next entries most depth base bytes h shallow few = go h.rest h.calls h.room
   where
-    more : (x : ℕ) → x + most ≤ base → bytes ≤ base
+    more : (x : ℕ) → x + most + 16 * entries ≤ base → bytes ≤ base
     more x e = omega (arith, e, few)
 
-    less : (x : ℕ) → x + most ≤ base → x ≤ base - bytes
+    less : (x : ℕ) → x + most + 16 * entries ≤ base → x + 16 * entries ≤ base - bytes
     less x e = omega (arith, e, few)
 
-    go : (rest : ℕ) → rest + depth ≡ 511 → rest * most ≤ base → (bytes ≤ base) × HasRoom most (suc depth) (base - bytes)
+    go : (rest : ℕ) → rest + depth ≡ 511 → rest * most + 16 * entries ≤ base → (bytes ≤ base) × HasRoom entries most (suc depth) (base - bytes)
     go zero e r = absurd (omega (arith, e, shallow))
     go (suc k) e r =
         let split : suc k * most ≡ k * most + most = suc-mul k most in
-        let whole : k * most + most ≤ base = subst (λ x. x ≤ base) split r in
+        let whole : k * most + most + 16 * entries ≤ base = subst (λ x. x + 16 * entries ≤ base) split r in
         (more (k * most) whole, record { rest = k; calls = omega (arith, e); room = less (k * most) whole })
 
 -- what the function's first instruction finds, before it takes its parameters
 pub begin-holds : (z : Layout) (base bottom placed depth link : ℕ) (region : Contents) (a : Activation) (m n : State) →
     InFunction z base bottom placed depth link m n → a.base ≡ placed → ((k : ℕ) → a.areas k ≡ []) →
-    bottom + frame_bytes z ≤ length n.private → length m.private ≤ 603979776 → AreBytes m.private → n.pc < 2 ^ 64 →
+    bottom + frame_bytes z ≤ length n.private → length m.private ≤ 606076928 → AreBytes m.private → n.pc < 2 ^ 64 →
     m.region ≡ region.bytes → AreBytes region.bytes → IsLawful region →
     m.registers 3 ≡ region.heap → m.registers 4 ≡ end_address region → heap_limit region ≤ placed → placed ≤ end_address region →
     Holds (without_words z) (λ t. ⊥) (seen a region depth) bottom n
@@ -190,7 +187,7 @@ begin-holds z base bottom placed depth link region a m n f base-is none within p
       frame = record {
         pointer = f.pointer;
         within = omega (arith, within);
-        private = subst (λ x. x ≤ 603979776) (sym f.long) private;
+        private = subst (λ x. x ≤ 606076928) (sym f.long) private;
         bytes =
             f.bytes bytes;
       };

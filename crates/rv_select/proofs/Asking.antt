@@ -81,7 +81,7 @@ part-reads : (held : Option ℕ) (p : Part) (t : ℕ) → has (part_asks held p)
 part-reads held (parts.Word a) t h = first-reads held a t h
 part-reads held (parts.Area n) t h = cc
 
-passed-reads : (held : Option ℕ) (ps : List Part) (t : ℕ) → has (passed_asks held ps) t ≡ true → has (parts_reads ps) t ≡ true
+pub passed-reads : (held : Option ℕ) (ps : List Part) (t : ℕ) → has (passed_asks held ps) t ≡ true → has (parts_reads ps) t ≡ true
 passed-reads held [] t h = cc
 passed-reads held (p ∷ ps) t h =
     ⊎_elim (λ l. has-left (part_reads p) (parts_reads ps) t (part-reads held p t l))

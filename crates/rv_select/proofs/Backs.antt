@@ -1,5 +1,5 @@
 -- A return of three-address code is carried out.
-use Rattle.std.proofs.Common.{◌≡◌, ℕ, zero, suc, ◌+◌, ◌*◌, ◌%◌, ◌^◌, ◌<◌, ◌≤◌, true, ◌&&◌, List, [], ◌∷◌, ◌++◌, length, take, drop, Option}
+use Rattle.std.proofs.Common.{◌≡◌, ℕ, zero, suc, ◌+◌, ◌*◌, ◌%◌, ◌^◌, ◌<◌, ◌≤◌, true, List, [], ◌∷◌, ◌++◌, length, take, drop, Option}
 use Rattle.std.proofs.Common.{Some, None, refl, sym, ap, ◌∙◌, subst, ⊎_elim, inl, inr, arith}
 use Rattle.std.specs.Prelude.{if◌then◌else◌, nat_eq, slice_get}
 use Rattle.std.specs.List.{list_all}
@@ -16,15 +16,14 @@ use Rattle.tac_form.specs.declared.tac.Destination.{Destination}
 use Rattle.tac_form.specs.declared.tac.Destination.TheVariants.{Temp, Area, Nothing}
 use Rattle.tac_form.specs.declared.tac.Exit.{Exit}
 use Rattle.tac_form.specs.declared.tac.Exit.TheVariants.{Return}
-use Rattle.tac_form.specs.declared.tac.Instruction.TheVariants.{Call}
 use Rattle.tac_form.specs.declared.tac.Block.{Block}
 use Rattle.tac_form.specs.declared.tac.Tac.{Tac}
 use Rattle.tac_form.specs.Flow as tac
 use Rattle.tac_form.specs.Flow.{Activation, Caller, Program, area_size, give, given, operand, put, step, value_of}
-use Rattle.tac_form.specs.Fits.{area_fits, destination_fits, exit_fits, part_fits, place_fits}
+use Rattle.tac_form.specs.Fits.{area_fits, exit_fits}
 use Rattle.tac_form.specs.Graph.{block_of, destination_write, exit_reads, graph_of, step_of}
 use Rattle.tac_counts.specs.Counts.{left_behind}
-use Rattle.tac_form.specs.Live.{InUse, has}
+use Rattle.tac_form.specs.Live.{InUse, has, is_written}
 use Rattle.terra_words.specs.Runs.{word}
 use Rattle.terra_memory.specs.Numbers.{number_of}
 use Rattle.terra_memory.specs.Region.{IsLawful, end_address, heap_limit}
@@ -40,16 +39,18 @@ use Rattle.rv_select.specs.Places.{AreBytes, HasHome, Holds, Housed, IsHeld, Lay
 use Rattle.rv_select.specs.Places.{link_in, private_word}
 use Rattle.rv_select.specs.Shapes.{put_at}
 use Rattle.rv_select.specs.Steps.{CountsLeft, world_of}
-use Rattle.rv_select.specs.Calls.{blocks_length, call_begun, call_ended, call_jump, head_code, last_address}
+use Rattle.rv_select.specs.Calls.{CallKind, blocks_length, call_ended, call_front, call_of, head_code, instruction_code, last_address}
 use Rattle.rv_select.specs.Entering.{left, result_put, size_in}
 use Rattle.rv_select.specs.Whole.{ended_words}
-use Rattle.rv_select.specs.Waiting.{Arrives, HasRoom, Image, IsLinked, IsPlaced, StandsIn, Stepped, Waiting, Waits, entries_of, held_at}
+use Rattle.rv_select.specs.Waiting.{AreEntriesIn, Arrives, HasRoom, Image, IsLinked, IsPlaced, StandsIn, Stepped, Waiting, Waits, held_at, places_of}
 use Rattle.rv_select.specs.Waiting.{counts_in, held_in, place_in, plain_in, restored}
 use Rattle.rv_select.proofs.Asking.{exit-homes}
 use Rattle.rv_select.proofs.Carries.{by-test, first-read, nothing-written}
 use Rattle.rv_select.proofs.Copies.{copies-there, size-small}
 use Rattle.rv_select.proofs.Finds.{FoundFunction, held-next, stands-next}
 use Rattle.rv_select.proofs.Pairing.{before-next, plain-get}
+use Rattle.rv_select.proofs.ByKinds.{code-by, fits-by, held-by, is-call, writes-by}
+use Rattle.rv_select.proofs.Listed.{entries-kept, entries-stay}
 use Rattle.rv_select.proofs.Leaves.{exit-in-graph, exit-reads-live}
 use Rattle.rv_select.proofs.Lives.{housed, step-in-graph, write-used}
 use Rattle.rv_select.proofs.Counts.{counts-stay}
@@ -57,7 +58,7 @@ use Rattle.rv_select.proofs.Moves.{Settles, fewer-holds, first-small, near-keeps
 use Rattle.rv_select.proofs.Passes.{IsPartFirst, part-small, part_value}
 use Rattle.rv_select.proofs.Receives.{housed-fewer}
 use Rattle.rv_select.proofs.Returns.{BackIn, HeldIn, Resumes, UsedBut, back-holds, goes-back, resumes}
-use Rattle.rv_select.proofs.Stands.{AtExit, AtPlace, at-instruction, both-true, exit-within, instruction-within}
+use Rattle.rv_select.proofs.Stands.{AtExit, AtPlace, at-instruction, exit-within, instruction-within}
 use Rattle.rv_select.proofs.Stands.{the-function, within-parts}
 use Rattle.rv_select.proofs.Reached.{short-bytes}
 use Rattle.rv_select.proofs.Waits.{SameAbove, link-kept, restored-same, waits-keeps, waits-same, waits-within}
@@ -104,38 +105,38 @@ record BehindCall (p : Program) (image : Image) (program : List (Option Instr)) 
   near : behind + 4 * (2 + length (result_put (layout_of code (image f).homes) code.areas to)) + 256 ≤ 2 ^ 30
 
 behind-call : (p : Program) (image : Image) (program : List (Option Instr)) (most : ℕ) (code : Tac) (f : FnId) (b before : ℕ)
-    (to : Destination) (block : Block) (place : Place) (callee : FnId) (arguments : List Part) →
+    (to : Destination) (block : Block) (kind : CallKind) (place : Place) (arguments : List Part) →
     IsPlaced p image program most code (image f) → slice_get code.blocks b ≡ Some block →
-    slice_get (plain_of (reads_of code) block) before ≡ Some (Call to place callee arguments) →
+    slice_get (plain_of (reads_of code) block) before ≡ Some (call_of kind to place arguments) →
     BehindCall p image program code f b before to (place_in p image code (image f) b before)
     (place_in p image code (image f) b before
-    + 4 * length (call_begun (layout_of code (image f).homes) (held_in code b before) place arguments) + 8)
-behind-call p image program most code f b before to block place callee arguments pl e g =
+    + 4 * length (call_front (layout_of code (image f).homes) (places_of p image) (place_in p image code (image f) b before) (held_in code b before) kind place
+    arguments))
+behind-call p image program most code f b before to block kind place arguments pl e g =
     made (place_in p image code (image f) b before)
-    (at-instruction p image program most code (image f) b before block (Call to place callee arguments) pl e g)
+    (at-instruction p image program most code (image f) b before block (call_of kind to place arguments) pl e g)
   where
-    made : (at : ℕ) → AtPlace p image program code (image f) b before (Call to place callee arguments) at →
+    made : (at : ℕ) → AtPlace p image program code (image f) b before (call_of kind to place arguments) at →
         BehindCall p image program code f b before to at
-        (at + 4 * length (call_begun (layout_of code (image f).homes) (held_in code b before) place arguments) + 8)
+        (at + 4 * length (call_front (layout_of code (image f).homes) (places_of p image) at (held_in code b before) kind place arguments))
     made at found =
         let y : Layout = layout_of code (image f).homes in
-        let A : List Instr = call_begun y (held_in code b before) place arguments in
-        let J : List Instr = call_jump (at + 4 * length A) (entries_of p image callee) in
+        let A : List Instr = call_front y (places_of p image) at (held_in code b before) kind place arguments in
         let E : List Instr = call_ended y code.areas to in
         let P : List Instr = result_put y code.areas to in
-        let count : length (A ++ (J ++ E)) ≡ length A + (2 + (2 + length P)) = omega (arith, length-append A (J ++ E)) in
-        let after-a : Stands program (at + 4 * length A) (J ++ E) = stands-next program at A (J ++ E) (omega (arith, found.near, count))
-        found.stands in
-        let eight : at + 4 * length A + 4 * 2 ≡ at + 4 * length A + 8 = omega arith in
+        let is : instruction_code y code.areas (places_of p image) at (held_in code b before) (call_of kind to place arguments) ≡ A ++ E =
+        code-by y code.areas (places_of p image) at (held_in code b before) kind to place arguments in
+        let count : length (instruction_code y code.areas (places_of p image) at (held_in code b before) (call_of kind to place arguments))
+        ≡ length A + (2 + length P) =
+        let two : length E ≡ 2 + length P = omega arith in ap length is ∙ (length-append A E ∙ ap (λ n. length A + n) two) in
         record {
-          stands = subst (λ q. Stands program q E) eight
-              (stands-next program (at + 4 * length A) J E (omega (arith, found.near, count)) after-a);
+          stands = stands-next program at A E (omega (arith, found.near, count)) (subst (λ z. Stands program at z) is found.stands);
           even = omega (arith, found.aligned);
           small = omega (arith, found.near, count);
           next = found.next ∙ omega (arith, count);
           held = ap (λ o. held_at None (plain_in (reads_of code) o) (suc before)) e
-              ∙ held-next None (plain_of (reads_of code) block) before (Call to place callee arguments) g;
-          before_end = before-next code b before block (Call to place callee arguments) e g;
+              ∙ (held-next None (plain_of (reads_of code) block) before (call_of kind to place arguments) g ∙ held-by kind to place arguments);
+          before_end = before-next code b before block (call_of kind to place arguments) e g;
           near = omega (arith, found.near, count);
         }
 
@@ -155,15 +156,14 @@ put-result : (p : Program) (image : Image) (program : List (Option Instr)) (most
     IsHeld (layout_of code (image a.function).homes) held temps c.after →
     target ≡ place_in p image code (image a.function) a.block a.at → held_in code a.block a.at ≡ held →
     a.at ≤ length (plain_in (reads_of code) (slice_get code.blocks a.block)) →
-    a.base + code.frame ≤ end_address s.region → length s.region.bytes ≡ size → HasRoom most (length cs) up →
+    a.base + code.frame ≤ end_address s.region → length s.region.bytes ≡ size → HasRoom (length p.entries) most (length cs) up →
+    AreEntriesIn p image n →
     Waits p image most size cs (link_in (layout_of code (image a.function).homes) up n)
     (up + frame_bytes (layout_of code (image a.function).homes)) (a.base + code.frame)
     (restored (layout_of code (image a.function).homes) up n) →
     Arrives p image program most size bound s.left [] (record s { here = record a { temps = temps; areas = areas }; callers = cs }) m
 put-result p image program most size linked s a temps areas cs code up k more bound target held m n function counted way some few c five to-is held-is
-    inside frame
-    region room
-    waits = record {
+    inside frame region room entries waits = record {
       steps = k + c.steps;
       after = c.after;
       base = up;
@@ -183,6 +183,7 @@ put-result p image program most size linked s a temps areas cs code up k more bo
         frame = frame;
         region = region;
         room = room;
+        entries = entries-kept p image most (length cs) up (layout_of code (image a.function).homes) n c.after room c.keeps entries;
         waits = waits-keeps p image program most size (layout_of code (image a.function).homes) cs up (a.base + code.frame) n c.after
             linked c.keeps waits;
       };
@@ -191,12 +192,13 @@ put-result p image program most size linked s a temps areas cs code up k more bo
 -- The machine is back in a caller: x10 has the result, and all else is as the caller waits for it.
 pub record IsBack (s : tac.State) (depth up over link v : ℕ) (M n : State) : Type 0 where
   pub same : SameAbove up M n
+  pub whole : n.private ≡ M.private
   pub pc : n.pc ≡ link
   pub ten : n.registers 10 ≡ v
   pub small : v < 2 ^ 64
   pub pointer : n.registers 2 ≡ 2 ^ 32 + up
   pub waiting : n.registers 28 ≡ suc depth
-  pub private : length n.private ≤ 603979776
+  pub private : length n.private ≤ 606076928
   pub are_bytes : AreBytes n.private
   pub region : n.region ≡ s.region.bytes
   pub bytes : AreBytes s.region.bytes
@@ -245,8 +247,8 @@ abbrev behind_of : (p : Program) (image : Image) (most : ℕ) (c : Caller) (dept
     Waiting p image most c depth link base placed m → ℕ
 behind_of p image most c depth link base placed m W =
     place_in p image W.code (image c.waits.function) c.waits.block W.before
-    + 4 * length (call_begun (layout_of W.code (image c.waits.function).homes) (held_in W.code c.waits.block W.before) W.place
-    W.arguments) + 8
+    + 4 * length (call_front (layout_of W.code (image c.waits.function).homes) (places_of p image)
+    (place_in p image W.code (image c.waits.function) c.waits.block W.before) (held_in W.code c.waits.block W.before) W.kind W.place W.arguments)
 
 -- What puts a result, which x5 has then, where the caller takes it: behind it the caller's temporaries and areas are these.
 abbrev Puts : List (Option Instr) → Layout → (sizes : List ℕ) → (U : ℕ → Type 0) → Destination → tac.State → Activation →
@@ -265,14 +267,14 @@ pub to-caller : (p : Program) (image : Image) (program : List (Option Instr)) (m
     (restored (layout_of W.code (image a.function).homes) up M) →
     length s.region.bytes ≡ size → Way program k m n → 1 ≤ k →
     k + length (call_ended (layout_of W.code (image a.function).homes) W.code.areas to) ≤ bound → IsBack s (length cs) up over link v M n →
-    CountsLeft W.code.counts s.left n →
+    CountsLeft W.code.counts s.left n → AreEntriesIn p image M →
     Puts program (layout_of W.code (image a.function).homes) W.code.areas (InUse (graph_of W.code) a.block a.at) to s a over (length cs) up
     v temps areas n →
     Arrives p image program most size bound s.left []
     (record s { here = record a { temps = temps; areas = areas }; callers = cs }) m
-to-caller p image program most size linked s a to v temps areas cs up over link k bound M m n W rest sized way some few b counted puts =
+to-caller p image program most size linked s a to v temps areas cs up over link k bound M m n W rest sized way some few b counted entries puts =
     let q : ℕ = behind_of p image most (record { waits = a; to = to }) (length cs) link up over M W in
-    let bc = behind-call p image program most W.code a.function a.block W.before to W.block W.place W.callee W.arguments
+    let bc = behind-call p image program most W.code a.function a.block W.before to W.block W.kind W.place W.arguments
     (linked a.function W.code W.function) W.in_function W.in_block in
     let here : n.pc ≡ q = b.pc ∙ W.returns in
     let shallow : length cs < 2 ^ 63 = omega (arith, W.room.calls) in
@@ -306,13 +308,14 @@ to-caller p image program most size linked s a to v temps areas cs up over link 
         let one : up + frame_bytes yc ≤ length M.private = whole.0 in
         let two : over + W.code.frame ≤ 2 ^ 30 + size = whole.1 in
         let word : link_in yc up r.after ≡ private_word M up =
-        link-kept W.code (image a.function).homes a.block W.before W.block (Call to W.place W.callee W.arguments) up r.after W.in_function
-        (plain-get (pair_of (reads_of W.code) W.block) W.block.instructions W.before (Call to W.place W.callee W.arguments) W.in_block) refl
+        link-kept W.code (image a.function).homes a.block W.before W.block (call_of W.kind to W.place W.arguments) up r.after W.in_function
+        (plain-get (pair_of (reads_of W.code) W.block) W.block.instructions W.before (call_of W.kind to W.place W.arguments) W.in_block)
+        (is-call W.kind to W.place W.arguments)
         ∙ ap number_of (same.private up 8 (omega arith)) in
         let held : Holds yc (UsedBut U to) w up r.after =
         back-holds p image program most (length cs) link up over (record { waits = a; to = to }) w M r.after linked W same
         (after-held program yc (UsedBut U to) s a (length cs) up over link v up R M n b r)
-        (subst (λ z. up + frame_bytes yc ≤ z) (sym same.long) one) (subst (λ z. length z ≤ 603979776) (sym r.private) b.private)
+        (subst (λ z. up + frame_bytes yc ≤ z) (sym same.long) one) (subst (λ z. length z ≤ 606076928) (sym r.private) b.private)
         (subst AreBytes (sym r.private) b.are_bytes)
         (subst (λ z. z < 2 ^ 64) (sym r.pc) (low-word (n.pc + 4 * 2)))
         (r.same 2 (λ e. omega (arith, e)) (λ e. omega (arith, e)) ∙ b.pointer) in
@@ -338,6 +341,7 @@ to-caller p image program most size linked s a to v temps areas cs up over link 
         (ap (λ z. held_in W.code a.block z) W.at ∙ bc.held)
         (subst (λ z. z ≤ length (plain_in (reads_of W.code) (slice_get W.code.blocks a.block))) (sym W.at) bc.before_end)
         (frame-within s.region.bytes over W.code.frame W.placed_is sized two) sized W.room
+        (entries-stay p image M r.after (λ at c o. ap (λ z. take c (drop at z)) (r.private ∙ b.whole)) entries)
         (subst (λ z. Waits p image most size cs (link_in yc up r.after) (up + frame_bytes yc) (z + W.code.frame)
         (restored yc up r.after)) (sym W.placed_is) waits)
 
@@ -360,12 +364,12 @@ puts-word p image program most linked s a d v depth up over link M n W small t s
   where
     next-used : InUse (graph_of W.code) a.block a.at d
     next-used =
-        let g = step-in-graph W.code W.block (Call (Temp d) W.place W.callee W.arguments) a.block W.before W.in_function
-        (plain-get (pair_of (reads_of W.code) W.block) W.block.instructions W.before (Call (Temp d) W.place W.callee W.arguments)
+        let g = step-in-graph W.code W.block (call_of W.kind (Temp d) W.place W.arguments) a.block W.before W.in_function
+        (plain-get (pair_of (reads_of W.code) W.block) W.block.instructions W.before (call_of W.kind (Temp d) W.place W.arguments)
         W.in_block) in
         subst (λ z. InUse (graph_of W.code) a.block z d) (sym W.at)
-        (write-used (graph_of W.code) a.block W.before d (block_of W.block) (step_of (Call (Temp d) W.place W.callee W.arguments)) g.0 g.1
-        (eq-eqb d d refl))
+        (write-used (graph_of W.code) a.block W.before d (block_of W.block) (step_of (call_of W.kind (Temp d) W.place W.arguments)) g.0 g.1
+        (ap (λ o. is_written o d) (writes-by W.kind (Temp d) W.place W.arguments) ∙ eq-eqb d d refl))
 
 -- Bytes go to an area. They lie where the function had them, below the caller's frame.
 puts-bytes : (p : Program) (image : Image) (program : List (Option Instr)) (most : ℕ) → IsLinked p image program most →
@@ -400,11 +404,10 @@ puts-bytes p image program most linked s a j from bs depth up over link M n W co
     fits : (j < length W.code.areas) × (list_all area_fits W.code.areas ≡ true)
     fits =
         let wi = within-parts p image program most W.code (image a.function) (linked a.function W.code W.function) in
-        let i = instruction-within W.code a.block W.before W.block (Call (Area j) W.place W.callee W.arguments) wi.blocks W.in_function
-        (plain-get (pair_of (reads_of W.code) W.block) W.block.instructions W.before (Call (Area j) W.place W.callee W.arguments)
+        let i = instruction-within W.code a.block W.before W.block (call_of W.kind (Area j) W.place W.arguments) wi.blocks W.in_function
+        (plain-get (pair_of (reads_of W.code) W.block) W.block.instructions W.before (call_of W.kind (Area j) W.place W.arguments)
         W.in_block) in
-        let one = both-true (destination_fits W.code (Area j) && place_fits W.place) (list_all (part_fits W.code) W.arguments) i in
-        let two = both-true (destination_fits W.code (Area j)) (place_fits W.place) one.0 in
+        let two = fits-by W.code W.kind (Area j) W.place W.arguments i in
         (ltb-true j (length W.code.areas) two.0, wi.areas)
 
 -- What nothing takes needs no step.
@@ -439,12 +442,13 @@ left-back : (program : List (Option Instr)) (y : Layout) (Used : ℕ → Type 0)
     IsBack s depth (base + frame_bytes y) (s.here.base + frame) link v (restored y base m) b.after
 left-back program y Used s base frame link v most depth m h b deep small fits = record {
   same = b.same;
+  whole = b.private;
   pc = b.pc;
   ten = b.ten;
   small = small;
   pointer = b.pointer;
   waiting = b.others 28 (inr (inr refl)) ∙ (h.depth ∙ deep);
-  private = subst (λ z. length z ≤ 603979776) (sym b.private) h.frame.private;
+  private = subst (λ z. length z ≤ 606076928) (sym b.private) h.frame.private;
   are_bytes = subst AreBytes (sym b.private) h.frame.bytes;
   region = b.region ∙ h.region;
   bytes = h.bytes;
@@ -464,7 +468,7 @@ link-even : (p : Program) (image : Image) (program : List (Option Instr)) (most 
     (a : Activation) (to : Destination) (depth link up over : ℕ) (M : State) →
     Waiting p image most (record { waits = a; to = to }) depth link up over M → (link % 2 ≡ 0) × (link < 2 ^ 64)
 link-even p image program most linked a to depth link up over M W =
-    let bc = behind-call p image program most W.code a.function a.block W.before to W.block W.place W.callee W.arguments
+    let bc = behind-call p image program most W.code a.function a.block W.before to W.block W.kind W.place W.arguments
     (linked a.function W.code W.function) W.in_function W.in_block in (
       subst (λ z. z % 2 ≡ 0) (sym W.returns) bc.even,
       subst (λ z. z < 2 ^ 64) (sym W.returns)
@@ -477,6 +481,11 @@ link-even p image program most linked a to depth link up over M W =
 more : (k n own : ℕ) → k ≤ own → k + n ≤ own + n
 more k n own h = omega (arith, h)
 
+-- the entries are there for the caller
+restored-entries : (p : Program) (image : Image) (y : Layout) (base : ℕ) (m : State) → AreEntriesIn p image m →
+    AreEntriesIn p image (restored y base m)
+restored-entries p image y base m e = entries-stay p image m (restored y base m) (λ at k o. refl) e
+
 -- to a caller, wherever the result goes
 to-one : (p : Program) (image : Image) (program : List (Option Instr)) (most size : ℕ) → IsLinked p image program most →
     (s : tac.State) (base : ℕ) (m : State) (y : Layout) (held : Option ℕ) (Used : ℕ → Type 0) (frame : ℕ) →
@@ -488,10 +497,10 @@ to-one : (p : Program) (image : Image) (program : List (Option Instr)) (most siz
     Waits p image most size cs (private_word m (base + frame_bytes y))
     (base + frame_bytes y + frame_bytes (layout_of W.code (image a.function).homes)) (s.here.base + frame + W.code.frame)
     (restored (layout_of W.code (image a.function).homes) (base + frame_bytes y) (restored y base m)) →
-    CountsLeft W.code.counts s.left m →
+    CountsLeft W.code.counts s.left m → AreEntriesIn p image m →
     (link % 2 ≡ 0 → link < 2 ^ 64 → BackIn program y (frame_bytes y) base (s.here.base + frame) link (part_value y base (world_of s) v) own m) →
     Stepped p image program most size (left_behind p s) (own + length (call_ended (layout_of W.code (image a.function).homes) W.code.areas to)) s m (given (value_of s v) (Some W.code) (record { waits = a; to = to }) cs s)
-to-one p image program most size linked s base m y held Used frame h fits sized a Nothing cs v link own depth reads W rest counted back =
+to-one p image program most size linked s base m y held Used frame h fits sized a Nothing cs v link own depth reads W rest counted entries back =
     let e = link-even p image program most linked a Nothing (length cs) link (base + frame_bytes y) (s.here.base + frame)
     (restored y base m) W in
     let x : ℕ = part_value y base (world_of s) v in
@@ -503,11 +512,11 @@ to-one p image program most size linked s base m y held Used frame h fits sized 
           (restored y base m) m b.after W rest sized b.way b.some
           (more b.steps (length (call_ended (layout_of W.code (image a.function).homes) W.code.areas Nothing)) own b.few)
           (left-back program y Used s base frame link x own (length cs) m h b depth (part-small y held Used (world_of s) base m v h reads) fits)
-          (counts-stay W.code.counts s.left m b.after b.count counted)
+          (counts-stay W.code.counts s.left m b.after b.count counted) (restored-entries p image y base m entries)
           (puts-nothing program (layout_of W.code (image a.function).homes) W.code.areas (InUse (graph_of W.code) a.block a.at) s a
           (s.here.base + frame) (length cs) (base + frame_bytes y) x b.after),
     )
-to-one p image program most size linked s base m y held Used frame h fits sized a (Temp d) cs (parts.Word o) link own depth reads W rest counted back =
+to-one p image program most size linked s base m y held Used frame h fits sized a (Temp d) cs (parts.Word o) link own depth reads W rest counted entries back =
     let e = link-even p image program most linked a (Temp d) (length cs) link (base + frame_bytes y) (s.here.base + frame)
     (restored y base m) W in
     let same : part_value y base (world_of s) (parts.Word o) ≡ operand s o = part-is y base s o in
@@ -521,13 +530,13 @@ to-one p image program most size linked s base m y held Used frame h fits sized 
           (restored y base m) m b.after W rest sized b.way b.some
           (more b.steps (length (call_ended (layout_of W.code (image a.function).homes) W.code.areas (Temp d))) own b.few)
           (left-back program y Used s base frame link (operand s o) own (length cs) m h b depth small fits)
-          (counts-stay W.code.counts s.left m b.after b.count counted)
+          (counts-stay W.code.counts s.left m b.after b.count counted) (restored-entries p image y base m entries)
           (puts-word p image program most linked s a d (operand s o) (length cs) (base + frame_bytes y) (s.here.base + frame) link
           (restored y base m) b.after W small),
     )
-to-one p image program most size linked s base m y held Used frame h fits sized a (Temp d) cs (parts.Area n) link own depth reads W rest counted back = tt
-to-one p image program most size linked s base m y held Used frame h fits sized a (Area j) cs (parts.Word o) link own depth reads W rest counted back = tt
-to-one p image program most size linked s base m y held Used frame h fits sized a (Area j) cs (parts.Area n) link own depth reads W rest counted back =
+to-one p image program most size linked s base m y held Used frame h fits sized a (Temp d) cs (parts.Area n) link own depth reads W rest counted entries back = tt
+to-one p image program most size linked s base m y held Used frame h fits sized a (Area j) cs (parts.Word o) link own depth reads W rest counted entries back = tt
+to-one p image program most size linked s base m y held Used frame h fits sized a (Area j) cs (parts.Area n) link own depth reads W rest counted entries back =
     by-test (Stepped p image program most size (left_behind p s) (own + length (call_ended (layout_of W.code (image a.function).homes) W.code.areas (Area j))) s m) (nat_eq (length (s.here.areas n)) (area_size W.code j)) _ _
     (λ taken.
     let e = link-even p image program most linked a (Area j) (length cs) link (base + frame_bytes y) (s.here.base + frame)
@@ -542,7 +551,7 @@ to-one p image program most size linked s base m y held Used frame h fits sized 
           (more b.steps (length (call_ended (layout_of W.code (image a.function).homes) W.code.areas (Area j))) own b.few)
           (left-back program y Used s base frame link (2 ^ 32 + (base + area_offset y n)) own (length cs) m h b depth
           (small (length m.private) h.frame.within h.frame.private) fits)
-          (counts-stay W.code.counts s.left m b.after b.count counted)
+          (counts-stay W.code.counts s.left m b.after b.count counted) (restored-entries p image y base m entries)
           (puts-bytes p image program most linked s a j (base + area_offset y n) (s.here.areas n) (length cs) (base + frame_bytes y)
           (s.here.base + frame) link (restored y base m) b.after W (eqb-true (length (s.here.areas n)) (area_size W.code j) taken)
           (under (length (s.here.areas n)) (h.short n reads)) (subst (λ z. base + frame_bytes y ≤ length z) (sym b.private) h.frame.within)
@@ -550,7 +559,7 @@ to-one p image program most size linked s base m y held Used frame h fits sized 
     ))
     (λ no. tt)
   where
-    small : (l : ℕ) → base + frame_bytes y ≤ l → l ≤ 603979776 → 2 ^ 32 + (base + area_offset y n) < 2 ^ 64
+    small : (l : ℕ) → base + frame_bytes y ≤ l → l ≤ 606076928 → 2 ^ 32 + (base + area_offset y n) < 2 ^ 64
     small l e g = omega (arith, e, g, reads)
 
     under : (k : ℕ) → k ≤ 128 → base + area_offset y n + k ≤ base + frame_bytes y
@@ -624,7 +633,7 @@ return-steps p image program most size linked s base m x block v in-f in-b alone
     back-here link e even small here =
         let pl : IsPlaced p image program most x.code (image s.here.function) = linked s.here.function x.code x.function in
         let y : Layout = layout_of x.code (image s.here.function).homes in
-        let f : FoundFunction program y x.code (entries_of p image) (image s.here.function).at = the-function p image program most x.code
+        let f : FoundFunction program y x.code (places_of p image) (image s.here.function).at = the-function p image program most x.code
         (image s.here.function) pl in
         subst (λ n. Back link (n + L)) (sym here.own_is)
         (goes-back program y held (InUse (graph_of x.code) s.here.block s.here.at) (world_of s) base x.code.frame
@@ -668,5 +677,5 @@ return-steps p image program most size linked s base m x block v in-f in-b alone
         (held_in x.code s.here.block s.here.at) (InUse (graph_of x.code) s.here.block s.here.at) x.code.frame x.holds x.frame x.region
         c.waits c.to cs v (link_in (layout_of x.code (image s.here.function).homes) base m) (found.own + L) (ap length e) reads w.0 w.1
         (subst (λ c. CountsLeft c s.left m)
-        (sym ((linked s.here.function x.code x.function).alike c.waits.function w.0.code w.0.function)) x.counts)
+        (sym ((linked s.here.function x.code x.function).alike c.waits.function w.0.code w.0.function)) x.counts) x.entries
         (λ even small. back (link_in (layout_of x.code (image s.here.function).homes) base m) refl even small))

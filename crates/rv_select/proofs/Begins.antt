@@ -31,7 +31,7 @@ use Rattle.rv_select.specs.Entering.{arguments_stored, begun, entered, kept_offs
 use Rattle.rv_select.specs.Entering.{words_offset}
 use Rattle.rv_select.specs.Frames.{BeforeEntering, Enters, HasWords, Received, seen, without_words}
 use Rattle.rv_select.specs.Steps.{CountsLeft, EndsLeft}
-use Rattle.rv_select.specs.Waiting.{Arrives, Image, IsLinked, IsPlaced, Stepped, counts_in, entries_of, place_in, plain_in}
+use Rattle.rv_select.specs.Waiting.{AreEntriesIn, Arrives, Image, IsLinked, IsPlaced, Stepped, counts_in, place_in, plain_in, places_of}
 use Rattle.rv_select.specs.Whole.{EntriesAreCarried, Starts, before_entry}
 use Rattle.rv_select.proofs.Arrivals.{InFunction, begin-holds, link-after}
 use Rattle.rv_select.proofs.Bytes.{stored-word}
@@ -42,6 +42,7 @@ use Rattle.rv_select.proofs.Areas.{Saves}
 use Rattle.rv_select.proofs.Counts.{counts-stay, ends-left}
 use Rattle.rv_select.proofs.Entrances.{functions-entered}
 use Rattle.rv_select.proofs.Finds.{FoundFunction}
+use Rattle.rv_select.proofs.Listed.{entries-stay}
 use Rattle.rv_select.proofs.Numbers.{constant-loads, register-is}
 use Rattle.rv_select.proofs.Passes.{Beneath, below-saves, beneath-both, near-beneath, saves-beneath}
 use Rattle.rv_select.proofs.Receives.{parameters-received}
@@ -307,7 +308,7 @@ frame-fits h p n g = (omega (arith, g), omega (arith, g))
 region-end : (n : ℕ) → n ≤ 67108864 → 2 ^ 30 + n < 2 ^ 64
 region-end n h = omega (arith, h)
 
-private-end : (n : ℕ) → n ≤ 603979776 → n < 2 ^ 30
+private-end : (n : ℕ) → n ≤ 606076928 → n < 2 ^ 30
 private-end n h = omega (arith, h)
 
 still-below : (p n e : ℕ) → p ≤ e → p - n ≤ e
@@ -319,8 +320,8 @@ least-same n = omega arith
 limit-below : (size : ℕ) → 2 ^ 30 + size - size / 4 ≤ 2 ^ 30 + size
 limit-below size = omega arith
 
-room-first : (most base b : ℕ) → 512 * most ≤ base → b ≤ most → (b ≤ base) × (511 * most ≤ base - b)
-room-first most base b h k = (omega (arith, h, k), omega (arith, h, k))
+room-first : (most e base b : ℕ) → 512 * most + 16 * e ≤ base → b ≤ most → (b ≤ base) × (511 * most + 16 * e ≤ base - b)
+room-first most e base b h k = (omega (arith, h, k), omega (arith, h, k))
 
 steps-full : (k n e q h : ℕ) → h ≡ n + (e + q) → k ≤ n → k + e ≤ h
 steps-full k n e q h is l = omega (arith, is, l)
@@ -331,23 +332,29 @@ steps-in k a b n e q h is l g i = omega (arith, is, l, g, i)
 not-lt : (a b : ℕ) → nat_lt a b ≡ false → b ≤ a
 not-lt a b e = ⊎_elim (λ l. let t : nat_lt a b ≡ true = lt-ltb a b l in let no : true ≡ false = sym t ∙ e in cc) (λ l. l) (cases_lt a b)
 
+low-kept : (at k b : ℕ) → at + k ≤ b → at + k ≤ b + 88
+low-kept at k b h = omega (arith, h)
+
+low-args : (n base h a q : ℕ) → n ≤ base - (8 * 11 + 8 * h + 128 * a + 8 * q) → n ≤ base - 8 * q
+low-args n base h a q g = omega (arith, g)
+
 -- the function's code, its frames and its arguments, where it begins as the entry
 module _ (p : Program) (image : Image) (program : List (Option Instr)) (most n : ℕ) (f : FnId) (code : Tac) (arguments : List ℕ)
     (region : Contents) (m : State) (linked : IsLinked p image program most) (e : p.code f ≡ Some code)
     (x : Starts (image f).at region arguments m) (counted : CountsLeft code.counts n m) (eight : length arguments ≤ 8) (count : length arguments ≡ length code.parameters)
-    (room : 512 * most ≤ (length m.private)) where
+    (room : 512 * most + 16 * length p.entries ≤ (length m.private)) (entries : AreEntriesIn p image m) where
   pl : IsPlaced p image program most code (image f)
   pl = linked f code e
 
-  fn : FoundFunction program (layout_of code (image f).homes) code (entries_of p image) (image f).at
+  fn : FoundFunction program (layout_of code (image f).homes) code (places_of p image) (image f).at
   fn = the-function p image program most code (image f) pl
 
   wi : Within code
   wi = within-parts p image program most code (image f) pl
 
   fit : ((frame_bytes (layout_of code (image f).homes)) ≤ (length m.private)) ×
-      (511 * most ≤ (length m.private) - (frame_bytes (layout_of code (image f).homes)))
-  fit = room-first most (length m.private) (frame_bytes (layout_of code (image f).homes)) room pl.frame
+      (511 * most + 16 * length p.entries ≤ (length m.private) - (frame_bytes (layout_of code (image f).homes)))
+  fit = room-first most (length p.entries) (length m.private) (frame_bytes (layout_of code (image f).homes)) room pl.frame
 
   near : (((image f).at + 4 * length (begun code)) + 4 * length
       (entered (layout_of code (image f).homes) (frame_bytes (layout_of code (image f).homes)) code.frame) + 4 * length
@@ -406,7 +413,7 @@ module _ (p : Program) (image : Image) (program : List (Option Instr)) (most n :
     below = least-same (end_address region);
     region = subst (λ z. length z ≤ 67108864) (sym b.region) small-region;
     region_is = x.lawful.sized.2;
-    private = subst (λ z. z ≤ 603979776) (sym b.long) x.private;
+    private = subst (λ z. z ≤ 606076928) (sym b.long) x.private;
     within = subst (λ z. (length m.private) ≤ z) (sym b.long) (least-same (length m.private));
     least = bytes-least (length (asked_homes code (image f).homes)) (length code.areas) (length code.parameters);
     room = fit.0;
@@ -487,6 +494,9 @@ module _ (p : Program) (image : Image) (program : List (Option Instr)) (most n :
       (record (before_entry f region n) { here = c }) m)
       (sym is) (made a.temps a.areas) rc
     where
+      under : (at k b : ℕ) → at + k ≤ 16 * length p.entries → 511 * most + 16 * length p.entries ≤ b → at + k ≤ b
+      under at k b h g = omega (arith, h, g)
+
       made : (temps : tac.Temps) (areas : tac.Areas) →
           Received program (without_words (layout_of code (image f).homes)) (InUse (graph_of code) 0 0)
           (seen (record (fresh_call f code (before_entry f region n)) { temps = temps; areas = areas }) region 0)
@@ -529,6 +539,12 @@ module _ (p : Program) (image : Image) (program : List (Option Instr)) (most n :
                   (least-same (end_address region));
               region = refl;
               room = record { rest = 511; calls = refl; room = fit.1 };
+              entries = entries-stay p image m r.after
+                  (λ at k o.
+                  let low : at + k ≤ (length m.private) - (frame_bytes (layout_of code (image f).homes)) = under at k ((length m.private) - (frame_bytes (layout_of code (image f).homes))) o fit.1 in
+                  r.keeps.outside at k (inl (low-kept at k ((length m.private) - (frame_bytes (layout_of code (image f).homes))) low))
+                  ∙ (en.below at k low
+                  ∙ b.below at k (low-args (at + k) (length m.private) (length (asked_homes code (image f).homes)) (length code.areas) (length code.parameters) low))) entries;
               waits = (
                 link-after (layout_of code (image f).homes) (length m.private)
                     ((length m.private) - (frame_bytes (layout_of code (image f).homes))) ((end_address region) - code.frame) 0 0 b.after
@@ -582,7 +598,7 @@ module _ (p : Program) (image : Image) (program : List (Option Instr)) (most n :
       let holds = begin-holds (layout_of code (image f).homes) (length m.private)
       ((length m.private) - (frame_bytes (layout_of code (image f).homes))) ((end_address region) - code.frame) 0 0 region
       (fresh_call f code (before_entry f region n)) b.after en.after (inside b en) refl (λ k. refl) back
-      (subst (λ z. z ≤ 603979776) (sym b.long) x.private)
+      (subst (λ z. z ≤ 606076928) (sym b.long) x.private)
       (b.bytes x.are_bytes) (subst (λ q. q < 2 ^ 64) (sym ahead)
       (word-of (((image f).at + 4 * length (begun code)) + 4 * length
       (entered (layout_of code (image f).homes) (frame_bytes (layout_of code (image f).homes)) code.frame)) near.1.0))
@@ -642,5 +658,5 @@ module _ (p : Program) (image : Image) (program : List (Option Instr)) (most n :
       )) (λ no. tt))
 
 pub entries-carried : EntriesAreCarried
-entries-carried p image program most n f code arguments region m linked e x counted eight count room = entry-step p image program most n f code
-    arguments region m linked e x counted eight count room
+entries-carried p image program most n f code arguments region m linked e x counted eight count room entries = entry-step p image program most n f code
+    arguments region m linked e x counted eight count room entries

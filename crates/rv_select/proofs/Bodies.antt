@@ -12,8 +12,11 @@ use Rattle.rv_isa.specs.Table.{word_of}
 use Rattle.tac_form.specs.declared.tac.Part.{Part}
 use Rattle.tac_form.specs.declared.tac.Destination.{Destination}
 use Rattle.tac_form.specs.declared.tac.Instruction.{Instruction}
-use Rattle.tac_form.specs.declared.tac.Instruction.TheVariants.{Call}
+use Rattle.tac_form.specs.declared.tac.Instruction.TheVariants.{Call, CallValue}
 use Rattle.tac_form.specs.declared.tac.Block.{Block}
+use Rattle.tac_form.specs.declared.tac.Operand.{Operand}
+use Rattle.tac_form.specs.declared.tac.Operand.TheVariants as operands
+use Rattle.tac_form.specs.declared.tac.Signature.{Signature}
 use Rattle.tac_form.specs.declared.tac.Tac.{Tac}
 use Rattle.rv_select.specs.declared.selected.Call.{Call as Site}
 use Rattle.rv_select.specs.declared.selected.Code.{Code}
@@ -25,9 +28,13 @@ use Rattle.rv_select.specs.declared.settings.Setting.{Setting}
 use Rattle.rv_select.specs.Settings.{setting_of}
 use Rattle.rv_select.specs.Asked.{asked_homes}
 use Rattle.rv_select.specs.Places.{Layout, extent_of, frame_bytes, layout_with, with_counting, with_extent, with_homes, with_reads}
-use Rattle.rv_select.specs.Shapes.{start_of}
+use Rattle.rv_select.specs.Shapes.{start_of, taken}
 use Rattle.rv_select.specs.Entering.{begun, entered, left, received, words_offset}
-use Rattle.rv_select.specs.Calls.{IsSelected, block_code, block_has_code, block_starts, blocks_calls, blocks_code, body_code, call_begun}
+use Rattle.rv_select.specs.Calls.{IsSelected, block_code, block_has_code, block_starts, blocks_calls, blocks_code, body_code, call_begun, nowhere, at_zero}
+use Rattle.rv_select.specs.Calls.{called_value, entry_found, value_found, value_jump}
+use Rattle.rv_select.specs.Signatures.{signature_number}
+use Rattle.rv_isa.specs.declared.operand.Register.{Register}
+use Rattle.rv_operators.specs.Codes.{x5}
 use Rattle.rv_select.specs.Calls.{call_ended, call_jump, called, end_code, function_calls, function_code, has_code, has_exit_code}
 use Rattle.rv_select.specs.Calls.{head_code, held_behind, instruction_code, instructions_code, last_address, starts_from}
 use Rattle.rv_select.proofs.Layouts.{blocks-calls-same, blocks-same, end-same, instructions-same, received-same, starts-same}
@@ -41,19 +48,51 @@ pub called-turn : {A E : Type 0} (r : Result A E) (y : Layout) (sizes : List ℕ
     (at : Place) (f : FnId) (arguments : List Part) (old first mid new : List ℕ) →
     first ≡ old ++ map word_of (call_begun y held at arguments) → mid ≡ first ++ map word_of (call_jump (4 * length first) 0) →
     OnOk r (new ≡ mid ++ map word_of (call_ended y sizes to)) →
-    OnOk r (new ≡ old ++ map word_of (called y sizes (λ g. 0) (4 * length old) held to at f arguments))
+    OnOk r (new ≡ old ++ map word_of (called y sizes nowhere (4 * length old) held to at f arguments))
 called-turn r y sizes held to at f arguments old first mid new e g h =
     placed-turn r old first new (call_begun y held at arguments) (λ n. call_jump n 0 ++ call_ended y sizes to) e
     (turn r first mid new (call_jump (4 * length first) 0) (call_ended y sizes to) (call_jump (4 * length first) 0 ++ call_ended y sizes to) refl g h)
 
-pub one-called : {A E : Type 0} (r : Result A E) (y : Layout) (sizes : List ℕ) (held : Option ℕ) (to : Destination)
+pub one-called : {A E : Type 0} (r : Result A E) (y : Layout) (sizes : List ℕ) (ss : List Signature) (held : Option ℕ) (to : Destination)
     (at : Place) (f : FnId) (arguments given : List Part) (i : Instruction) (n : ℕ) (old new : List ℕ) →
     i ≡ Call to at f arguments → given ≡ arguments →
-    OnOk r (new ≡ old ++ map word_of (called y sizes (λ g. 0) n held to at f given)) →
-    OnOk r (new ≡ old ++ map word_of (instruction_code y sizes (λ g. 0) n held i))
-one-called r y sizes held to at f arguments given i n old new e g h =
-    subst (λ z. OnOk r (new ≡ old ++ map word_of (instruction_code y sizes (λ g. 0) n held z))) (sym e)
-    (subst (λ z. OnOk r (new ≡ old ++ map word_of (called y sizes (λ g. 0) n held to at f z))) g h)
+    OnOk r (new ≡ old ++ map word_of (called y sizes (at_zero ss) n held to at f given)) →
+    OnOk r (new ≡ old ++ map word_of (instruction_code y sizes (at_zero ss) n held i))
+one-called r y sizes ss held to at f arguments given i n old new e g h =
+    subst (λ z. OnOk r (new ≡ old ++ map word_of (instruction_code y sizes (at_zero ss) n held z))) (sym e)
+    (subst (λ z. OnOk r (new ≡ old ++ map word_of (called y sizes (at_zero ss) n held to at f z))) g h)
+
+-- the same of a call by value
+taken-counting : (h : List (Option Home)) (counts : Bool) (d : Register) (a : Operand) → taken (with_homes h) d a ≡ taken (with_counting h counts) d a
+taken-counting h counts d (operands.Temp t) = refl
+taken-counting h counts d (operands.Constant c) = refl
+
+pub value-found-turn : {A E : Type 0} (r : Result A E) (h : List (Option Home)) (counts : Bool) (sizes : List ℕ) (ss : List Signature) (to : Destination)
+    (at : Place) (sig : Signature) (a : Operand) (ps : List Part) (count number : ℕ) (old first mid last new : List ℕ) →
+    count ≡ length ss → number ≡ signature_number ss sig →
+    first ≡ old ++ map word_of (value_found (with_homes h) count number at a) →
+    mid ≡ first ++ map word_of (call_begun (with_counting h counts) None at ps) → last ≡ mid ++ map word_of value_jump →
+    OnOk r (new ≡ last ++ map word_of (call_ended (with_counting h counts) sizes to)) →
+    OnOk r (new ≡ old ++ map word_of (called_value (with_counting h counts) sizes (at_zero ss) to at sig a ps))
+value-found-turn r h counts sizes ss to at sig a ps count number old first mid last new c n e g k f =
+    let y : Layout = with_counting h counts in
+    let V : List Instr = value_found y (length ss) (signature_number ss sig) at a in
+    let B : List Instr = call_begun y None at ps in
+    let E : List Instr = call_ended y sizes to in
+    turn r old first new V (B ++ (value_jump ++ E)) (V ++ (B ++ (value_jump ++ E))) refl
+    (e ∙ (ap (λ z. old ++ map word_of (value_found (with_homes h) z number at a)) c
+    ∙ (ap (λ z. old ++ map word_of (value_found (with_homes h) (length ss) z at a)) n
+    ∙ ap (λ z. old ++ map word_of (z ++ entry_found (length ss) (signature_number ss sig) at)) (taken-counting h counts x5 a))))
+    (turn r first mid new B (value_jump ++ E) (B ++ (value_jump ++ E)) refl g (turn r mid last new value_jump E (value_jump ++ E) refl k f))
+
+pub one-value : {A E : Type 0} (r : Result A E) (y : Layout) (sizes : List ℕ) (ss : List Signature) (held : Option ℕ) (to : Destination)
+    (at : Place) (sig : Signature) (a : Operand) (arguments given : List Part) (i : Instruction) (n : ℕ) (old new : List ℕ) →
+    i ≡ CallValue to at sig a arguments → given ≡ arguments →
+    OnOk r (new ≡ old ++ map word_of (called_value y sizes (at_zero ss) to at sig a given)) →
+    OnOk r (new ≡ old ++ map word_of (instruction_code y sizes (at_zero ss) n held i))
+one-value r y sizes ss held to at sig a arguments given i n old new e g h =
+    subst (λ z. OnOk r (new ≡ old ++ map word_of (instruction_code y sizes (at_zero ss) n held z))) (sym e)
+    (subst (λ z. OnOk r (new ≡ old ++ map word_of (called_value y sizes (at_zero ss) to at sig a z))) g h)
 
 abbrev of_nothing : Extent
 of_nothing = record { near = false; short = false; blocks = 0; calls = false; counts = false }
@@ -62,10 +101,10 @@ abbrev of_counts : Bool → Extent
 of_counts counts = record { near = false; short = false; blocks = 0; calls = false; counts = counts }
 
 -- the code of blocks depends on how often temporaries are read, and that of their instructions doesn't
-pub plain-code : (h : List (Option Home)) (reads : List Reads) (extent : Extent) (sizes : List ℕ) (at : ℕ) (is : List Instruction) →
-    instructions_code (with_counting h extent.counts) sizes (λ f. 0) at None is
-    ≡ instructions_code (with_reads h reads extent) sizes (λ f. 0) at None is
-plain-code h reads extent sizes at is = instructions-same h 0 0 0 0 [] reads (of_counts extent.counts) extent sizes (λ f. 0) at None is refl
+pub plain-code : (h : List (Option Home)) (reads : List Reads) (extent : Extent) (sizes : List ℕ) (ss : List Signature) (at : ℕ) (is : List Instruction) →
+    instructions_code (with_counting h extent.counts) sizes (at_zero ss) at None is
+    ≡ instructions_code (with_reads h reads extent) sizes (at_zero ss) at None is
+plain-code h reads extent sizes ss at is = instructions-same h 0 0 0 0 [] reads (of_counts extent.counts) extent sizes (at_zero ss) at None is refl
 
 pub plain-is : (reads : List Reads) (b : Block) (is plain : List Instruction) (pair : Option Pair) → is ≡ b.instructions →
     pair ≡ pair_of reads b →
@@ -80,22 +119,22 @@ plain-has b is plain pair w p h =
     ∙ (both-true (list_all has_code b.instructions) (has_exit_code b.exit) h).0 in
     ap (list_all has_code) p ∙ plain-all has_code pair is all
 
-pub block-turn : {A E : Type 0} (r : Result A E) (h : List (Option Home)) (reads : List Reads) (extent : Extent) (setting : Setting) (sizes : List ℕ)
+pub block-turn : {A E : Type 0} (r : Result A E) (h : List (Option Home)) (reads : List Reads) (extent : Extent) (setting : Setting) (sizes : List ℕ) (ss : List Signature)
     (starts : ℕ → ℕ) (last rest : ℕ)
     (b : Block)
     (is plain : List Instruction) (pair : Option Pair) (held : Option ℕ) (old mid new : List ℕ) → is ≡ b.instructions →
     pair ≡ pair_of reads b →
-    plain ≡ but_pair pair is → mid ≡ old ++ map word_of (instructions_code (with_counting h extent.counts) sizes (λ f. 0) (4 * length old) None plain) →
+    plain ≡ but_pair pair is → mid ≡ old ++ map word_of (instructions_code (with_counting h extent.counts) sizes (at_zero ss) (4 * length old) None plain) →
     held ≡ held_behind None plain → setting ≡ setting_of extent rest →
     OnOk r (new ≡ mid ++ map word_of (end_code (with_homes h) setting held (4 * length mid) starts last pair b.exit)) →
-    OnOk r (new ≡ old ++ map word_of (block_code (with_reads h reads extent) sizes (λ f. 0) starts last (4 * length old) rest b))
-block-turn r h reads extent setting sizes starts last rest b is plain pair held old mid new w o p e k u g =
+    OnOk r (new ≡ old ++ map word_of (block_code (with_reads h reads extent) sizes (at_zero ss) starts last (4 * length old) rest b))
+block-turn r h reads extent setting sizes ss starts last rest b is plain pair held old mid new w o p e k u g =
     let y : Layout = with_reads h reads extent in
     let same : plain ≡ plain_of reads b = plain-is reads b is plain pair w o p in
-    placed-turn r old mid new (instructions_code y sizes (λ f. 0) (4 * length old) None (plain_of reads b))
+    placed-turn r old mid new (instructions_code y sizes (at_zero ss) (4 * length old) None (plain_of reads b))
     (λ at. end_code y (setting_of extent rest) (held_behind None (plain_of reads b)) at starts last (pair_of reads b) b.exit)
-    (e ∙ (ap (λ z. old ++ map word_of (instructions_code (with_counting h extent.counts) sizes (λ f. 0) (4 * length old) None z)) same
-    ∙ ap (λ z. old ++ map word_of z) (plain-code h reads extent sizes (4 * length old) (plain_of reads b))))
+    (e ∙ (ap (λ z. old ++ map word_of (instructions_code (with_counting h extent.counts) sizes (at_zero ss) (4 * length old) None z)) same
+    ∙ ap (λ z. old ++ map word_of z) (plain-code h reads extent sizes ss (4 * length old) (plain_of reads b))))
     (subst (λ z. OnOk r (new ≡ mid ++ map word_of z))
     (end-same h 0 0 0 0 [] reads of_nothing extent setting held (4 * length mid) starts last pair b.exit
     ∙ (ap (λ q. end_code y setting q (4 * length mid) starts last pair b.exit) (k ∙ ap (held_behind None) same)
@@ -116,19 +155,19 @@ call-head r code h extent words bytes sizes ds old mid new u w v e g =
     (e ∙ ap (λ z. old ++ map word_of (entered (with_extent h z) bytes code.frame)) u)
     (subst (λ z. OnOk r (new ≡ mid ++ map word_of z)) same g)
 
-pub body-code : {A E : Type 0} (r : Result A E) (code : Tac) (h : List (Option Home)) (reads : List Reads) (extent : Extent) (sizes : List ℕ)
+pub body-code : {A E : Type 0} (r : Result A E) (code : Tac) (h : List (Option Home)) (reads : List Reads) (extent : Extent) (sizes : List ℕ) (ss : List Signature)
     (bs : List Block) (starts : ℕ → ℕ) (last at : ℕ) (old new : List ℕ) →
     sizes ≡ code.areas → bs ≡ code.blocks → reads ≡ reads_of code → extent ≡ extent_of code →
-    OnOk r (new ≡ old ++ map word_of (blocks_code (with_reads h reads extent) sizes (λ f. 0) starts last at bs)) →
-    OnOk r (new ≡ old ++ map word_of (blocks_code (layout_with code h) code.areas (λ f. 0) starts last at code.blocks))
-body-code r code h reads extent sizes bs starts last at old new w v u o g =
-    let same : blocks_code (with_reads h reads extent) sizes (λ f. 0) starts last at bs ≡ blocks_code (layout_with code h) code.areas
-    (λ f. 0) starts last at code.blocks =
-    ap (λ z. blocks_code (with_reads h reads extent) z (λ f. 0) starts last at bs) w
-    ∙ (ap (λ z. blocks_code (with_reads h reads extent) code.areas (λ f. 0) starts last at z) v
-    ∙ (ap (λ z. blocks_code (with_reads h z extent) code.areas (λ f. 0) starts last at code.blocks) u
-    ∙ (ap (λ z. blocks_code (with_reads h (reads_of code) z) code.areas (λ f. 0) starts last at code.blocks) o
-    ∙ blocks-same h 0 0 (length code.areas) (length code.parameters) (reads_of code) (extent_of code) code.areas (λ f. 0) starts last at code.blocks))) in
+    OnOk r (new ≡ old ++ map word_of (blocks_code (with_reads h reads extent) sizes (at_zero ss) starts last at bs)) →
+    OnOk r (new ≡ old ++ map word_of (blocks_code (layout_with code h) code.areas (at_zero ss) starts last at code.blocks))
+body-code r code h reads extent sizes ss bs starts last at old new w v u o g =
+    let same : blocks_code (with_reads h reads extent) sizes (at_zero ss) starts last at bs ≡ blocks_code (layout_with code h) code.areas
+    (at_zero ss) starts last at code.blocks =
+    ap (λ z. blocks_code (with_reads h reads extent) z (at_zero ss) starts last at bs) w
+    ∙ (ap (λ z. blocks_code (with_reads h reads extent) code.areas (at_zero ss) starts last at z) v
+    ∙ (ap (λ z. blocks_code (with_reads h z extent) code.areas (at_zero ss) starts last at code.blocks) u
+    ∙ (ap (λ z. blocks_code (with_reads h (reads_of code) z) code.areas (at_zero ss) starts last at code.blocks) o
+    ∙ blocks-same h 0 0 (length code.areas) (length code.parameters) (reads_of code) (extent_of code) code.areas (at_zero ss) starts last at code.blocks))) in
     subst (λ z. OnOk r (new ≡ old ++ map word_of z)) same g
 
 pub body-calls : {A E : Type 0} (r : Result A E) (code : Tac) (h : List (Option Home)) (reads : List Reads) (extent : Extent) (sizes : List ℕ)
@@ -170,30 +209,30 @@ places-starts y code old head none starts n m e g =
     let count : 4 * length head ≡ 0 + 4 * length (head_code y code) = omega (arith, head-words y code old head n e) in
     g ∙ (ap (λ z. z ++ starts_from y code.areas (4 * length head) code.blocks) m ∙ ap (λ z. starts_from y code.areas z code.blocks) count)
 
-pub places-last : (y : Layout) (code : Tac) (old head body : List ℕ) (starts : ℕ → ℕ) (last : ℕ) → old ≡ [] → head ≡ old ++ map word_of (head_code y code) →
-    body ≡ head ++ map word_of (blocks_code y code.areas (λ f. 0) starts 0 (4 * length head) code.blocks) → last ≡ 4 * length body → last ≡ last_address y code 0
-places-last y code old head body starts last n e g k =
-    let B : List Instr = blocks_code y code.areas (λ f. 0) starts 0 (4 * length head) code.blocks in
+pub places-last : (y : Layout) (code : Tac) (ss : List Signature) (old head body : List ℕ) (starts : ℕ → ℕ) (last : ℕ) → old ≡ [] → head ≡ old ++ map word_of (head_code y code) →
+    body ≡ head ++ map word_of (blocks_code y code.areas (at_zero ss) starts 0 (4 * length head) code.blocks) → last ≡ 4 * length body → last ≡ last_address y code 0
+places-last y code ss old head body starts last n e g k =
+    let B : List Instr = blocks_code y code.areas (at_zero ss) starts 0 (4 * length head) code.blocks in
     let count : length head ≡ length (head_code y code) = head-words y code old head n e in
     let words : length body ≡ length head + length B = ap length g ∙ pushed_words head B in
-    let same : length B ≡ length (blocks_code y code.areas (λ f. 0) (λ c. 0) 0 0 code.blocks) =
-    blocks-length y code.areas (λ f. 0) (λ f. 0) starts (λ c. 0) 0 0 (4 * length head) 0 code.blocks in
+    let same : length B ≡ length (blocks_code y code.areas nowhere (λ c. 0) 0 0 code.blocks) =
+    blocks-length y code.areas (at_zero ss) nowhere starts (λ c. 0) 0 0 (4 * length head) 0 code.blocks in
     omega (arith, count, words, same, k)
 
-pub whole-words : (y : Layout) (code : Tac) (old head body whole : List ℕ) (starts : List ℕ) (last : ℕ) → old ≡ [] → starts ≡ block_starts y code 0 → last ≡ last_address y code 0 →
+pub whole-words : (y : Layout) (code : Tac) (ss : List Signature) (old head body whole : List ℕ) (starts : List ℕ) (last : ℕ) → old ≡ [] → starts ≡ block_starts y code 0 → last ≡ last_address y code 0 →
     head ≡ old ++ map word_of (head_code y code) →
-    body ≡ head ++ map word_of (blocks_code y code.areas (λ f. 0) (start_of starts) last (4 * length head) code.blocks) →
-    whole ≡ body ++ map word_of (left y (frame_bytes y) code.frame) → whole ≡ map word_of (function_code y code (λ f. 0) 0)
-whole-words y code old head body whole starts last n s l e g k =
+    body ≡ head ++ map word_of (blocks_code y code.areas (at_zero ss) (start_of starts) last (4 * length head) code.blocks) →
+    whole ≡ body ++ map word_of (left y (frame_bytes y) code.frame) → whole ≡ map word_of (function_code y code (at_zero ss) 0)
+whole-words y code ss old head body whole starts last n s l e g k =
     let H : List Instr = head_code y code in
-    let D : List Instr = body_code y code (λ f. 0) 0 in
+    let D : List Instr = body_code y code (at_zero ss) 0 in
     let L : List Instr = left y (frame_bytes y) code.frame in
     let at : 4 * length head ≡ 0 + 4 * length H = omega (arith, head-words y code old head n e) in
     let first : head ≡ map word_of H = e ∙ ap (λ z. z ++ map word_of H) n in
     let mid : body ≡ head ++ map word_of D =
-    g ∙ (ap (λ z. head ++ map word_of (blocks_code y code.areas (λ f. 0) (start_of z) last (4 * length head) code.blocks)) s
-    ∙ (ap (λ z. head ++ map word_of (blocks_code y code.areas (λ f. 0) (start_of (block_starts y code 0)) z (4 * length head) code.blocks)) l
-    ∙ ap (λ z. head ++ map word_of (blocks_code y code.areas (λ f. 0) (start_of (block_starts y code 0)) (last_address y code 0) z code.blocks)) at)) in
+    g ∙ (ap (λ z. head ++ map word_of (blocks_code y code.areas (at_zero ss) (start_of z) last (4 * length head) code.blocks)) s
+    ∙ (ap (λ z. head ++ map word_of (blocks_code y code.areas (at_zero ss) (start_of (block_starts y code 0)) z (4 * length head) code.blocks)) l
+    ∙ ap (λ z. head ++ map word_of (blocks_code y code.areas (at_zero ss) (start_of (block_starts y code 0)) (last_address y code 0) z code.blocks)) at)) in
     k ∙ (ap (λ z. z ++ map word_of L) mid ∙ (ap (λ z. (z ++ map word_of D) ++ map word_of L) first
     ∙ (append_assoc (map word_of H) (map word_of D) (map word_of L) ∙ (ap (λ z. map word_of H ++ z) (sym (map-append word_of D L)) ∙ sym (map-append word_of H (D ++ L))))))
 
@@ -220,12 +259,12 @@ left-whole code h extent frame body whole u f e =
     ∙ ap (λ z. body ++ map word_of (left (layout_with code h) z code.frame)) f)
 
 -- what is given with the homes that the code asks for
-pub selected-by : (code : Tac) (h homes : List (Option Home)) (selected : Code) → h ≡ asked_homes code homes →
-    selected.words.items ≡ map word_of (function_code (layout_with code h) code (λ f. 0) 0) →
+pub selected-by : (code : Tac) (h homes : List (Option Home)) (ss : List Signature) (selected : Code) → h ≡ asked_homes code homes →
+    selected.words.items ≡ map word_of (function_code (layout_with code h) code (at_zero ss) 0) →
     selected.calls.items ≡ function_calls (layout_with code h) code → selected.entry ≡ length (begun code) →
-    selected.frame ≡ frame_bytes (layout_with code h) → IsSelected code homes selected
-selected-by code h homes selected is words calls entry frame = record {
-  words = subst (λ z. selected.words.items ≡ map word_of (function_code (layout_with code z) code (λ f. 0) 0)) is words;
+    selected.frame ≡ frame_bytes (layout_with code h) → IsSelected code homes ss selected
+selected-by code h homes ss selected is words calls entry frame = record {
+  words = subst (λ z. selected.words.items ≡ map word_of (function_code (layout_with code z) code (at_zero ss) 0)) is words;
   calls = subst (λ z. selected.calls.items ≡ function_calls (layout_with code z) code) is calls;
   entry = entry;
   frame = subst (λ z. selected.frame ≡ frame_bytes (layout_with code z)) is frame;

@@ -10,17 +10,18 @@ use Rattle.rv_isa.specs.declared.instr.Instr.TheVariants.{Auipc, Jalr, RegisterI
 use Rattle.rv_isa.specs.declared.operation.BranchCondition.TheVariants.{Ltu}
 use Rattle.rv_isa.specs.declared.operation.ImmediateOp.TheVariants.{Addi}
 use Rattle.terra_words.specs.declared.words.FaultKind.TheVariants.{CallDepth}
+use Rattle.terra_memory.specs.Numbers.{number_of}
 use Rattle.tac_form.specs.declared.tac.Part.{Part}
 use Rattle.rv_machine.specs.Word.{low, word, extended_word}
 use Rattle.rv_machine.specs.Machine.{State, GoesOn, act, at_with}
-use Rattle.rv_operators.specs.Codes.{x0, x5, x6}
+use Rattle.rv_operators.specs.Codes.{x0, x5, x6, zero_immediate}
 use Rattle.rv_operators.specs.Runs.{Stands}
 use Rattle.rv_select.specs.Numbers.{constant, immediate_of, lower_of, upper_of}
 use Rattle.rv_select.specs.Places.{AreBytes, Holds, Housed, IsHeld, Layout, World, private_word}
-use Rattle.rv_select.specs.Shapes.{counted_if, distance, fault_call, place_number, take_count, x11}
+use Rattle.rv_select.specs.Shapes.{counted_if, distance, fault_call, place_number, take_count, x11, x12}
 use Rattle.rv_select.specs.Steps.{CountsLeft, Ends, EndsLeft, OnMore, with_count}
 use Rattle.rv_select.specs.Entering.{x1, x28}
-use Rattle.rv_select.specs.Calls.{call_begun, call_jump, depth_tested, one_more, passed}
+use Rattle.rv_select.specs.Calls.{call_begun, call_jump, depth_tested, one_more, passed, value_jump}
 use Rattle.rv_select.proofs.Calm.{Calm, calm-both, calm-holds, calm-loads, calm-with, near-calm}
 use Rattle.rv_select.proofs.Counts.{TookCount, breaks-off, count-holds, count-left, ends-left, later-breaks, takes-count}
 use Rattle.rv_select.proofs.Enters.{call-fails}
@@ -33,12 +34,12 @@ use Rattle.rv_select.proofs.Straight.{Loads, low-below, low-small, written-elsew
 use Rattle.rv_select.proofs.Weighing.{count_words, counted-length}
 use Rattle.rv_select.proofs.Ways.{Way, at_pc, near-pc, stands-back, stands-front, step-way, straight-way, way-both}
 
--- A jump to a function, which gets the return address.
-pub record JumpedTo (program : List (Option Instr)) (to : ℕ) (m : State) : Type 0 where
+-- A jump to a function, which gets the return address, in so many steps.
+pub record JumpedTo (program : List (Option Instr)) (steps to : ℕ) (m : State) : Type 0 where
   pub after : State
-  pub way : Way program 2 m after
+  pub way : Way program steps m after
   pub pc : after.pc ≡ to
-  pub link : after.registers 1 ≡ low (m.pc + 8)
+  pub link : after.registers 1 ≡ low (m.pc + 4 * steps)
   pub others : (r : ℕ) → r ≢ 1 → r ≢ 5 → after.registers r ≡ m.registers r
   pub region : after.region ≡ m.region
   pub private : after.private ≡ m.private
@@ -48,7 +49,7 @@ unfolding low
 pc-eight p = omega arith
 
 pub jumps-to : (program : List (Option Instr)) (m : State) (from to : ℕ) (rest : List Instr) → m.pc ≡ from → from < 2 ^ 30 → to < 2 ^ 30 → to % 2 ≡ 0 →
-    Stands program m.pc (call_jump from to ++ rest) → JumpedTo program to m
+    Stands program m.pc (call_jump from to ++ rest) → JumpedTo program 2 to m
 jumps-to program m from to rest e h k even there =
     let n : ℕ = distance from to in
     let x : ℕ = extended_word ((upper_of n).value * 2 ^ 12) in
@@ -62,6 +63,24 @@ jumps-to program m from to rest e h k even there =
       pc = even-stays t to is even;
       link = written-there one.registers 1 (low (one.pc + 4)) (λ z. omega (arith, z)) ∙ pc-eight m.pc;
       others = λ r o five. written-elsewhere one.registers 1 (low (one.pc + 4)) r o ∙ written-elsewhere m.registers 5 (low (m.pc + x)) r five;
+      region = refl;
+      private = refl;
+    }
+
+-- by the address in x12
+pub jumps-by-value : (program : List (Option Instr)) (m : State) (to : ℕ) (rest : List Instr) → m.registers 12 ≡ to → to < 2 ^ 30 → to % 2 ≡ 0 →
+    Stands program m.pc (value_jump ++ rest) → JumpedTo program 1 to m
+jumps-by-value program m to rest e k even there =
+    let t : ℕ = low (m.registers 12 + word zero_immediate.value) in
+    let two : State = at_with m (t - t % 2) 1 (low (m.pc + 4)) in
+    let none : to + 0 ≡ to = omega arith in
+    let is : t ≡ to = ap (λ z. low (z + 0)) e ∙ (ap low none ∙ low-small to (omega (arith, k))) in
+    record {
+      after = two;
+      way = step-way program (Jalr x1 x12 zero_immediate) m two there.0 refl;
+      pc = even-stays t to is even;
+      link = written-there m.registers 1 (low (m.pc + 4)) (λ z. omega (arith, z));
+      others = λ r o five. written-elsewhere m.registers 1 (low (m.pc + 4)) r o;
       region = refl;
       private = refl;
     }
@@ -308,3 +327,58 @@ module _ (program : List (Option Instr)) (y : Layout) (held : Option ℕ) (Used 
         words = λ k o e. ap (λ n. private_word t4 (base - 8 * n)) (none-before k) ∙ pp.words k o e;
         there = pp.there.1;
       }
+
+-- A call has jumped to its function, in at most so many steps: what it passes lies below the frame, x11 has its place, x1 the address to
+-- which the function returns, one more call waits, and x9 has so many counts that are left, where code counts.
+pub record AtJump (program : List (Option Instr)) (y : Layout) (base : ℕ) (w : World) (at : Place) (ps : List Part) (left target link most : ℕ)
+    (m : State) : Type 0 where
+  pub after : State
+  pub steps : ℕ
+  pub way : Way program steps m after
+  pub some : 1 ≤ steps
+  pub few : steps ≤ most
+  pub pc : after.pc ≡ target
+  pub link_is : after.registers 1 ≡ link
+  pub place : after.registers 11 ≡ place_number at
+  pub waiting : after.registers 28 ≡ suc w.depth
+  pub others : (r : ℕ) → r ≢ 1 → r ≢ 5 → r ≢ 6 → r ≢ 7 → r ≢ 9 → r ≢ 11 → r ≢ 12 → r ≢ 28 → after.registers r ≡ m.registers r
+  pub count : after.registers 9 ≡ (with_count y.extent.counts left m).registers 9
+  pub region : after.region ≡ m.region
+  pub long : length after.private ≡ length m.private
+  pub bytes : AreBytes m.private → AreBytes after.private
+  pub above : (at k : ℕ) → base ≤ at → take k (drop at after.private) ≡ take k (drop at m.private)
+  pub below : (at k : ℕ) → at + k ≤ base - 8 * length ps → take k (drop at after.private) ≡ take k (drop at m.private)
+  pub words : (k : ℕ) (p : Part) → slice_get ps k ≡ Some p → private_word after (base - 8 * (k + 1)) ≡ part_value y base w p
+
+nine-same : (counts : Bool) (left : ℕ) (m n : State) → n.registers 9 ≡ m.registers 9 →
+    (with_count counts left n).registers 9 ≡ (with_count counts left m).registers 9
+nine-same true left m n e = refl
+nine-same false left m n e = e
+
+-- from where a call begins, where registers that nothing rests on may have changed before
+pub at-jump : (program : List (Option Instr)) (y : Layout) (held : Option ℕ) (base : ℕ) (w : World) (at : Place) (ps : List Part)
+    (left : ℕ) (rest : List Instr) (k steps target link most : ℕ) (m n : State) → Way program k m n →
+    ((r : ℕ) → r ≢ 5 → r ≢ 6 → r ≢ 7 → r ≢ 12 → n.registers r ≡ m.registers r) → n.region ≡ m.region → n.private ≡ m.private →
+    (b : Begun program y held base w at ps left rest n) → (j : JumpedTo program steps target b.after) → low (b.after.pc + 4 * steps) ≡ link →
+    1 ≤ steps → k + b.steps + steps ≤ most → AtJump program y base w at ps left target link most m
+at-jump program y held base w at ps left rest k steps target link most m n way same region private b j link-is some few = record {
+  after = j.after;
+  steps = k + b.steps + steps;
+  way = way-both program (k + b.steps) steps m b.after j.after (way-both program k b.steps m n b.after way b.way) j.way;
+  some = omega (arith, some);
+  few = few;
+  pc = j.pc;
+  link_is = j.link ∙ link-is;
+  place = j.others 11 (λ z. omega (arith, z)) (λ z. omega (arith, z)) ∙ b.place;
+  waiting = j.others 28 (λ z. omega (arith, z)) (λ z. omega (arith, z)) ∙ b.waiting;
+  others = λ r one five six seven nine eleven twelve more.
+      j.others r one five ∙ (b.others r five six seven nine eleven more ∙ same r five six seven twelve);
+  count = j.others 9 (λ z. omega (arith, z)) (λ z. omega (arith, z)) ∙ (b.count ∙ nine-same y.extent.counts left m n
+      (same 9 (λ z. omega (arith, z)) (λ z. omega (arith, z)) (λ z. omega (arith, z)) (λ z. omega (arith, z))));
+  region = j.region ∙ (b.region ∙ region);
+  long = ap length j.private ∙ (b.long ∙ ap length private);
+  bytes = λ are. subst AreBytes (sym j.private) (b.bytes (subst AreBytes (sym private) are));
+  above = λ a c o. ap (λ z. take c (drop a z)) j.private ∙ (b.above a c o ∙ ap (λ z. take c (drop a z)) private);
+  below = λ a c o. ap (λ z. take c (drop a z)) j.private ∙ (b.below a c o ∙ ap (λ z. take c (drop a z)) private);
+  words = λ c q g. ap (λ z. number_of (take 8 (drop (base - 8 * (c + 1)) z))) j.private ∙ b.words c q g;
+}

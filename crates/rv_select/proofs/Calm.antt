@@ -89,7 +89,7 @@ calm-holds y Used w base m n p h c small = record {
   frame = record {
     pointer = c.keeps 2 refl ∙ p.frame.pointer;
     within = subst (λ z. base + frame_bytes y ≤ length z) (sym c.private) p.frame.within;
-    private = subst (λ z. length z ≤ 603979776) (sym c.private) p.frame.private;
+    private = subst (λ z. length z ≤ 606076928) (sym c.private) p.frame.private;
     bytes = subst AreBytes (sym c.private) p.frame.bytes;
   };
   pc = small;

@@ -90,7 +90,7 @@ unfolding low
 zeros-address x a at e h = omega arith
 
 -- eight zeros behind where x5 points
-zero-fills : (m : State) (a at : ℕ) → m.registers 5 ≡ 2 ^ 32 + a → at ≤ 2047 → a + at + 8 ≤ length m.private → length m.private ≤ 603979776 → length m.region ≤ 67108864 →
+zero-fills : (m : State) (a at : ℕ) → m.registers 5 ≡ 2 ^ 32 + a → at ≤ 2047 → a + at + 8 ≤ length m.private → length m.private ≤ 606076928 → length m.region ≤ 67108864 →
     Fills (Store Sd x5 x0 (immediate_of at) ∷ []) m (a + at) (nulls 8)
 zero-fills m a at five h room private region =
     let z : State = saved m (overwritten m.private (a + at) (nulls 8)) in
@@ -109,7 +109,7 @@ zero-fills m a at five h room private region =
       straight = refl;
     }
 
-zeros-fill : (n : ℕ) (m : State) (a at : ℕ) → m.pc < 2 ^ 64 → m.registers 5 ≡ 2 ^ 32 + a → at + 8 * n ≤ 2047 → a + at + 8 * n ≤ length m.private → length m.private ≤ 603979776 →
+zeros-fill : (n : ℕ) (m : State) (a at : ℕ) → m.pc < 2 ^ 64 → m.registers 5 ≡ 2 ^ 32 + a → at + 8 * n ≤ 2047 → a + at + 8 * n ≤ length m.private → length m.private ≤ 606076928 →
     length m.region ≤ 67108864 → Fills (zeros n at) m (a + at) (nulls (8 * n))
 zeros-fill zero m a at p five h room private region = fills-none m (a + at) p
 zeros-fill (suc n) m a at p five h room private region =
@@ -120,7 +120,7 @@ zeros-fill (suc n) m a at p five h room private region =
     let whole : 8 + 8 * n ≡ 8 * suc n = omega arith in
     let rest : Fills (zeros n (at + 8)) first.after (a + (at + 8)) (nulls (8 * n)) =
     zeros-fill n first.after a (at + 8) (subst (λ z. z < 2 ^ 64) (sym first.behind) (low-below (m.pc + 4 * 1))) (first.keeps 5 ∙ five) (omega arith)
-    (subst (λ z. a + (at + 8) + 8 * n ≤ z) (sym long) (omega arith)) (subst (λ z. z ≤ 603979776) (sym long) private) (subst (λ z. length z ≤ 67108864) (sym first.region) region) in
+    (subst (λ z. a + (at + 8) + 8 * n ≤ z) (sym long) (omega arith)) (subst (λ z. z ≤ 606076928) (sym long) private) (subst (λ z. length z ≤ 67108864) (sym first.region) region) in
     subst (λ bs. Fills (zeros (suc n) at) m (a + at) bs) (nulls-both 8 (8 * n) ∙ ap nulls whole)
     (fills-both (Store Sd x5 x0 (immediate_of at) ∷ []) (zeros n (at + 8)) m (a + at) (nulls 8) (nulls (8 * n)) first (omega (arith, count))
     (subst (λ k. Fills (zeros n (at + 8)) first.after k (nulls (8 * n))) next rest))
@@ -162,7 +162,7 @@ clears y n size Used Next w base program m stands there most p h f =
     then-saves A B m l.after (at + 0) (nulls (8 * k)) (loads-five A m (2 ^ 32 + at) l)
     (fills-saves B l.after (at + 0) (nulls (8 * k))
     (zeros-fill k l.after at 0 (subst (λ z. z < 2 ^ 64) (sym l.behind) (low-below (m.pc + 4 * length A))) l.gives (omega arith)
-    (subst (λ z. at + 0 + 8 * k ≤ length z) (sym l.private) zeros-there) (subst (λ z. length z ≤ 603979776) (sym l.private) p.frame.private)
+    (subst (λ z. at + 0 + 8 * k ≤ length z) (sym l.private) zeros-there) (subst (λ z. length z ≤ 606076928) (sym l.private) p.frame.private)
     (subst (λ z. length z ≤ 67108864) (sym l.region) (region-small y Used w base m p)))) in
     let some-a : 1 ≤ length A = framed-some (λ r far. RegisterImmediate Addi x5 r far) (area_offset y n + 0) in
     let count : length (A ++ B) ≡ length A + k = length-append A B ∙ ap (λ z. length A + z) (zeros-count k 0) in

@@ -143,7 +143,7 @@ count-holds y Used w base m n p h keeps region private small = record {
   frame = record {
     pointer = keeps 2 (λ e. omega (arith, e)) ∙ p.frame.pointer;
     within = subst (λ z. base + frame_bytes y ≤ length z) (sym private) p.frame.within;
-    private = subst (λ z. length z ≤ 603979776) (sym private) p.frame.private;
+    private = subst (λ z. length z ≤ 606076928) (sym private) p.frame.private;
     bytes = subst AreBytes (sym private) p.frame.bytes;
   };
   pc = small;

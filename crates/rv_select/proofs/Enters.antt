@@ -47,7 +47,7 @@ call-fails program m kind at e l u there =
     let two-way : Way program 1 b c =
     step-way program (RegisterImmediate Addi x17 x0 (immediate_of 1024)) b c there.1.0 (small-load x17 1024 b (λ z. omega (arith, z)) (omega arith)) in
     let way : Way program (1 + 1) m c = way-both program 1 1 m b c one two-way in
-    let last : act Ecall c ≡ Throws (fault_number kind) (place_number at) = throws c (fault_number kind) (place_number at) refl refl e l u in
+    let last : act Ecall c ≡ Throws (fault_number kind) (place_number at) = throws c (fault_number kind) (place_number at) refl refl e l (omega (arith, u)) in
     record {
       steps = 3;
       last = c;
@@ -346,7 +346,7 @@ saves-link true base m p two small room region = record {
 
 pub takes-frame : (program : List (Option Instr)) (y : Layout) (bytes top : ℕ) (rest : List Instr) (m : State) → m.pc < 2 ^ 64 →
     m.registers 2 ≡ 2 ^ 32 + top → 88 ≤ bytes → bytes ≤ top →
-    top ≤ length m.private → length m.private ≤ 603979776 → length m.region ≤ 67108864 → Stands program m.pc (frame_taken y bytes ++ rest) →
+    top ≤ length m.private → length m.private ≤ 606076928 → length m.region ≤ 67108864 → Stands program m.pc (frame_taken y bytes ++ rest) →
     Taken program y bytes (top - bytes) rest m
 takes-frame program y bytes top rest m p two-is least room within most region there =
     let base : ℕ = top - bytes in
@@ -364,7 +364,7 @@ takes-frame program y bytes top rest m p two-is least room within most region th
     let sv : Saved y 10 18 base t4 =
     saves y 10 18 base t4 pc-4 (s1.is.registers 2 ∙ l.gives) (omega arith) (omega arith)
     (subst (λ z. base + 88 ≤ z) (sym (s1.is.long ∙ ap length (l.private))) (omega arith))
-    (subst (λ z. z ≤ 603979776) (sym (s1.is.long ∙ ap length (l.private))) most) region-4 in
+    (subst (λ z. z ≤ 606076928) (sym (s1.is.long ∙ ap length (l.private))) most) region-4 in
     let t5 : State = sv.after in
     let S : List Instr = saved y 10 18 in
     let all : Stands program m.pc (C ++ ((K ++ S) ++ rest)) = subst (λ z. Stands program m.pc z) (append_assoc C (K ++ S) rest) there in

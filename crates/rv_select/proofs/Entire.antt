@@ -13,7 +13,7 @@ use Rattle.rv_machine.specs.Machine.{fetch}
 use Rattle.rv_select.specs.Places.{layout_of}
 use Rattle.rv_select.specs.Calls.{body_code, head_code, last_address}
 use Rattle.tac_counts.specs.Counts.{left_after, left_in}
-use Rattle.rv_select.specs.Waiting.{Image, IsLinked, IsPlaced, counts_in, entries_of, place_in}
+use Rattle.rv_select.specs.Waiting.{Image, IsLinked, IsPlaced, counts_in, place_in, places_of}
 use Rattle.rv_select.specs.Whole.{AreShort, Ended, ProgramsAreCarried, before_entry, bytes_behind, bytes_left, end_in}
 use Rattle.rv_select.proofs.Begins.{entries-carried}
 use Rattle.rv_select.proofs.Calling.{first-start, fresh_call, takes-is}
@@ -54,9 +54,9 @@ entry-falls p image program most words n linked short f code values region e =
 
     last : start ≤ end_in p image code (image f)
     last =
-        let fn : FoundFunction program (layout_of code (image f).homes) code (entries_of p image) (image f).at =
+        let fn : FoundFunction program (layout_of code (image f).homes) code (places_of p image) (image f).at =
         the-function p image program most code (image f) pl in
-        under start H (length (body_code (layout_of code (image f).homes) code (entries_of p image) (image f).at))
+        under start H (length (body_code (layout_of code (image f).homes) code (places_of p image) (image f).at))
         (last_address (layout_of code (image f).homes) code (image f).at) (end_in p image code (image f)) first fn.whole
         (last-within p image program most code (image f) pl)
       where
@@ -95,7 +95,7 @@ entry-high program at e z = never (sym (ap (fetch program) z) ∙ e)
     never e = cc
 
 pub programs-carried : ProgramsAreCarried
-programs-carried p image program most words memory n statics f code arguments m r linked short e starts counted eight count room (k, ends) =
+programs-carried p image program most words memory n statics f code arguments m r linked short e starts counted eight count room entries (k, ends) =
     let region : Contents = fresh memory statics in
     subst (λ z. Ended code.counts program ((n + 1) * words) (left_after z (left_in p k) n) (before_entry f region n) m r) (sym same)
     (behind-step p image program most (length region.bytes) words k n (length (head_code (layout_of code (image f).homes) code))
@@ -105,7 +105,7 @@ programs-carried p image program most words memory n statics f code arguments m 
     (runs-carried p image program most (length region.bytes) words rest k r t b z linked short y l g))
     (enter code.place f (Some code) (map word arguments) (end_address region) [] (before_entry f region n))
     (λ out q z. entry-high program (image f).at (linked f code e).stands.0 (sym starts.pc ∙ z))
-    (entries-carried p image program most n f code arguments region m linked e starts counted eight count room)
+    (entries-carried p image program most n f code arguments region m linked e starts counted eight count room entries)
     (entry-falls p image program most words n linked short f code (map word arguments) region e)
     (sym (ap (λ o. steps p k (enter (place_of o) f o (map word arguments) (end_address region) [] (before_entry f region n))) e) ∙ ends))
   where

@@ -69,7 +69,7 @@ functions-entered program y bytes frame top placed size at m h =
         both-entered program y bytes frame top placed size at m h p
         (takes-frame program y bytes top [] p.after (subst (λ q. q < 2 ^ 64) (sym p.pc) (low-below (m.pc + 4 * length (region_taken frame))))
         (p.keeps 2 (λ z. omega (arith, z)) (λ z. omega (arith, z)) (λ z. omega (arith, z)) (λ z. omega (arith, z)) ∙ h.pointer) h.least h.room
-        (subst (λ z. top ≤ length z) (sym p.private) h.within) (subst (λ z. length z ≤ 603979776) (sym p.private) h.private)
+        (subst (λ z. top ≤ length z) (sym p.private) h.within) (subst (λ z. length z ≤ 606076928) (sym p.private) h.private)
         (subst (λ z. length z ≤ 67108864) (sym p.region) h.region) (subst (λ z. Stands program p.after.pc z) (sym (append-nil (frame_taken y bytes))) p.there))
 
 pub calls-begun : CallsAreBegun

@@ -1,5 +1,5 @@
 -- Each step takes no more of the machine's steps than a quarter of the bytes that are taken off what is left of them.
-use Rattle.std.proofs.Common.{◌≡◌, ℕ, zero, suc, ◌+◌, ◌-◌, ◌*◌, ◌<◌, ◌≤◌, Bool, true, false, ◌&&◌, ◌||◌, List, [], ◌∷◌, ◌++◌, length}
+use Rattle.std.proofs.Common.{◌≡◌, ℕ, zero, suc, ◌+◌, ◌-◌, ◌*◌, ◌<◌, ◌≤◌, Bool, true, false, ◌&&◌, ◌||◌, List, [], ◌∷◌, length}
 use Rattle.std.proofs.Common.{Option, Some, None, refl, sym, ap, ◌∙◌, subst, ⊎_elim, inl, inr, arith}
 use Rattle.std.specs.Prelude.{nat_le, nat_lt, slice_get, ◌⊎◌}
 use Rattle.std.proofs.Math.Nat.{suc-mul}
@@ -9,6 +9,7 @@ use Rattle.tl_base.specs.declared.ids.FnId.{FnId}
 use Rattle.tl_base.specs.declared.place.Place.{Place}
 use Rattle.rv_isa.specs.declared.instr.Instr.{Instr}
 use Rattle.terra_memory.specs.Region.{heap_limit}
+use Rattle.terra_words.specs.declared.words.FaultKind.TheVariants.{BadCall}
 use Rattle.terra_words.specs.Words.{most_calls}
 use Rattle.terra_words.specs.Runs.{Fault, More, Over, Returned, Run, Stuck, Value}
 use Rattle.tac_form.specs.declared.tac.Edge.{Edge}
@@ -17,23 +18,24 @@ use Rattle.tac_form.specs.declared.tac.Exit.TheVariants.{Branch, Fail, Jump, Ret
 use Rattle.tac_form.specs.declared.tac.Part.{Part}
 use Rattle.tac_form.specs.declared.tac.Destination.{Destination}
 use Rattle.tac_form.specs.declared.tac.Destination.TheVariants.{Temp, Area, Nothing}
-use Rattle.tac_form.specs.declared.tac.Instruction.TheVariants.{Call}
+use Rattle.tac_form.specs.declared.tac.Instruction.TheVariants.{Call, CallValue}
 use Rattle.tac_form.specs.declared.tac.Block.{Block}
 use Rattle.tac_form.specs.declared.tac.Tac.{Tac}
 use Rattle.tac_form.specs.Flow as tac
-use Rattle.tac_form.specs.Flow.{Activation, Caller, Goes, Program, Stops, Temps, accepts, accepts_all, enter, give, given, step, takes, takes_all}
-use Rattle.tac_form.specs.Flow.{value_of, values_of}
+use Rattle.tac_form.specs.Flow.{Activation, Caller, Goes, Program, Stops, Temps, accepts, accepts_all, enter, entry, give, given}
+use Rattle.tac_form.specs.Flow.{has_signature, step, takes, takes_all, value_of, values_of}
 use Rattle.tac_form.specs.Fits.{blocks_count, edge_fits, exit_fits, operand_fits}
 use Rattle.rv_select.specs.declared.pairs.Pair.{Pair}
 use Rattle.rv_select.specs.Places.{Layout, frame_bytes, layout_of}
 use Rattle.rv_select.specs.Entering.{left}
-use Rattle.rv_select.specs.Calls.{call_ended, call_jump, head_code, instruction_code, last_address}
-use Rattle.rv_select.specs.Waiting.{Image, IsLinked, IsPlaced, entries_of, held_in, place_in}
+use Rattle.rv_select.specs.Calls.{ByName, ByValue, CallKind, call_ended, call_of, head_code, instruction_code, last_address}
+use Rattle.rv_select.specs.Waiting.{Image, IsLinked, IsPlaced, held_in, place_in, places_of}
 use Rattle.rv_select.specs.Whole.{AreShort, bytes_behind, bytes_left, bytes_waiting, end_in, ended_words}
 use Rattle.rv_select.proofs.Backs.{return_most}
-use Rattle.rv_select.proofs.Calling.{begun_in, call_most, entered_state, first-start, fresh_call, takes-is, taking}
+use Rattle.rv_select.proofs.Calling.{call_most, entered_state, first-start, fresh_call, front_in, function_of, most_by, takes-is, taking, taking_of}
 use Rattle.rv_select.proofs.Carries.{by-test}
 use Rattle.rv_select.proofs.Finds.{FoundFunction}
+use Rattle.rv_select.proofs.ByKinds.{code-by}
 use Rattle.rv_select.proofs.Inner.{IsNext, LeavesIf, StaysIf}
 use Rattle.rv_select.proofs.Stands.{AtExit, AtPlace, both-true, end-is, exit-within, last-within, starts-behind, the-function}
 use Rattle.rv_select.proofs.Stands.{within-parts}
@@ -242,19 +244,16 @@ falls-exit p image program most words short code block at temps s (Stops r) pl e
     under q z a x w y h g u = omega (arith, h, g, u)
 
 -- A call, which has a count. Behind its jump the caller waits, and the callee's words pay for all that it takes before its first block.
-call-falls : (b t n q z r x v w y k a c d m j : ℕ) → r ≡ q + 4 * (b + (2 + n)) → r ≤ z → x ≡ z - q → v ≡ z - r → a + 4 * t ≤ c → c ≤ d →
-    d ≤ a + 4 * m → j ≡ d - c → k ≡ y + m → 4 * (b + 2 + t) + (j + (v + 4 * n + w) + 4 * y) ≤ x + w + 4 * k
+call-falls : (b t n q z r x v w y k a c d m j : ℕ) → r ≡ q + 4 * (b + n) → r ≤ z → x ≡ z - q → v ≡ z - r → a + 4 * t ≤ c → c ≤ d →
+    d ≤ a + 4 * m → j ≡ d - c → k ≡ y + m → 4 * (b + t) + (j + (v + 4 * n + w) + 4 * y) ≤ x + w + 4 * k
 call-falls b t n q z r x v w y k a c d m j e f g h i l o u s = omega (arith, e, f, g, h, i, l, o, u, s)
 
-call-stops : (b t n q z r x w y k a c d m : ℕ) → r ≡ q + 4 * (b + (2 + n)) → r ≤ z → x ≡ z - q → a + 4 * t ≤ c → c ≤ d →
-    d ≤ a + 4 * m → k ≡ y + m → 4 * (b + 2 + t) ≤ x + w + 4 * k
+call-stops : (b t n q z r x w y k a c d m : ℕ) → r ≡ q + 4 * (b + n) → r ≤ z → x ≡ z - q → a + 4 * t ≤ c → c ≤ d →
+    d ≤ a + 4 * m → k ≡ y + m → 4 * (b + t) ≤ x + w + 4 * k
 call-stops b t n q z r x w y k a c d m e f g i l o s = omega (arith, e, f, g, i, l, o, s)
 
-call-none : (b n q z r x w y : ℕ) → r ≡ q + 4 * (b + (2 + n)) → r ≤ z → x ≡ z - q → 4 * b ≤ x + w + 4 * y
+call-none : (b n q z r x w y : ℕ) → r ≡ q + 4 * (b + n) → r ≤ z → x ≡ z - q → 4 * b ≤ x + w + 4 * y
 call-none b n q z r x w y e f g = omega (arith, e, f, g)
-
-jump-two : (from to : ℕ) (rest : List Instr) → length (call_jump from to ++ rest) ≡ 2 + length rest
-jump-two from to rest = omega arith
 
 -- where a callee's first block begins, and where its code ends
 record Callee (p : Program) (image : Image) (words : ℕ) (f : FnId) (code : Tac) : Type 0 where
@@ -264,14 +263,14 @@ record Callee (p : Program) (image : Image) (words : ℕ) (f : FnId) (code : Tac
 
 pub falls-call : (p : Program) (image : Image) (program : List (Option Instr)) (most words : ℕ) → IsLinked p image program most →
     AreShort p image words →
-    (code : Tac) (block : Block) (to : Destination) (place : Place) (f : FnId) (arguments : List Part) (s : tac.State) →
+    (code : Tac) (block : Block) (to : Destination) (place : Place) (kind : CallKind) (arguments : List Part) (s : tac.State) →
     p.code s.here.function ≡ Some code →
-    slice_get code.blocks s.here.block ≡ Some block → slice_get block.instructions s.here.at ≡ Some (Call to place f arguments) →
-    AtPlace p image program code (image s.here.function) s.here.block s.here.at (Call to place f arguments)
+    slice_get code.blocks s.here.block ≡ Some block → slice_get block.instructions s.here.at ≡ Some (call_of kind to place arguments) →
+    AtPlace p image program code (image s.here.function) s.here.block s.here.at (call_of kind to place arguments)
     (place_in p image code (image s.here.function) s.here.block s.here.at) →
-    FallsIf p image words (call_most p image code s.here s.left place f arguments) s (step p s)
-falls-call p image program most words linked short code block to place f arguments s e in-f in-b found =
-    falls (call_most p image code s.here s.left place f arguments) refl
+    FallsIf p image words (call_most p image code s s.left kind place arguments) s (step p s)
+falls-call p image program most words linked short code block to place kind arguments s e in-f in-b found =
+    steps-by kind in-b
   where
     x : ℕ
     x = bytes_behind p image s.here.function (p.code s.here.function) s.here.block s.here.at
@@ -283,7 +282,7 @@ falls-call p image program most words linked short code block to place f argumen
     next = place_in p image code (image s.here.function) s.here.block (suc s.here.at)
 
     B : ℕ
-    B = length (begun_in image code s.here place arguments)
+    B = length (front_in p image code s.here kind place arguments)
 
     E : ℕ
     E = length (call_ended (layout_of code (image s.here.function).homes) code.areas to)
@@ -291,29 +290,29 @@ falls-call p image program most words linked short code block to place f argumen
     waits : ℕ
     waits = bytes_waiting p image s.callers
 
-    whole : length (instruction_code (layout_of code (image s.here.function).homes) code.areas (entries_of p image) q
-        (held_in code s.here.block s.here.at) (Call to place f arguments)) ≡ B + (2 + E)
-    whole = length-append (begun_in image code s.here place arguments) (call_jump (q + 4 * B) (entries_of p image f) ++
-        call_ended (layout_of code (image s.here.function).homes) code.areas to)
-        ∙ ap (λ n. B + n) (jump-two (q + 4 * B) (entries_of p image f) (call_ended (layout_of code (image s.here.function).homes) code.areas to))
+    whole : length (instruction_code (layout_of code (image s.here.function).homes) code.areas (places_of p image) q
+        (held_in code s.here.block s.here.at) (call_of kind to place arguments)) ≡ B + E
+    whole = ap length (code-by (layout_of code (image s.here.function).homes) code.areas (places_of p image) q (held_in code s.here.block s.here.at) kind to
+        place arguments)
+        ∙ length-append (front_in p image code s.here kind place arguments) (call_ended (layout_of code (image s.here.function).homes) code.areas to)
 
-    returns : next ≡ q + 4 * (B + (2 + E))
+    returns : next ≡ q + 4 * (B + E)
     returns = found.next ∙ ap (λ n. q + 4 * n) whole
 
     within : next ≤ end_in p image code (image s.here.function)
-    within = under q (length (instruction_code (layout_of code (image s.here.function).homes) code.areas (entries_of p image) q
-        (held_in code s.here.block s.here.at) (Call to place f arguments))) next
+    within = under q (length (instruction_code (layout_of code (image s.here.function).homes) code.areas (places_of p image) q
+        (held_in code s.here.block s.here.at) (call_of kind to place arguments))) next
         (last_address (layout_of code (image s.here.function).homes) code (image s.here.function).at) (end_in p image code (image s.here.function))
         found.next found.within (last-within p image program most code (image s.here.function) (linked s.here.function code e))
       where
         under : (q n r a z : ℕ) → r ≡ q + 4 * n → q + 4 * n ≤ a → a ≤ z → r ≤ z
         under q n r a z h g i = omega (arith, h, g, i)
 
-    the-callee : (callee : Tac) → p.code f ≡ Some callee → Callee p image words f callee
-    the-callee callee g =
+    the-callee : (f : FnId) (callee : Tac) → p.code f ≡ Some callee → Callee p image words f callee
+    the-callee f callee g =
         let pl : IsPlaced p image program most callee (image f) = linked f callee g in
         let y : Layout = layout_of callee (image f).homes in
-        let fn : FoundFunction program y callee (entries_of p image) (image f).at = the-function p image program most callee (image f) pl in
+        let fn : FoundFunction program y callee (places_of p image) (image f).at = the-function p image program most callee (image f) pl in
         let first = first-start y callee (image f).at (within-parts p image program most callee (image f) pl).entered in
         record {
           enters = omega (arith, fn.first, first);
@@ -321,18 +320,18 @@ falls-call p image program most words linked short code block to place f argumen
           few = end-short p image words short f callee g;
         }
 
-    paid : (l : ℕ) (callee : Tac) → s.left ≡ suc l → p.code f ≡ Some callee → (a : Activation) →
+    paid : (f : FnId) (l : ℕ) (callee : Tac) → s.left ≡ suc l → p.code f ≡ Some callee → (a : Activation) →
         a ≡ record (fresh_call f callee s) { temps = a.temps; areas = a.areas } →
-        FallsIf p image words (B + 2 + taking image f (Some callee)) s (Goes (entered_state s to l a))
-    paid l callee h g a is =
-        subst (λ b. FallsIf p image words (B + 2 + taking image f (Some callee)) s (Goes (entered_state s to l b))) (sym is) (
-          subst (λ z. 4 * (B + 2 + taking image f (Some callee)) + (bytes_behind p image f (p.code f) 0 0
+        FallsIf p image words (B + taking image f (Some callee)) s (Goes (entered_state s to l a))
+    paid f l callee h g a is =
+        subst (λ b. FallsIf p image words (B + taking image f (Some callee)) s (Goes (entered_state s to l b))) (sym is) (
+          subst (λ z. 4 * (B + taking image f (Some callee)) + (bytes_behind p image f (p.code f) 0 0
               + (bytes_behind p image s.here.function (p.code s.here.function) s.here.block (suc s.here.at)
               + 4 * ended_words image s.here.function (p.code s.here.function) to + waits) + 4 * (l * words)) ≤ x + waits + 4 * (z * words)) (sym h)
-              (subst (λ o. 4 * (B + 2 + taking image f (Some callee)) + (bytes_behind p image f (p.code f) 0 0
+              (subst (λ o. 4 * (B + taking image f (Some callee)) + (bytes_behind p image f (p.code f) 0 0
               + (bytes_behind p image s.here.function (p.code s.here.function) s.here.block (suc s.here.at)
               + 4 * ended_words image s.here.function o to + waits) + 4 * (l * words)) ≤ x + waits + 4 * (suc l * words)) (sym e)
-              (let k : Callee p image words f callee = the-callee callee g in
+              (let k : Callee p image words f callee = the-callee f callee g in
               call-falls B (taking image f (Some callee)) E q (end_in p image code (image s.here.function)) next x
               (bytes_behind p image s.here.function (p.code s.here.function) s.here.block (suc s.here.at)) waits (l * words) (suc l * words)
               (image f).at (place_in p image callee (image f) 0 0) (end_in p image callee (image f)) words (bytes_behind p image f (p.code f) 0 0)
@@ -342,46 +341,92 @@ falls-call p image program most words linked short code block to place f argumen
           omega (arith, h),
         )
 
-    unpaid : (l : ℕ) (callee : Tac) → s.left ≡ suc l → p.code f ≡ Some callee →
-        4 * (B + 2 + taking image f (Some callee)) ≤ bytes_left p image words s
-    unpaid l callee h g =
-        let k : Callee p image words f callee = the-callee callee g in
-        subst (λ z. 4 * (B + 2 + taking image f (Some callee)) ≤ x + waits + 4 * (z * words)) (sym h)
+    unpaid : (f : FnId) (l : ℕ) (callee : Tac) → s.left ≡ suc l → p.code f ≡ Some callee →
+        4 * (B + taking image f (Some callee)) ≤ bytes_left p image words s
+    unpaid f l callee h g =
+        let k : Callee p image words f callee = the-callee f callee g in
+        subst (λ z. 4 * (B + taking image f (Some callee)) ≤ x + waits + 4 * (z * words)) (sym h)
         (call-stops B (taking image f (Some callee)) E q (end_in p image code (image s.here.function)) next x waits (l * words) (suc l * words)
         (image f).at (place_in p image callee (image f) 0 0) (end_in p image callee (image f)) words returns within
         (behind-is p image s.here.function code s.here.block s.here.at e) k.enters k.ends k.few (suc-mul l words))
 
-    with-code : (l : ℕ) (o : Option Tac) → s.left ≡ suc l → p.code f ≡ o →
-        FallsIf p image words (B + 2 + taking image f o) s
+    with-code : (f : FnId) (l : ℕ) (o : Option Tac) → s.left ≡ suc l → p.code f ≡ o →
+        FallsIf p image words (B + taking image f o) s
         (enter place f o (values_of s arguments) s.here.base (record { waits = record s.here { at = suc s.here.at }; to = to } ∷ s.callers)
         (record s { left = l }))
-    with-code l None h g = tt
-    with-code l (Some callee) h g =
-        let most : ℕ = B + 2 + taking image f (Some callee) in
-        let stops : 4 * most ≤ bytes_left p image words s = unpaid l callee h g in
+    with-code f l None h g = tt
+    with-code f l (Some callee) h g =
+        let most : ℕ = B + taking image f (Some callee) in
+        let stops : 4 * most ≤ bytes_left p image words s = unpaid f l callee h g in
         by-test (FallsIf p image words most s) (nat_le most_calls (suc (length s.callers))) _ _ (λ h. stops)
         (λ n.
         by-test (FallsIf p image words most s) (nat_lt s.here.base (heap_limit s.region + callee.frame)) _ _ (λ h. stops)
         (λ n.
         by-test (FallsIf p image words most s) (accepts_all callee callee.parameters (values_of s arguments)) _ _
-        (λ n. paid l callee h g (takes_all callee.parameters (values_of s arguments) (fresh_call f callee s))
+        (λ n. paid f l callee h g (takes_all callee.parameters (values_of s arguments) (fresh_call f callee s))
         (takes-is callee.parameters (values_of s arguments) (fresh_call f callee s)))
         (λ n. tt)))
 
-    counts : (l : ℕ) → s.left ≡ l →
-        FallsIf p image words (call_most p image code s.here l place f arguments) s
+    counts : (f : FnId) (l : ℕ) → s.left ≡ l →
+        FallsIf p image words (most_by B (taking image f (p.code f)) l) s
         (tac.counted l s (λ z. enter place f (p.code f) (values_of s arguments) z.here.base
         (record { waits = (tac.ahead z).here; to = to } ∷ z.callers) z))
-    counts zero h =
+    counts f zero h =
         call-none B E q (end_in p image code (image s.here.function)) next x waits (s.left * words) returns within
         (behind-is p image s.here.function code s.here.block s.here.at e)
-    counts (suc l) h = with-code l (p.code f) h refl
+    counts f (suc l) h = with-code f l (p.code f) h refl
 
-    falls : (n : ℕ) → call_most p image code s.here s.left place f arguments ≡ n → FallsIf p image words n s (step p s)
-    falls n same =
-        rw (e, in-f, in-b) (subst (λ z. FallsIf p image words z s
-        (tac.counted s.left s (λ z. enter place f (p.code f) (values_of s arguments) z.here.base
-        (record { waits = (tac.ahead z).here; to = to } ∷ z.callers) z))) same (counts s.left refl))
+    -- a fault before the count is taken
+    faults : (o : Option FnId) (l : ℕ) → s.left ≡ l →
+        FallsIf p image words (most_by B (taking_of p image o) l) s (tac.fault BadCall place s)
+    faults o zero h = counted-none (s.left * words)
+      where
+        counted-none : (y : ℕ) → 4 * B ≤ x + waits + 4 * y
+        counted-none y = call-none B E q (end_in p image code (image s.here.function)) next x waits y returns within
+            (behind-is p image s.here.function code s.here.block s.here.at e)
+    faults None (suc l) h =
+        let some : 4 * B ≤ x + waits + 4 * (s.left * words) =
+        call-none B E q (end_in p image code (image s.here.function)) next x waits (s.left * words) returns within
+        (behind-is p image s.here.function code s.here.block s.here.at e) in
+        no-more B (x + waits + 4 * (s.left * words)) some
+      where
+        no-more : (b n : ℕ) → 4 * b ≤ n → 4 * (b + 0) ≤ n
+        no-more b n h = omega (arith, h)
+    faults (Some f) (suc l) h = by-code (p.code f) refl
+      where
+        no-more : (b n : ℕ) → 4 * b ≤ n → 4 * (b + 0) ≤ n
+        no-more b n h = omega (arith, h)
+
+        by-code : (o : Option Tac) → p.code f ≡ o → 4 * (B + taking image f o) ≤ bytes_left p image words s
+        by-code None g =
+            no-more B (x + waits + 4 * (s.left * words))
+            (call-none B E q (end_in p image code (image s.here.function)) next x waits (s.left * words) returns within
+            (behind-is p image s.here.function code s.here.block s.here.at e))
+        by-code (Some callee) g = unpaid f l callee h g
+
+    steps-by : (k : CallKind) → slice_get block.instructions s.here.at ≡ Some (call_of k to place arguments) →
+        FallsIf p image words (most_by B (taking_of p image (function_of p s k)) s.left) s (step p s)
+    steps-by (ByName f) in-k =
+        subst (λ z. FallsIf p image words (most_by B (taking image f (p.code f)) s.left) s z) (sym (is f in-k)) (counts f s.left refl)
+      where
+        is : (f : FnId) → slice_get block.instructions s.here.at ≡ Some (Call to place f arguments) →
+            step p s ≡ tac.counted s.left s (λ z. enter place f (p.code f) (values_of s arguments) z.here.base
+            (record { waits = (tac.ahead z).here; to = to } ∷ z.callers) z)
+        is f g = rw (e, in-f, g) refl
+    steps-by (ByValue sig a) in-k =
+        subst (λ z. FallsIf p image words (most_by B (taking_of p image (entry p.entries (tac.operand s a))) s.left) s z) (sym (is in-k))
+        (by-entry (entry p.entries (tac.operand s a)))
+      where
+        is : slice_get block.instructions s.here.at ≡ Some (CallValue to place sig a arguments) →
+            step p s ≡ tac.call_entry p to place sig (entry p.entries (tac.operand s a)) (values_of s arguments) s
+        is g = rw (e, in-f, g) refl
+
+        by-entry : (o : Option FnId) →
+            FallsIf p image words (most_by B (taking_of p image o) s.left) s (tac.call_entry p to place sig o (values_of s arguments) s)
+        by-entry None = faults None s.left refl
+        by-entry (Some f) =
+            by-test (FallsIf p image words (most_by B (taking image f (p.code f)) s.left) s) (has_signature sig (p.code f)) _ _
+            (λ h. counts f s.left refl) (λ h. faults (Some f) s.left refl)
 
 back-sums : (own ended b r q z x y : ℕ) → q + 4 * own ≤ z → x ≡ z - q →
     4 * (own + ended) + (b + r + 4 * y) ≤ x + (b + 4 * ended + r) + 4 * y

@@ -31,15 +31,15 @@ small-load d n m o h =
     let e : (0 + n) % 2 ^ 64 ≡ n = omega arith in
     ap (λ v. GoesOn (at_with m ((m.pc + 4) % 2 ^ 64) d.number ((0 + v) % 2 ^ 64))) (immediate-is n h) ∙ ap (λ v. GoesOn (at_with m ((m.pc + 4) % 2 ^ 64) d.number v)) e
 
-pub throws : (s : State) (kind place : ℕ) → s.registers 17 ≡ 1024 → s.registers 10 ≡ kind → s.registers 11 ≡ place → 1 ≤ kind → kind ≤ 5 → act Ecall s ≡ Throws kind place
+pub throws : (s : State) (kind place : ℕ) → s.registers 17 ≡ 1024 → s.registers 10 ≡ kind → s.registers 11 ≡ place → 1 ≤ kind → kind ≤ 6 → act Ecall s ≡ Throws kind place
 throws s kind place e f g h k =
     ap (λ v. if nat_eq v 64 then write_call s else (if nat_eq v 1024 then throw_call s else Faults BadCall)) e
     ∙ (ap (λ v. if nat_le 1 v && nat_le v 6 then Throws v (s.registers 11) else Faults BadCall) f
     ∙ (ap (λ b. if b && nat_le kind 6 then Throws kind (s.registers 11) else Faults BadCall) (le-leb 1 kind h)
-    ∙ (ap (λ b. if b then Throws kind (s.registers 11) else Faults BadCall) (le-leb kind 6 (omega (arith, k))) ∙ ap (Throws kind) g)))
+    ∙ (ap (λ b. if b then Throws kind (s.registers 11) else Faults BadCall) (le-leb kind 6 k) ∙ ap (Throws kind) g)))
 
 pub fails : (program : List (Option Instr)) (m : State) (kind : FaultKind) (at : Place) → m.pc < 2 ^ 64 → place_number at < 2 ^ 64 →
-    1 ≤ fault_number kind → fault_number kind ≤ 5 → Stands program m.pc (failed kind at) → Ends program kind at (length (failed kind at)) m
+    1 ≤ fault_number kind → fault_number kind ≤ 6 → Stands program m.pc (failed kind at) → Ends program kind at (length (failed kind at)) m
 fails program m kind at p h l u there =
     let code : List Instr = constant x11 (place_number at) in
     let k : Loads 11 code m (place_number at) = constant-loads x11 m (place_number at) (λ e. omega (arith, e)) (λ e. omega (arith, e)) h in

@@ -3,7 +3,6 @@ use Rattle.std.proofs.Common.{◌≡◌, ℕ, zero, suc, ◌+◌, ◌*◌, ◌%�
 use Rattle.std.proofs.Common.{Some, None, refl, ap, ◌∙◌, subst, arith}
 use Rattle.std.specs.Prelude.{slice_get}
 use Rattle.std.proofs.lemmas.List.{length-append}
-use Rattle.tl_base.specs.declared.ids.FnId.{FnId}
 use Rattle.rv_isa.specs.declared.instr.Instr.{Instr}
 use Rattle.tac_form.specs.declared.tac.Instruction.{Instruction}
 use Rattle.tac_form.specs.declared.tac.Block.{Block}
@@ -12,7 +11,7 @@ use Rattle.rv_machine.specs.Word.{low}
 use Rattle.rv_operators.specs.Runs.{Stands}
 use Rattle.rv_select.specs.Places.{Layout, frame_bytes}
 use Rattle.rv_select.specs.Shapes.{held_after, start_of}
-use Rattle.rv_select.specs.Calls.{block_code, block_starts, blocks_code, blocks_length, body_code, function_code, head_code, held_behind}
+use Rattle.rv_select.specs.Calls.{block_code, block_starts, blocks_code, blocks_length, body_code, function_code, head_code, held_behind, nowhere, CallPlaces}
 use Rattle.rv_select.specs.Calls.{instruction_code, instructions_code, last_address, starts_from}
 use Rattle.rv_select.specs.Entering.{begun, entered, left, received, words_offset}
 use Rattle.rv_select.specs.Waiting.{held_at, instruction_at}
@@ -33,13 +32,13 @@ stands-next program at a b h there =
     subst (λ q. Stands program q b) (near-low (at + 4 * length a) h) (stands-back program at a b (omega (arith, h)) there)
 
 -- An instruction's code stands at its place, and what follows behind it.
-pub record Found (program : List (Option Instr)) (y : Layout) (sizes : List ℕ) (places : FnId → ℕ) (held : Option ℕ) (i : Instruction)
+pub record Found (program : List (Option Instr)) (y : Layout) (sizes : List ℕ) (places : CallPlaces) (held : Option ℕ) (i : Instruction)
     (top at behind : ℕ) : Type 0 where
   pub stands : Stands program at (instruction_code y sizes places at held i)
   pub next : behind ≡ at + 4 * length (instruction_code y sizes places at held i)
   pub near : at + 4 * length (instruction_code y sizes places at held i) ≤ top
 
-pub find-instruction : (program : List (Option Instr)) (y : Layout) (sizes : List ℕ) (places : FnId → ℕ) (held : Option ℕ)
+pub find-instruction : (program : List (Option Instr)) (y : Layout) (sizes : List ℕ) (places : CallPlaces) (held : Option ℕ)
     (is : List Instruction) (k : ℕ) (i : Instruction) (top at : ℕ) (rest : List Instr) →
     slice_get is k ≡ Some i → top ≤ 2 ^ 30 → at + 4 * length (instructions_code y sizes places at held is) ≤ top →
     Stands program at (instructions_code y sizes places at held is ++ rest) →
@@ -77,7 +76,7 @@ held-last held [] (suc k) e = refl
 held-last held (j ∷ is) zero e = cc
 held-last held (j ∷ is) (suc k) e = held-last (held_after j) is k e
 
-pub find-exit : (program : List (Option Instr)) (y : Layout) (sizes : List ℕ) (places : FnId → ℕ) (held : Option ℕ)
+pub find-exit : (program : List (Option Instr)) (y : Layout) (sizes : List ℕ) (places : CallPlaces) (held : Option ℕ)
     (is : List Instruction) (k at : ℕ) (rest : List Instr) →
     slice_get is k ≡ None → at + 4 * length (instructions_code y sizes places at held is) ≤ 2 ^ 30 →
     Stands program at (instructions_code y sizes places at held is ++ rest) →
@@ -96,13 +95,13 @@ find-exit program y sizes places held (j ∷ is) (suc k) at rest e near there =
     (found.0 ∙ all, subst (λ q. Stands program q rest) all found.1)
 
 -- A block's code stands where its number says.
-pub record FoundBlock (program : List (Option Instr)) (y : Layout) (sizes : List ℕ) (places : FnId → ℕ) (starts : ℕ → ℕ)
+pub record FoundBlock (program : List (Option Instr)) (y : Layout) (sizes : List ℕ) (places : CallPlaces) (starts : ℕ → ℕ)
     (last top at rest : ℕ) (b : Block) : Type 0 where
   pub stands : Stands program at (block_code y sizes places starts last at rest b)
   pub near : at + 4 * length (block_code y sizes places starts last at rest b) ≤ top
   pub aligned : at % 4 ≡ 0
 
-pub find-block : (program : List (Option Instr)) (y : Layout) (sizes : List ℕ) (places : FnId → ℕ) (starts : ℕ → ℕ) (last top : ℕ)
+pub find-block : (program : List (Option Instr)) (y : Layout) (sizes : List ℕ) (places : CallPlaces) (starts : ℕ → ℕ) (last top : ℕ)
     (bs : List Block) (k : ℕ) (b : Block) (at : ℕ) (rest : List Instr) →
     slice_get bs k ≡ Some b → at % 4 ≡ 0 → at + 4 * length (blocks_code y sizes places starts last at bs) ≤ top → top ≤ 2 ^ 30 →
     Stands program at (blocks_code y sizes places starts last at bs ++ rest) →
@@ -127,10 +126,10 @@ find-block program y sizes places starts last top (j ∷ bs) (suc k) b at rest e
     (stands-next program at A (B ++ rest) (omega (arith, near, count, small))
     (subst (λ z. Stands program at z) (append_assoc A B rest) there)) in
     subst (λ n. FoundBlock program y sizes places starts last top (start_of (starts_from y sizes (at + 4 * n) bs) k) (length (drop (suc k) bs)) b)
-    (block-length y sizes places (λ f. 0) starts (λ c. 0) last 0 at 0 (length bs) j) found
+    (block-length y sizes places nowhere starts (λ c. 0) last 0 at 0 (length bs) j) found
 
 -- where blocks begin
-pub starts-near : (y : Layout) (sizes : List ℕ) (places : FnId → ℕ) (starts : ℕ → ℕ) (last top : ℕ) (bs : List Block) (k at : ℕ) →
+pub starts-near : (y : Layout) (sizes : List ℕ) (places : CallPlaces) (starts : ℕ → ℕ) (last top : ℕ) (bs : List Block) (k at : ℕ) →
     at % 4 ≡ 0 →
     at + 4 * length (blocks_code y sizes places starts last at bs) ≤ top → (start_of (starts_from y sizes at bs) k ≤ top) ×
     (start_of (starts_from y sizes at bs) k % 4 ≡ 0)
@@ -142,10 +141,10 @@ starts-near y sizes places starts last top (j ∷ bs) (suc k) at even near =
     let count : length (A ++ B) ≡ length A + length B = length-append A B in
     let found = starts-near y sizes places starts last top bs k (at + 4 * length A) (omega (arith, even)) (omega (arith, near, count)) in
     subst (λ n. (start_of (starts_from y sizes (at + 4 * n) bs) k ≤ top) × (start_of (starts_from y sizes (at + 4 * n) bs) k % 4 ≡ 0))
-    (block-length y sizes places (λ f. 0) starts (λ c. 0) last 0 at 0 (length bs) j) found
+    (block-length y sizes places nowhere starts (λ c. 0) last 0 at 0 (length bs) j) found
 
 -- behind a block the next begins, and behind the last the blocks end
-pub starts-next : (y : Layout) (sizes : List ℕ) (places : FnId → ℕ) (starts : ℕ → ℕ) (last from : ℕ) (bs : List Block) (k : ℕ) (b : Block)
+pub starts-next : (y : Layout) (sizes : List ℕ) (places : CallPlaces) (starts : ℕ → ℕ) (last from : ℕ) (bs : List Block) (k : ℕ) (b : Block)
     (at : ℕ) → slice_get bs k ≡ Some b → suc k < length bs →
     start_of (starts_from y sizes at bs) (suc k)
     ≡ start_of (starts_from y sizes at bs) k + 4 * length (block_code y sizes places starts last from (length (drop (suc k) bs)) b)
@@ -154,32 +153,32 @@ starts-next y sizes places starts last from (j ∷ []) zero b at e h = absurd (o
 starts-next y sizes places starts last from (j ∷ i ∷ bs) zero b at e h =
     let same : j ≡ b = cc in
     let n : ℕ = length (i ∷ bs) in
-    ap (λ z. at + 4 * z) (block-length y sizes (λ f. 0) places (λ c. 0) starts 0 last 0 from n j
+    ap (λ z. at + 4 * z) (block-length y sizes nowhere places (λ c. 0) starts 0 last 0 from n j
     ∙ ap (λ z. length (block_code y sizes places starts last from n z)) same)
 starts-next y sizes places starts last from (j ∷ bs) (suc k) b at e h =
-    starts-next y sizes places starts last from bs k b (at + 4 * length (block_code y sizes (λ f. 0) (λ c. 0) 0 0 (length bs) j)) e
+    starts-next y sizes places starts last from bs k b (at + 4 * length (block_code y sizes nowhere (λ c. 0) 0 0 (length bs) j)) e
     (omega (arith, h))
 
-pub starts-last : (y : Layout) (sizes : List ℕ) (places : FnId → ℕ) (starts : ℕ → ℕ) (last from : ℕ) (bs : List Block) (k : ℕ) (b : Block)
+pub starts-last : (y : Layout) (sizes : List ℕ) (places : CallPlaces) (starts : ℕ → ℕ) (last from : ℕ) (bs : List Block) (k : ℕ) (b : Block)
     (at : ℕ) → slice_get bs k ≡ Some b → suc k ≡ length bs →
     at + 4 * blocks_length y sizes bs
     ≡ start_of (starts_from y sizes at bs) k + 4 * length (block_code y sizes places starts last from (length (drop (suc k) bs)) b)
 starts-last y sizes places starts last from [] k b at e h = cc
 starts-last y sizes places starts last from (j ∷ []) zero b at e h =
     let same : j ≡ b = cc in
-    let A : List Instr = block_code y sizes (λ f. 0) (λ c. 0) 0 0 0 j in
+    let A : List Instr = block_code y sizes nowhere (λ c. 0) 0 0 0 j in
     let none : length (A ++ []) ≡ length A + 0 = length-append A [] in
     let here : length A ≡ length (block_code y sizes places starts last from 0 b) =
-    block-length y sizes (λ f. 0) places (λ c. 0) starts 0 last 0 from 0 j
+    block-length y sizes nowhere places (λ c. 0) starts 0 last 0 from 0 j
     ∙ ap (λ z. length (block_code y sizes places starts last from 0 z)) same in
     omega (arith, none, here)
 starts-last y sizes places starts last from (j ∷ i ∷ bs) zero b at e h = absurd (omega (arith, h))
 starts-last y sizes places starts last from (j ∷ bs) (suc k) b at e h =
-    let A : List Instr = block_code y sizes (λ f. 0) (λ c. 0) 0 0 (length bs) j in
-    let B : List Instr = blocks_code y sizes (λ f. 0) (λ c. 0) 0 (0 + 4 * length A) bs in
+    let A : List Instr = block_code y sizes nowhere (λ c. 0) 0 0 (length bs) j in
+    let B : List Instr = blocks_code y sizes nowhere (λ c. 0) 0 (0 + 4 * length A) bs in
     let count : length (A ++ B) ≡ length A + length B = length-append A B in
     let same : length B ≡ blocks_length y sizes bs =
-    blocks-length y sizes (λ f. 0) (λ f. 0) (λ c. 0) (λ c. 0) 0 0 (0 + 4 * length A) 0 bs in
+    blocks-length y sizes nowhere nowhere (λ c. 0) (λ c. 0) 0 0 (0 + 4 * length A) 0 bs in
     let rest = starts-last y sizes places starts last from bs k b (at + 4 * length A) e (omega (arith, h)) in
     let sum : at + 4 * length (A ++ B) ≡ at + 4 * length A + 4 * blocks_length y sizes bs = omega (arith, count, same) in
     sum ∙ rest
@@ -189,14 +188,14 @@ pub starts-least : (y : Layout) (sizes : List ℕ) (bs : List Block) (k at : ℕ
 starts-least y sizes [] k at h = absurd (omega (arith, h))
 starts-least y sizes (j ∷ bs) zero at h = omega arith
 starts-least y sizes (j ∷ bs) (suc k) at h =
-    let n : ℕ = length (block_code y sizes (λ f. 0) (λ c. 0) 0 0 (length bs) j) in
+    let n : ℕ = length (block_code y sizes nowhere (λ c. 0) 0 0 (length bs) j) in
     least (start_of (starts_from y sizes (at + 4 * n) bs) k) n (starts-least y sizes bs k (at + 4 * n) (omega (arith, h)))
   where
     least : (z n : ℕ) → at + 4 * n ≤ z → at ≤ z
     least z n e = omega (arith, e)
 
 -- blocks behind a block begin behind its code
-pub starts-later : (y : Layout) (sizes : List ℕ) (places : FnId → ℕ) (starts : ℕ → ℕ) (last from : ℕ) (bs : List Block) (k c : ℕ) (b : Block)
+pub starts-later : (y : Layout) (sizes : List ℕ) (places : CallPlaces) (starts : ℕ → ℕ) (last from : ℕ) (bs : List Block) (k c : ℕ) (b : Block)
     (at : ℕ) → slice_get bs k ≡ Some b → k < c → c < length bs →
     start_of (starts_from y sizes at bs) k + 4 * length (block_code y sizes places starts last from (length (drop (suc k) bs)) b)
     ≤ start_of (starts_from y sizes at bs) c
@@ -204,17 +203,17 @@ starts-later y sizes places starts last from [] k c b at e l h = cc
 starts-later y sizes places starts last from (j ∷ bs) zero zero b at e l h = absurd (omega (arith, l))
 starts-later y sizes places starts last from (j ∷ bs) zero (suc c) b at e l h =
     let same : j ≡ b = cc in
-    let count : length (block_code y sizes (λ f. 0) (λ c. 0) 0 0 (length bs) j) ≡ length (block_code y sizes places starts last from (length bs) b) =
-    block-length y sizes (λ f. 0) places (λ c. 0) starts 0 last 0 from (length bs) j
+    let count : length (block_code y sizes nowhere (λ c. 0) 0 0 (length bs) j) ≡ length (block_code y sizes places starts last from (length bs) b) =
+    block-length y sizes nowhere places (λ c. 0) starts 0 last 0 from (length bs) j
     ∙ ap (λ z. length (block_code y sizes places starts last from (length bs) z)) same in
-    subst (λ n. at + 4 * n ≤ start_of (starts_from y sizes (at + 4 * length (block_code y sizes (λ f. 0) (λ c. 0) 0 0 (length bs) j)) bs) c) count
-    (starts-least y sizes bs c (at + 4 * length (block_code y sizes (λ f. 0) (λ c. 0) 0 0 (length bs) j)) (omega (arith, h)))
+    subst (λ n. at + 4 * n ≤ start_of (starts_from y sizes (at + 4 * length (block_code y sizes nowhere (λ c. 0) 0 0 (length bs) j)) bs) c) count
+    (starts-least y sizes bs c (at + 4 * length (block_code y sizes nowhere (λ c. 0) 0 0 (length bs) j)) (omega (arith, h)))
 starts-later y sizes places starts last from (j ∷ bs) (suc k) zero b at e l h = absurd (omega (arith, l))
 starts-later y sizes places starts last from (j ∷ bs) (suc k) (suc c) b at e l h =
-    starts-later y sizes places starts last from bs k c b (at + 4 * length (block_code y sizes (λ f. 0) (λ c. 0) 0 0 (length bs) j)) e
+    starts-later y sizes places starts last from bs k c b (at + 4 * length (block_code y sizes nowhere (λ c. 0) 0 0 (length bs) j)) e
     (omega (arith, l)) (omega (arith, h))
 
-pub instruction-aligned : (y : Layout) (sizes : List ℕ) (places : FnId → ℕ) (held : Option ℕ) (is : List Instruction) (k at : ℕ) →
+pub instruction-aligned : (y : Layout) (sizes : List ℕ) (places : CallPlaces) (held : Option ℕ) (is : List Instruction) (k at : ℕ) →
     at % 4 ≡ 0 → instruction_at y sizes places at held is k % 4 ≡ 0
 instruction-aligned y sizes places held is zero at h = h
 instruction-aligned y sizes places held [] (suc k) at h = h
@@ -222,7 +221,7 @@ instruction-aligned y sizes places held (i ∷ is) (suc k) at h =
     instruction-aligned y sizes places (held_after i) is k (at + 4 * length (instruction_code y sizes places at held i)) (omega (arith, h))
 
 -- The parts of a function's code.
-pub record FoundFunction (program : List (Option Instr)) (y : Layout) (code : Tac) (places : FnId → ℕ) (at : ℕ) : Type 0 where
+pub record FoundFunction (program : List (Option Instr)) (y : Layout) (code : Tac) (places : CallPlaces) (at : ℕ) : Type 0 where
   pub begins : Stands program at (begun code)
   pub enters : Stands program (at + 4 * length (begun code)) (entered y (frame_bytes y) code.frame)
   pub receives : Stands program (at + 4 * length (begun code) + 4 * length (entered y (frame_bytes y) code.frame))
@@ -234,7 +233,7 @@ pub record FoundFunction (program : List (Option Instr)) (y : Layout) (code : Ta
   pub whole : at + 4 * length (head_code y code) + 4 * length (body_code y code places at) ≡ last_address y code at
   pub near : last_address y code at + 256 ≤ 2 ^ 30
 
-pub find-function : (program : List (Option Instr)) (y : Layout) (code : Tac) (places : FnId → ℕ) (at : ℕ) →
+pub find-function : (program : List (Option Instr)) (y : Layout) (code : Tac) (places : CallPlaces) (at : ℕ) →
     at + 4 * length (function_code y code places at) + 256 ≤ 2 ^ 30 →
     Stands program at (function_code y code places at) → FoundFunction program y code places at
 find-function program y code places at near there =
@@ -255,7 +254,7 @@ find-function program y code places at near there =
     stands-next program (at + 4 * length A) B (C ++ (D ++ L)) (omega (arith, near, count, counts)) enters in
     let body : Stands program (at + 4 * length H) (D ++ L) = stands-next program at H (D ++ L) (omega (arith, near, count)) there in
     let blocks : length D ≡ blocks_length y code.areas code.blocks =
-    blocks-length y code.areas places (λ f. 0) (start_of (block_starts y code at)) (λ b. 0) (last_address y code at) 0 (at + 4 * length H)
+    blocks-length y code.areas places nowhere (start_of (block_starts y code at)) (λ b. 0) (last_address y code at) 0 (at + 4 * length H)
     0 code.blocks in
     let whole : at + 4 * length H + 4 * length D ≡ last_address y code at = omega (arith, blocks) in
     record {

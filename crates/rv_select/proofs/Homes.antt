@@ -70,7 +70,7 @@ pub home-apart : (y : Layout) (h : Home) (n : ℕ) → IsHome y h → n < y.area
 home-apart y (homes.Register x) n i l = inl (omega arith)
 home-apart y (homes.Slot k) n i l = slot-apart y k n i l
 
-pub frame-sum : (x base offset size : ℕ) → x ≡ 2 ^ 32 + base → base + offset + 8 ≤ size → size ≤ 603979776 → low (x + offset) ≡ 2 ^ 32 + (base + offset)
+pub frame-sum : (x base offset size : ℕ) → x ≡ 2 ^ 32 + base → base + offset + 8 ≤ size → size ≤ 606076928 → low (x + offset) ≡ 2 ^ 32 + (base + offset)
 unfolding low
 frame-sum x base offset size e h k = omega arith
 

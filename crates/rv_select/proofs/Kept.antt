@@ -103,7 +103,7 @@ stored-one m a r far at v e g small room = record {
 }
 
 -- the address of a word that is kept
-kept-address : (m : State) (base x : ℕ) → m.registers 2 ≡ 2 ^ 32 + base → 18 ≤ x → x ≤ 27 → base + 88 ≤ length m.private → length m.private ≤ 603979776 →
+kept-address : (m : State) (base x : ℕ) → m.registers 2 ≡ 2 ^ 32 + base → 18 ≤ x → x ≤ 27 → base + 88 ≤ length m.private → length m.private ≤ 606076928 →
     low (value_at m x2 + word (immediate_of (kept_offset x)).value) ≡ 2 ^ 32 + (base + kept_offset x)
 kept-address m base x e l u room most =
     ap (λ v. low (m.registers 2 + v)) (immediate-is (kept_offset x) (omega arith))
@@ -116,7 +116,7 @@ pub record Saved (y : Layout) (n x base : ℕ) (m : State) : Type 0 where
   pub words : (r : ℕ) → x ≤ r → r < x + n → uses y r ≡ true → private_word after (base + kept_offset r) ≡ low (m.registers r)
 
 save-one : (y : Layout) (x base : ℕ) (m : State) (used : Bool) → m.pc < 2 ^ 64 → m.registers 2 ≡ 2 ^ 32 + base → 18 ≤ x → x ≤ 27 → base + 88 ≤ length m.private →
-    length m.private ≤ 603979776 → length m.region ≤ 67108864 →
+    length m.private ≤ 606076928 → length m.region ≤ 67108864 →
     (t : State) × Stored (if_used used (Store Sd x2 (register_of x) (immediate_of (kept_offset x)))) (base + kept_offset x) (base + kept_offset (x + 1)) m t
     × (used ≡ true → private_word t (base + kept_offset x) ≡ low (m.registers x))
 save-one y x base m false p e l u room most small = (m, stored-none (base + kept_offset x) (base + kept_offset (x + 1)) m p, λ z. cc)
@@ -130,7 +130,7 @@ save-one y x base m true p e l u room most small =
     )
 
 pub saves : (y : Layout) (n x base : ℕ) (m : State) → m.pc < 2 ^ 64 → m.registers 2 ≡ 2 ^ 32 + base → 18 ≤ x → x + n ≤ 28 → base + 88 ≤ length m.private →
-    length m.private ≤ 603979776 → length m.region ≤ 67108864 → Saved y n x base m
+    length m.private ≤ 606076928 → length m.region ≤ 67108864 → Saved y n x base m
 saves y zero x base m p e l u room most small = record {
   after = m;
   is = stored-none (base + kept_offset x) (base + kept_offset (x + 0)) m p;
@@ -142,7 +142,7 @@ saves y (suc n) x base m p e l u room most small =
     let first : Stored (saved_one y x) (base + kept_offset x) (base + kept_offset (x + 1)) m t = one.1 in
     let rest : Saved y n (x + 1) base t =
     saves y n (x + 1) base t (subst (λ q. q < 2 ^ 64) (sym first.behind) (low-is-small (m.pc + 4 * length (saved_one y x)))) (first.registers 2 ∙ e) (omega arith) (omega arith)
-    (subst (λ z. base + 88 ≤ z) (sym first.long) room) (subst (λ z. z ≤ 603979776) (sym first.long) most) (subst (λ z. length z ≤ 67108864) (sym first.region) small) in
+    (subst (λ z. base + 88 ≤ z) (sym first.long) room) (subst (λ z. z ≤ 606076928) (sym first.long) most) (subst (λ z. length z ≤ 67108864) (sym first.region) small) in
     let end : base + kept_offset (x + 1 + n) ≡ base + kept_offset (x + suc n) = omega arith in
     record {
       after = rest.after;
@@ -171,7 +171,7 @@ pub record PutBack (y : Layout) (n x base : ℕ) (m : State) : Type 0 where
   pub straight : AreStraight (put_back y n x)
 
 put-back-one : (y : Layout) (x base : ℕ) (m : State) (used : Bool) → uses y x ≡ used → m.pc < 2 ^ 64 → m.registers 2 ≡ 2 ^ 32 + base → 18 ≤ x → x ≤ 27 →
-    base + 88 ≤ length m.private → length m.private ≤ 603979776 → length m.region ≤ 67108864 →
+    base + 88 ≤ length m.private → length m.private ≤ 606076928 → length m.region ≤ 67108864 →
     (t : State) × (acts (if_used used (Load Ld (register_of x) x2 (immediate_of (kept_offset x)))) m ≡ GoesOn t)
     × (t.pc ≡ low (m.pc + 4 * length (if_used used (Load Ld (register_of x) x2 (immediate_of (kept_offset x))))))
     × (used ≡ true → t.registers x ≡ private_word m (base + kept_offset x))
@@ -197,7 +197,7 @@ put-back-one y x base m true is p e l u room most small =
     )
 
 pub puts-back : (y : Layout) (n x base : ℕ) (m : State) → m.pc < 2 ^ 64 → m.registers 2 ≡ 2 ^ 32 + base → 18 ≤ x → x + n ≤ 28 → base + 88 ≤ length m.private →
-    length m.private ≤ 603979776 → length m.region ≤ 67108864 → PutBack y n x base m
+    length m.private ≤ 606076928 → length m.region ≤ 67108864 → PutBack y n x base m
 puts-back y zero x base m p e l u room most small = record {
   after = m;
   goes = refl;
@@ -218,7 +218,7 @@ puts-back y (suc n) x base m p e l u room most small =
     let private : t.private ≡ m.private = one.7 in
     let rest : PutBack y n (x + 1) base t =
     puts-back y n (x + 1) base t (subst (λ q. q < 2 ^ 64) (sym pc) (low-is-small (m.pc + 4 * length (put_back_one y x)))) (other 2 (λ z. omega (arith, z)) ∙ e) (omega arith) (omega arith)
-    (subst (λ z. base + 88 ≤ length z) (sym private) room) (subst (λ z. length z ≤ 603979776) (sym private) most) (subst (λ z. length z ≤ 67108864) (sym region) small) in
+    (subst (λ z. base + 88 ≤ length z) (sym private) room) (subst (λ z. length z ≤ 606076928) (sym private) most) (subst (λ z. length z ≤ 67108864) (sym region) small) in
     record {
       after = rest.after;
       goes = goes-both (put_back_one y x) (put_back y n (x + 1)) m t rest.after one.1 rest.goes;

@@ -1,6 +1,5 @@
 -- The code of instructions depends on a layout's homes alone.
 use Rattle.std.proofs.Common.{◌≡◌, ℕ, ◌+◌, ◌*◌, Bool, List, [], ◌∷◌, ◌++◌, length, Option, Some, None, refl, ap, ◌∙◌}
-use Rattle.tl_base.specs.declared.ids.FnId.{FnId}
 use Rattle.reg_alloc.specs.declared.assignment.Home.{Home}
 use Rattle.rv_isa.specs.declared.instr.Instr.{Instr}
 use Rattle.tac_form.specs.declared.tac.Part.{Part}
@@ -15,6 +14,10 @@ use Rattle.tac_form.specs.declared.tac.Exit.{Exit}
 use Rattle.tac_form.specs.declared.tac.Exit.TheVariants.{Branch, Fail, Jump, Return}
 use Rattle.tac_form.specs.declared.tac.Block.{Block}
 use Rattle.rv_operators.specs.Codes.{x5}
+use Rattle.tl_base.specs.declared.place.Place.{Place}
+use Rattle.tac_form.specs.declared.tac.Operand.{Operand}
+use Rattle.rv_isa.specs.declared.operand.Register.{Register}
+use Rattle.rv_select.specs.Signatures.{signature_number}
 use Rattle.rv_select.specs.Numbers.{constant}
 use Rattle.rv_select.specs.declared.pairs.Pair.{Pair}
 use Rattle.rv_select.specs.declared.pairs.Reads.{Reads}
@@ -23,11 +26,11 @@ use Rattle.rv_select.specs.declared.settings.Setting.{Setting}
 use Rattle.rv_select.specs.Settings.{setting_of}
 use Rattle.rv_select.specs.Pairs.{pair_of, plain_of}
 use Rattle.rv_select.specs.Places.{Layout}
-use Rattle.rv_select.specs.Shapes.{counted_if, held_after, place_number, x11}
+use Rattle.rv_select.specs.Shapes.{counted_if, held_after, place_number, x11, taken}
 use Rattle.rv_select.specs.Entering.{received, received_one, stored_below}
-use Rattle.rv_select.specs.Calls.{block_code, blocks_calls, blocks_code, call_ended, call_jump, depth_tested, end_code, exit_code}
+use Rattle.rv_select.specs.Calls.{block_code, blocks_calls, blocks_code, call_ended, call_jump, depth_tested, end_code, exit_code, nowhere, CallPlaces}
 use Rattle.rv_select.specs.Calls.{held_behind, instruction_calls, instruction_code, instructions_calls, instructions_code, one_more}
-use Rattle.rv_select.specs.Calls.{pair_code, part_passed, passed, starts_from}
+use Rattle.rv_select.specs.Calls.{pair_code, part_passed, passed, starts_from, call_begun, entry_found, value_jump}
 
 abbrev laid : List (Option Home) → (a p : ℕ) → List Reads → Extent → Layout
 laid h a p r v = record { homes = h; areas = a; parameters = p; reads = r; extent = v }
@@ -60,29 +63,46 @@ passed-same h a p b q r t v o held i (parts.Area n ∷ ps) =
 abbrev begun-with : (counts : Bool) → ℕ → List Instr → List Instr
 begun-with counts place passes = constant x11 place ++ counted_if counts (depth_tested ++ (passes ++ one_more))
 
-instruction-same : (h : List (Option Home)) (a p b q : ℕ) (r t : List Reads) (v o : Extent) (sizes : List ℕ) (places : FnId → ℕ) (at : ℕ)
+begun-same : (h : List (Option Home)) (a p b q : ℕ) (r t : List Reads) (v o : Extent) (held : Option ℕ) (place : Place) (arguments : List Part) →
+    v.counts ≡ o.counts → call_begun (laid h a p r v) held place arguments ≡ call_begun (laid h b q t o) held place arguments
+begun-same h a p b q r t v o held place arguments same =
+    ap (λ z. begun-with v.counts (place_number place) z) (passed-same h a p b q r t v o held 0 arguments)
+    ∙ ap (λ c. begun-with c (place_number place) (passed (laid h b q t o) held 0 arguments)) same
+
+ended-same : (h : List (Option Home)) (a p b q : ℕ) (r t : List Reads) (v o : Extent) (sizes : List ℕ) (to : Destination) →
+    call_ended (laid h a p r v) sizes to ≡ call_ended (laid h b q t o) sizes to
+ended-same h a p b q r t v o sizes (destinations.Temp u) = refl
+ended-same h a p b q r t v o sizes (destinations.Area n) = refl
+ended-same h a p b q r t v o sizes destinations.Nothing = refl
+
+taken-same : (h : List (Option Home)) (a p b q : ℕ) (r t : List Reads) (v o : Extent) (d : Register) (x : Operand) →
+    taken (laid h a p r v) d x ≡ taken (laid h b q t o) d x
+taken-same h a p b q r t v o d (operands.Temp u) = refl
+taken-same h a p b q r t v o d (operands.Constant c) = refl
+
+instruction-same : (h : List (Option Home)) (a p b q : ℕ) (r t : List Reads) (v o : Extent) (sizes : List ℕ) (places : CallPlaces) (at : ℕ)
     (held : Option ℕ) (i : Instruction) → v.counts ≡ o.counts →
     instruction_code (laid h a p r v) sizes places at held i ≡ instruction_code (laid h b q t o) sizes places at held i
 instruction-same h a p b q r t v o sizes places at held (Call (destinations.Temp u) place f arguments) same =
     ap (λ z. begun-with v.counts (place_number place) z ++
-    (call_jump (at + 4 * length (begun-with v.counts (place_number place) z)) (places f) ++ call_ended (laid h a p r v) sizes (destinations.Temp u)))
+    (call_jump (at + 4 * length (begun-with v.counts (place_number place) z)) (places.enters f) ++ call_ended (laid h a p r v) sizes (destinations.Temp u)))
     (passed-same h a p b q r t v o held 0 arguments)
     ∙ ap (λ c. begun-with c (place_number place) (passed (laid h b q t o) held 0 arguments) ++
-    (call_jump (at + 4 * length (begun-with c (place_number place) (passed (laid h b q t o) held 0 arguments))) (places f)
+    (call_jump (at + 4 * length (begun-with c (place_number place) (passed (laid h b q t o) held 0 arguments))) (places.enters f)
     ++ call_ended (laid h a p r v) sizes (destinations.Temp u))) same
 instruction-same h a p b q r t v o sizes places at held (Call (destinations.Area n) place f arguments) same =
     ap (λ z. begun-with v.counts (place_number place) z ++
-    (call_jump (at + 4 * length (begun-with v.counts (place_number place) z)) (places f) ++ call_ended (laid h a p r v) sizes (destinations.Area n)))
+    (call_jump (at + 4 * length (begun-with v.counts (place_number place) z)) (places.enters f) ++ call_ended (laid h a p r v) sizes (destinations.Area n)))
     (passed-same h a p b q r t v o held 0 arguments)
     ∙ ap (λ c. begun-with c (place_number place) (passed (laid h b q t o) held 0 arguments) ++
-    (call_jump (at + 4 * length (begun-with c (place_number place) (passed (laid h b q t o) held 0 arguments))) (places f)
+    (call_jump (at + 4 * length (begun-with c (place_number place) (passed (laid h b q t o) held 0 arguments))) (places.enters f)
     ++ call_ended (laid h a p r v) sizes (destinations.Area n))) same
 instruction-same h a p b q r t v o sizes places at held (Call destinations.Nothing place f arguments) same =
     ap (λ z. begun-with v.counts (place_number place) z ++
-    (call_jump (at + 4 * length (begun-with v.counts (place_number place) z)) (places f) ++ call_ended (laid h a p r v) sizes destinations.Nothing))
+    (call_jump (at + 4 * length (begun-with v.counts (place_number place) z)) (places.enters f) ++ call_ended (laid h a p r v) sizes destinations.Nothing))
     (passed-same h a p b q r t v o held 0 arguments)
     ∙ ap (λ c. begun-with c (place_number place) (passed (laid h b q t o) held 0 arguments) ++
-    (call_jump (at + 4 * length (begun-with c (place_number place) (passed (laid h b q t o) held 0 arguments))) (places f)
+    (call_jump (at + 4 * length (begun-with c (place_number place) (passed (laid h b q t o) held 0 arguments))) (places.enters f)
     ++ call_ended (laid h a p r v) sizes destinations.Nothing)) same
 instruction-same h a p b q r t v o sizes places at held (Compute d op form x y) same = refl
 instruction-same h a p b q r t v o sizes places at held (TestDivisor place x) same = refl
@@ -92,7 +112,14 @@ instruction-same h a p b q r t v o sizes places at held (Load d form spot) same 
 instruction-same h a p b q r t v o sizes places at held (Store spot size x) same = refl
 instruction-same h a p b q r t v o sizes places at held (Move to from size) same = refl
 instruction-same h a p b q r t v o sizes places at held (Clear n size) same = refl
-instruction-same h a p b q r t v o sizes places at held (CallValue to place sig x arguments) same = refl
+instruction-same h a p b q r t v o sizes places at held (CallValue to place sig x arguments) same =
+    let D : List Instr = entry_found (length places.signatures) (signature_number places.signatures sig) place in
+    ap (λ z. (z ++ D) ++ (call_begun (laid h a p r v) None place arguments ++ (value_jump ++ call_ended (laid h a p r v) sizes to)))
+    (taken-same h a p b q r t v o x5 x)
+    ∙ (ap (λ z. (taken (laid h b q t o) x5 x ++ D) ++ (z ++ (value_jump ++ call_ended (laid h a p r v) sizes to)))
+    (begun-same h a p b q r t v o None place arguments same)
+    ∙ ap (λ z. (taken (laid h b q t o) x5 x ++ D) ++ (call_begun (laid h b q t o) None place arguments ++ (value_jump ++ z)))
+    (ended-same h a p b q r t v o sizes to))
 instruction-same h a p b q r t v o sizes places at held (PutByte x) same = refl
 instruction-same h a p b q r t v o sizes places at held (Write place x y) same = refl
 instruction-same h a p b q r t v o sizes places at held (Alloc d x) same = refl
@@ -111,7 +138,7 @@ unfolding pair_code
 end-same h a p b q r t v o setting held at starts last None e = exit-same h a p b q r t v o setting held at starts last e
 end-same h a p b q r t v o setting held at starts last (Some pair) e = refl
 
-pub instructions-same : (h : List (Option Home)) (a p b q : ℕ) (r t : List Reads) (v o : Extent) (sizes : List ℕ) (places : FnId → ℕ) (at : ℕ)
+pub instructions-same : (h : List (Option Home)) (a p b q : ℕ) (r t : List Reads) (v o : Extent) (sizes : List ℕ) (places : CallPlaces) (at : ℕ)
     (held : Option ℕ) (is : List Instruction) → v.counts ≡ o.counts →
     instructions_code (laid h a p r v) sizes places at held is ≡ instructions_code (laid h b q t o) sizes places at held is
 instructions-same h a p b q r t v o sizes places at held [] same = refl
@@ -121,7 +148,7 @@ instructions-same h a p b q r t v o sizes places at held (i ∷ is) same =
     ∙ ap (λ z. z ++ instructions_code (laid h b q t o) sizes places (at + 4 * length z) (held_after i) is)
     (instruction-same h a p b q r t v o sizes places at held i same)
 
-block-same : (h : List (Option Home)) (a p b q : ℕ) (r : List Reads) (v : Extent) (sizes : List ℕ) (places : FnId → ℕ) (starts : ℕ → ℕ)
+block-same : (h : List (Option Home)) (a p b q : ℕ) (r : List Reads) (v : Extent) (sizes : List ℕ) (places : CallPlaces) (starts : ℕ → ℕ)
     (last at rest : ℕ) (k : Block) →
     block_code (laid h a p r v) sizes places starts last at rest k ≡ block_code (laid h b q r v) sizes places starts last at rest k
 block-same h a p b q r v sizes places starts last at rest k =
@@ -134,7 +161,7 @@ block-same h a p b q r v sizes places starts last at rest k =
     ∙ ap (λ z. z ++ end_code (laid h b q r v) setting held (at + 4 * length z) starts last o k.exit)
     (instructions-same h a p b q r r v v sizes places at None is refl)
 
-pub blocks-same : (h : List (Option Home)) (a p b q : ℕ) (r : List Reads) (v : Extent) (sizes : List ℕ) (places : FnId → ℕ) (starts : ℕ → ℕ)
+pub blocks-same : (h : List (Option Home)) (a p b q : ℕ) (r : List Reads) (v : Extent) (sizes : List ℕ) (places : CallPlaces) (starts : ℕ → ℕ)
     (last at : ℕ) (ks : List Block) →
     blocks_code (laid h a p r v) sizes places starts last at ks ≡ blocks_code (laid h b q r v) sizes places starts last at ks
 blocks-same h a p b q r v sizes places starts last at [] = refl
@@ -168,28 +195,28 @@ instructions-calls-same : (h : List (Option Home)) (a p b q : ℕ) (r t : List R
     instructions_calls (laid h a p r v) sizes at held is ≡ instructions_calls (laid h b q t o) sizes at held is
 instructions-calls-same h a p b q r t v o sizes at held [] same = refl
 instructions-calls-same h a p b q r t v o sizes at held (i ∷ is) same =
-    let A : List Instr = instruction_code (laid h a p r v) sizes (λ f. 0) 0 held i in
+    let A : List Instr = instruction_code (laid h a p r v) sizes nowhere 0 held i in
     ap (λ z. z ++ instructions_calls (laid h a p r v) sizes (at + length A) (held_after i) is) (call-same h a p b q r t v o at held i same)
     ∙ (ap (λ z. instruction_calls (laid h b q t o) at held i ++ z)
     (instructions-calls-same h a p b q r t v o sizes (at + length A) (held_after i) is same)
     ∙ ap (λ z. instruction_calls (laid h b q t o) at held i ++ instructions_calls (laid h b q t o) sizes (at + length z) (held_after i) is)
-    (instruction-same h a p b q r t v o sizes (λ f. 0) 0 held i same))
+    (instruction-same h a p b q r t v o sizes nowhere 0 held i same))
 
 pub blocks-calls-same : (h : List (Option Home)) (a p b q : ℕ) (r : List Reads) (v : Extent) (sizes : List ℕ) (at : ℕ) (ks : List Block) →
     blocks_calls (laid h a p r v) sizes at ks ≡ blocks_calls (laid h b q r v) sizes at ks
 blocks-calls-same h a p b q r v sizes at [] = refl
 blocks-calls-same h a p b q r v sizes at (k ∷ ks) =
-    let A : List Instr = block_code (laid h a p r v) sizes (λ f. 0) (λ c. 0) 0 0 (length ks) k in
+    let A : List Instr = block_code (laid h a p r v) sizes nowhere (λ c. 0) 0 0 (length ks) k in
     ap (λ z. z ++ blocks_calls (laid h a p r v) sizes (at + length A) ks) (instructions-calls-same h a p b q r r v v sizes at None (plain_of r k) refl)
     ∙ (ap (λ z. instructions_calls (laid h b q r v) sizes at None (plain_of r k) ++ z)
     (blocks-calls-same h a p b q r v sizes (at + length A) ks)
     ∙ ap (λ z. instructions_calls (laid h b q r v) sizes at None (plain_of r k) ++ blocks_calls (laid h b q r v) sizes (at + length z) ks)
-    (block-same h a p b q r v sizes (λ f. 0) (λ c. 0) 0 0 (length ks) k))
+    (block-same h a p b q r v sizes nowhere (λ c. 0) 0 0 (length ks) k))
 
 pub starts-same : (h : List (Option Home)) (a p b q : ℕ) (r : List Reads) (v : Extent) (sizes : List ℕ) (at : ℕ) (ks : List Block) →
     starts_from (laid h a p r v) sizes at ks ≡ starts_from (laid h b q r v) sizes at ks
 starts-same h a p b q r v sizes at [] = refl
 starts-same h a p b q r v sizes at (k ∷ ks) =
-    let A : List Instr = block_code (laid h a p r v) sizes (λ f. 0) (λ c. 0) 0 0 (length ks) k in
+    let A : List Instr = block_code (laid h a p r v) sizes nowhere (λ c. 0) 0 0 (length ks) k in
     ap (λ z. at ∷ z) (starts-same h a p b q r v sizes (at + 4 * length A) ks)
-    ∙ ap (λ z. at ∷ starts_from (laid h b q r v) sizes (at + 4 * length z) ks) (block-same h a p b q r v sizes (λ f. 0) (λ c. 0) 0 0 (length ks) k)
+    ∙ ap (λ z. at ∷ starts_from (laid h b q r v) sizes (at + 4 * length z) ks) (block-same h a p b q r v sizes nowhere (λ c. 0) 0 0 (length ks) k)

@@ -253,7 +253,7 @@ carry-fail p code homes held kind at starts s program base m few x =
     let e2 = x.in_function in
     let e3 = x.in_block in
     let e4 = x.is in
-    rw (e1, e2, e3) (rw e4 (refl, fails program m kind at x.holds.pc (place-small at x.fits) (some kind) (leb-true (fault_number kind) 5 few) x.stands))
+    rw (e1, e2, e3) (rw e4 (refl, fails program m kind at x.holds.pc (place-small at x.fits) (some kind) (omega (arith, leb-true (fault_number kind) 5 few)) x.stands))
   where
     some : (kind : FaultKind) → 1 ≤ fault_number kind
     some BadAddress = omega arith

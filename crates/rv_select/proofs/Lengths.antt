@@ -1,7 +1,6 @@
 -- Code is as long wherever it, functions and blocks stand.
 use Rattle.std.proofs.Common.{◌≡◌, ℕ, ◌+◌, ◌*◌, List, [], ◌∷◌, ◌++◌, length, Option, Some, None, refl, sym, ap, ◌∙◌, arith}
 use Rattle.std.proofs.lemmas.List.{length-append}
-use Rattle.tl_base.specs.declared.ids.FnId.{FnId}
 use Rattle.rv_isa.specs.declared.instr.Instr.{Instr}
 use Rattle.tac_form.specs.declared.tac.Instruction.{Instruction}
 use Rattle.tac_form.specs.declared.tac.Instruction.TheVariants.{Alloc, Call, CallValue, Clear, Compute, Copy, Load, Locate, Move, PutByte}
@@ -9,6 +8,9 @@ use Rattle.tac_form.specs.declared.tac.Instruction.TheVariants.{Store, TestDivis
 use Rattle.tac_form.specs.declared.tac.Exit.{Exit}
 use Rattle.tac_form.specs.declared.tac.Exit.TheVariants.{Branch, Fail, Jump, Return}
 use Rattle.tac_form.specs.declared.tac.Block.{Block}
+use Rattle.tl_base.specs.declared.place.Place.{Place}
+use Rattle.tac_form.specs.declared.tac.Operand.{Operand}
+use Rattle.rv_select.specs.Signatures.{signature_number}
 use Rattle.rv_select.specs.declared.pairs.Pair.{Pair}
 use Rattle.rv_select.specs.declared.settings.Setting.{Setting}
 use Rattle.rv_select.specs.Settings.{setting_of}
@@ -17,19 +19,22 @@ use Rattle.rv_operators.specs.Codes.{x0, x5}
 use Rattle.rv_select.specs.Compared.{condition_of, first_register, left_of, operands_taken, right_of, second_register}
 use Rattle.rv_select.specs.Pairs.{pair_of, plain_of}
 use Rattle.rv_select.specs.Places.{Layout}
-use Rattle.rv_select.specs.Shapes.{first_read, held_after, read_in}
-use Rattle.rv_select.specs.Calls.{block_code, blocks_code, call_begun, call_ended, call_jump, end_code, exit_code, held_behind}
-use Rattle.rv_select.specs.Calls.{instruction_code, instructions_code, pair_code, part_given}
+use Rattle.rv_select.specs.Shapes.{first_read, held_after, read_in, taken}
+use Rattle.rv_select.specs.Calls.{block_code, blocks_code, call_begun, call_ended, call_jump, end_code, exit_code, held_behind, CallPlaces}
+use Rattle.rv_select.specs.Calls.{instruction_code, instructions_code, pair_code, part_given, entry_found, value_found, value_jump}
 use Rattle.rv_select.proofs.Jumps.{last-count}
 use Rattle.rv_select.proofs.Weighing.{edge-shape-count, parted-count}
 
+found-length : (y : Layout) (n k i j : ℕ) (at : Place) (a : Operand) → length (value_found y n i at a) ≡ length (value_found y k j at a)
+found-length y n k i j at a = length-append (taken y x5 a) (entry_found n i at) ∙ sym (length-append (taken y x5 a) (entry_found k j at))
+
 -- the code of an instruction is as long wherever it and functions stand
-pub instruction-length : (y : Layout) (sizes : List ℕ) (places others : FnId → ℕ) (at other : ℕ) (held : Option ℕ) (i : Instruction) →
+pub instruction-length : (y : Layout) (sizes : List ℕ) (places others : CallPlaces) (at other : ℕ) (held : Option ℕ) (i : Instruction) →
     length (instruction_code y sizes places at held i) ≡ length (instruction_code y sizes others other held i)
 instruction-length y sizes places others at other held (Call to place f arguments) =
     let A = call_begun y held place arguments in
     let C = call_ended y sizes to in
-    length-append A (call_jump (at + 4 * length A) (places f) ++ C) ∙ sym (length-append A (call_jump (other + 4 * length A) (others f) ++ C))
+    length-append A (call_jump (at + 4 * length A) (places.enters f) ++ C) ∙ sym (length-append A (call_jump (other + 4 * length A) (others.enters f) ++ C))
 instruction-length y sizes places others at other held (Compute d op form a b) = refl
 instruction-length y sizes places others at other held (TestDivisor place a) = refl
 instruction-length y sizes places others at other held (Copy d a) = refl
@@ -38,7 +43,13 @@ instruction-length y sizes places others at other held (Load d form spot) = refl
 instruction-length y sizes places others at other held (Store spot size a) = refl
 instruction-length y sizes places others at other held (Move to from size) = refl
 instruction-length y sizes places others at other held (Clear n size) = refl
-instruction-length y sizes places others at other held (CallValue to place sig a arguments) = refl
+instruction-length y sizes places others at other held (CallValue to place sig a arguments) =
+    let R = call_begun y None place arguments ++ (value_jump ++ call_ended y sizes to) in
+    let V = value_found y (length places.signatures) (signature_number places.signatures sig) place a in
+    let W = value_found y (length others.signatures) (signature_number others.signatures sig) place a in
+    length-append V R
+    ∙ (ap (λ n. n + length R) (found-length y (length places.signatures) (length others.signatures) (signature_number places.signatures sig)
+    (signature_number others.signatures sig) place a) ∙ sym (length-append W R))
 instruction-length y sizes places others at other held (PutByte a) = refl
 instruction-length y sizes places others at other held (Write place a b) = refl
 instruction-length y sizes places others at other held (Alloc d a) = refl
@@ -75,7 +86,7 @@ end-length y setting held at other last final starts others (Some pair) e =
     ∙ sym (parted-count setting c l r (other + 4 * length T) pair.first pair.second (others pair.first.block)
     (others pair.second.block)))
 
-pub instructions-length : (y : Layout) (sizes : List ℕ) (places others : FnId → ℕ) (at other : ℕ) (held : Option ℕ) (is : List Instruction) →
+pub instructions-length : (y : Layout) (sizes : List ℕ) (places others : CallPlaces) (at other : ℕ) (held : Option ℕ) (is : List Instruction) →
     length (instructions_code y sizes places at held is) ≡ length (instructions_code y sizes others other held is)
 instructions-length y sizes places others at other held [] = refl
 instructions-length y sizes places others at other held (i ∷ is) =
@@ -90,7 +101,7 @@ instructions-length y sizes places others at other held (i ∷ is) =
     sums : (a b c d : ℕ) → a ≡ b → c ≡ d → a + c ≡ b + d
     sums a b c d e f = omega arith
 
-pub block-length : (y : Layout) (sizes : List ℕ) (places others : FnId → ℕ) (starts ends : ℕ → ℕ) (last final at other rest : ℕ) (b : Block) →
+pub block-length : (y : Layout) (sizes : List ℕ) (places others : CallPlaces) (starts ends : ℕ → ℕ) (last final at other rest : ℕ) (b : Block) →
     length (block_code y sizes places starts last at rest b) ≡ length (block_code y sizes others ends final other rest b)
 block-length y sizes places others starts ends last final at other rest b =
     let is : List Instruction = plain_of y.reads b in
@@ -108,7 +119,7 @@ block-length y sizes places others starts ends last final at other rest b =
     sums : (a b c d : ℕ) → a ≡ b → c ≡ d → a + c ≡ b + d
     sums a b c d e f = omega arith
 
-pub blocks-length : (y : Layout) (sizes : List ℕ) (places others : FnId → ℕ) (starts ends : ℕ → ℕ) (last final at other : ℕ) (bs : List Block) →
+pub blocks-length : (y : Layout) (sizes : List ℕ) (places others : CallPlaces) (starts ends : ℕ → ℕ) (last final at other : ℕ) (bs : List Block) →
     length (blocks_code y sizes places starts last at bs) ≡ length (blocks_code y sizes others ends final other bs)
 blocks-length y sizes places others starts ends last final at other [] = refl
 blocks-length y sizes places others starts ends last final at other (b ∷ bs) =

@@ -69,9 +69,14 @@ pub mod Reached
 pub mod Backs
 pub mod Inner
 pub mod Through
+pub mod Numbered
+pub mod Listed
+pub mod ByKinds
+pub mod Valued
 pub mod Arrivals
 pub mod Amounts
 pub mod Calling
+pub mod CallSteps
 pub mod Taken
 pub mod Falls
 pub mod Coupled

@@ -45,7 +45,7 @@ near-holds y Used w base m n p h s small = record {
   frame = record {
     pointer = s.keeps 2 (λ e. omega (arith, e)) (λ e. omega (arith, e)) (λ e. omega (arith, e)) ∙ p.frame.pointer;
     within = subst (λ z. base + frame_bytes y ≤ length z) (sym s.private) p.frame.within;
-    private = subst (λ z. length z ≤ 603979776) (sym s.private) p.frame.private;
+    private = subst (λ z. length z ≤ 606076928) (sym s.private) p.frame.private;
     bytes = subst AreBytes (sym s.private) p.frame.bytes;
   };
   pc = small;
@@ -140,7 +140,7 @@ put-holds y Used Next w base d v code m p q h n has follows s = record {
   frame = record {
     pointer = p.keeps 2 (λ z. omega (arith, z)) (λ z. omega (arith, z)) (λ z. omega (arith, z)) (no-home y (home_of y d) 2 (h.homes d n has) (inl (omega arith))) ∙ q.frame.pointer;
     within = subst (λ z. base + frame_bytes y ≤ z) (sym p.memory.long) q.frame.within;
-    private = subst (λ z. z ≤ 603979776) (sym p.memory.long) q.frame.private;
+    private = subst (λ z. z ≤ 606076928) (sym p.memory.long) q.frame.private;
     bytes = p.memory.bytes q.frame.bytes;
   };
   pc = subst (λ z. z < 2 ^ 64) (sym p.behind) (low-below (m.pc + 4 * length code));

@@ -110,7 +110,7 @@ one-part d m n o z =
     loads-one (Addiw d x0 (lower_of n)) m d.number (extended_word n) o refl
     (ap (λ v. GoesOn (at_with m (low (m.pc + 4)) d.number v)) (extended-same (0 + word (lower_of n).value) n e))
 
-two-parts : (d : Register) (m : State) (n : ℕ) → d.number ≢ 0 → Loads d.number (Lui d (upper_of n) ∷ Addiw d d (lower_of n) ∷ []) m (extended_word n)
+pub two-parts : (d : Register) (m : State) (n : ℕ) → d.number ≢ 0 → Loads d.number (Lui d (upper_of n) ∷ Addiw d d (lower_of n) ∷ []) m (extended_word n)
 two-parts d m n o =
     let p : Parts n (word (lower_of n).value) = parts n in
     let u : ℕ = extended_word ((upper_of n).value * 2 ^ 12) in

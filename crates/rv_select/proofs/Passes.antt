@@ -148,7 +148,7 @@ beneath-holds y Used w from base m n p h s small = record {
   frame = record {
     pointer = s.keeps 2 (λ e. omega (arith, e)) (λ e. omega (arith, e)) (λ e. omega (arith, e)) ∙ p.frame.pointer;
     within = subst (λ z. base + frame_bytes y ≤ z) (sym s.long) p.frame.within;
-    private = subst (λ z. z ≤ 603979776) (sym s.long) p.frame.private;
+    private = subst (λ z. z ≤ 606076928) (sym s.long) p.frame.private;
     bytes = s.bytes p.frame.bytes;
   };
   pc = small;

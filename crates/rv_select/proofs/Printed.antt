@@ -45,7 +45,7 @@ pc-eight p = omega arith
 
 -- One byte is written, once it stands in x5.
 module _ (program : List (Option Instr)) (t : State) (base v : ℕ) (five : t.registers 5 ≡ v) (two : t.registers 2 ≡ 2 ^ 32 + base) (room : base + 8 ≤ length t.private)
-    (most : length t.private ≤ 603979776) (region : length t.region ≤ 67108864) (are : AreBytes t.private)
+    (most : length t.private ≤ 606076928) (region : length t.region ≤ 67108864) (are : AreBytes t.private)
     (there : Stands program t.pc byte_written) where
   abbrev kept : List ℕ
   kept = take 8 (drop base t.private)
@@ -177,7 +177,7 @@ byte-comes y Used Next w base v x A program m l p h f same stands =
     let t : State = l.after in
     let g =
     byte-goes program t base v l.gives (l.keeps 2 (λ e. omega (arith, e)) (λ e. omega (arith, e)) ∙ p.frame.pointer)
-    (subst (λ z. base + 8 ≤ length z) (sym l.private) (omega (arith, p.frame.within))) (subst (λ z. length z ≤ 603979776) (sym l.private) p.frame.private)
+    (subst (λ z. base + 8 ≤ length z) (sym l.private) (omega (arith, p.frame.within))) (subst (λ z. length z ≤ 606076928) (sym l.private) p.frame.private)
     (subst (λ z. length z ≤ 67108864) (sym l.region) (region-small y Used w base m p)) (subst AreBytes (sym l.private) p.frame.bytes)
     (subst (λ q. Stands program q byte_written) (sym l.behind) (stands-back program m.pc A byte_written p.pc stands)) in
     byte-ends y Used Next w base v x A program m t g.0 p h f (straight-way program A m t (stands-front program m.pc A byte_written stands) l.straight l.goes)

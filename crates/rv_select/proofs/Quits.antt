@@ -113,7 +113,7 @@ not-low r h = (
 )
 
 pub quits : (program : List (Option Instr)) (y : Layout) (bytes base under frame link : ℕ) (m : State) → m.pc < 2 ^ 64 → m.registers 2 ≡ 2 ^ 32 + base → m.registers 8 ≡ under →
-    under + frame < 2 ^ 63 → 88 ≤ bytes → base + bytes ≤ length m.private → length m.private ≤ 603979776 → length m.region ≤ 67108864 →
+    under + frame < 2 ^ 63 → 88 ≤ bytes → base + bytes ≤ length m.private → length m.private ≤ 606076928 → length m.region ≤ 67108864 →
     link_in y base m ≡ link → link % 2 ≡ 0 → link < 2 ^ 64 → Stands program m.pc (left y bytes frame) → Quit program y bytes base (under + frame) link (length (left y bytes frame)) m
 quits program y bytes base under frame link m p two-is eight-is small least within most region link-is even link-small there =
     let A : List Instr = put_back y 10 18 in
@@ -128,7 +128,7 @@ quits program y bytes base under frame link m p two-is eight-is small least with
     let two-1 : t1.registers 2 ≡ 2 ^ 32 + base = lk.keeps 2 (λ z. omega (arith, z)) (λ z. omega (arith, z)) ∙ two-is in
     let within-1 : base + 88 ≤ length t1.private = subst (λ z. base + 88 ≤ length z) (sym lk.private) (omega arith) in
     let pb : PutBack y 10 18 base t1 =
-    puts-back y 10 18 base t1 pc-1 two-1 (omega arith) (omega arith) within-1 (subst (λ z. length z ≤ 603979776) (sym lk.private) most)
+    puts-back y 10 18 base t1 pc-1 two-1 (omega arith) (omega arith) within-1 (subst (λ z. length z ≤ 606076928) (sym lk.private) most)
     (subst (λ z. length z ≤ 67108864) (sym lk.region) region) in
     let t2 : State = pb.after in
     let pc-2 : t2.pc < 2 ^ 64 = subst (λ q. q < 2 ^ 64) (sym pb.behind) (low-below (t1.pc + 4 * length A)) in

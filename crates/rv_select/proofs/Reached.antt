@@ -12,7 +12,7 @@ use Rattle.rv_select.specs.Shapes.{start_of}
 use Rattle.rv_select.specs.Steps.{IsReached}
 use Rattle.rv_select.specs.Entering.{left}
 use Rattle.rv_select.specs.Calls.{block_starts, body_code, head_code, last_address}
-use Rattle.rv_select.specs.Waiting.{Image, IsPlaced, Placed, entries_of}
+use Rattle.rv_select.specs.Waiting.{Image, IsPlaced, Placed, places_of}
 use Rattle.rv_select.proofs.Finds.{FoundFunction, starts-least, starts-near}
 use Rattle.rv_select.proofs.Stands.{the-function, within-parts}
 use Rattle.rv_select.proofs.Weighed.{function-weight}
@@ -37,8 +37,8 @@ pub starts-small : (p : Program) (image : Image) (program : List (Option Instr))
 starts-small p image program most code f pl b =
     let y : Layout = layout_of code (image f).homes in
     let at : ℕ = (image f).at in
-    let found : FoundFunction program y code (entries_of p image) at = the-function p image program most code (image f) pl in
-    let n = starts-near y code.areas (entries_of p image) (start_of (block_starts y code at)) (last_address y code at)
+    let found : FoundFunction program y code (places_of p image) at = the-function p image program most code (image f) pl in
+    let n = starts-near y code.areas (places_of p image) (start_of (block_starts y code at)) (last_address y code at)
     (last_address y code at) code.blocks b (at + 4 * length (head_code y code))
     (aligned-first at (length (head_code y code)) pl.aligned) (most-is _ _ found.whole) in
     (small (start_of (block_starts y code at) b) (last_address y code at) n.0 found.near, even (start_of (block_starts y code at) b) n.1)
@@ -48,7 +48,7 @@ function-bytes : (p : Program) (image : Image) (program : List (Option Instr)) (
     IsPlaced p image program most code x → last_address (layout_of code x.homes) code x.at ≤ x.at + 4 * code_words code
 function-bytes p image program most code x pl =
     let y : Layout = layout_of code x.homes in
-    let places = entries_of p image in
+    let places = places_of p image in
     let H : List Instr = head_code y code in
     let D : List Instr = body_code y code places x.at in
     let L : List Instr = left y (frame_bytes y) code.frame in
@@ -74,8 +74,8 @@ pub exit-reaches : (p : Program) (image : Image) (program : List (Option Instr))
 exit-reaches p image program most code f at pl low high b h =
     let y : Layout = layout_of code (image f).homes in
     let a : ℕ = (image f).at in
-    let found : FoundFunction program y code (entries_of p image) a = the-function p image program most code (image f) pl in
-    let n = starts-near y code.areas (entries_of p image) (start_of (block_starts y code a)) (last_address y code a)
+    let found : FoundFunction program y code (places_of p image) a = the-function p image program most code (image f) pl in
+    let n = starts-near y code.areas (places_of p image) (start_of (block_starts y code a)) (last_address y code a)
     (last_address y code a) code.blocks b (a + 4 * length (head_code y code))
     (aligned-first a (length (head_code y code)) pl.aligned) (most-is _ _ found.whole) in
     reach (start_of (block_starts y code a) b) (last_address y code a) (length (head_code y code)) high

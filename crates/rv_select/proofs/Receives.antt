@@ -52,7 +52,7 @@ use Rattle.rv_select.proofs.Worded.{AreBelow, AreOwn, neither}
 use Rattle.rv_select.proofs.Ways.{Way, near-same, scratch-near, stands-back, stands-front, straight-way, way-both, way-none}
 
 -- a word of private memory at an offset of the frame
-pub word-loads : (base offset : ℕ) (m : State) → m.pc < 2 ^ 64 → m.registers 2 ≡ 2 ^ 32 + base → base + offset + 8 ≤ length m.private → length m.private ≤ 603979776 → length m.region ≤ 67108864 →
+pub word-loads : (base offset : ℕ) (m : State) → m.pc < 2 ^ 64 → m.registers 2 ≡ 2 ^ 32 + base → base + offset + 8 ≤ length m.private → length m.private ≤ 606076928 → length m.region ≤ 67108864 →
     Loads 5 (framed (λ r far. Load Ld x5 r far) offset) m (private_word m (base + offset))
 word-loads base offset m p two room most g =
     framed-loads (λ r far. Load Ld x5 r far) 5 (private_word m (base + offset)) offset m (λ z. omega (arith, z)) p (omega (arith, room, most)) (λ r far. refl)

@@ -125,7 +125,7 @@ goes-back program y held Used w base frame last link from v m setting p h five r
     (same-2 2 (λ z. omega (arith, z)) (λ z. omega (arith, z)) (λ z. omega (arith, z)) (λ z. omega (arith, z)) ∙ p.frame.pointer)
     (same-2 8 (λ z. omega (arith, z)) (λ z. omega (arith, z)) (λ z. omega (arith, z)) (λ z. omega (arith, z)) ∙ p.placed) fits
     (omega arith) within
-    (subst (λ z. length z ≤ 603979776) (sym private-2) p.frame.private)
+    (subst (λ z. length z ≤ 606076928) (sym private-2) p.frame.private)
     (subst (λ z. length z ≤ 67108864) (sym region-2) (region-small y Used w base m p))
     (link-same y base m t2 (ap (λ z. private-of z base) private-2)
     (same-2 1 (λ z. omega (arith, z)) (λ z. omega (arith, z)) (λ z. omega (arith, z)) (λ z. omega (arith, z))) ∙ link-is) even link-small
@@ -238,7 +238,7 @@ pub back-holds : (p : Program) (image : Image) (program : List (Option Instr)) (
     (M n : State) → IsLinked p image program most →
     (x : Waiting p image most c depth link base placed M) → SameAbove base M n → HeldIn w n →
     base + frame_bytes (layout_of x.code (image c.waits.function).homes) ≤ length n.private →
-    length n.private ≤ 603979776 → AreBytes n.private → n.pc < 2 ^ 64 → n.registers 2 ≡ 2 ^ 32 + base →
+    length n.private ≤ 606076928 → AreBytes n.private → n.pc < 2 ^ 64 → n.registers 2 ≡ 2 ^ 32 + base →
     Holds (layout_of x.code (image c.waits.function).homes) (UsedBut (InUse (graph_of x.code) c.waits.block c.waits.at) c.to)
     (record w { temps = c.waits.temps; areas = c.waits.areas }) base n
 back-holds p image program most depth link base placed c w M n linked x s g within small bytes pc pointer =

@@ -27,14 +27,15 @@ use Rattle.rv_select.specs.Pairs.{but_pair, pair_of, plain_of, reads_of}
 use Rattle.rv_select.specs.Places.{Layout, frame_bytes, layout_of}
 use Rattle.rv_select.specs.Shapes.{has_exit_shape, has_shape, held_after, shape_of, start_of}
 use Rattle.rv_select.specs.Entering.{left}
-use Rattle.rv_select.specs.Calls.{block_code, block_has_code, block_starts, has_code, has_exit_code, head_code, instruction_code}
-use Rattle.rv_select.specs.Calls.{last_address, starts_from}
-use Rattle.rv_select.specs.Waiting.{Arrives, Image, IsLinked, IsPlaced, Placed, StandsIn, Stepped, entries_of, instruction_at, place_in}
+use Rattle.rv_select.specs.Calls.{block_code, block_has_code, block_starts, has_code, has_exit_code, head_code, instruction_code, nowhere, CallPlaces}
+use Rattle.rv_select.specs.Calls.{last_address, starts_from, ByName, ByValue, CallKind, call_of}
+use Rattle.rv_select.specs.Waiting.{Arrives, Image, IsLinked, IsPlaced, Placed, StandsIn, Stepped, instruction_at, place_in, places_of}
 use Rattle.rv_select.specs.Waiting.{counts_in, held_in, plain_in}
 use Rattle.rv_select.specs.Steps.{Breaks, CountsLeft, OnMore}
 use Rattle.rv_select.specs.Whole.{AreShort, Ended, RunBreaks, RunsAreCarried, StepsAreCarried, block_count, bytes_left, pair_count, steps_at_once}
 use Rattle.rv_select.proofs.Backs.{return-steps, return_most}
-use Rattle.rv_select.proofs.Calling.{call-step, call_most}
+use Rattle.rv_select.proofs.Calling.{call_most}
+use Rattle.rv_select.proofs.CallSteps.{call-step, value-step}
 use Rattle.rv_select.proofs.Coupled.{falls-pair, pair-left, pair-steps}
 use Rattle.tac_counts.specs.Counts.{left_after, left_behind, left_in}
 use Rattle.rv_select.proofs.Falls.{FallsIf, falls-call, falls-exit, falls-inner, falls-return}
@@ -44,7 +45,7 @@ use Rattle.rv_select.proofs.Stands.{AtExit, AtPlace, at-exit, at-instruction, bo
 use Rattle.rv_select.proofs.Through.{code-is, exit-step, inner-step}
 
 -- an instruction stands nowhere below where the first does, nor a block below where the first does
-at-least : (y : Layout) (sizes : List ℕ) (places : FnId → ℕ) (at : ℕ) (held : Option ℕ) (is : List Instruction) (k : ℕ) →
+at-least : (y : Layout) (sizes : List ℕ) (places : CallPlaces) (at : ℕ) (held : Option ℕ) (is : List Instruction) (k : ℕ) →
     at ≤ instruction_at y sizes places at held is k
 at-least y sizes places at held is zero = omega arith
 at-least y sizes places at held [] (suc k) = omega arith
@@ -60,8 +61,8 @@ start-least : (y : Layout) (sizes : List ℕ) (at : ℕ) (bs : List Block) (b : 
 start-least y sizes at [] b block e = cc
 start-least y sizes at (x ∷ bs) zero block e = omega arith
 start-least y sizes at (x ∷ bs) (suc b) block e =
-    more (length (block_code y sizes (λ f. 0) (λ c. 0) 0 0 (length bs) x)) _
-    (start-least y sizes (at + 4 * length (block_code y sizes (λ f. 0) (λ c. 0) 0 0 (length bs) x)) bs b block e)
+    more (length (block_code y sizes nowhere (λ c. 0) 0 0 (length bs) x)) _
+    (start-least y sizes (at + 4 * length (block_code y sizes nowhere (λ c. 0) 0 0 (length bs) x)) bs b block e)
   where
     more : (n z : ℕ) → at + 4 * n ≤ z → at ≤ z
     more n z h = omega (arith, h)
@@ -73,7 +74,7 @@ place-high p image code x b k block e z =
     let S : ℕ = start_of (block_starts y code x.at) b in
     let first : x.at + 4 * length (head_code y code) ≤ S = start-least y code.areas (x.at + 4 * length (head_code y code)) code.blocks b block e in
     let more : S ≤ place_in p image code x b k =
-    at-least y code.areas (entries_of p image) S None (plain_in (reads_of code) (slice_get code.blocks b)) k in
+    at-least y code.areas (places_of p image) S None (plain_in (reads_of code) (slice_get code.blocks b)) k in
     let some : 1 ≤ length (head_code y code) = omega arith in
     never (length (head_code y code)) S (place_in p image code x b k) first more some z
   where
@@ -209,8 +210,8 @@ a-step p image program most size words linked s base m x = in-block (slice_get x
           let held : Option ℕ = held_in x.code s.here.block s.here.at in
           let found : AtPlace p image program x.code (image s.here.function) s.here.block s.here.at i q =
           at-instruction p image program most x.code (image s.here.function) s.here.block s.here.at block i pl e g in
-          let same : length (instruction_code y x.code.areas (entries_of p image) q held i) ≡ length (shape_of y held i) =
-          ap length (code-is y x.code.areas (entries_of p image) q held i h) in
+          let same : length (instruction_code y x.code.areas (places_of p image) q held i) ≡ length (shape_of y held i) =
+          ap length (code-is y x.code.areas (places_of p image) q held i h) in
           falls-inner p image words x.code s (step p s) (length (shape_of y held i)) x.function (found.next ∙ ap (λ n. q + 4 * n) same)
           (under (subst (λ n. q + 4 * n ≤ last_address y x.code (image s.here.function).at) same found.within)
           (last-within p image program most x.code (image s.here.function) pl))
@@ -253,18 +254,20 @@ a-step p image program most size words linked s base m x = in-block (slice_get x
       left_is = one-left p s;
     }
 
-    calls : (block : Block) (to : Destination) (place : Place) (f : FnId) (arguments : List Part) →
+    calls : (block : Block) (to : Destination) (place : Place) (kind : CallKind) (arguments : List Part) →
         slice_get x.code.blocks s.here.block ≡ Some block →
-        slice_get (plain_of (reads_of x.code) block) s.here.at ≡ Some (Call to place f arguments) → Done p image program most size words s m
-    calls block to place f arguments e g = record {
+        slice_get (plain_of (reads_of x.code) block) s.here.at ≡ Some (call_of kind to place arguments) →
+        Stepped p image program most size (left_behind p s) (call_most p image x.code s s.left kind place arguments) s m (step p s) →
+        Done p image program most size words s m
+    calls block to place kind arguments e g stepped = record {
       count = 1;
       some = omega arith;
-      count_is = one-here block (Call to place f arguments) e g;
-      bound = call_most p image x.code s.here s.left place f arguments;
-      stepped = call-step p image program most size linked s base m x block to place f arguments e g;
-      falls = λ short. falls-call p image program most words linked short x.code block to place f arguments s x.function e
-          (whole block (Call to place f arguments) g)
-          (at-instruction p image program most x.code (image s.here.function) s.here.block s.here.at block (Call to place f arguments) pl e g);
+      count_is = one-here block (call_of kind to place arguments) e g;
+      bound = call_most p image x.code s s.left kind place arguments;
+      stepped = stepped;
+      falls = λ short. falls-call p image program most words linked short x.code block to place kind arguments s x.function e
+          (whole block (call_of kind to place arguments) g)
+          (at-instruction p image program most x.code (image s.here.function) s.here.block s.here.at block (call_of kind to place arguments) pl e g);
       there = λ out q. high block e;
       left_is = one-left p s;
     }
@@ -283,8 +286,10 @@ a-step p image program most size words linked s base m x = in-block (slice_get x
     an-instruction : (block : Block) → slice_get x.code.blocks s.here.block ≡ Some block → (i : Instruction) →
         slice_get (plain_of (reads_of x.code) block) s.here.at ≡ Some i → has_code i ≡ true →
         Done p image program most size words s m
-    an-instruction block e (Call to place f arguments) g h = calls block to place f arguments e g
-    an-instruction block e (CallValue to place sig a arguments) g h = cc
+    an-instruction block e (Call to place f arguments) g h =
+        calls block to place (ByName f) arguments e g (call-step p image program most size linked s base m x block to place f arguments e g)
+    an-instruction block e (CallValue to place sig a arguments) g h =
+        calls block to place (ByValue sig a) arguments e g (value-step p image program most size linked s base m x block to place sig a arguments e g)
     an-instruction block e (Compute d op form a b) g h = inside block (Compute d op form a b) e g h
     an-instruction block e (TestDivisor place a) g h = inside block (TestDivisor place a) e g h
     an-instruction block e (Copy d a) g h = inside block (Copy d a) e g h

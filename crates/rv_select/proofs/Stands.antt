@@ -24,7 +24,7 @@ use Rattle.rv_select.specs.Entering.{left}
 use Rattle.rv_select.specs.Calls.{block_starts, blocks_length, end_code, head_code, held_behind, instruction_code, instructions_code}
 use Rattle.rv_select.specs.Calls.{body_code, last_address}
 use Rattle.rv_select.specs.Whole.{end_in}
-use Rattle.rv_select.specs.Waiting.{Image, IsPlaced, Placed, entries_of, held_at, held_in, instruction_at, place_in, plain_in}
+use Rattle.rv_select.specs.Waiting.{Image, IsPlaced, Placed, held_at, held_in, instruction_at, place_in, plain_in, places_of}
 use Rattle.rv_select.proofs.Finds.{Found, FoundBlock, FoundFunction, find-block, find-exit, find-function, find-instruction, held-last}
 use Rattle.rv_select.proofs.Finds.{instruction-aligned, starts-last, starts-later, starts-least, starts-next}
 
@@ -88,11 +88,11 @@ next-none blocks (suc r) e = cc
 -- An instruction's code stands at its place in a function.
 pub record AtPlace (p : Program) (image : Image) (program : List (Option Instr)) (code : Tac) (x : Placed) (b k : ℕ) (i : Instruction)
     (at : ℕ) : Type 0 where
-  pub stands : Stands program at (instruction_code (layout_of code x.homes) code.areas (entries_of p image) at (held_in code b k) i)
+  pub stands : Stands program at (instruction_code (layout_of code x.homes) code.areas (places_of p image) at (held_in code b k) i)
   pub next : place_in p image code x b (suc k) ≡ at + 4 * length
-      (instruction_code (layout_of code x.homes) code.areas (entries_of p image) at (held_in code b k) i)
-  pub near : at + 4 * length (instruction_code (layout_of code x.homes) code.areas (entries_of p image) at (held_in code b k) i) + 256 ≤ 2 ^ 30
-  pub within : at + 4 * length (instruction_code (layout_of code x.homes) code.areas (entries_of p image) at (held_in code b k) i)
+      (instruction_code (layout_of code x.homes) code.areas (places_of p image) at (held_in code b k) i)
+  pub near : at + 4 * length (instruction_code (layout_of code x.homes) code.areas (places_of p image) at (held_in code b k) i) + 256 ≤ 2 ^ 30
+  pub within : at + 4 * length (instruction_code (layout_of code x.homes) code.areas (places_of p image) at (held_in code b k) i)
       ≤ last_address (layout_of code x.homes) code x.at
   pub aligned : at % 4 ≡ 0
 
@@ -126,19 +126,19 @@ pub record AtExit (p : Program) (image : Image) (program : List (Option Instr)) 
 
 pub the-function : (p : Program) (image : Image) (program : List (Option Instr)) (most : ℕ) (code : Tac) (x : Placed) →
     IsPlaced p image program most code x →
-    FoundFunction program (layout_of code x.homes) code (entries_of p image) x.at
-the-function p image program most code x h = find-function program (layout_of code x.homes) code (entries_of p image) x.at h.near h.stands
+    FoundFunction program (layout_of code x.homes) code (places_of p image) x.at
+the-function p image program most code x h = find-function program (layout_of code x.homes) code (places_of p image) x.at h.near h.stands
 
 pub the-block : (p : Program) (image : Image) (program : List (Option Instr)) (most : ℕ) (code : Tac) (x : Placed) (b : ℕ) (block : Block)
     → IsPlaced p image program most code x → slice_get code.blocks b ≡ Some block →
-    FoundBlock program (layout_of code x.homes) code.areas (entries_of p image)
+    FoundBlock program (layout_of code x.homes) code.areas (places_of p image)
     (start_of (block_starts (layout_of code x.homes) code x.at)) (last_address (layout_of code x.homes) code x.at)
     (last_address (layout_of code x.homes) code x.at) (start_of (block_starts (layout_of code x.homes) code x.at) b)
     (length (drop (suc b) code.blocks)) block
 the-block p image program most code x b block h e =
     let y : Layout = layout_of code x.homes in
-    let f : FoundFunction program y code (entries_of p image) x.at = the-function p image program most code x h in
-    find-block program y code.areas (entries_of p image) (start_of (block_starts y code x.at)) (last_address y code x.at)
+    let f : FoundFunction program y code (places_of p image) x.at = the-function p image program most code x h in
+    find-block program y code.areas (places_of p image) (start_of (block_starts y code x.at)) (last_address y code x.at)
     (last_address y code x.at) code.blocks b block (x.at + 4 * length (head_code y code))
     (left y (frame_bytes y) code.frame) e (omega (arith, h.aligned)) (omega (arith, f.whole)) (omega (arith, f.near)) f.body
 
@@ -149,7 +149,7 @@ pub at-instruction : (p : Program) (image : Image) (program : List (Option Instr
 at-instruction p image program most code x b k block i h e g =
     let y : Layout = layout_of code x.homes in
     let is : List Instruction = plain_of (reads_of code) block in
-    let places = entries_of p image in
+    let places = places_of p image in
     let S : ℕ = start_of (block_starts y code x.at) b in
     let f : FoundFunction program y code places x.at = the-function p image program most code x h in
     let fb = the-block p image program most code x b block h e in
@@ -185,7 +185,7 @@ pub at-exit : (p : Program) (image : Image) (program : List (Option Instr)) (mos
 at-exit p image program most code x b k block h e g =
     let y : Layout = layout_of code x.homes in
     let is : List Instruction = plain_of (reads_of code) block in
-    let places = entries_of p image in
+    let places = places_of p image in
     let S : ℕ = start_of (block_starts y code x.at) b in
     let f : FoundFunction program y code places x.at = the-function p image program most code x h in
     let fb = the-block p image program most code x b block h e in
@@ -268,9 +268,9 @@ pub end-is : (p : Program) (image : Image) (program : List (Option Instr)) (most
     ≡ end_in p image code x
 end-is p image program most code x h =
     let y : Layout = layout_of code x.homes in
-    let f : FoundFunction program y code (entries_of p image) x.at = the-function p image program most code x h in
+    let f : FoundFunction program y code (places_of p image) x.at = the-function p image program most code x h in
     let H : List Instr = head_code y code in
-    let D : List Instr = body_code y code (entries_of p image) x.at in
+    let D : List Instr = body_code y code (places_of p image) x.at in
     let L : List Instr = left y (frame_bytes y) code.frame in
     sums (length H) (length D) (length L) (length (D ++ L)) (length (H ++ (D ++ L))) (last_address y code x.at) f.whole (length-append D L)
     (length-append H (D ++ L))

@@ -4,7 +4,6 @@ use Rattle.std.proofs.Common.{sym, ap, ◌∙◌, subst, ⊎_elim, arith}
 use Rattle.std.specs.Prelude.{if◌then◌else◌, nat_eq, slice_get}
 use Rattle.std.proofs.lemmas.Bool.{cases_Bool, ne_eqb}
 use Rattle.tl_base.specs.declared.place.Place.{Place}
-use Rattle.tl_base.specs.declared.ids.FnId.{FnId}
 use Rattle.rv_isa.specs.declared.instr.Instr.{Instr}
 use Rattle.terra_words.specs.declared.words.FaultKind.{FaultKind}
 use Rattle.terra_words.specs.Runs.{End, Fault, More, Over, Returned, Stuck}
@@ -31,8 +30,8 @@ use Rattle.rv_select.specs.Entering.{kept_offset}
 use Rattle.rv_select.specs.Shapes.{exit_shape, has_exit_shape, has_shape, held_after, shape_of, start_of}
 use Rattle.rv_select.specs.Steps.{Carried, Comes, CountsLeft, Ends, EndsLeft, IsReached, LeadsTo, Left, OnMore, Remains, StandsAtExit}
 use Rattle.rv_select.specs.Steps.{StandsBefore, behind, with_count, world_of}
-use Rattle.rv_select.specs.Calls.{block_starts, exit_code, instruction_code, last_address}
-use Rattle.rv_select.specs.Waiting.{Arrives, Image, IsLinked, IsPlaced, StandsIn, Stepped, Waits, counts_in, entries_of, held_at, held_in}
+use Rattle.rv_select.specs.Calls.{block_starts, exit_code, instruction_code, last_address, CallPlaces}
+use Rattle.rv_select.specs.Waiting.{AreEntriesIn, Arrives, Image, IsLinked, IsPlaced, StandsIn, Stepped, Waits, counts_in, held_at, held_in, places_of}
 use Rattle.rv_select.specs.Waiting.{place_in, plain_in, restored}
 use Rattle.rv_select.proofs.Asking.{exit-homes, instruction-homes}
 use Rattle.rv_select.proofs.Carries.{by-test, instructions, nothing-written}
@@ -40,6 +39,7 @@ use Rattle.rv_select.proofs.Counts.{counts-stay, ends-here, uncounted-keeps}
 use Rattle.rv_select.proofs.Finds.{held-next}
 use Rattle.rv_select.proofs.Inner.{LeavesIf, LeavesTo, Stays, StaysIf, act-stays, leave-to}
 use Rattle.rv_select.proofs.Leaves.{exits}
+use Rattle.rv_select.proofs.Listed.{entries-kept, entries-stay}
 use Rattle.rv_select.proofs.Pairing.{before-next, plain-get}
 use Rattle.rv_select.proofs.Stands.{AtExit, AtPlace, at-instruction, exit-within, instruction-within, within-parts}
 use Rattle.rv_select.proofs.Reached.{exit-reaches, starts-small}
@@ -47,7 +47,7 @@ use Rattle.rv_select.proofs.Waits.{waits-keeps, waits-same}
 use Rattle.rv_select.proofs.Moves.{near-keeps}
 use Rattle.rv_select.proofs.Ways.{near-same, way-none}
 
-pub code-is : (y : Layout) (sizes : List ℕ) (places : FnId → ℕ) (at : ℕ) (held : Option ℕ) (i : Instruction) → has_shape i ≡ true →
+pub code-is : (y : Layout) (sizes : List ℕ) (places : CallPlaces) (at : ℕ) (held : Option ℕ) (i : Instruction) → has_shape i ≡ true →
     instruction_code y sizes places at held i ≡ shape_of y held i
 code-is y sizes places at held (Call to place f arguments) h = cc
 code-is y sizes places at held (Compute d op form a b) h = refl
@@ -124,6 +124,7 @@ arrives p image program most size weight linked s t base m x out target held st 
         frame = subst (λ n. s.here.base + x.code.frame ≤ 2 ^ 30 + n) (sym st.long) x.frame;
         region = st.long ∙ x.region;
         room = x.room;
+        entries = entries-kept p image most (length s.callers) base (layout_of x.code (image s.here.function).homes) m d.after x.room d.keeps x.entries;
         waits = waits-keeps p image program most size (layout_of x.code (image s.here.function).homes) s.callers base
             (s.here.base + x.code.frame) m d.after linked d.keeps x.waits;
       };
@@ -200,17 +201,17 @@ inner-step p image program most size linked s base m x block i in-f in-p h =
         (place_in p image x.code (image s.here.function) s.here.block s.here.at)
     found = at-instruction p image program most x.code (image s.here.function) s.here.block s.here.at block i pl in-f in-p
 
-    same : instruction_code (layout_of x.code (image s.here.function).homes) x.code.areas (entries_of p image)
+    same : instruction_code (layout_of x.code (image s.here.function).homes) x.code.areas (places_of p image)
         (place_in p image x.code (image s.here.function) s.here.block s.here.at) held i
         ≡ shape_of (layout_of x.code (image s.here.function).homes) held i
-    same = code-is (layout_of x.code (image s.here.function).homes) x.code.areas (entries_of p image)
+    same = code-is (layout_of x.code (image s.here.function).homes) x.code.areas (places_of p image)
         (place_in p image x.code (image s.here.function) s.here.block s.here.at) held i h
 
     to : behind m (shape_of (layout_of x.code (image s.here.function).homes) held i) ≡ place_in p image x.code (image s.here.function)
         s.here.block (suc s.here.at)
     to =
         ap (λ c. low (m.pc + 4 * length c)) (sym same)
-        ∙ (ap (λ q. low (q + 4 * length (instruction_code (layout_of x.code (image s.here.function).homes) x.code.areas (entries_of p image)
+        ∙ (ap (λ q. low (q + 4 * length (instruction_code (layout_of x.code (image s.here.function).homes) x.code.areas (places_of p image)
         (place_in p image x.code (image s.here.function) s.here.block s.here.at) held i))) x.pc
         ∙ (near-low _ found.near ∙ sym found.next))
 
@@ -296,6 +297,11 @@ waits-counted p image program most size y cs base placed left true m linked w =
     other true r e = refl
     other false r e = ap (λ c. if c then left else m.registers r) e
 
+-- so do entries
+entries-counted : (p : Program) (image : Image) (counts : Bool) (left : ℕ) (m : State) → AreEntriesIn p image m → AreEntriesIn p image (with_count counts left m)
+entries-counted p image true left m e = entries-stay p image m (with_count true left m) (λ at k o. refl) e
+entries-counted p image false left m e = e
+
 -- what is left then
 left-then : (counts : Bool) (left : ℕ) (m after : State) → (counts ≡ true → left < 2 ^ 64) → after.registers 9 ≡ (with_count counts left m).registers 9 →
     CountsLeft counts left after
@@ -359,6 +365,8 @@ comes-to p image program most size weight linked s at temps t base m x exit l b 
         frame = x.frame;
         region = x.region;
         room = x.room;
+        entries = entries-kept p image most (length s.callers) base (layout_of x.code (image s.here.function).homes)
+            (with_count x.code.counts l.left m) d.after x.room d.keeps (entries-counted p image x.code.counts l.left m x.entries);
         waits = waits-keeps p image program most size (layout_of x.code (image s.here.function).homes) s.callers base
             (s.here.base + x.code.frame) (with_count x.code.counts l.left m) d.after linked d.keeps
             (waits-counted p image program most size (layout_of x.code (image s.here.function).homes) s.callers base

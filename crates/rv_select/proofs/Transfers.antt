@@ -84,7 +84,7 @@ pub record Moving (from to : Register) (s d : Place) (xs : List ℕ) (m : State)
   pub source : value_at m from ≡ address s
   pub target : value_at m to ≡ address d
   pub region : length m.region ≤ 67108864
-  pub private : length m.private ≤ 603979776
+  pub private : length m.private ≤ 606076928
   pub there : Within m s (length xs)
   pub room : Within m d (length xs)
   pub apart : AreApart s d (length xs)
@@ -105,7 +105,7 @@ sum-there : (a b : ℕ) → a + b < 2 ^ 64 → low (a + b) ≡ a + b
 unfolding low
 sum-there a b h = omega arith
 
-address-beyond : (s : Place) (m : State) (x at width : ℕ) → x ≡ address s → length m.region ≤ 67108864 → length m.private ≤ 603979776 → Within m s (at + width) → low (x + at) ≡ address (beyond s at)
+address-beyond : (s : Place) (m : State) (x at width : ℕ) → x ≡ address s → length m.region ≤ 67108864 → length m.private ≤ 606076928 → Within m s (at + width) → low (x + at) ≡ address (beyond s at)
 address-beyond (Region a) m x at width e h k f =
     let sum : 2 ^ 30 + a + at ≡ 2 ^ 30 + (a + at) = omega arith in
     ap (λ z. low (z + at)) e ∙ (sum-there (2 ^ 30 + a) at (omega arith) ∙ sum)
@@ -221,7 +221,7 @@ moving-still from to s d xs bs at code m p t h =
       source = value-keeps from m t.after p.keeps_from t.keeps ∙ p.source;
       target = value-keeps to m t.after p.keeps_to t.keeps ∙ p.target;
       region = subst (λ z. z ≤ 67108864) (sym e) p.region;
-      private = subst (λ z. z ≤ 603979776) (sym g) p.private;
+      private = subst (λ z. z ≤ 606076928) (sym g) p.private;
       there = within-still s m t.after (length xs) e g p.there;
       room = within-still d m t.after (length xs) e g p.room;
       apart = p.apart;

@@ -239,7 +239,7 @@ written-holds y Used Next w base m z r p h f keeps private region long heap are 
   frame = record {
     pointer = keeps 2 (λ e. omega (arith, e)) (λ e. omega (arith, e)) (λ e. omega (arith, e)) ∙ p.frame.pointer;
     within = subst (λ k. base + frame_bytes y ≤ length k) (sym private) p.frame.within;
-    private = subst (λ k. length k ≤ 603979776) (sym private) p.frame.private;
+    private = subst (λ k. length k ≤ 606076928) (sym private) p.frame.private;
     bytes = subst AreBytes (sym private) p.frame.bytes;
   };
   pc = small;

@@ -5,7 +5,6 @@ use Rattle.std.specs.Prelude.{fold, slice_get}
 use Rattle.std.specs.List.{list_all}
 use Rattle.std.proofs.lemmas.List.{length-append, length-map}
 use Rattle.std.proofs.lemmas.List.Sums.{sum_by-cons}
-use Rattle.tl_base.specs.declared.ids.FnId.{FnId}
 use Rattle.rv_isa.specs.declared.instr.Instr.{Instr}
 use Rattle.rv_isa.specs.Table.{word_of}
 use Rattle.reg_alloc.specs.declared.assignment.Home.{Home}
@@ -17,6 +16,7 @@ use Rattle.tac_form.specs.declared.tac.Instruction.{Instruction}
 use Rattle.tac_form.specs.declared.tac.Instruction.TheVariants.{Alloc, Call, CallValue, Clear, Compute, Copy, Load, Locate, Move, PutByte}
 use Rattle.tac_form.specs.declared.tac.Instruction.TheVariants.{Store, TestDivisor, Write}
 use Rattle.tac_form.specs.declared.tac.Block.{Block}
+use Rattle.tac_form.specs.declared.tac.Signature.{Signature}
 use Rattle.tac_form.specs.declared.tac.Tac.{Tac}
 use Rattle.tac_form.specs.Fits.{area_fits}
 use Rattle.tac_form.specs.Weights.{block_words, code_words, exit_words, private_bytes, words_of}
@@ -29,7 +29,7 @@ use Rattle.rv_select.specs.Asked.{asked_homes}
 use Rattle.rv_select.specs.Places.{Layout, frame_bytes, layout_of}
 use Rattle.rv_select.specs.Shapes.{held_after, start_of}
 use Rattle.rv_select.specs.Entering.{begun, entered, left, received, receiving, words_offset}
-use Rattle.rv_select.specs.Calls.{IsSelected, KeepsWithin, all_has_code, block_code, block_has_code, block_starts, blocks_code, body_code}
+use Rattle.rv_select.specs.Calls.{IsSelected, KeepsWithin, all_has_code, block_code, block_has_code, block_starts, blocks_code, body_code, at_zero, CallPlaces}
 use Rattle.rv_select.specs.Calls.{end_code, exit_code, function_code, has_code, has_exit_code, head_code, held_behind, instruction_code}
 use Rattle.rv_select.specs.Calls.{instructions_code, last_address, pair_code}
 use Rattle.rv_select.proofs.Granted.{asked-length}
@@ -38,16 +38,16 @@ use Rattle.rv_select.proofs.Taken.{params-least}
 use Rattle.rv_select.proofs.Pairing.{IsPair, compare_of, pair-parts, pair-sum, plain-all}
 use Rattle.rv_select.proofs.Stands.{both-true}
 use Rattle.rv_select.proofs.Weights.{exits-within, within}
-use Rattle.rv_select.proofs.Within.{calls-within, frames-within, parameters-within}
+use Rattle.rv_select.proofs.Within.{calls-within, frames-within, parameters-within, values-within}
 
 -- most words of two pieces of code
 both : (a b : List Instr) (n k : ℕ) → length a ≤ n → length b ≤ k → length (a ++ b) ≤ n + k
 both a b n k h g = omega (arith, h, g, length-append a b)
 
-instruction-weight : (y : Layout) (sizes : List ℕ) (places : FnId → ℕ) (at : ℕ) (held : Option ℕ) (i : Instruction) → list_all area_fits sizes ≡ true →
+instruction-weight : (y : Layout) (sizes : List ℕ) (places : CallPlaces) (at : ℕ) (held : Option ℕ) (i : Instruction) → list_all area_fits sizes ≡ true →
     has_code i ≡ true → length (instruction_code y sizes places at held i) ≤ words_of i
 instruction-weight y sizes places at held (Call to place f arguments) small h = calls-within y sizes places at held to place f arguments small
-instruction-weight y sizes places at held (CallValue to place sig a arguments) small h = cc
+instruction-weight y sizes places at held (CallValue to place sig a arguments) small h = values-within y sizes places to place sig a arguments small
 instruction-weight y sizes places at held (Compute d op form a b) small h = within y held (Compute d op form a b) h
 instruction-weight y sizes places at held (TestDivisor place a) small h = within y held (TestDivisor place a) h
 instruction-weight y sizes places at held (Copy d a) small h = within y held (Copy d a) h
@@ -60,7 +60,7 @@ instruction-weight y sizes places at held (PutByte a) small h = within y held (P
 instruction-weight y sizes places at held (Write place a b) small h = within y held (Write place a b) h
 instruction-weight y sizes places at held (Alloc d a) small h = within y held (Alloc d a) h
 
-instructions-weight : (y : Layout) (sizes : List ℕ) (places : FnId → ℕ) (at : ℕ) (held : Option ℕ) (is : List Instruction) →
+instructions-weight : (y : Layout) (sizes : List ℕ) (places : CallPlaces) (at : ℕ) (held : Option ℕ) (is : List Instruction) →
     list_all area_fits sizes ≡ true →
     list_all has_code is ≡ true → length (instructions_code y sizes places at held is) ≤ sum_by words_of is
 instructions-weight y sizes places at held [] small h = omega arith
@@ -84,7 +84,7 @@ unfolding pair_code
 pair-weight y setting starts held at d pair =
     (compares-within y setting held d pair.operator pair.form pair.a pair.b pair.first pair.second at 0 starts starts).1
 
-block-weight : (code : Tac) (y : Layout) (sizes : List ℕ) (places : FnId → ℕ) (starts : ℕ → ℕ) (last at rest : ℕ) (b : Block) →
+block-weight : (code : Tac) (y : Layout) (sizes : List ℕ) (places : CallPlaces) (starts : ℕ → ℕ) (last at rest : ℕ) (b : Block) →
     list_all area_fits sizes ≡ true → block_has_code b ≡ true → length (block_code y sizes places starts last at rest b) ≤ block_words b
 block-weight code y sizes places starts last at rest b small h = go (pair_of y.reads b) refl
   where
@@ -124,7 +124,7 @@ block-weight code y sizes places starts last at rest b small h = go (pair_of y.r
         (instructions-weight y sizes places at None is small (plain-all has_code (Some pair) b.instructions parts.0)) first
         (pair-sum words_of b.instructions i k.last_is))
 
-blocks-weight : (code : Tac) (y : Layout) (sizes : List ℕ) (places : FnId → ℕ) (starts : ℕ → ℕ) (last at : ℕ) (bs : List Block) →
+blocks-weight : (code : Tac) (y : Layout) (sizes : List ℕ) (places : CallPlaces) (starts : ℕ → ℕ) (last at : ℕ) (bs : List Block) →
     list_all area_fits sizes ≡ true → list_all block_has_code bs ≡ true →
     length (blocks_code y sizes places starts last at bs) ≤ sum_by block_words bs
 blocks-weight code y sizes places starts last at [] small h = omega arith
@@ -137,7 +137,7 @@ blocks-weight code y sizes places starts last at (b ∷ bs) small h =
     (blocks-weight code y sizes places starts last (at + 4 * length A) bs small e.1))
 
 -- a function's code
-pub function-weight : (y : Layout) (code : Tac) (places : FnId → ℕ) (at : ℕ) → all_has_code code ≡ true →
+pub function-weight : (y : Layout) (code : Tac) (places : CallPlaces) (at : ℕ) → all_has_code code ≡ true →
     list_all area_fits code.areas ≡ true → length (function_code y code places at) ≤ code_words code
 function-weight y code places at h small =
     let B = begun code in
@@ -174,11 +174,11 @@ frame-weight code homes h =
     frame-most _ code.areas (length (asked_homes code homes)) code.temps (length code.parameters) (λ n. refl)
     (subst (λ n. n ≤ code.temps) (sym (asked-length code homes)) h)
 
-pub keeps-within : (code : Tac) (homes : List (Option Home)) (selected : Code) → all_has_code code ≡ true →
-    IsSelected code homes selected → KeepsWithin code homes selected
-keeps-within code homes selected h s = record {
+pub keeps-within : (code : Tac) (homes : List (Option Home)) (ss : List Signature) (selected : Code) → all_has_code code ≡ true →
+    IsSelected code homes ss selected → KeepsWithin code homes selected
+keeps-within code homes ss selected h s = record {
   words = λ small. subst (λ n. n ≤ code_words code)
-      (sym (ap length s.words ∙ length-map (function_code (layout_of code homes) code (λ f. 0) 0) word_of))
-      (function-weight (layout_of code homes) code (λ f. 0) 0 h small);
+      (sym (ap length s.words ∙ length-map (function_code (layout_of code homes) code (at_zero ss) 0) word_of))
+      (function-weight (layout_of code homes) code (at_zero ss) 0 h small);
   frame = λ few. subst (λ n. n ≤ private_bytes code) (sym s.frame) (frame-weight code homes few);
 }

@@ -13,25 +13,31 @@ use Rattle.tl_base.specs.declared.ids.FnId.{FnId}
 use Rattle.tl_base.specs.declared.place.Place.{Place}
 use Rattle.tac_form.specs.declared.tac.Destination.{Destination}
 use Rattle.tac_form.specs.declared.tac.Destination.TheVariants.{Area, Nothing, Temp}
-use Rattle.tac_form.specs.declared.tac.Instruction.TheVariants.{Call}
+use Rattle.tac_form.specs.declared.tac.Instruction.TheVariants.{Call, CallValue}
 use Rattle.tac_form.specs.Fits.{area_fits}
-use Rattle.tac_form.specs.Weights.{words_of}
+use Rattle.tac_form.specs.Weights.{operand_words, words_of}
+use Rattle.tac_form.specs.declared.tac.Operand.{Operand}
+use Rattle.tac_form.specs.declared.tac.Signature.{Signature}
 use Rattle.tac_form.specs.declared.tac.Part.{Part}
 use Rattle.rv_operators.specs.Codes.{x0, x5, zero_immediate}
-use Rattle.rv_select.specs.Numbers.{below_zero, constant, lower_of, register_of}
+use Rattle.rv_select.specs.Numbers.{below_zero, constant, immediate_of, lower_of, register_of}
 use Rattle.rv_select.specs.Places.{Layout}
-use Rattle.rv_select.specs.Shapes.{counted_if, far_part, framed, limit_found, place_number, x2, x7, x8, x11}
+use Rattle.rv_select.specs.Shapes.{counted_if, failed, far_part, framed, limit_found, place_number, taken, x2, x7, x8, x11, x12}
+use Rattle.terra_words.specs.declared.words.FaultKind.TheVariants.{BadCall}
 use Rattle.rv_select.specs.Entering.{arguments_stored, entered, frame_taken, frames_given, left, link_put_back, link_saved, region_given}
 use Rattle.rv_select.specs.Entering.{region_taken, stack_tested, x1, most_arguments, place_given, pointer_down, pointer_up, put_back}
 use Rattle.rv_select.specs.Entering.{parameter_words, received, received_one, is_received, receiving, result_put, result_words, saved, size_in}
 use Rattle.rv_select.specs.Entering.{stack_branch, stored_below}
+use Rattle.rv_select.specs.Signatures.{signature_number}
+use Rattle.rv_select.specs.Calls.{CallPlaces, called_value, entry_found, value_found, value_jump}
 use Rattle.rv_select.specs.Calls.{call_begun, call_ended, called, call_jump, depth_tested, jump_unless_last, one_more, part_given}
 use Rattle.rv_select.specs.Calls.{passed, part_passed}
 use Rattle.rv_select.specs.Frames.{CallsKeepWithin, FramesKeepWithin, ParametersKeepWithin}
 use Rattle.rv_select.proofs.Copies.{size-small}
 use Rattle.rv_select.proofs.Enters.{one-if, saved-count}
 use Rattle.rv_select.proofs.Frames.{framed-count}
-use Rattle.rv_select.proofs.Homes.{put-few}
+use Rattle.rv_select.proofs.Faults.{failed-count}
+use Rattle.rv_select.proofs.Homes.{operand-count, put-few}
 use Rattle.rv_select.proofs.Numbers.{constant-count}
 use Rattle.rv_select.proofs.Passes.{below-count, given-count, first-part-count}
 use Rattle.rv_select.proofs.Pointers.{down-count, up-count}
@@ -149,8 +155,9 @@ parameters-within y sizes last (d ∷ ds) h =
     both (received_one y sizes last d (last + 8 * length ds)) (received y sizes last ds) (parameter_words d) (receiving ds)
     (received-count y sizes last d (last + 8 * length ds) h) (parameters-within y sizes last ds h)
 
-pub calls-within : CallsKeepWithin
-calls-within y sizes places at held to place f arguments small =
+begun-most : (y : Layout) (held : Option ℕ) (place : Place) (arguments : List Part) →
+    length (call_begun y held place arguments) ≤ 8 + (3 + (5 + (11 * length arguments + 1)))
+begun-most y held place arguments =
     let A = constant x11 (place_number place) in
     let P = passed y held 0 arguments in
     let first : length A ≤ 8 = constant-count x11 (place_number place) in
@@ -159,9 +166,40 @@ calls-within y sizes places at held to place f arguments small =
     let deep : length (depth_tested ++ (P ++ one_more)) ≤ 5 + (11 * length arguments + 1) = both depth_tested (P ++ one_more) 5 (11 * length arguments + 1) (omega arith) tail in
     let X = counted_if y.extent.counts (depth_tested ++ (P ++ one_more)) in
     let counts : length X ≤ 3 + (5 + (11 * length arguments + 1)) = counted-most y.extent.counts (depth_tested ++ (P ++ one_more)) (5 + (11 * length arguments + 1)) deep in
-    let begins : length (A ++ X) ≤ 8 + (3 + (5 + (11 * length arguments + 1))) = both A X 8 (3 + (5 + (11 * length arguments + 1))) first counts in
+    both A X 8 (3 + (5 + (11 * length arguments + 1))) first counts
+
+pub calls-within : CallsKeepWithin
+calls-within y sizes places at held to place f arguments small =
     let put : length (result_put y sizes to) ≤ result_words to = result-count y sizes to small in
     call-weight to place f arguments (length (called y sizes places at held to place f arguments))
-    (both (A ++ X)
-    (call_jump (at + 4 * length (call_begun y held place arguments)) (places f) ++ call_ended y sizes to)
-    (8 + (3 + (5 + (11 * length arguments + 1)))) (2 + (2 + result_words to)) begins (omega (arith, put)))
+    (both (call_begun y held place arguments)
+    (call_jump (at + 4 * length (call_begun y held place arguments)) (places.enters f) ++ call_ended y sizes to)
+    (8 + (3 + (5 + (11 * length arguments + 1)))) (2 + (2 + result_words to)) (begun-most y held place arguments) (omega (arith, put)))
+
+value-weight : (to : Destination) (place : Place) (sig : Signature) (a : Operand) (arguments : List Part) (n : ℕ) →
+    n ≤ operand_words a + 24 + (8 + (3 + (5 + (11 * length arguments + 1))) + (1 + (2 + result_words to))) →
+    n ≤ words_of (CallValue to place sig a arguments)
+value-weight (Temp d) place sig a arguments n h = omega (arith, h)
+value-weight (Area k) place sig a arguments n h = omega (arith, h)
+value-weight Nothing place sig a arguments n h = omega (arith, h)
+
+found-most : (count number : ℕ) (at : Place) → length (entry_found count number at) ≤ 24
+found-most count number at =
+    let tail : length (failed BadCall at ++ Load Ld x12 x5 (immediate_of 0) ∷ []) ≤ 11 + 1 =
+    both (failed BadCall at) (Load Ld x12 x5 (immediate_of 0) ∷ []) 11 1 (failed-count BadCall at) (omega arith) in
+    omega (arith, tail)
+
+-- so has that of a call by value
+pub values-within : (y : Layout) (sizes : List ℕ) (places : CallPlaces) (to : Destination) (place : Place) (sig : Signature) (a : Operand)
+    (arguments : List Part) → list_all area_fits sizes ≡ true →
+    length (called_value y sizes places to place sig a arguments) ≤ words_of (CallValue to place sig a arguments)
+values-within y sizes places to place sig a arguments small =
+    let N = length places.signatures in
+    let K = signature_number places.signatures sig in
+    let put : length (result_put y sizes to) ≤ result_words to = result-count y sizes to small in
+    value-weight to place sig a arguments (length (called_value y sizes places to place sig a arguments))
+    (both (value_found y N K place a) (call_begun y None place arguments ++ (value_jump ++ call_ended y sizes to)) (operand_words a + 24)
+    (8 + (3 + (5 + (11 * length arguments + 1))) + (1 + (2 + result_words to)))
+    (both (taken y x5 a) (entry_found N K place) (operand_words a) 24 (operand-count y x5 a) (found-most N K place))
+    (both (call_begun y None place arguments) (value_jump ++ call_ended y sizes to) (8 + (3 + (5 + (11 * length arguments + 1)))) (1 + (2 + result_words to))
+    (begun-most y None place arguments) (omega (arith, put))))

@@ -45,6 +45,7 @@ held_after (instructions.Locate d offset) = Some d
 held_after (instructions.Load d form spot) = Some d
 held_after (instructions.Alloc d a) = Some d
 held_after (instructions.Call to at f arguments) = destination_write to
+held_after (instructions.CallValue to at sig a arguments) = destination_write to
 held_after _ = None
 
 -- what x5 holds behind instructions; nothing is known of it where a block begins

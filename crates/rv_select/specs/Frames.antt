@@ -2,13 +2,14 @@
 use Rattle.std.specs.Prelude.{◌≡◌, ◌≢◌, ℕ, IsTrue, ◌∷◌, suc, ◌+◌, ◌-◌, ◌*◌, ◌/◌, ◌%◌, ◌^◌, ◌<◌, ◌≤◌, true, List, [], length, take}
 use Rattle.std.specs.Prelude.{drop, Option, Some, None, slice_get, if◌then◌else◌}
 use Rattle.std.specs.List.{list_all}
-use Rattle.tl_base.specs.declared.limits.TheConstants.{MAX_PRIVATE, PRIVATE_ADDRESS, REGION_ADDRESS}
+use Rattle.tl_base.specs.declared.limits.TheConstants.{PRIVATE_ADDRESS, REGION_ADDRESS}
 use Rattle.tl_base.specs.declared.limits.TheConstants.Limits.{MAX_MEMORY}
 use Rattle.tl_base.specs.declared.ids.FnId.{FnId}
 use Rattle.tl_base.specs.declared.place.Place.{Place}
 use Rattle.rv_isa.specs.declared.instr.Instr.{Instr}
 use Rattle.terra_words.specs.declared.words.FaultKind.TheVariants.{CallDepth, StackFull}
 use Rattle.rv_machine.specs.Word.{low}
+use Rattle.rv_machine.specs.Memory.{most_private}
 use Rattle.rv_machine.specs.Machine.{State, run_of}
 use Rattle.reg_alloc.specs.declared.assignment.Home.{Home}
 use Rattle.reg_alloc.specs.Right.{IsRight}
@@ -32,7 +33,7 @@ use Rattle.rv_select.specs.Places.{link_in, private_word, uses, value_in}
 use Rattle.rv_select.specs.Shapes.{place_number}
 use Rattle.rv_select.specs.Steps.{CountsLeft, Ends, EndsLeft, OnMore, with_count}
 use Rattle.rv_select.specs.Entering.{begun, entered, kept_offset, left, received, receiving, words_offset}
-use Rattle.rv_select.specs.Calls.{call_begun, called, returned}
+use Rattle.rv_select.specs.Calls.{call_begun, called, returned, CallPlaces}
 
 -- what is passed: a word, or the address of an area
 abbrev pub part_value : Layout → (base : ℕ) → World → Part → ℕ
@@ -90,7 +91,7 @@ pub record BeforeEntering (program : List (Option Instr)) (y : Layout) (bytes fr
   pub below : placed ≤ REGION_ADDRESS + size
   pub region : length m.region ≤ MAX_MEMORY
   pub region_is : size ≤ MAX_MEMORY
-  pub private : length m.private ≤ MAX_PRIVATE
+  pub private : length m.private ≤ most_private
   pub within : top ≤ length m.private
   pub least : 88 ≤ bytes
   pub room : bytes ≤ top
@@ -245,7 +246,7 @@ FramesKeepWithin =
 -- The code of a call has no more words than its weight, where no area has more than 128 bytes.
 abbrev pub CallsKeepWithin : Type 0
 CallsKeepWithin =
-    (y : Layout) (sizes : List ℕ) (places : FnId → ℕ) (at : ℕ) (held : Option ℕ) (to : Destination) (place : Place) (f : FnId)
+    (y : Layout) (sizes : List ℕ) (places : CallPlaces) (at : ℕ) (held : Option ℕ) (to : Destination) (place : Place) (f : FnId)
     (arguments : List Part) → IsTrue (list_all area_fits sizes) →
     length (called y sizes places at held to place f arguments) ≤ words_of (Call to place f arguments)
 

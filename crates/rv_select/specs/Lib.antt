@@ -26,3 +26,5 @@ pub mod Compared
 pub mod Asked
 -- What stands behind the end of a block.
 pub mod Settings
+-- The numbers of signatures.
+pub mod Signatures

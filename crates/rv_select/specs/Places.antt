@@ -13,17 +13,18 @@
 use Rattle.std.specs.Prelude.{◌≡◌, ℕ, ◌+◌, ◌*◌, ◌^◌, ◌<◌, ◌≤◌, Bool, true, false, ◌&&◌, ◌||◌, not, nat_eq, nat_le, nat_lt, List, take, drop}
 use Rattle.std.specs.Prelude.{length, Option, Some, None, slice_get, IsTrue, ◌⊎◌, [], ◌∷◌, if◌then◌else◌}
 use Rattle.std.specs.List.{list_any}
-use Rattle.tl_base.specs.declared.limits.TheConstants.{MAX_PRIVATE, PRIVATE_ADDRESS}
+use Rattle.tl_base.specs.declared.limits.TheConstants.{PRIVATE_ADDRESS}
 use Rattle.reg_alloc.specs.declared.assignment.Home.{Home}
 use Rattle.reg_alloc.specs.declared.assignment.Home.TheVariants.{Register, Slot}
 use Rattle.terra_memory.specs.Numbers.{number_of}
+use Rattle.rv_machine.specs.Memory.{most_private}
 use Rattle.rv_machine.specs.Machine.{State}
 use Rattle.terra_memory.specs.Region.{Contents, IsLawful, end_address, heap_limit}
 use Rattle.tac_form.specs.declared.tac.Operand.{Operand}
 use Rattle.tac_form.specs.declared.tac.Operand.TheVariants.{Temp, Constant}
 use Rattle.tac_form.specs.declared.tac.Block.{Block}
 use Rattle.tac_form.specs.declared.tac.Instruction.{Instruction}
-use Rattle.tac_form.specs.declared.tac.Instruction.TheVariants.{Call}
+use Rattle.tac_form.specs.declared.tac.Instruction.TheVariants.{Call, CallValue}
 use Rattle.tac_form.specs.declared.tac.Tac.{Tac}
 use Rattle.tac_form.specs.Flow.{Temps, Areas}
 use Rattle.tac_form.specs.Live.{has}
@@ -44,6 +45,7 @@ is_near code = nat_lt (code_words code) 1000
 -- whether a function makes calls
 abbrev pub is_call : Instruction → Bool
 is_call (Call to at f arguments) = true
+is_call (CallValue to at sig a arguments) = true
 is_call i = false
 
 abbrev pub has_call : Block → Bool
@@ -185,7 +187,7 @@ AreBytes (b ∷ bs) = (b < 256) × AreBytes bs
 pub record HasFrame (y : Layout) (base : ℕ) (m : State) : Type 0 where
   pub pointer : m.registers 2 ≡ PRIVATE_ADDRESS + base
   pub within : base + frame_bytes y ≤ length m.private
-  pub private : length m.private ≤ MAX_PRIVATE
+  pub private : length m.private ≤ most_private
   pub bytes : AreBytes m.private
 
 -- What three-address code sees: the temporaries and areas of an activation, the region, the address of the activation's frame

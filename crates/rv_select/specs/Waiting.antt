@@ -1,6 +1,6 @@
 -- A program of several functions in the machine, and what the machine holds for the calls that wait.
 use Rattle.std.specs.Prelude.{◌≡◌, ◌≢◌, ℕ, zero, suc, ◌+◌, ◌*◌, ◌%◌, ◌^◌, ◌<◌, ◌≤◌, if◌then◌else◌, List, [], ◌∷◌, ◌++◌, length, take, drop}
-use Rattle.std.specs.Prelude.{Bool, false, Option, Some, None, slice_get, IsTrue}
+use Rattle.std.specs.Prelude.{Bool, false, Option, Some, None, slice_get, map, IsTrue}
 use Rattle.tl_base.specs.declared.limits.TheConstants.{REGION_ADDRESS}
 use Rattle.tl_base.specs.declared.ids.FnId.{FnId}
 use Rattle.tl_base.specs.declared.place.Place.{Place}
@@ -11,11 +11,13 @@ use Rattle.rv_machine.specs.declared.stops.Stop.TheVariants as stops
 use Rattle.rv_machine.specs.Machine.{State, after_output, run_of, stands}
 use Rattle.terra_memory.specs.Region.{end_address}
 use Rattle.terra_words.specs.Runs.{Value, word, Returned, Fault, Stuck, Over, More}
+use Rattle.tac_form.specs.declared.tac.Operand.{Operand}
 use Rattle.tac_form.specs.declared.tac.Part.{Part}
 use Rattle.tac_form.specs.declared.tac.Destination.{Destination}
 use Rattle.tac_form.specs.declared.tac.Instruction.{Instruction}
-use Rattle.tac_form.specs.declared.tac.Instruction.TheVariants.{Call}
+use Rattle.tac_form.specs.declared.tac.Instruction.TheVariants.{Call, CallValue}
 use Rattle.tac_form.specs.declared.tac.Block.{Block}
+use Rattle.tac_form.specs.declared.tac.Signature.{Signature}
 use Rattle.tac_form.specs.declared.tac.Tac.{Tac}
 use Rattle.tac_form.specs.Flow as tac
 use Rattle.tac_form.specs.Flow.{Caller, Program, Goes, Stops}
@@ -31,7 +33,8 @@ use Rattle.rv_select.specs.Pairs.{plain_of, reads_of}
 use Rattle.rv_select.specs.Shapes.{held_after, start_of}
 use Rattle.rv_select.specs.Steps.{CountsLeft, EndsLeft, OnMore, world_of}
 use Rattle.rv_select.specs.Entering.{begun, kept_offset}
-use Rattle.rv_select.specs.Calls.{all_has_code, block_starts, call_begun, function_code, instruction_code}
+use Rattle.rv_select.specs.Signatures.{signature_number}
+use Rattle.rv_select.specs.Calls.{CallKind, CallPlaces, all_has_code, block_starts, call_front, call_of, function_code, instruction_code}
 
 -- Where a function is: the homes of its temporaries, and the address at which its code begins.
 pub record Placed : Type 0 where
@@ -49,12 +52,40 @@ entry_of (Some code) x = x.at + 4 * length (begun code)
 abbrev pub entries_of : Program → Image → FnId → ℕ
 entries_of p image f = entry_of (p.code f) (image f)
 
--- as many parts are passed as the function takes
-abbrev pub PassesAll : Program → Tac → Type 0
-PassesAll p code =
-    (b k : ℕ) (block : Block) (to : Destination) (at : Place) (f : FnId) (arguments : List Part) (callee : Tac) →
-    slice_get code.blocks b ≡ Some block → slice_get block.instructions k ≡ Some (Call to at f arguments) → p.code f ≡ Some callee →
-    length arguments ≡ length callee.parameters
+-- the signatures of the functions that stand as values, in order
+abbrev pub signature_in : Option Tac → Signature
+signature_in None = record { params = []; result = record { 0 = 0 } }
+signature_in (Some code) = code.signature
+
+abbrev pub signatures_of : Program → List Signature
+signatures_of p = map (λ f. signature_in (p.code f)) p.entries
+
+-- the places to which calls go in a program
+abbrev pub places_of : Program → Image → CallPlaces
+places_of p image = record { enters = entries_of p image; signatures = signatures_of p }
+
+-- A function that stands as a value has its entry in private memory: where calls enter it, and the number of its signature.
+pub record IsEntryIn (p : Program) (image : Image) (m : State) (at : ℕ) (f : FnId) : Type 0 where
+  pub code : Tac
+  pub function : p.code f ≡ Some code
+  pub address : private_word m at ≡ entries_of p image f
+  pub signature : private_word m (at + 8) ≡ signature_number (signatures_of p) code.signature
+
+-- All entries stand at the begin of private memory, 16 bytes each.
+abbrev pub AreEntriesIn : Program → Image → State → Type 0
+AreEntriesIn p image m = (i : ℕ) (f : FnId) → slice_get p.entries i ≡ Some f → IsEntryIn p image m (16 * i) f
+
+-- As many parts are passed as the function takes that is called: by its number, or by a value that it stands as, where it has the
+-- signature of the call.
+pub record PassesAll (p : Program) (code : Tac) : Type 0 where
+  pub by_name : (b k : ℕ) (block : Block) (to : Destination) (at : Place) (f : FnId) (arguments : List Part) (callee : Tac) →
+      slice_get code.blocks b ≡ Some block → slice_get block.instructions k ≡ Some (Call to at f arguments) → p.code f ≡ Some callee →
+      length arguments ≡ length callee.parameters
+  pub by_value : (b k : ℕ) (block : Block) (to : Destination) (at : Place) (sig : Signature) (a : Operand) (arguments : List Part) (v : ℕ)
+      (f : FnId) (callee : Tac) →
+      slice_get code.blocks b ≡ Some block → slice_get block.instructions k ≡ Some (CallValue to at sig a arguments) →
+      tac.entry p.entries v ≡ Some f → p.code f ≡ Some callee → IsTrue (tac.same_signature sig callee.signature) →
+      length arguments ≡ length callee.parameters
 
 -- all functions count where one does
 abbrev pub CountsAlike : Program → Tac → Type 0
@@ -70,9 +101,9 @@ pub record IsPlaced (p : Program) (image : Image) (program : List (Option Instr)
   pub passes : PassesAll p code
   pub alike : CountsAlike p code
   pub aligned : x.at % 4 ≡ 0
-  pub near : x.at + 4 * length (function_code (layout_of code x.homes) code (entries_of p image) x.at) + 256 ≤ 2 ^ 30
+  pub near : x.at + 4 * length (function_code (layout_of code x.homes) code (places_of p image) x.at) + 256 ≤ 2 ^ 30
   pub frame : frame_bytes (layout_of code x.homes) ≤ most
-  pub stands : Stands program x.at (function_code (layout_of code x.homes) code (entries_of p image) x.at)
+  pub stands : Stands program x.at (function_code (layout_of code x.homes) code (places_of p image) x.at)
 
 -- Each function of a program stands in the machine.
 abbrev pub IsLinked : Program → Image → List (Option Instr) → (most : ℕ) → Type 0
@@ -80,7 +111,7 @@ IsLinked p image program most =
     (f : FnId) (code : Tac) → p.code f ≡ Some code → IsPlaced p image program most code (image f)
 
 -- where an instruction stands, by where the first does, and what x5 holds there
-abbrev pub instruction_at : Layout → (sizes : List ℕ) → (places : FnId → ℕ) → (at : ℕ) → (held : Option ℕ) → List Instruction → ℕ → ℕ
+abbrev pub instruction_at : Layout → (sizes : List ℕ) → (places : CallPlaces) → (at : ℕ) → (held : Option ℕ) → List Instruction → ℕ → ℕ
 instruction_at y sizes places at held is zero = at
 instruction_at y sizes places at held [] (suc k) = at
 instruction_at y sizes places at held (i ∷ is) (suc k) =
@@ -99,7 +130,7 @@ plain_in reads (Some b) = plain_of reads b
 abbrev pub place_in : Program → Image → Tac → Placed → (block at : ℕ) → ℕ
 place_in p image code x b k =
     let y : Layout = layout_of code x.homes in
-    instruction_at y code.areas (entries_of p image) (start_of (block_starts y code x.at) b) None
+    instruction_at y code.areas (places_of p image) (start_of (block_starts y code x.at) b) None
     (plain_in (reads_of code) (slice_get code.blocks b)) k
 
 abbrev pub held_in : Tac → (block at : ℕ) → Option ℕ
@@ -110,11 +141,11 @@ abbrev pub restored : Layout → (base : ℕ) → State → State
 restored y base m =
     record m { registers = λ r. if uses y r then private_word m (base + kept_offset r) else m.registers r }
 
--- Below the frame there is room for each call that may still be made.
-pub record HasRoom (most depth base : ℕ) : Type 0 where
+-- Below the frame there is room for each call that may still be made, and for the entries, of which there are so many.
+pub record HasRoom (entries most depth base : ℕ) : Type 0 where
   pub rest : ℕ
   pub calls : rest + depth ≡ 511
-  pub room : rest * most ≤ base
+  pub room : rest * most + 16 * entries ≤ base
 
 -- A caller that waits, whose frame begins at an offset: the return address is behind its call, and all that it has in use afterwards
 -- stands where its function's layout gives it a home, but for the result.
@@ -125,12 +156,13 @@ pub record Waiting (p : Program) (image : Image) (most : ℕ) (c : Caller) (dept
   pub in_function : slice_get code.blocks c.waits.block ≡ Some block
   pub before : ℕ
   pub at : c.waits.at ≡ suc before
+  pub kind : CallKind
   pub place : Place
-  pub callee : FnId
   pub arguments : List Part
-  pub in_block : slice_get (plain_of (reads_of code) block) before ≡ Some (Call c.to place callee arguments)
+  pub in_block : slice_get (plain_of (reads_of code) block) before ≡ Some (call_of kind c.to place arguments)
   pub returns : link ≡ place_in p image code (image c.waits.function) c.waits.block before
-      + 4 * length (call_begun (layout_of code (image c.waits.function).homes) (held_in code c.waits.block before) place arguments) + 8
+      + 4 * length (call_front (layout_of code (image c.waits.function).homes) (places_of p image)
+      (place_in p image code (image c.waits.function) c.waits.block before) (held_in code c.waits.block before) kind place arguments)
   pub values : (t : ℕ) → InUse (graph_of code) c.waits.block c.waits.at t → destination_write c.to ≢ Some t →
       HasHome (layout_of code (image c.waits.function).homes) t → word_at base m (home_of (layout_of code (image c.waits.function).homes) t)
       ≡ c.waits.temps t
@@ -141,7 +173,7 @@ pub record Waiting (p : Program) (image : Image) (most : ℕ) (c : Caller) (dept
   pub short : (n : ℕ) → n < length code.areas → length (c.waits.areas n) ≤ most_moved
   pub area_bytes : (n : ℕ) → n < length code.areas → AreBytes (c.waits.areas n)
   pub placed_is : c.waits.base ≡ placed
-  pub room : HasRoom most depth base
+  pub room : HasRoom (length p.entries) most depth base
 
 -- All callers wait, the last one first, each with its return address in its frame. The first function was entered with address 0 as the
 -- return address, under the ends of private memory and of the region, which has so many bytes.
@@ -157,7 +189,7 @@ Waits p image most size (c ∷ cs) link base placed m =
 -- The machine stands where three-address code does in a state: before the code of the next instruction, or of what ends the block. Between
 -- a comparison and its branch, where both have one code, it never stands. It holds what three-address code sees, in x5 what the
 -- instruction before left there, and in x9 the counts that are left, where code counts, and all callers wait; and below the frame there
--- is room for each call that may still be made.
+-- is room for each call that may still be made, and all entries stand.
 pub record StandsIn (p : Program) (image : Image) (program : List (Option Instr)) (most size : ℕ) (s : tac.State) (base : ℕ) (m : State) :
     Type 0 where
   pub code : Tac
@@ -169,7 +201,8 @@ pub record StandsIn (p : Program) (image : Image) (program : List (Option Instr)
   pub counts : CountsLeft code.counts s.left m
   pub frame : s.here.base + code.frame ≤ end_address s.region
   pub region : length s.region.bytes ≡ size
-  pub room : HasRoom most (length s.callers) base
+  pub room : HasRoom (length p.entries) most (length s.callers) base
+  pub entries : AreEntriesIn p image m
   pub waits : Waits p image most size s.callers (link_in (layout_of code (image s.here.function).homes) base m)
       (base + frame_bytes (layout_of code (image s.here.function).homes))
       (s.here.base + code.frame) (restored (layout_of code (image s.here.function).homes) base m)

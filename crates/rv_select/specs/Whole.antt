@@ -1,12 +1,13 @@
 -- Runs of a whole program in the machine, and how many steps they take.
 use Rattle.std.specs.Prelude.{◌≡◌, ◌≢◌, ℕ, ◌+◌, ◌-◌, ◌*◌, ◌^◌, ◌<◌, ◌≤◌, List, [], ◌∷◌, ◌++◌, length, map, if◌then◌else◌}
 use Rattle.std.specs.Prelude.{Bool, true, false, nat_eq, Option, Some, None, slice_get}
-use Rattle.tl_base.specs.declared.limits.TheConstants.{MAX_CALLS, MAX_PRIVATE, PRIVATE_ADDRESS}
+use Rattle.tl_base.specs.declared.limits.TheConstants.{MAX_CALLS, PRIVATE_ADDRESS}
 use Rattle.tl_base.specs.declared.ids.FnId.{FnId}
 use Rattle.tl_base.specs.declared.place.Place.{Place}
 use Rattle.rv_isa.specs.declared.instr.Instr.{Instr}
 use Rattle.rv_machine.specs.declared.stops.MachineKind.TheVariants.{Break}
 use Rattle.rv_machine.specs.declared.stops.Stop.TheVariants as stops
+use Rattle.rv_machine.specs.Memory.{most_private}
 use Rattle.rv_machine.specs.Machine.{State, after_output, run_of, stands}
 use Rattle.terra_words.specs.declared.words.FaultKind.{FaultKind}
 use Rattle.terra_words.specs.Words.{fault_number}
@@ -25,11 +26,11 @@ use Rattle.rv_select.specs.Places.{AreBytes, layout_of}
 use Rattle.rv_select.specs.Calls.{call_ended, function_code, head_code}
 use Rattle.rv_select.specs.Shapes.{place_number}
 use Rattle.rv_select.specs.Steps.{CountsLeft}
-use Rattle.rv_select.specs.Waiting.{Image, IsLinked, Placed, StandsIn, Stepped, counts_in, entries_of, place_in}
+use Rattle.rv_select.specs.Waiting.{AreEntriesIn, Image, IsLinked, Placed, StandsIn, Stepped, counts_in, place_in, places_of}
 
 -- where the code of a function ends
 abbrev pub end_in : Program → Image → Tac → Placed → ℕ
-end_in p image code x = x.at + 4 * length (function_code (layout_of code x.homes) code (entries_of p image) x.at)
+end_in p image code x = x.at + 4 * length (function_code (layout_of code x.homes) code (places_of p image) x.at)
 
 -- how many bytes of a function's code stand behind a place in it
 abbrev pub bytes_behind : Program → Image → FnId → Option Tac → (block at : ℕ) → ℕ
@@ -60,7 +61,7 @@ bytes_left p image words s =
 abbrev pub AreShort : Program → Image → (words : ℕ) → Type 0
 AreShort p image words =
     (f : FnId) (code : Tac) → p.code f ≡ Some code →
-    length (function_code (layout_of code (image f).homes) code (entries_of p image) (image f).at) ≤ words
+    length (function_code (layout_of code (image f).homes) code (places_of p image) (image f).at) ≤ words
 
 -- The machine writes these bytes, and then the run is over in at most so many steps: it gives back a word, or fails. Where code counts, so
 -- many counts are left then.
@@ -161,7 +162,7 @@ pub record Starts (at : ℕ) (region : Contents) (arguments : List ℕ) (m : Sta
   pub region_is : m.region ≡ region.bytes
   pub bytes : AreBytes region.bytes
   pub lawful : IsLawful region
-  pub private : length m.private ≤ MAX_PRIVATE
+  pub private : length m.private ≤ most_private
   pub are_bytes : AreBytes m.private
 
 -- three-address code before the first function begins, with a count
@@ -176,13 +177,14 @@ before_entry f region n = record {
 
 -- A function begins as the entry, with at most eight words as arguments, and with a number of counts in x9 if it counts: the machine comes
 -- to where its first block begins, in at most as many steps as the code before that has words; or the run ends, where the data stack has
--- no room for its frame.
+-- no room for its frame. All entries stand in private memory, below the frames of all calls that may be made.
 abbrev pub EntriesAreCarried : Type 0
 EntriesAreCarried =
     (p : Program) (image : Image) (program : List (Option Instr)) (most n : ℕ) (f : FnId) (code : Tac) (arguments : List ℕ)
     (region : Contents) (m : State) →
     IsLinked p image program most → p.code f ≡ Some code → Starts (image f).at region arguments m → CountsLeft code.counts n m →
-    length arguments ≤ 8 → length arguments ≡ length code.parameters → MAX_CALLS * most ≤ length m.private →
+    length arguments ≤ 8 → length arguments ≡ length code.parameters →
+    MAX_CALLS * most + 16 * length p.entries ≤ length m.private → AreEntriesIn p image m →
     Stepped p image program most (length region.bytes) n (length (head_code (layout_of code (image f).homes) code)) (before_entry f region n)
     m
     (enter code.place f (Some code) (map word arguments) (end_address region) [] (before_entry f region n))
@@ -196,7 +198,8 @@ ProgramsAreCarried =
     (arguments : List ℕ) (m : State)
     (r : Run) → IsLinked p image program most → AreShort p image words → p.code f ≡ Some code →
     Starts (image f).at (fresh memory statics) arguments m → CountsLeft code.counts n m →
-    length arguments ≤ 8 → length arguments ≡ length code.parameters → MAX_CALLS * most ≤ length m.private →
+    length arguments ≤ 8 → length arguments ≡ length code.parameters →
+    MAX_CALLS * most + 16 * length p.entries ≤ length m.private → AreEntriesIn p image m →
     (ran : TacRun p statics memory n f (map word arguments) r) →
     Ended code.counts program ((n + 1) * words)
     (left_after (begun p statics memory n f (map word arguments)) (left_in p ran.0) n) (before_entry f (fresh memory statics) n) m r

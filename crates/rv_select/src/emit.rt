@@ -43,6 +43,9 @@ pub(crate) const X10: Register = Register { number: 10 };
 
 pub(crate) const X11: Register = Register { number: 11 };
 
+/// Where a function that is called by a value is entered.
+pub(crate) const X12: Register = Register { number: 12 };
+
 pub(crate) const X17: Register = Register { number: 17 };
 
 /// One instruction.

@@ -53,7 +53,8 @@ pub fn held_after(instruction: &Instruction) -> Option<u64>
         | Instruction::Locate(temp, _)
         | Instruction::Load(temp, _, _)
         | Instruction::Alloc(temp, _)
-        | Instruction::Call(Destination::Temp(temp), _, _, _) => Some(*temp),
+        | Instruction::Call(Destination::Temp(temp), _, _, _)
+        | Instruction::CallValue(Destination::Temp(temp), _, _, _, _) => Some(*temp),
         Instruction::Copy(temp, a) if !is_zero(*a) => Some(*temp),
         _ => None,
     }

@@ -6,6 +6,7 @@ ghost use Rattle.rv_select.specs.Frames.{ParametersAreReceived, ParametersKeepWi
 ghost use Rattle.rv_select.specs.Waiting.{CallersGoOnWaiting};
 ghost use Rattle.rv_select.specs.Whole.{EntriesAreCarried, ProgramsAreCarried, RunsAreCarried, StepsAreCarried};
 ghost use Rattle.rv_select.specs.Steps.{ExitsAreCarried, ExitsKeepWithin, InstructionsAreCarried, ShapesKeepWithin};
+ghost use Rattle.rv_select.specs.Signatures.{SignaturesAreNumbered};
 
 /// The code of an instruction carries it out: from each state of the machine that holds what three-address code sees in a state, it
 /// comes to one that holds what three-address code sees a step later, in at least one and at most as many steps as the
@@ -103,4 +104,9 @@ pub fn entries_are_carried()
 /// at most as many times a function's words as one more than the count.
 pub fn programs_are_carried()
     ensures { ProgramsAreCarried }
+{}
+
+/// Signatures are told apart by their numbers: two have one number exactly where they are the same, if an entry has one of them.
+pub fn signatures_are_numbered()
+    ensures { SignaturesAreNumbered }
 {}

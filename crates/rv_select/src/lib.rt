@@ -28,6 +28,7 @@ pub mod selected;
 pub mod selection;
 pub mod settings;
 mod short;
+pub mod signatures;
 
 pub use calls::{push_call_jump, push_units};
 pub use compared::push_compared;
@@ -37,8 +38,9 @@ pub use law::{
     calls_are_begun, calls_keep_within, compares_are_carried, compares_keep_within,
     exits_are_carried, exits_keep_within, frames_keep_within, functions_are_entered,
     functions_are_left, instructions_are_carried, parameters_are_received, parameters_keep_within,
-    shapes_keep_within,
+    shapes_keep_within, signatures_are_numbered,
 };
 pub use selectable::all_has_code;
 pub use selected::{Call, Code};
 pub use selection::{select, select_counted};
+pub use signatures::{same_signature, signature_number};

@@ -15,7 +15,6 @@ fn has_code(instruction: &Instruction) -> bool
 {
     match instruction {
         Instruction::Move(_, _, size) | Instruction::Clear(_, size) => *size <= MAX_VALUE_BYTES,
-        Instruction::CallValue(_, _, _, _, _) => false,
         _ => true,
     }
 }
@@ -53,8 +52,8 @@ fn block_has_code(block: &Block) -> bool
     instructions_have_code(block.instructions.as_slice()) && has_exit_code(&block.exit)
 }
 
-/// Whether each instruction and each exit of a function has machine code: whether none calls a function value, and no more bytes
-/// are moved or cleared at once than an area has. `select` asks for it.
+/// Whether each instruction and each exit of a function has machine code: whether no more bytes are moved or cleared at once than an
+/// area has, and none ends the run by the fault of calling a value, which calls of values do by themselves. `select` asks for it.
 pub fn all_has_code(tac: &Tac) -> bool
     ensures { result ≡ all_has_code tac.now }
 {

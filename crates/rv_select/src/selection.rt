@@ -3,7 +3,7 @@
 ghost use Rattle.std.specs.Prelude.{◌≡◌, true, ◌*◌, ◌+◌, ◌^◌, ◌<◌, ◌≤◌, ◌&&◌, [], ◌∷◌, ◌++◌, map, length, IfOk, IsTrue, None, OnOk};
 ghost use Rattle.std.specs.List.{list_all};
 ghost use Rattle.rv_isa.specs.Table.{word_of};
-ghost use Rattle.rv_select.specs.Calls.{IsSelected, KeepsWithin, all_has_code, block_code, block_has_code, block_starts, blocks_calls};
+ghost use Rattle.rv_select.specs.Calls.{IsSelected, KeepsWithin, all_has_code, block_code, block_has_code, block_starts, blocks_calls, nowhere, at_zero};
 ghost use Rattle.rv_select.specs.Calls.{blocks_code, call_jump, called, end_code, exit_code, has_code, has_exit_code, head_code};
 ghost use Rattle.rv_select.specs.Calls.{held_behind, instruction_calls, instruction_code, instructions_calls, instructions_code};
 ghost use Rattle.rv_select.specs.Calls.{jump_unless_last, last_address, pair_code, returned, starts_from};
@@ -15,7 +15,9 @@ ghost use Rattle.rv_select.specs.Shapes.{jump, start_of};
 ghost use Rattle.tac_form.specs.declared.tac.Instruction.TheVariants as instructions;
 
 use crate::asked::asked_homes;
-use crate::calls::{makes_calls, push_call_begun, push_call_ended, push_call_jump, push_given};
+use crate::calls::{
+    makes_calls, push_call_begun, push_call_ended, push_call_jump, push_called_value, push_given,
+};
 use crate::compared::push_compared;
 use crate::entries::{push_begun, push_entered, push_left, push_received};
 use crate::exits::{push_exit, push_jump};
@@ -26,7 +28,7 @@ use crate::settings::{Extent, Setting, setting_of};
 use crate::short::{is_near, is_short};
 use reg_alloc::{Assignment, Home};
 use std::alloc::Global;
-use tac_form::{Block, Destination, Exit, Instruction, Part, Tac};
+use tac_form::{Block, Destination, Exit, Instruction, Part, Signature, Tac};
 use tl_base::limits::MAX_VALUE_BYTES;
 use tl_base::{FnId, NoMemory, Place};
 
@@ -69,7 +71,7 @@ fn push_called(
     arguments: &[Part],
 ) -> Result<(), NoMemory>
     ensures code { OnOk result (code.new.items ≡ code.old.items
-        ++ map word_of (called (with_counting homes.now counts) sizes.now (λ f. 0) (4 * length code.old.items) held to at callee
+        ++ map word_of (called (with_counting homes.now counts) sizes.now nowhere (4 * length code.old.items) held to at callee
         arguments.now)) }
     ensures calls { OnOk result (calls.new.items ≡ calls.old.items
         ++ instruction_calls (with_counting homes.now counts) (length code.old.items) held (instructions.Call to at callee arguments.now)) }
@@ -86,12 +88,13 @@ fn push_one(
     homes: &[Option<Home>],
     sizes: &[u64],
     counts: bool,
+    signatures: &[Signature],
     held: Option<u64>,
     instruction: &Instruction,
 ) -> Result<(), NoMemory>
     requires { IsTrue (has_code instruction.now) }
     ensures code { OnOk result (code.new.items ≡ code.old.items
-        ++ map word_of (instruction_code (with_counting homes.now counts) sizes.now (λ f. 0) (4 * length code.old.items) held
+        ++ map word_of (instruction_code (with_counting homes.now counts) sizes.now (at_zero signatures.now) (4 * length code.old.items) held
         instruction.now)) }
     ensures calls { OnOk result (calls.new.items ≡ calls.old.items
         ++ instruction_calls (with_counting homes.now counts) (length code.old.items) held instruction.now) }
@@ -109,6 +112,18 @@ fn push_one(
             *callee,
             arguments.as_slice(),
         ),
+        Instruction::CallValue(to, at, signature, a, arguments) => push_called_value(
+            code,
+            homes,
+            sizes,
+            counts,
+            signatures,
+            *to,
+            *at,
+            signature,
+            *a,
+            arguments.as_slice(),
+        ),
         _ => push_instruction(code, homes, held, instruction),
     }
 }
@@ -120,11 +135,12 @@ fn push_all(
     homes: &[Option<Home>],
     sizes: &[u64],
     counts: bool,
+    signatures: &[Signature],
     instructions: &[Instruction],
 ) -> Result<Option<u64>, NoMemory>
     requires { IsTrue (list_all has_code instructions.now) }
     ensures code { OnOk result (code.new.items ≡ code.old.items
-        ++ map word_of (instructions_code (with_counting homes.now counts) sizes.now (λ f. 0) (4 * length code.old.items) None
+        ++ map word_of (instructions_code (with_counting homes.now counts) sizes.now (at_zero signatures.now) (4 * length code.old.items) None
         instructions.now)) }
     ensures calls { OnOk result (calls.new.items ≡ calls.old.items
         ++ instructions_calls (with_counting homes.now counts) sizes.now (length code.old.items) None instructions.now) }
@@ -132,7 +148,16 @@ fn push_all(
 {
     let mut held = None;
     for instruction in instructions {
-        push_one(code, calls, homes, sizes, counts, held, instruction)?;
+        push_one(
+            code,
+            calls,
+            homes,
+            sizes,
+            counts,
+            signatures,
+            held,
+            instruction,
+        )?;
         held = held_after(instruction);
     }
     Ok(held)
@@ -254,6 +279,7 @@ fn push_block(
     calls: &mut Vec<Call>,
     homes: &[Option<Home>],
     sizes: &[u64],
+    signatures: &[Signature],
     starts: &[u64],
     last: u64,
     reads: &[Reads],
@@ -263,7 +289,7 @@ fn push_block(
 ) -> Result<(), NoMemory>
     requires { IsTrue (block_has_code block.now) }
     ensures code { OnOk result (code.new.items ≡ code.old.items
-        ++ map word_of (block_code (with_reads homes.now reads.now extent) sizes.now (λ f. 0) (start_of starts.now) last
+        ++ map word_of (block_code (with_reads homes.now reads.now extent) sizes.now (at_zero signatures.now) (start_of starts.now) last
         (4 * length code.old.items) rest block.now)) }
     ensures calls { OnOk result (calls.new.items ≡ calls.old.items
         ++ instructions_calls (with_reads homes.now reads.now extent) sizes.now (length code.old.items) None
@@ -271,7 +297,7 @@ fn push_block(
 {
     let pair = pair_of(reads, block);
     let plain = plain_of(block.instructions.as_slice(), pair);
-    let held = push_all(code, calls, homes, sizes, extent.counts, plain)?;
+    let held = push_all(code, calls, homes, sizes, extent.counts, signatures, plain)?;
     let setting = setting_of(extent, rest);
     push_block_end(code, homes, setting, held, starts, last, pair, &block.exit)
 }
@@ -283,6 +309,7 @@ fn push_blocks(
     begins: &mut Vec<u64>,
     homes: &[Option<Home>],
     sizes: &[u64],
+    signatures: &[Signature],
     starts: &[u64],
     last: u64,
     reads: &[Reads],
@@ -291,7 +318,7 @@ fn push_blocks(
 ) -> Result<(), NoMemory>
     requires { IsTrue (list_all block_has_code blocks.now) }
     ensures code { OnOk result (code.new.items ≡ code.old.items
-        ++ map word_of (blocks_code (with_reads homes.now reads.now extent) sizes.now (λ f. 0) (start_of starts.now) last
+        ++ map word_of (blocks_code (with_reads homes.now reads.now extent) sizes.now (at_zero signatures.now) (start_of starts.now) last
         (4 * length code.old.items) blocks.now)) }
     ensures calls { OnOk result (calls.new.items ≡ calls.old.items
         ++ blocks_calls (with_reads homes.now reads.now extent) sizes.now (length code.old.items) blocks.now) }
@@ -303,7 +330,7 @@ fn push_blocks(
         rest = rest.saturating_sub(1);
         begins.push(address(code)?)?;
         push_block(
-            code, calls, homes, sizes, starts, last, reads, extent, rest, block,
+            code, calls, homes, sizes, signatures, starts, last, reads, extent, rest, block,
         )?;
     }
     Ok(())
@@ -395,6 +422,7 @@ fn push_body(
     begins: &mut Vec<u64>,
     homes: &[Option<Home>],
     tac: &Tac,
+    signatures: &[Signature],
     starts: &[u64],
     last: u64,
     reads: &[Reads],
@@ -404,7 +432,7 @@ fn push_body(
     requires reads { reads.now ≡ reads_of (as_counting extent.counts tac.now) }
     requires extent { extent ≡ extent_of (as_counting extent.counts tac.now) }
     ensures code { OnOk result (code.new.items ≡ code.old.items
-        ++ map word_of (blocks_code (layout_with (as_counting extent.counts tac.now) homes.now) tac.now.areas (λ f. 0)
+        ++ map word_of (blocks_code (layout_with (as_counting extent.counts tac.now) homes.now) tac.now.areas (at_zero signatures.now)
         (start_of starts.now) last (4 * length code.old.items) tac.now.blocks)) }
     ensures calls { OnOk result (calls.new.items ≡ calls.old.items
         ++ blocks_calls (layout_with (as_counting extent.counts tac.now) homes.now) tac.now.areas (length code.old.items)
@@ -419,6 +447,7 @@ fn push_body(
         begins,
         homes,
         tac.areas.as_slice(),
+        signatures,
         starts,
         last,
         reads,
@@ -453,6 +482,7 @@ fn find_places(
     alloc: Global,
     homes: &[Option<Home>],
     tac: &Tac,
+    signatures: &[Signature],
     reads: &[Reads],
     extent: Extent,
 ) -> Result<Places, NoMemory>
@@ -474,6 +504,7 @@ fn find_places(
         &mut starts,
         homes,
         tac,
+        signatures,
         &[],
         0,
         reads,
@@ -488,17 +519,18 @@ fn select_with(
     alloc: Global,
     tac: &Tac,
     assignment: &Assignment,
+    signatures: &[Signature],
     counts: bool,
 ) -> Result<Code, NoMemory>
     requires { IsTrue (all_has_code tac.now) }
-    ensures selected { IfOk result (λ code. IsSelected (as_counting counts tac.now) assignment.now code) }
+    ensures selected { IfOk result (λ code. IsSelected (as_counting counts tac.now) assignment.now signatures.now code) }
     ensures within { IfOk result (λ code. KeepsWithin (as_counting counts tac.now) assignment.now code) }
 {
     let reads = reads_of(alloc, tac)?;
     let given = asked_homes(alloc, tac, &reads, assignment.as_slice())?;
     let homes = given.as_slice();
     let extent = extent_of(tac, counts);
-    let places = find_places(alloc, homes, tac, &reads, extent)?;
+    let places = find_places(alloc, homes, tac, signatures, &reads, extent)?;
     let mut words = Vec::new(alloc);
     let mut calls = Vec::new(alloc);
     let mut starts = Vec::new(alloc);
@@ -509,6 +541,7 @@ fn select_with(
         &mut starts,
         homes,
         tac,
+        signatures,
         &places.starts,
         places.last,
         &reads,
@@ -524,23 +557,34 @@ fn select_with(
 }
 
 /// The machine's code of a function by its three-address code and an assignment. Its temporaries stand where the assignment says, but for
-/// those whose words are only ever taken from x5, and parameters that have a slot, which stay where they are passed.
-pub fn select(alloc: Global, tac: &Tac, assignment: &Assignment) -> Result<Code, NoMemory>
+/// those whose words are only ever taken from x5, and parameters that have a slot, which stay where they are passed. Functions that stand
+/// as values have these signatures, in order.
+pub fn select(
+    alloc: Global,
+    tac: &Tac,
+    assignment: &Assignment,
+    signatures: &[Signature],
+) -> Result<Code, NoMemory>
     requires { IsTrue (all_has_code tac.now) }
-    ensures selected { IfOk result (λ code. IsSelected tac.now assignment.now code) }
+    ensures selected { IfOk result (λ code. IsSelected tac.now assignment.now signatures.now code) }
     // By the weights of three-address code: at most 250 words and 136 private bytes a typed node, and 65,536 bytes more, where the code
     // is sized.
     ensures within { IfOk result (λ code. KeepsWithin tac.now assignment.now code) }
 {
-    select_with(alloc, tac, assignment, tac.counts)
+    select_with(alloc, tac, assignment, signatures, tac.counts)
 }
 
 /// The same of code that counts, whether the three-address code says so or not: x9 holds the counts that are left, and before each count
 /// one is taken from it, or an EBREAK is reached where x9 is 0.
-pub fn select_counted(alloc: Global, tac: &Tac, assignment: &Assignment) -> Result<Code, NoMemory>
+pub fn select_counted(
+    alloc: Global,
+    tac: &Tac,
+    assignment: &Assignment,
+    signatures: &[Signature],
+) -> Result<Code, NoMemory>
     requires { IsTrue (all_has_code tac.now) }
-    ensures selected { IfOk result (λ code. IsSelected (as_counting true tac.now) assignment.now code) }
+    ensures selected { IfOk result (λ code. IsSelected (as_counting true tac.now) assignment.now signatures.now code) }
     ensures within { IfOk result (λ code. KeepsWithin tac.now assignment.now code) }
 {
-    select_with(alloc, tac, assignment, true)
+    select_with(alloc, tac, assignment, signatures, true)
 }

@@ -42,9 +42,22 @@ pub fn program(alloc: Global, name: &str) -> Result<Vec<Tac>, NoMemory> {
         }
         "free" => functions.push(free(alloc)?)?,
         "none" => functions.push(failing(alloc)?)?,
+        "value" | "unlisted" => functions = with_called(alloc, 1)?,
+        "other" => functions = with_called(alloc, 2)?,
+        "deep" => functions.push(deep(alloc)?)?,
+        "late" => functions.push(late(alloc)?)?,
         _ => (),
     }
     Ok(functions)
+}
+
+/// The functions of a program that stand as values, in order.
+pub fn values(alloc: Global, name: &str) -> Result<Vec<FnId>, NoMemory> {
+    Ok(match name {
+        "value" | "other" => vec![in alloc; FnId(1), FnId(2), FnId(3)]?,
+        "deep" | "late" => vec![in alloc; FnId(0)]?,
+        _ => Vec::new(alloc),
+    })
 }
 
 fn temp(number: u64) -> Operand {
@@ -278,7 +291,8 @@ fn depth(alloc: Global, frame: u64) -> Result<Tac, NoMemory> {
     Ok(code)
 }
 
-/// Passes two numbers in an area, and the first as a word too, and gives three times the first number that comes back, and the second.
+/// Passes two numbers in an area, and the first as a word too, and gives three times the first number that comes back,
+/// and the second.
 fn passing(alloc: Global) -> Result<Tac, NoMemory> {
     let mut blocks = Vec::new(alloc);
     let parts = vec![in alloc; Part::Area(0), Part::Word(temp(0))]?;
@@ -311,6 +325,94 @@ fn passed(alloc: Global) -> Result<Tac, NoMemory> {
     code.areas = two_areas(alloc)?;
     let taken = vec![in alloc; Destination::Area(1), Destination::Temp(0)]?;
     code.parameters = DestinationList::from_vec(taken);
+    Ok(code)
+}
+
+/// The signature of a function with so many parameters, all of type 1, and a result of this type.
+fn signature(alloc: Global, parameters: u64, of: u64) -> Result<Signature, NoMemory> {
+    let mut params = Vec::new(alloc);
+    for _ in 0..parameters {
+        params.push(TypeId(1))?;
+    }
+    Ok(Signature {
+        params: TypeIds::from_vec(params),
+        result: TypeId(of),
+    })
+}
+
+/// A call of a value, whose result of this type goes to a temporary.
+fn call_value(
+    alloc: Global,
+    to: u64,
+    of: u64,
+    a: Operand,
+    parts: Vec<Part>,
+) -> Result<Instruction, NoMemory> {
+    let given = signature(alloc, parts.len() as u64, of)?;
+    let arguments = PartList::from_vec(parts);
+    Ok(Instruction::CallValue(Destination::Temp(to), HERE, given, a, arguments))
+}
+
+/// Calls its first parameter with its second, as a function of one parameter with a result of this type, and gives what
+/// that gives.
+fn calling(alloc: Global, of: u64) -> Result<Tac, NoMemory> {
+    let mut blocks = Vec::new(alloc);
+    let parts = vec![in alloc; Part::Word(temp(1))]?;
+    let called = call_value(alloc, 2, of, temp(0), parts)?;
+    add(&mut blocks, vec![in alloc; called]?, give(temp(2)))?;
+    function(alloc, 2, 3, blocks)
+}
+
+/// A number times another, or two numbers.
+fn times(alloc: Global, parameters: u64, by: Operand) -> Result<Tac, NoMemory> {
+    let mut blocks = Vec::new(alloc);
+    let product = compute(2, BinaryOperator::Multiply, temp(0), by);
+    add(&mut blocks, vec![in alloc; product]?, give(temp(2)))?;
+    let mut code = function(alloc, parameters, 3, blocks)?;
+    code.signature = signature(alloc, parameters, 1)?;
+    Ok(code)
+}
+
+/// A function that calls values with one argument and a result of this type, and three that stand as values: twice a
+/// number, a product, and three times a number.
+fn with_called(alloc: Global, of: u64) -> Result<Vec<Tac>, NoMemory> {
+    let mut functions = Vec::new(alloc);
+    functions.push(calling(alloc, of)?)?;
+    functions.push(times(alloc, 1, constant(2))?)?;
+    functions.push(times(alloc, 2, temp(1))?)?;
+    functions.push(times(alloc, 1, constant(3))?)?;
+    Ok(functions)
+}
+
+/// A block that calls a value with the first parameter and one less than the second, and gives one more than what that
+/// gives.
+fn deeper(alloc: Global, a: Operand) -> Result<Vec<Instruction>, NoMemory> {
+    let fewer = compute(2, BinaryOperator::Subtract, temp(1), constant(1));
+    let parts = vec![in alloc; Part::Word(temp(0)), Part::Word(temp(2))]?;
+    let called = call_value(alloc, 3, 1, a, parts)?;
+    let more = compute(4, BinaryOperator::Add, temp(3), constant(1));
+    Ok(vec![in alloc; fewer, called, more]?)
+}
+
+/// The second parameter, by as many calls of the first.
+fn deep(alloc: Global) -> Result<Tac, NoMemory> {
+    let mut blocks = Vec::new(alloc);
+    add(&mut blocks, Vec::new(alloc), branch(temp(1), 1, 2))?;
+    add(&mut blocks, deeper(alloc, temp(0))?, give(temp(4)))?;
+    add(&mut blocks, Vec::new(alloc), give(constant(0)))?;
+    let mut code = function(alloc, 2, 5, blocks)?;
+    code.signature = signature(alloc, 2, 1)?;
+    Ok(code)
+}
+
+/// The same, but that the last one calls nil.
+fn late(alloc: Global) -> Result<Tac, NoMemory> {
+    let mut blocks = Vec::new(alloc);
+    add(&mut blocks, Vec::new(alloc), branch(temp(1), 1, 2))?;
+    add(&mut blocks, deeper(alloc, temp(0))?, give(temp(4)))?;
+    add(&mut blocks, deeper(alloc, constant(0))?, give(temp(4)))?;
+    let mut code = function(alloc, 2, 5, blocks)?;
+    code.signature = signature(alloc, 2, 1)?;
     Ok(code)
 }
 

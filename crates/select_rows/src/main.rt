@@ -1,32 +1,35 @@
-//! Applies operators to words as the rows of standard input say, one row a line, by the words that `rv_select` makes of
-//! three-address code, on the machine, and writes each row with what came out: once with constants as operands, and once with
-//! temporaries. A row is an operator, whether its width has a sign, the bits of the width, and its operands. These rows of `stdin`
-//! and `stdout` are written by `bench/word_rows`, by the rules of C's integers with wrapping.
+//! Applies operators to words as the rows of standard input say, one row a line, by the words that `rv_select` makes
+//! of three-address code, on the machine, and writes each row with what came out: once with constants as operands,
+//! and once with temporaries. A row is an operator, whether its width has a sign, the bits of the width, and its
+//! operands. These rows of `stdin` and `stdout` are written by `bench/word_rows`, by the rules of C's integers with
+//! wrapping.
 //!
-//! A row that begins with `run` is the name of a program of `functions` and its arguments: its functions are selected with the
-//! homes that `assign` gives, and run. What comes of them is worked out by hand.
+//! A row that begins with `run` is the name of a program of `functions` and its arguments: its functions are selected
+//! with the homes that `assign` gives, and run. What comes of them is worked out by hand.
 //!
-//! A row that begins with `counted` is a number of counts and such a program, whose functions count and are entered with so many:
-//! each call takes one, and so does each way to a block that counts.
+//! A row that begins with `counted` is a number of counts and such a program, whose functions count and are entered
+//! with so many: each call takes one, and so does each way to a block that counts. A call of a value that stands for
+//! no function of its signature takes none: it is tested before.
 //!
-//! A row that begins with `words` is the name of an instruction, and its words are written: addiw x18, x0, 5 of the copy;
-//! ld x5, 88(x2), ld x6, 96(x2), add x5, x5, x6 and sd x5, 88(x2) of the sum.
+//! A row that begins with `words` is the name of an instruction, and its words are written: addiw x18, x0, 5 of the
+//! copy; ld x5, 88(x2), ld x6, 96(x2), add x5, x5, x6 and sd x5, 88(x2) of the sum.
 #![tactic(auto)]
 
 mod functions;
 
-ghost use Rattle.std.specs.Prelude.{◌≡◌, ◌+◌, ◌*◌, ◌^◌, ◌≤◌, length, IfOk};
+ghost use Rattle.std.specs.Prelude.{◌≡◌, ◌+◌, ◌*◌, ◌^◌, ◌≤◌, length, IfOk, MatchOption};
 ghost use Rattle.rv_link.specs.Linked.{AreSelected, AreThere};
+ghost use Rattle.select_rows.specs.Alike.{are_alike};
 
 use elf_image::{Entries, Image, Symbol, Symbols, Words, is_lawful};
-use functions::program;
+use functions::{program, values};
 use reg_alloc::{Home, assign};
 use row_words::{number_at, operator_of, word_at};
-use rv_link::{Function, blocks_there, is_near, link};
+use rv_link::{Function, Linked, blocks_there, is_near, link, signatures_of};
 use rv_machine::{MachineKind, Stop, run_image};
-use rv_select::{all_has_code, push_instruction, push_units, select};
+use rv_select::{all_has_code, push_instruction, push_units, same_signature, select};
 use std::alloc::Global;
-use tac_form::{Instruction, Number, Operand, Size, Tac};
+use tac_form::{Instruction, Number, Operand, Signature, Size, Tac, TypeIds};
 use terra_words::BinaryOperator;
 use tl_base::limits::TEXT_ADDRESS;
 use tl_base::{Bytes, FnId, MemSink, NoMemory, Place};
@@ -102,25 +105,80 @@ fn numbers(alloc: Global, code: &[u32]) -> Result<String, NoMemory> {
 
 /// What comes of a program.
 fn program_answer(alloc: Global, words: &[&str]) -> Result<String, NoMemory> {
-    let functions = selected(alloc, program(alloc, word_at(words, 1))?)?;
-    if !is_near(&functions) {
-        return Ok(String::from_str(alloc, "no jump reaches so far")?);
+    let name = word_at(words, 1);
+    match linked(alloc, name, program(alloc, name)?)? {
+        Some(linked) => run_answer(alloc, linked.words, linked.entries, TEXT_ADDRESS, words, 2),
+        None => unlinked(alloc),
     }
-    let text = link(alloc, &functions)?.words;
-    run_answer(alloc, text, TEXT_ADDRESS, words, 2)
 }
 
 /// What comes of a program whose functions count, from the words on that give the first of them its counts.
 fn counted_answer(alloc: Global, words: &[&str]) -> Result<String, NoMemory> {
-    let functions = selected(alloc, counting(program(alloc, word_at(words, 2))?))?;
-    if !is_near(&functions) {
-        return Ok(String::from_str(alloc, "no jump reaches so far")?);
+    let name = word_at(words, 2);
+    match linked(alloc, name, counting(program(alloc, name)?))? {
+        Some(linked) => {
+            let at = behind(&linked.words);
+            let mut text = linked.words;
+            push_units(&mut text, number_at(words, 1), at, TEXT_ADDRESS)?;
+            run_answer(alloc, text, linked.entries, at, words, 3)
+        }
+        None => unlinked(alloc),
     }
-    let linked = link(alloc, &functions)?;
-    let at = behind(&linked.words);
-    let mut text = linked.words;
-    push_units(&mut text, number_at(words, 1), at, TEXT_ADDRESS)?;
-    run_answer(alloc, text, at, words, 3)
+}
+
+fn unlinked(alloc: Global) -> Result<String, NoMemory> {
+    Ok(String::from_str(alloc, "no text")?)
+}
+
+/// The text of a program's functions, with the entries of those that stand as values. There is none where no jump
+/// reaches so far, or where those that stand as values do not have, once selected, the signatures that were selected
+/// with.
+fn linked(alloc: Global, name: &str, program: Vec<Tac>) -> Result<Option<Linked>, NoMemory>
+    ensures { IfOk result (λ linked.
+        MatchOption linked (Unit {0}) (λ x. 65536 + 4 * length x.words.items ≤ 2 ^ 30)) }
+{
+    let values = values(alloc, name)?;
+    let signatures = signatures_for(alloc, &program, &values)?;
+    let functions = selected(alloc, program, &signatures)?;
+    let linked = signatures_of(alloc, &functions, &values)?;
+    if are_alike(&signatures, &linked) && is_near(&functions) {
+        Ok(Some(link(alloc, &functions, &values)?))
+    } else {
+        Ok(None)
+    }
+}
+
+/// The signatures of functions of a program by their places.
+fn signatures_for(
+    alloc: Global,
+    program: &[Tac],
+    values: &[FnId],
+) -> Result<Vec<Signature>, NoMemory> {
+    let mut signatures = Vec::new(alloc);
+    for f in values {
+        if f.0 < program.len() as u64 {
+            let of = &program[f.0 as usize].signature;
+            signatures.push(Signature {
+                params: TypeIds::from_slice(alloc, of.params.as_slice())?,
+                result: of.result,
+            })?;
+        }
+    }
+    Ok(signatures)
+}
+
+/// Whether signatures are the same, one by one.
+fn are_alike(signatures: &[Signature], others: &[Signature]) -> bool
+    ensures { result ≡ are_alike signatures.now others.now }
+{
+    match (signatures, others) {
+        ([], []) => true,
+        ([first, rest @ ..], [other, more @ ..]) => {
+            same_signature(first, other) && are_alike(rest, more)
+        }
+        ([], [_other, ..]) => false,
+        ([_first, ..], []) => false,
+    }
 }
 
 /// The address behind a text.
@@ -143,6 +201,7 @@ fn counting(mut program: Vec<Tac>) -> Vec<Tac> {
 fn run_answer(
     alloc: Global,
     text: Vec<u32>,
+    entries: Entries,
     at: u64,
     words: &[&str],
     first: usize,
@@ -154,19 +213,24 @@ fn run_answer(
     if arguments.len() > 8 {
         return Ok(String::from_str(alloc, "more than eight arguments")?);
     }
-    shown(alloc, run(alloc, text, at, &arguments)?)
+    shown(alloc, run(alloc, text, entries, at, &arguments)?)
 }
 
-/// The functions of a program, selected, each with its place as its number.
-fn selected(alloc: Global, program: Vec<Tac>) -> Result<Vec<Function>, NoMemory>
-    ensures selected { IfOk result (λ functions. AreSelected functions.items) }
+/// The functions of a program, selected, each with its place as its number. Those that stand as values have these
+/// signatures.
+fn selected(
+    alloc: Global,
+    program: Vec<Tac>,
+    signatures: &[Signature],
+) -> Result<Vec<Function>, NoMemory>
+    ensures selected { IfOk result (λ functions. AreSelected signatures.now functions.items) }
     ensures there { IfOk result (λ functions. AreThere functions.items) }
 {
     let mut functions = Vec::new(alloc);
     for tac in program {
         if all_has_code(&tac) && blocks_there(&tac) {
             let homes = assign(alloc, &tac)?;
-            let code = select(alloc, &tac, &homes)?;
+            let code = select(alloc, &tac, &homes, signatures)?;
             let id = FnId(functions.len() as u64);
             functions.push(Function {
                 id,
@@ -231,14 +295,20 @@ fn result(
     push_instruction(&mut code, &homes, None, &compute)?;
     code.push(RESULT)?;
     code.push(LEAVE)?;
-    run(alloc, code, TEXT_ADDRESS, &[])
+    run(alloc, code, Entries::new(alloc), TEXT_ADDRESS, &[])
 }
 
 /// How the run of a text from an address on stops, if there is an image with it.
-fn run(alloc: Global, code: Vec<u32>, at: u64, arguments: &[u64]) -> Result<Option<Stop>, NoMemory>
+fn run(
+    alloc: Global,
+    code: Vec<u32>,
+    entries: Entries,
+    at: u64,
+    arguments: &[u64],
+) -> Result<Option<Stop>, NoMemory>
     requires { length arguments.now ≤ 8 }
 {
-    let image = image_of(alloc, code, at)?;
+    let image = image_of(alloc, code, entries, at)?;
     if !is_lawful(&image) {
         return Ok(None);
     }
@@ -247,8 +317,8 @@ fn run(alloc: Global, code: Vec<u32>, at: u64, arguments: &[u64]) -> Result<Opti
     Ok(Some(stop))
 }
 
-/// An image with this text, and one export at an address.
-fn image_of(alloc: Global, code: Vec<u32>, at: u64) -> Result<Image, NoMemory> {
+/// An image with this text and these entries, and one export at an address.
+fn image_of(alloc: Global, code: Vec<u32>, entries: Entries, at: u64) -> Result<Image, NoMemory> {
     let mut exports = Symbols::new(alloc);
     exports.push(Symbol {
         name: Bytes::from_vec(b"f".to_vec(alloc)?),
@@ -259,7 +329,7 @@ fn image_of(alloc: Global, code: Vec<u32>, at: u64) -> Result<Image, NoMemory> {
     Ok(Image {
         text: Words::from_vec(code),
         statics: Bytes::new(alloc),
-        entries: Entries::new(alloc),
+        entries,
         memory: 65_536,
         heap: 0x4000_0000,
         private: 131_072,

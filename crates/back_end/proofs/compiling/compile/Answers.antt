@@ -1,4 +1,4 @@
-use Rattle.std.proofs.Common.{false, rules, refl, ◌∙◌, ◌≡◌, ◌+◌, ◌*◌, ◌++◌, ◌^◌, ◌<◌, ◌≤◌, map, ap, subst, sym, List, ℕ, arith}
+use Rattle.std.proofs.Common.{[], false, rules, refl, ◌∙◌, ◌≡◌, ◌+◌, ◌*◌, ◌++◌, ◌^◌, ◌<◌, ◌≤◌, map, ap, subst, sym, List, ℕ, arith}
 use Rattle.std.specs.Prelude.{◌/◌, length, slice_index}
 use Rattle.tl_base.specs.declared.ids.FnId.{FnId}
 use Rattle.terra_term.specs.Stores.{contents_of}
@@ -20,7 +20,7 @@ use Rattle.back_end.proofs.compiling.compile.Goals as goal
 
 pub link-requires-clause-selected : goal.link-requires-clause-selected
 link-requires-clause-selected c =
-    subst AreSelected (sym c.deref.ensures.value)
+    subst (AreSelected []) (sym c.deref.ensures.value)
     (are-selected false (contents_of c.args.store.now) c.in_ok-compiled.compiled.functions.items c.in_ok-compiled.ensures.whole.made)
 
 pub link-requires-clause-there : goal.link-requires-clause-there
@@ -39,7 +39,7 @@ overflow_mul-result-2 c =
     let few : c.in_ok-linked.linked.frame ≤ 1179648 =
     frame-fits false (contents_of c.args.store.now) c.args.exports.now c.in_ok-compiled.compiled.functions.items c.in_ok-linked.linked
     c.requires.exports c.requires.names c.requires.few c.in_ok-compiled.ensures.whole
-    (subst (λ (xs : List Function). IsLinkedText xs c.in_ok-linked.linked) c.deref.ensures.value c.in_ok-linked.ensures) in
+    (subst (λ (xs : List Function). IsLinkedText xs [] c.in_ok-linked.linked) c.deref.ensures.value c.in_ok-linked.ensures) in
     omega (arith, few)
 
 pub returns : goal.returns
@@ -47,7 +47,7 @@ returns c =
     let image : Image = record {
       text = c.from_vec.result;
       statics = c.from_vec-2.result;
-      entries = c.new-entries.result;
+      entries = c.in_ok-linked.linked.entries;
       memory = c.args.limits.memory;
       heap = (1073741824 + c.len.result + 15) / 16 * 16;
       private = 512 * c.in_ok-linked.linked.frame;
@@ -55,8 +55,8 @@ returns c =
     } in
     let memory : IsMemorySize image.memory =
     (c.requires.limits.whole_kib, c.requires.limits.least_memory, c.requires.limits.most_memory) in
-    let text : IsLinkedText c.in_ok-compiled.compiled.functions.items c.in_ok-linked.linked =
-    subst (λ (xs : List Function). IsLinkedText xs c.in_ok-linked.linked) c.deref.ensures.value c.in_ok-linked.ensures in
+    let text : IsLinkedText c.in_ok-compiled.compiled.functions.items [] c.in_ok-linked.linked =
+    subst (λ (xs : List Function). IsLinkedText xs [] c.in_ok-linked.linked) c.deref.ensures.value c.in_ok-linked.ensures in
     let symbols : image.exports ≡ symbols_of (contents_of c.args.store.now) (map id_of c.in_ok-compiled.compiled.functions.items)
     c.in_ok-linked.linked.starts.items c.args.exports.now =
     c.from_vec-3.ensures ∙ c.in_ok-push_symbols.ensures
@@ -74,7 +74,7 @@ returns c =
     let can : IsLawful image =
     lawful false (contents_of c.args.store.now) c.args.exports.now c.in_ok-compiled.compiled.functions.items c.in_ok-linked.linked c.requires.exports
     c.requires.names c.requires.few c.in_ok-compiled.ensures.whole text image c.from_vec.ensures (c.from_vec-2.ensures ∙ c.in_ok-statics.ensures) memory
-    c.requires.half heap refl c.new-entries.ensures symbols words bytes in
+    c.requires.half heap refl text.entries symbols words bytes in
     let store = contents_of c.args.store.now in
     let part = c.requires.typed.0 in
     let is = c.requires.typed.1 in
@@ -85,7 +85,7 @@ returns c =
     (subst (λ (bytes : List ℕ). length bytes ≤ c.args.limits.memory / 2) (sym is.statics) c.requires.half)
     (outward-part store c.args.exports.now part is c.requires.exports)
     (whole-part store c.args.exports.now part is false fs c.in_ok-compiled.ensures.whole) text can
-    (c.from_vec-2.ensures ∙ c.in_ok-statics.ensures ∙ sym is.statics) c.from_vec.ensures c.new-entries.ensures refl
+    (c.from_vec-2.ensures ∙ c.in_ok-statics.ensures ∙ sym is.statics) c.from_vec.ensures text.entries refl
     c.in_ok-compiled.ensures.rising
     (symbols ∙ symbols-part store c.args.exports.now part is (map id_of fs) c.in_ok-linked.linked.starts.items c.args.exports.now
     (exported-same store c.args.exports.now part is)))

@@ -29,7 +29,7 @@ compile_functions-requires c =
 
 pub link-requires-clause-selected : goal.link-requires-clause-selected
 link-requires-clause-selected c =
-    subst AreSelected (sym c.deref-2.ensures.value)
+    subst (AreSelected []) (sym c.deref-2.ensures.value)
     (are-selected true (contents_of c.args.store.now) c.in_ok-compiled.compiled.functions.items c.in_ok-compiled.ensures.whole.made)
 
 pub link-requires-clause-there : goal.link-requires-clause-there
@@ -51,8 +51,8 @@ overflow_mul-result-2 c =
     let fs = c.in_ok-compiled.compiled.functions.items in
     let whole : AreWhole true store (alone c.args.function) fs =
     subst (λ (es : List Export). AreWhole true store es fs) (c.deref.ensures.value ∙ c.in_ok-exports.ensures) c.in_ok-compiled.ensures.whole in
-    let text : IsLinkedText fs c.in_ok-linked.linked =
-    subst (λ (xs : List Function). IsLinkedText xs c.in_ok-linked.linked) c.deref-2.ensures.value c.in_ok-linked.ensures in
+    let text : IsLinkedText fs [] c.in_ok-linked.linked =
+    subst (λ (xs : List Function). IsLinkedText xs [] c.in_ok-linked.linked) c.deref-2.ensures.value c.in_ok-linked.ensures in
     let few : c.in_ok-linked.linked.frame ≤ 1179648 =
     subst (λ n. n ≤ 1179648) (sym text.frame) (frames-few true store fs whole.made) in
     omega (arith, few)
@@ -65,12 +65,12 @@ returns c =
     let linked = c.in_ok-linked.linked in
     let whole : AreWhole true store (alone f) fs =
     subst (λ (es : List Export). AreWhole true store es fs) (c.deref.ensures.value ∙ c.in_ok-exports.ensures) c.in_ok-compiled.ensures.whole in
-    let text : IsLinkedText fs linked =
-    subst (λ (xs : List Function). IsLinkedText xs linked) c.deref-2.ensures.value c.in_ok-linked.ensures in
+    let text : IsLinkedText fs [] linked =
+    subst (λ (xs : List Function). IsLinkedText xs [] linked) c.deref-2.ensures.value c.in_ok-linked.ensures in
     let image : Image = record {
       text = c.from_vec.result;
       statics = c.from_vec-2.result;
-      entries = c.new.result;
+      entries = linked.entries;
       memory = c.args.limits.memory;
       heap = (1073741824 + c.len-2.result + 15) / 16 * 16;
       private = 512 * linked.frame;
@@ -100,4 +100,4 @@ returns c =
     λ k. subst (λ (xs : List ℕ). slice_index xs k < 2 ^ 8) (c.deref-5.ensures.value ∙ sym c.from_vec-2.ensures) (c.are_bytes.ensures k) in
     compiled-counted store f c.args.units fs linked image c.requires.typed.0 c.requires.typed.1
     (subst AreTypes c.types.ensures c.are_types.ensures) memory c.requires.half c.requires.outward c.requires.few whole text
-    (c.from_vec-2.ensures ∙ c.in_ok-statics.ensures) text-is c.new.ensures heap refl c.ranges.units.fits symbols words bytes
+    (c.from_vec-2.ensures ∙ c.in_ok-statics.ensures) text-is text.entries heap refl c.ranges.units.fits symbols words bytes

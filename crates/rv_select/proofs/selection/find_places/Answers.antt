@@ -11,5 +11,6 @@ returns-clause-starts c =
 
 pub returns-clause-last : goal.returns-clause-last
 returns-clause-last c =
-    places-last (layout_with (as_counting c.args.extent.counts c.args.tac.now) c.args.homes.now) (as_counting c.args.extent.counts c.args.tac.now) c.new-code.result.items c.push_head.new.code.items c.push_body.new.code.items (start_of []) c.in_ok-last.last
+    places-last (layout_with (as_counting c.args.extent.counts c.args.tac.now) c.args.homes.now) (as_counting c.args.extent.counts c.args.tac.now)
+    c.args.signatures.now c.new-code.result.items c.push_head.new.code.items c.push_body.new.code.items (start_of []) c.in_ok-last.last
     c.new-code.ensures.items c.in_ok-push_head.ensures.code c.in_ok-push_body.ensures.code (c.in_ok-last.ensures.at ∙ ap (λ z. 4 * length z) c.deref.ensures.value)

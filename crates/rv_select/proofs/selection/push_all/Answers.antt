@@ -16,9 +16,9 @@ loop-instruction-preserved c =
     let xs = c.args.instructions.now in
     let x = c.instruction-item.result in
     let old = c.loop-instruction.code.items in (
-      instructions-turn y c.args.sizes.now held next i xs x old _ _ c.instruction-item.is c.loop-instruction-test.true c.held_after-held.ensures
+      instructions-turn y c.args.sizes.now c.args.signatures.now held next i xs x old _ _ c.instruction-item.is c.loop-instruction-test.true c.held_after-held.ensures
           c.in_ok-push_one.ensures.code c.loop-instruction.invariant.0,
-      calls-turn y c.args.sizes.now held next i xs x old _ c.loop-instruction.calls.items _ _ c.instruction-item.is
+      calls-turn y c.args.sizes.now c.args.signatures.now held next i xs x old _ c.loop-instruction.calls.items _ _ c.instruction-item.is
           c.loop-instruction-test.true c.held_after-held.ensures c.in_ok-push_one.ensures.code c.in_ok-push_one.ensures.calls
           c.loop-instruction.invariant.1,
       held-turn held next _ i xs x c.instruction-item.is c.loop-instruction-test.true c.held_after-held.ensures c.loop-instruction.invariant.2,
@@ -28,7 +28,7 @@ loop-instruction-preserved c =
 pub returns-clause-code : goal.returns-clause-code
 returns-clause-code c =
     items-end c.loop-instruction.code.items _ _ c.loop-instruction.invariant.0
-    (instructions-end (with_counting c.args.homes.now c.args.counts) c.args.sizes.now c.loop-instruction.held _ c.loop-instruction.instruction-index
+    (instructions-end (with_counting c.args.homes.now c.args.counts) c.args.sizes.now c.args.signatures.now c.loop-instruction.held _ c.loop-instruction.instruction-index
     c.args.instructions.now c.loop-instruction-test.false)
 
 pub returns-clause-calls : goal.returns-clause-calls

@@ -10,7 +10,7 @@ push_all-requires c =
 
 pub returns-clause-code : goal.returns-clause-code
 returns-clause-code c =
-    block-turn c.push_block_end.result c.args.homes.now c.args.reads.now c.args.extent c.setting_of-setting.result c.args.sizes.now (start_of c.args.starts.now)
+    block-turn c.push_block_end.result c.args.homes.now c.args.reads.now c.args.extent c.setting_of-setting.result c.args.sizes.now c.args.signatures.now (start_of c.args.starts.now)
     c.args.last c.args.rest
     c.args.block.now c.as_slice.result.now
     c.plain_of-plain.result.now c.pair_of-pair.result c.in_ok-held.held c.args.code.now.items c.push_all.new.code.items

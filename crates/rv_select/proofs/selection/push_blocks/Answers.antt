@@ -19,12 +19,12 @@ loop-block-preserved c =
     let x = c.block-item.result in
     let old = c.loop-block.code.items in
     let less = rest-turn i xs c.loop-block.rest _ c.loop-block.invariant.4 c.loop-block-test.true c.saturating_sub-rest.ensures in
-    let put = rest-put y c.args.sizes.now starts c.args.last x old _ _ _ less c.in_ok-push_block.ensures.code in (
-      blocks-turn y c.args.sizes.now starts c.args.last i xs x old _ _ c.block-item.is c.loop-block-test.true
+    let put = rest-put y c.args.sizes.now c.args.signatures.now starts c.args.last x old _ _ _ less c.in_ok-push_block.ensures.code in (
+      blocks-turn y c.args.sizes.now c.args.signatures.now starts c.args.last i xs x old _ _ c.block-item.is c.loop-block-test.true
           put c.loop-block.invariant.0,
-      blocks-calls-turn y c.args.sizes.now starts c.args.last i xs x old _ c.loop-block.calls.items _ _ c.block-item.is
+      blocks-calls-turn y c.args.sizes.now c.args.signatures.now starts c.args.last i xs x old _ c.loop-block.calls.items _ _ c.block-item.is
           c.loop-block-test.true put c.in_ok-push_block.ensures.calls c.loop-block.invariant.1,
-      begins-turn y c.args.sizes.now starts c.args.last i xs x old _ _ c.loop-block.begins.items _ _ c.block-item.is
+      begins-turn y c.args.sizes.now c.args.signatures.now starts c.args.last i xs x old _ _ c.loop-block.begins.items _ _ c.block-item.is
           c.loop-block-test.true put
           (c.in_ok-address.ensures.at ∙ ap (λ z. 4 * length z) c.deref.ensures.value) c.in_ok-push.ensures.items c.loop-block.invariant.2,
       (blocks-have-turn i xs x c.block-item.is c.loop-block-test.true c.loop-block.invariant.3).1,
@@ -34,7 +34,7 @@ loop-block-preserved c =
 pub returns-clause-code : goal.returns-clause-code
 returns-clause-code c =
     items-end c.loop-block.code.items _ _ c.loop-block.invariant.0
-    (blocks-end (with_reads c.args.homes.now c.args.reads.now c.args.extent) c.args.sizes.now (start_of c.args.starts.now) c.args.last _
+    (blocks-end (with_reads c.args.homes.now c.args.reads.now c.args.extent) c.args.sizes.now c.args.signatures.now (start_of c.args.starts.now) c.args.last _
     c.loop-block.block-index
     c.args.blocks.now c.loop-block-test.false)
 

@@ -6,7 +6,7 @@ use Rattle.rv_select.proofs.selection.push_body.Goals as goal
 
 pub returns-clause-code : goal.returns-clause-code
 returns-clause-code c =
-    body-code c.push_blocks.result (as_counting c.args.extent.counts c.args.tac.now) c.args.homes.now c.args.reads.now c.args.extent c.as_slice.result.now c.as_slice-2.result.now
+    body-code c.push_blocks.result (as_counting c.args.extent.counts c.args.tac.now) c.args.homes.now c.args.reads.now c.args.extent c.as_slice.result.now c.args.signatures.now c.as_slice-2.result.now
     (start_of c.args.starts.now) c.args.last (4 * length c.args.code.now.items)
     c.args.code.now.items c.push_blocks.new.code.items c.as_slice.ensures c.as_slice-2.ensures c.requires.reads c.requires.extent c.push_blocks.ensures.code
 

@@ -24,11 +24,11 @@ returns-clause-selected c =
     let h = c.as_slice-homes.result.now in
     let given : Code =
     record { words = c.push_left.new.code; calls = c.push_body.new.calls; entry = c.in_ok-head.head.entry; frame = c.in_ok-head.head.frame } in
-    subst (λ k. IsSelected (as_counting k c.args.tac.now) c.args.assignment.now given) same
-    (selected-by tac h c.args.assignment.now given
+    subst (λ k. IsSelected (as_counting k c.args.tac.now) c.args.assignment.now c.args.signatures.now given) same
+    (selected-by tac h c.args.assignment.now c.args.signatures.now given
     (c.as_slice-homes.ensures.value ∙ (c.in_ok-given.ensures ∙ (ap (asked_homes c.args.tac.now) c.as_slice.ensures
     ∙ homes-counting counts c.args.tac.now c.args.assignment.now)))
-    (whole-words (layout_with tac h) tac c.new-words.result.items c.push_head.new.code.items c.push_body.new.code.items
+    (whole-words (layout_with tac h) tac c.args.signatures.now c.new-words.result.items c.push_head.new.code.items c.push_body.new.code.items
     c.push_left.new.code.items c.deref-3.result.now c.in_ok-places.places.last
     c.new-words.ensures.items (c.deref-3.ensures.value ∙ c.in_ok-places.ensures.starts) c.in_ok-places.ensures.last
     c.in_ok-head.ensures.code c.in_ok-push_body.ensures.code
@@ -41,6 +41,6 @@ returns-clause-selected c =
 
 pub returns-clause-within : goal.returns-clause-within
 returns-clause-within c =
-    keeps-within (as_counting c.args.counts c.args.tac.now) c.args.assignment.now
+    keeps-within (as_counting c.args.counts c.args.tac.now) c.args.assignment.now c.args.signatures.now
     (record { words = c.push_left.new.code; calls = c.push_body.new.calls; entry = c.in_ok-head.head.entry; frame = c.in_ok-head.head.frame })
     c.requires (returns-clause-selected c)

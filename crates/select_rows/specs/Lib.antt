@@ -1,0 +1,2 @@
+-- Signatures that are the same.
+pub mod Alike
