@@ -60,7 +60,7 @@ module _ (types : List TypeForm) (result : TypeId) (source : ℕ → Run) (targe
   }
 
 -- an export and its symbol stand at one place
-exported_at : (store : Contents) (image : Image) (most : ℕ) (es : List Export) (ss : List Symbol) (i : ℕ) (e : Export) (s : Symbol)
+pub exported_at : (store : Contents) (image : Image) (most : ℕ) (es : List Export) (ss : List Symbol) (i : ℕ) (e : Export) (s : Symbol)
     → AreExported store image most es ss → slice_get es i ≡ Some e → slice_get ss i ≡ Some s → IsExported store image most e s
 exported_at store image most [] ss i e s all here there = absurd cc
 exported_at store image most (x ∷ es) [] i e s all here there = absurd all

@@ -11,6 +11,7 @@ pub mod Faults
 pub mod Headline
 pub mod Jobs
 pub mod Meant
+pub mod Nodes
 pub mod Numbers
 pub mod OneDue
 pub mod OneReading
@@ -22,6 +23,7 @@ pub mod Saying
 pub mod Sources
 pub mod Statuses
 pub mod Telling
+pub mod Theorem
 pub mod Top
 pub mod TracedRuns
 pub mod Traces

@@ -121,7 +121,7 @@ abbrev pub Settled : Type 0
 Settled = (items : Items) (place : Place) (mode : Mode) (n m units memory : ℕ) (out : Ending)
     → outcome items place mode n units memory ≡ Some out → n ≤ m → outcome items place mode m units memory ≡ Some out
 
-one_ending : Settled → (items : Items) (place : Place) (mode : Mode) (n m units memory : ℕ) (one other : Ending)
+pub one_ending : Settled → (items : Items) (place : Place) (mode : Mode) (n m units memory : ℕ) (one other : Ending)
     → outcome items place mode n units memory ≡ Some one → outcome items place mode m units memory ≡ Some other
     → one ≡ other
 one_ending settled items place mode n m units memory one other p q =

@@ -39,20 +39,20 @@ module _ (it : Asking) (w : StageState)
     (differ : (i j : ℕ) (e f : Export) → slice_get w.exports.list i ≡ Some e → slice_get w.exports.list j ≡ Some f
     → e.name ≡ f.name → i ≡ j) where
   -- a call names one function
-  one_export : (x y : Named it w) → x.e ≡ y.e
+  pub one_export : (x y : Named it w) → x.e ≡ y.e
   one_export x y =
       let same : x.i ≡ y.i = differ x.i y.i x.e y.e x.there y.there (x.named ∙ sym y.named) in
       let both : ◌≡◌ {A = Option Export} (Some x.e) (Some y.e) =
       sym x.there ∙ ap (λ (i : ℕ). slice_get w.exports.list i) same ∙ y.there in
       cc
 
-  one_function : (x y : Named it w) → x.function ≡ y.function
+  pub one_function : (x y : Named it w) → x.function ≡ y.function
   one_function x y =
       let both : ◌≡◌ {A = Option Callable} (Some x.function) (Some y.function) =
       sym x.is ∙ ap (λ (e : Export). callable_of (contents_of w.store) e.function) (one_export x y) ∙ y.is in
       cc
 
-  one_reading : (x y : Named it w) → arguments_said it w x ≡ arguments_said it w y
+  pub one_reading : (x y : Named it w) → arguments_said it w x ≡ arguments_said it w y
   one_reading x y =
       ap (λ (k : Callable). values_said (contents_of w.store).types k.body.parameters 1 it.call.arguments) (one_function x y)
 

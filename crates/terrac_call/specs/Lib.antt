@@ -1,4 +1,6 @@
 -- The promise. A reader can stop here.
+-- the theorem of the program
+pub mod Theorem
 -- the statuses, with their numbers and lines
 pub mod Statuses
 -- the words, and the job that they name

@@ -8,6 +8,7 @@ ghost use Rattle.terrac_call.specs.Answer.{Answers};
 ghost use Rattle.terrac_call.specs.Reading.{TookAtMost, most_read};
 ghost use Rattle.terrac_call.specs.Call.{AnswersExactly, OneDue};
 ghost use Rattle.terrac_call.specs.Due.{due_of_unread};
+ghost use Rattle.terrac_call.specs.Theorem.{Headline};
 ghost use Rattle.terrac_call.specs.DueView.{shown_due};
 ghost use Rattle.terrac_call.specs.declared.status.Status.TheVariants as statuses;
 
@@ -31,7 +32,14 @@ pub fn terrac<S: Source, K: Sink, N: Sink>(
     out: &mut K,
     notes: &mut N,
 ) -> Status
-    // Where the source tells its bytes and no count of faults rose, the status and the bytes are those that are due.
+    // The theorem: where the source tells its bytes and no count of faults rose, want of memory aside, each exported function of what a
+    // source stages to prints, returns or faults exactly as its term means, in the image that is written and in the run that is made.
+    ensures headline { Headline (map string_bytes words.now) (S.left source.old)
+        (IsRisen (S.faults source.old) (S.faults source.new)) (IsRisen (K.faults out.old) (K.faults out.new))
+        (IsRisen (N.faults notes.old) (N.faults notes.new))
+        result (K.taken out.old) (K.taken out.new) (N.taken notes.old) (N.taken notes.new) }
+
+    // There the status and the bytes are those that are due.
     ensures exactly { AnswersExactly (map string_bytes words.now) (S.left source.old)
         (IsRisen (S.faults source.old) (S.faults source.new)) (IsRisen (K.faults out.old) (K.faults out.new))
         (IsRisen (N.faults notes.old) (N.faults notes.new))
