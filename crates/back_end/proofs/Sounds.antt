@@ -28,7 +28,7 @@ use Rattle.tac_copies.specs.Directed.{directed_code}
 use Rattle.tac_copies.specs.Shortened.{shortened_code}
 use Rattle.tac_copies.specs.Reached.{reached_code}
 use Rattle.tac_copies.specs.Taken.{taken_code}
-use Rattle.tac_copies.proofs.FitsMade.{first-fits, second-fits, within-parts}
+use Rattle.tac_form.proofs.FitsMade.{first-fits, second-fits, within-parts}
 use Rattle.rv_select.specs.Calls.{all_has_code, block_has_code, has_code, has_exit_code}
 use Rattle.rv_select.specs.Waiting.{PassesAll}
 use Rattle.rv_link.specs.declared.function.Function.{Function}

@@ -270,7 +270,8 @@ receives program y code U Used Fin base last first depth region (Area n ∷ ds) 
       pc = pc-both m.pc t.pc more.after.pc (length A) (length C) one.at more.pc ∙ ap (λ n. low (m.pc + 4 * n)) (sym (length-append A C));
       there = more.there;
     }
-receives program y code U Used Fin base last first depth region (Nothing ∷ ds) (v ∷ vs) a rest m there p h sub in-r own begin goes fin whole small are accepts words within room =
+receives program y code U Used Fin base last first depth region (Nothing ∷ ds) (bytes bs ∷ vs) a rest m there p h sub in-r own begin goes fin whole small are accepts words within room = cc
+receives program y code U Used Fin base last first depth region (Nothing ∷ ds) (word x ∷ vs) a rest m there p h sub in-r own begin goes fin whole small are accepts words within room =
     receives program y code U Used Fin base last first depth region ds vs a rest m there p h sub in-r own.1 begin (λ s g. goes s g)
     (λ s u. fin s u) whole small are accepts words.1 within (omega (arith, room))
 receives program y code U Used Fin base last first depth region (Temp d ∷ ds) (bytes bs ∷ vs) a rest m there p h sub in-r own begin goes fin whole small are accepts words within room = cc

@@ -144,7 +144,8 @@ accepts-same blocks code (destinations.Temp t) (word x) = refl
 accepts-same blocks code (destinations.Temp t) (bytes bs) = refl
 accepts-same blocks code (destinations.Area n) (word x) = refl
 accepts-same blocks code (destinations.Area n) (bytes bs) = refl
-accepts-same blocks code destinations.Nothing v = refl
+accepts-same blocks code destinations.Nothing (word x) = refl
+accepts-same blocks code destinations.Nothing (bytes bs) = refl
 
 accepts_all-same : (blocks : Tac → List Block) (code : Tac) (ds : List Destination) (vs : List Value) →
     accepts_all (with_blocks blocks code) ds vs ≡ accepts_all code ds vs

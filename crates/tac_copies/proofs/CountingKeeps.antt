@@ -2,7 +2,7 @@
 use Rattle.std.proofs.Common.{true, refl}
 use Rattle.tac_form.specs.Counting.{with_counts}
 use Rattle.tac_copies.specs.Laws.{KeepsCounted, KeepsFits, KeepsSized}
-use Rattle.tac_copies.proofs.FitsMade.{first-fits, second-fits, within-parts}
+use Rattle.tac_form.proofs.FitsMade.{first-fits, second-fits, within-parts}
 
 pub counting-fits : KeepsFits with_counts
 counting-fits code f = record {

@@ -29,7 +29,8 @@ accepts-same code (destinations.Temp t) (word x) = refl
 accepts-same code (destinations.Temp t) (bytes bs) = refl
 accepts-same code (destinations.Area n) (word x) = refl
 accepts-same code (destinations.Area n) (bytes bs) = refl
-accepts-same code destinations.Nothing v = refl
+accepts-same code destinations.Nothing (word x) = refl
+accepts-same code destinations.Nothing (bytes bs) = refl
 
 accepts_all-same : (code : Tac) (ds : List Destination) (vs : List Value) → accepts_all (with_counts code) ds vs ≡ accepts_all code ds vs
 accepts_all-same code [] [] = refl

@@ -18,7 +18,7 @@ use Rattle.tac_copies.specs.Laws.{KeepsFits}
 use Rattle.tac_copies.proofs.DirectedKeeps.{by-merges}
 use Rattle.tac_copies.proofs.DirectedKeepsLive.{directed-live}
 use Rattle.tac_copies.proofs.DirectedKeepsSized.{directed-fewer}
-use Rattle.tac_copies.proofs.FitsMade.{first-fits, within-made}
+use Rattle.tac_form.proofs.FitsMade.{first-fits, within-made}
 
 abbrev all-fit : Tac → List Instruction → Bool
 all-fit code is = list_all (instruction_fits code) is

@@ -12,7 +12,7 @@ use Rattle.tac_form.specs.Graph.{block_of, graph_of, instruction_reads, instruct
 use Rattle.tac_form.specs.Live.{IsLive, has, is_written}
 use Rattle.tac_copies.specs.Once.{block_times, instruction_times, is_once, times}
 use Rattle.tac_copies.specs.Directed.{directed, directed_block, directed_code, makes}
-use Rattle.tac_copies.proofs.Lives.{BehindBlock}
+use Rattle.tac_live.proofs.Lives.{BehindBlock}
 use Rattle.tac_copies.proofs.LiveMade.{ReadsLess, live-same, none-read}
 use Rattle.tac_copies.proofs.LiveLess.{less-both, less-none, less-same, less-with, not-less, times-with}
 use Rattle.tac_copies.proofs.DirectedKeeps.{by-merges, directed-reads, directed-write, makes-write}

@@ -43,11 +43,9 @@ pub mod TakenKeepsFits
 -- The same code, which counts.
 pub mod CountingRuns
 pub mod CountingKeeps
--- What is live where blocks begin, and which code fits.
-pub mod Lives
+-- What is live where blocks begin.
 pub mod LiveMade
 pub mod LiveLess
-pub mod FitsMade
 -- The code of the passes: which temporaries are read once, and one instruction after the other.
 pub mod Telling
 pub mod Fronts

@@ -7,7 +7,7 @@ use Rattle.tac_form.specs.declared.tac.Instruction.{Instruction}
 use Rattle.tac_form.specs.declared.tac.Block.{Block}
 use Rattle.tac_form.specs.Graph.{block_of, exit_reads, instruction_reads}
 use Rattle.tac_copies.specs.Once.{block_times, instruction_times, times}
-use Rattle.tac_copies.proofs.Lives.{BehindBlock}
+use Rattle.tac_live.proofs.Lives.{BehindBlock}
 use Rattle.tac_copies.proofs.LiveMade.{ReadsLess, none-read}
 
 -- a block with an instruction before it

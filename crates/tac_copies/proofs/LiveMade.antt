@@ -12,7 +12,7 @@ use Rattle.tac_form.specs.declared.graph.FlowBlock.{FlowBlock}
 use Rattle.tac_form.specs.Graph.{block_of, exit_next, exit_reads, graph_of, instruction_reads, step_of}
 use Rattle.tac_form.specs.Live.{IsLive, has}
 use Rattle.tac_copies.specs.Once.{block_times, instruction_times, is_once, reads_in, times}
-use Rattle.tac_copies.proofs.Lives.{Behind, BehindBlock, OneOf, live-begins, live-least}
+use Rattle.tac_live.proofs.Lives.{Behind, BehindBlock, OneOf, live-begins, live-least}
 
 -- what occurs in no operand isn't read
 pub none-read : (t : ℕ) (us : List ℕ) → times t us ≡ 0 → has us t ≡ false

@@ -20,8 +20,8 @@ use Rattle.tac_form.specs.Fits.{area_fits, block_fits, destination_fits, edge_fi
 use Rattle.tac_form.specs.Fits.{operand_fits, place_fits}
 use Rattle.tac_copies.specs.Reached.{is_reached, leads_to, passed, reached_blocks, reached_code, up_to_last}
 use Rattle.tac_copies.specs.Laws.{KeepsFits}
-use Rattle.tac_copies.proofs.FitsMade.{first-fits, from-six, parts-six, same-destination, same-instruction, same-operand, same-part}
-use Rattle.tac_copies.proofs.FitsMade.{with-blocks}
+use Rattle.tac_form.proofs.FitsMade.{first-fits, from-six, parts-six, same-destination, same-instruction, same-operand, same-part}
+use Rattle.tac_form.proofs.FitsMade.{with-blocks}
 use Rattle.tac_copies.proofs.ReachedNext.{first-reached, next-reached}
 use Rattle.tac_copies.proofs.ReachedBlocks.{another-before, count-is, hold-of-all, reached-before, same-block}
 use Rattle.tac_copies.proofs.ReachedKeepsSized.{reached-fewer}

@@ -19,7 +19,7 @@ use Rattle.tac_copies.specs.Shortened.{named_in, named_exit, few, reads_first, g
 use Rattle.tac_copies.specs.Shortened.{shortened_code}
 use Rattle.tac_copies.proofs.Once.{times_behind, behind-cons, first-alone, few-rest, none-first, none-rest, none-exit, some-exit, has-own}
 use Rattle.tac_copies.proofs.Once.{times-has, once-block, same-block}
-use Rattle.tac_copies.proofs.Lives.{OneOf, Behind, one-more, behind-more, live-begins, live-least}
+use Rattle.tac_live.proofs.Lives.{OneOf, Behind, one-more, behind-more, live-begins, live-least}
 use Rattle.tac_copies.proofs.ShortenedKeepsStep.{by-step}
 use Rattle.tac_copies.proofs.ShortenedKeepsNames.{put-same, put-other, writes-same, next-same, read-by-name, name-read, exit-by-name}
 use Rattle.tac_copies.proofs.ShortenedKeepsNames.{name-exit}

@@ -27,7 +27,7 @@ use Rattle.tac_copies.specs.Shortened.{named, named_spot, named_part, named_in, 
 use Rattle.tac_copies.specs.Shortened.{shortened_code}
 use Rattle.tac_copies.proofs.ShortenedKeepsStep.{by-step}
 use Rattle.tac_copies.proofs.ShortenedKeepsNames.{put-same, put-other}
-use Rattle.tac_copies.proofs.FitsMade.{first-fits, within-made}
+use Rattle.tac_form.proofs.FitsMade.{first-fits, within-made}
 
 both : (a b c d : Bool) → (a ≡ true → c ≡ true) → (b ≡ true → d ≡ true) → (a && b) ≡ true → (c && d) ≡ true
 both a b c d f g h = let p = and_parts a b h in and_from c d (f p.0) (g p.1)

@@ -102,7 +102,8 @@ accepts-same code (destinations.Temp t) (word x) = refl
 accepts-same code (destinations.Temp t) (bytes bs) = refl
 accepts-same code (destinations.Area n) (word x) = refl
 accepts-same code (destinations.Area n) (bytes bs) = refl
-accepts-same code destinations.Nothing v = refl
+accepts-same code destinations.Nothing (word x) = refl
+accepts-same code destinations.Nothing (bytes bs) = refl
 
 all-accepted : (code : Tac) (ds : List Destination) (vs : List Value) → accepts_all (shortened_code code) ds vs ≡ accepts_all code ds vs
 all-accepted code [] [] = refl

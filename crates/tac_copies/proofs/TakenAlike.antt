@@ -65,7 +65,8 @@ takes-alike code = by (shape code)
 accepts-same : (old new : Tac) → TakesAlike old new → (d : Destination) (v : Value) → accepts new d v ≡ accepts old d v
 accepts-same old new h (destinations.Temp t) (word x) = refl
 accepts-same old new h (destinations.Temp t) (bytes bs) = refl
-accepts-same old new h destinations.Nothing v = refl
+accepts-same old new h destinations.Nothing (word x) = refl
+accepts-same old new h destinations.Nothing (bytes bs) = refl
 accepts-same old new h (destinations.Area n) (word x) = refl
 accepts-same old new h (destinations.Area n) (bytes bs) =
     ap (λ (sizes : List ℕ). nat_eq (length bs) (unwrap_or (slice_get sizes n) 0)) h.areas

@@ -15,7 +15,7 @@ use Rattle.tac_form.specs.Weights.{code_words, private_bytes}
 use Rattle.tac_form.specs.Fits.{Fits, block_fits, destination_fits, exit_fits, instruction_fits, is_within, most_nodes, operand_fits}
 use Rattle.tac_copies.specs.Taken.{goes_instead, most_taken, taken_code, taken_once, taken_times}
 use Rattle.tac_copies.specs.Laws.{KeepsFits}
-use Rattle.tac_copies.proofs.FitsMade.{first-fits, second-fits, within-parts}
+use Rattle.tac_form.proofs.FitsMade.{first-fits, second-fits, within-parts}
 use Rattle.tac_copies.proofs.TakenShape.{Shape, Takes, block-with, instead, shape}
 use Rattle.tac_copies.proofs.TakenKeepsLive.{taken-begins}
 use Rattle.tac_copies.proofs.TakenKeepsSized.{once-bytes, once-fewer}

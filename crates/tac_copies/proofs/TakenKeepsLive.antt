@@ -21,7 +21,7 @@ use Rattle.tac_form.specs.Live.{IsLive, at_place, at_step, has, is_written, read
 use Rattle.tac_form.specs.Fits.{goes_to, receives}
 use Rattle.tac_copies.specs.Reached.{leads_to}
 use Rattle.tac_copies.specs.Taken.{block_reads, goes_instead, is_needed, is_needed_from}
-use Rattle.tac_copies.proofs.Lives.{Behind, OneOf, live-begins}
+use Rattle.tac_live.proofs.Lives.{Behind, OneOf, live-begins}
 use Rattle.tac_copies.proofs.LiveMade.{block-at}
 use Rattle.tac_copies.proofs.ReachedKeepsFits.{any-same, same-read}
 use Rattle.tac_copies.proofs.TakenShape.{Takes, block-with, goes-needed, instead, is-free, is-parameter, is-unread, none-back}

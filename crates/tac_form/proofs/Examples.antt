@@ -142,7 +142,7 @@ pub is_too_deep : ran 600 (block 0 (Call (destinations.Temp 0) here (record { 0 
     (Fault CallDepth here) [])
 is_too_deep = refl
 
--- What nothing reads is taken and not kept, a word and bytes alike:
+-- A word that nothing reads is taken and not kept, and bytes are no word:
 --
 --     terra h(n : int) : int return 3 end
 abbrev three : Tac
@@ -169,8 +169,8 @@ both = record { code = λ f. if nat_eq f.0 0 then Some calls_three else Some thr
 pub drops_a_word : steps both 9 (begun both [] 1024 0 (record { 0 = 1 }) (word 7 ∷ [])) ≡ gives 3
 drops_a_word = refl
 
-pub drops_bytes : steps both 9 (begun both [] 1024 0 (record { 0 = 1 }) (bytes (7 ∷ []) ∷ [])) ≡ gives 3
-drops_bytes = refl
+pub takes_no_bytes : steps both 9 (begun both [] 1024 0 (record { 0 = 1 }) (bytes (7 ∷ []) ∷ [])) ≡ Stops (Over Stuck [])
+takes_no_bytes = refl
 
 pub drops_a_result : steps both 9 (begun both [] 1024 1 (record { 0 = 0 }) []) ≡ gives 5
 drops_a_result = refl

@@ -149,11 +149,11 @@ abbrev pub takes_all : List Destination → List Value → Activation → Activa
 takes_all (d ∷ ds) (v ∷ vs) a = takes_all ds vs (takes d v a)
 takes_all _ _ a = a
 
--- a word goes to a temporary, the bytes of an area to an area of their number, and either to nothing
+-- a word goes to a temporary or to nothing, and the bytes of an area to an area of their number
 abbrev pub accepts : Tac → Destination → Value → Bool
 accepts code (destinations.Temp t) (word x) = true
 accepts code (destinations.Area n) (bytes bs) = nat_eq (length bs) (area_size code n)
-accepts code destinations.Nothing v = true
+accepts code destinations.Nothing (word x) = true
 accepts code _ _ = false
 
 abbrev pub accepts_all : Tac → List Destination → List Value → Bool

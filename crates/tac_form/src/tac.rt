@@ -52,7 +52,7 @@ pub enum Part {
 pub enum Destination {
     Temp(u64),
     Area(u64),
-    /// It is taken, whatever it is, and not kept: nothing reads it.
+    /// A word is taken, and not kept: nothing reads it.
     Nothing,
 }
 
