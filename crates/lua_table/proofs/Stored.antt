@@ -1,5 +1,5 @@
--- What a store does to the values under other keys, to the keys, and to the border.
-use Rattle.std.proofs.Common.{ℕ, suc, ◌+◌, ◌-◌, ◌<◌, ◌≤◌, pos, ◌≡◌, ◌≢◌, Bool, true, false, cond, [], ◌∷◌, Some, is_some, refl, sym, ◌∙◌}
+-- What a store does to the values under other keys, and to the keys.
+use Rattle.std.proofs.Common.{ℕ, suc, ◌+◌, pos, ◌≡◌, Bool, true, false, cond, [], ◌∷◌, Some, is_some, refl, sym, ◌∙◌}
 use Rattle.std.proofs.Common.{ap, arith}
 use Rattle.std.specs.Map.{lookup}
 use Rattle.std.specs.List.{AllByRecursion}
@@ -10,9 +10,9 @@ use Rattle.lua_value.specs.declared.value.Value.{Value}
 use Rattle.lua_value.specs.declared.value.Value.TheVariants.{Nil, Number}
 use Rattle.lua_value.proofs.Same.{same_value_equal, same_value_self}
 use Rattle.lua_table.specs.Keys.{IsKey, AreKeyed}
-use Rattle.lua_table.specs.Borders.{IsFull, IsBorder, IsStored, index_in}
+use Rattle.lua_table.specs.Borders.{index_in}
 use Rattle.lua_table.specs.Pairs.{Pairs, value_in, value_at, with_value}
-use Rattle.lua_table.proofs.Border.{nil_from_test, not_nil_from_test}
+use Rattle.lua_table.proofs.Border.{nil_from_test}
 
 pub differs : (a b : Value) → same_value a b ≡ false → (a ≡ b → ⊥)
 differs a b h e = let t : same_value a b ≡ true = same_value_self a b e in absurd (cc)
@@ -26,7 +26,8 @@ apart_test a b h = untrue (same_value a b) (λ t. h (same_value_equal a b t))
 
 -- ---- a store is an insertion, but for nil under a key that isn't there
 
-insert_at : (t : Bool) (p : Value × Value) (key value : Value) (rest stored inserted : Pairs) → stored ≡ inserted → cond t ((p.0, value) ∷ rest) (p ∷ stored) ≡ cond t ((p.0, value) ∷ rest) (p ∷ inserted)
+insert_at : (t : Bool) (p : Value × Value) (key value : Value) (rest stored inserted : Pairs) → stored ≡ inserted
+    → cond t ((p.0, value) ∷ rest) (p ∷ stored) ≡ cond t ((p.0, value) ∷ rest) (p ∷ inserted)
 insert_at true p key value rest stored inserted e = refl
 insert_at false p key value rest stored inserted e = ap (λ l. p ∷ l) e
 
@@ -34,7 +35,9 @@ pub stored_full : (ps : Pairs) (key value : Value) → is_nil value ≡ false �
 stored_full [] key value full = rw full refl
 stored_full (p ∷ ps) key value full = insert_at (same_value key p.0) p key value ps (insert_entry same_value ps key value) (with_value ps key value) (stored_full ps key value full)
 
-nowhere_by : (t : Bool) (p : Value × Value) (key value : Value) (rest : Pairs) → is_some (cond t (Some p.1) (lookup (same_value key) rest)) ≡ false → (is_some (lookup (same_value key) rest) ≡ false → with_value rest key value ≡ rest) → cond t ((p.0, value) ∷ rest) (p ∷ with_value rest key value) ≡ p ∷ rest
+nowhere_by : (t : Bool) (p : Value × Value) (key value : Value) (rest : Pairs) → is_some (cond t (Some p.1) (lookup (same_value key) rest)) ≡ false
+    → (is_some (lookup (same_value key) rest) ≡ false → with_value rest key value ≡ rest)
+    → cond t ((p.0, value) ∷ rest) (p ∷ with_value rest key value) ≡ p ∷ rest
 nowhere_by true p key value rest h later = absurd (cc h)
 nowhere_by false p key value rest h later = ap (λ l. p ∷ l) (later h)
 
@@ -44,13 +47,15 @@ stored_nowhere (p ∷ ps) key value empty none = nowhere_by (same_value key p.0)
 
 -- ---- what is read after a store
 
-value_new : (key value q : Value) (empty t : Bool) → is_nil value ≡ empty → same_value q key ≡ t → value_in (cond empty [] ((key, value) ∷ [])) q ≡ cond t value Nil
+value_new : (key value q : Value) (empty t : Bool) → is_nil value ≡ empty → same_value q key ≡ t
+    → value_in (cond empty [] ((key, value) ∷ [])) q ≡ cond t value Nil
 value_new key value q true true e h = sym (nil_from_test value e)
 value_new key value q true false e h = refl
 value_new key value q false true e h = rw h refl
 value_new key value q false false e h = rw h refl
 
-value_by : (p : Value × Value) (ps stored : Pairs) (key value q : Value) (k t u : Bool) → same_value key p.0 ≡ k → same_value q key ≡ t → same_value q p.0 ≡ u → value_in stored q ≡ cond t value (value_in ps q) → value_in (cond k ((p.0, value) ∷ ps) (p ∷ stored)) q ≡ cond t value (value_in (p ∷ ps) q)
+value_by : (p : Value × Value) (ps stored : Pairs) (key value q : Value) (k t u : Bool) → same_value key p.0 ≡ k → same_value q key ≡ t → same_value q p.0 ≡ u
+    → value_in stored q ≡ cond t value (value_in ps q) → value_in (cond k ((p.0, value) ∷ ps) (p ∷ stored)) q ≡ cond t value (value_in (p ∷ ps) q)
 value_by p ps stored key value q true true u e h f rest =
     let same : same_value q p.0 ≡ true = same_value_self q p.0 (same_value_equal q key h ∙ same_value_equal key p.0 e) in
     rw same refl
@@ -80,84 +85,33 @@ keyed_new : (key value : Value) (empty : Bool) → IsKey key → AllByRecursion 
 keyed_new key value true k = tt
 keyed_new key value false k = (k, tt)
 
-keyed_by : (p : Value × Value) (ps stored : Pairs) (value : Value) (t : Bool) → IsKey p.0 → AllByRecursion (λ (pair : Value × Value). IsKey pair.0) ps → AllByRecursion (λ (pair : Value × Value). IsKey pair.0) stored → AllByRecursion (λ (pair : Value × Value). IsKey pair.0) (cond t ((p.0, value) ∷ ps) (p ∷ stored))
+keyed_by : (p : Value × Value) (ps stored : Pairs) (value : Value) (t : Bool) → IsKey p.0 → AllByRecursion (λ (pair : Value × Value). IsKey pair.0) ps
+    → AllByRecursion (λ (pair : Value × Value). IsKey pair.0) stored
+    → AllByRecursion (λ (pair : Value × Value). IsKey pair.0) (cond t ((p.0, value) ∷ ps) (p ∷ stored))
 keyed_by p ps stored value true k all more = (k, all)
 keyed_by p ps stored value false k all more = (k, more)
 
-keyed_all : (ps : Pairs) (key value : Value) → AllByRecursion (λ (pair : Value × Value). IsKey pair.0) ps → IsKey key → AllByRecursion (λ (pair : Value × Value). IsKey pair.0) (with_value ps key value)
+keyed_all : (ps : Pairs) (key value : Value) → AllByRecursion (λ (pair : Value × Value). IsKey pair.0) ps → IsKey key
+    → AllByRecursion (λ (pair : Value × Value). IsKey pair.0) (with_value ps key value)
 keyed_all [] key value all k = keyed_new key value (is_nil value) k
 keyed_all (p ∷ ps) key value all k = keyed_by p ps (with_value ps key value) value (same_value key p.0) all.0 all.1 (keyed_all ps key value all.1 k)
 
 pub keyed_stored : (ps : Pairs) (key value : Value) → AreKeyed ps → IsKey key → AreKeyed (with_value ps key value)
 keyed_stored ps key value keyed k = All-from_recursion (λ (pair : Value × Value). IsKey pair.0) (with_value ps key value) (keyed_all ps key value (recursion_from_All (λ (pair : Value × Value). IsKey pair.0) ps keyed) k)
 
--- ---- the border
-
-pub is_stored : (ps : Pairs) (border : ℕ) (key value : Value) → IsBorder ps border → IsStored (with_value ps key value) border key value
-is_stored ps border key value b = record {
-  there = value_there ps key value;
-  full = λ k h other. λ e. b.full k h (sym (value_elsewhere ps key value (Number (pos (k + 1))) other) ∙ e);
-  free = λ other. value_elsewhere ps key value (Number (pos (border + 1))) other ∙ b.free;
-}
+-- ---- the values under numbers
 
 pub key_at : (key : Value) (m : ℕ) → index_in key ≡ suc m → key ≡ Number (pos (suc m))
 key_at (Number (pos n)) m e = ap (λ k. Number (pos k)) e
 key_at _ m e = absurd (cc e)
 
-other_at : (key : Value) (m : ℕ) → (index_in key ≡ m + 1 → ⊥) → same_value (Number (pos (m + 1))) key ≡ false
-other_at key m h = apart_test (Number (pos (m + 1))) key (λ e. h (sym (ap index_in e)))
+-- the number after k
+pub number_at : (key : Value) (k : ℕ) → index_in key ≡ k + 1 → key ≡ Number (pos (k + 1))
+number_at key k e = let same : k + 1 ≡ suc k = omega arith in key_at key k (e ∙ same) ∙ ap (λ n. Number (pos n)) (sym same)
 
-same_at : (ps : Pairs) (border : ℕ) (key value q : Value) → IsStored ps border key value → same_value q key ≡ true → value_in ps q ≡ value
-same_at ps border key value q s t = ap (value_in ps) (same_value_equal q key t) ∙ s.there
+pub number_there : (ps : Pairs) (key value : Value) (k : ℕ) → index_in key ≡ k + 1 → value_at (with_value ps key value) (k + 1) ≡ value
+number_there ps key value k e = ap (value_in (with_value ps key value)) (sym (number_at key k e)) ∙ value_there ps key value
 
-full_by : (ps : Pairs) (border : ℕ) (key value : Value) (k : ℕ) (t : Bool) → IsStored ps border key value → value ≢ Nil → k < border → same_value (Number (pos (k + 1))) key ≡ t → value_at ps (k + 1) ≢ Nil
-full_by ps border key value k true s v h e nil = v (sym (same_at ps border key value (Number (pos (k + 1))) s e) ∙ nil)
-full_by ps border key value k false s v h e nil = s.full k h e nil
-
-free_by : (ps : Pairs) (border : ℕ) (key value : Value) (t : Bool) → IsStored ps border key value → value ≡ Nil → same_value (Number (pos (border + 1))) key ≡ t → value_at ps (border + 1) ≡ Nil
-free_by ps border key value true s v e = same_at ps border key value (Number (pos (border + 1))) s e ∙ v
-free_by ps border key value false s v e = s.free e
-
-emptied_at : (ps : Pairs) (border : ℕ) (key value : Value) (m : ℕ) → IsStored ps border key value → value ≡ Nil → index_in key ≡ suc m → m < border → IsBorder ps m
-emptied_at ps border key value m s v e h =
-    let there : key ≡ Number (pos (suc m)) = key_at key m e in
-    let next : suc m ≡ m + 1 = omega arith in
-    record {
-      full = λ k below. s.full k (omega (arith, below, h)) (other_at key k (λ at. omega (arith, at, e, below)));
-      free = ap (λ n. value_at ps n) (sym next) ∙ ap (value_in ps) (sym there) ∙ s.there ∙ v;
-    }
-
-pub emptied : (ps : Pairs) (border : ℕ) (key value : Value) → IsStored ps border key value → is_nil value ≡ true → 0 < index_in key → index_in key ≤ border → IsBorder ps (index_in key - 1)
-emptied ps border key value s empty above within =
-    emptied_at ps border key value (index_in key - 1) s (nil_from_test value empty) (omega (arith, above)) (omega (arith, above, within))
-
-pub kept_empty : (ps : Pairs) (border : ℕ) (key value : Value) → IsStored ps border key value → is_nil value ≡ true → (0 < index_in key → index_in key ≤ border → ⊥) → IsBorder ps border
-kept_empty ps border key value s empty past = record {
-  full = λ k h. s.full k h (other_at key k (λ at. past (omega (arith, at)) (omega (arith, at, h))));
-  free = free_by ps border key value (same_value (Number (pos (border + 1))) key) s (nil_from_test value empty) refl;
-}
-
-pub kept_full : (ps : Pairs) (border : ℕ) (key value : Value) → IsStored ps border key value → is_nil value ≡ false → (index_in key ≡ border + 1 → ⊥) → IsBorder ps border
-kept_full ps border key value s full other = record {
-  full = λ k h. full_by ps border key value k (same_value (Number (pos (k + 1))) key) s (not_nil_from_test value full) h refl;
-  free = s.free (other_at key border other);
-}
-
-grown_by : (ps : Pairs) (border : ℕ) (key value : Value) (k : ℕ) (t : Bool) → IsStored ps border key value → value ≢ Nil → index_in key ≡ border + 1 → k < border + 1 → same_value (Number (pos (k + 1))) key ≡ t → value_at ps (k + 1) ≢ Nil
-grown_by ps border key value k true s v at h e nil = v (sym (same_at ps border key value (Number (pos (k + 1))) s e) ∙ nil)
-grown_by ps border key value k false s v at h e nil =
-    let index : suc border ≡ border + 1 = omega arith in
-    let there : key ≡ Number (pos (border + 1)) = key_at key border (at ∙ sym index) ∙ ap (λ n. Number (pos n)) index in
-    let low : k < border = lower k border h (λ same. differs (Number (pos (k + 1))) key e (ap (λ n. Number (pos (n + 1))) same ∙ sym there)) in
-    s.full k low e nil
-  where
-    lower : (k border : ℕ) → k < border + 1 → (k ≡ border → ⊥) → k < border
-    lower k border h other = omega (arith, h, other)
-
-pub grown : (ps : Pairs) (border : ℕ) (key value : Value) → IsStored ps border key value → is_nil value ≡ false → index_in key ≡ border + 1 → IsFull ps (border + 1)
-grown ps border key value s full at k h = grown_by ps border key value k (same_value (Number (pos (k + 1))) key) s (not_nil_from_test value full) at h refl
-
--- a value that isn't nil leaves no hole
-pub full_stored : (ps : Pairs) (border : ℕ) (key value : Value) → IsBorder ps border → is_nil value ≡ false → IsFull (with_value ps key value) border
-full_stored ps border key value b full k h =
-    full_by (with_value ps key value) border key value k (same_value (Number (pos (k + 1))) key) (is_stored ps border key value b) (not_nil_from_test value full) h refl
+pub number_elsewhere : (ps : Pairs) (key value : Value) (k : ℕ) → (index_in key ≡ k + 1 → ⊥)
+    → value_at (with_value ps key value) (k + 1) ≡ value_at ps (k + 1)
+number_elsewhere ps key value k h = value_elsewhere ps key value (Number (pos (k + 1))) (apart_test (Number (pos (k + 1))) key (λ e. h (sym (ap index_in e))))

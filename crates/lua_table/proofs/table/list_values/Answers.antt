@@ -4,5 +4,5 @@ use Rattle.lua_table.proofs.table.list_values.Goals as goal
 
 pub returns : goal.returns
 returns c =
-    let most : length c.args.entries.now.entries ≤ length c.loop-listed.listed.items = search rules in
-    table_all c.args.entries.now.entries c.loop-listed.listed.items c.loop-listed.invariant.1 most
+    let most : length c.args.entries.now ≤ length c.loop-listed.listed.items = search rules in
+    table_all c.args.entries.now c.loop-listed.listed.items c.args.holes.now c.loop-listed.invariant.1 most
