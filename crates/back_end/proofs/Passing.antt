@@ -100,7 +100,7 @@ module _ (store : Contents) where
     passes w names (typed at of (Operate op es)) p t =
         let q = and_parts (is_plain_operation op) (are_plain es) p in
         let m = four (typing.is_placed at) (are_typed store w names es) (typing.all_usable store (types_in es))
-        (typing.operation_typed store op (types_in es) of) t in (
+        (typing.operation_typed store op (types_in es) of) (and_parts _ (typing.takes_values op es) t).0 in (
           passes-all w names es q.1 m.1,
           subst (λ ts. OpCalls Passes op (length ts)) (types-are es) (op-passes op (types_in es) of q.0 m.2 m.3),
         )

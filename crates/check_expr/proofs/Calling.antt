@@ -1,10 +1,13 @@
 -- What is called by its name, by what the term is as a callee.
 use Rattle.std.proofs.Common.{◌≡◌, Bool, true, false, List, [], ◌∷◌, Option, Some, None, refl, ap}
-use Rattle.std.specs.Prelude.{unwrap_or}
+use Rattle.std.specs.Prelude.{codes, unwrap_or}
 use Rattle.tl_base.specs.declared.ids.FnId.{FnId}
 use Rattle.tl_base.specs.declared.ids.TermId.{TermId}
 use Rattle.tl_base.specs.declared.ids.TypeId.{TypeId}
 use Rattle.tl_base.specs.declared.place.Place.{Place}
+use Rattle.terra_types.specs.declared.types.TypeForm.{TypeForm}
+use Rattle.terra_types.specs.declared.types.TypeForm.TheVariants as forms
+use Rattle.terra_term.specs.declared.operators.Constant.TheVariants as constants
 use Rattle.terra_term.specs.declared.operators.Operation.TheVariants as operations
 use Rattle.terra_term.specs.declared.refusal.RefusalKind.TheVariants.{Undefined, WrongCount, BadOperand}
 use Rattle.terra_term.specs.declared.store.Function.{Function}
@@ -13,10 +16,14 @@ use Rattle.terra_term.specs.declared.term.Expression.TheVariants as e
 use Rattle.terra_term.specs.declared.typed.TypedExpression.TheVariants as te
 use Rattle.exotype.specs.World.{StageState}
 use Rattle.check_model.specs.declared.job.Operand.{Operand}
+use Rattle.check_model.specs.declared.made.Made.{Made}
 use Rattle.check_model.specs.declared.site.Site.{Site}
 use Rattle.check_model.specs.Calls as models
-use Rattle.check_model.specs.Plans.{refuse, gives}
-use Rattle.check_expr.specs.Callees.{callee_in, named_plan, only_of}
+use Rattle.check_model.specs.Plans.{refuse, gives, signing}
+use Rattle.check_model.specs.Structs.{metamethod}
+use Rattle.check_expr.specs.Callees.{callee_in, named_plan, only_of, signed_call}
+use Rattle.check_expr.specs.declared.known.Signature.{Signature}
+use Rattle.check_expr.specs.Forms.{signature_in}
 use Rattle.check_expr.specs.declared.calls.Callee.{Callee}
 use Rattle.check_expr.specs.declared.calls.Callee.TheVariants as callees
 
@@ -68,6 +75,43 @@ pub function_known : (w : StageState) (f : FnId) (x : Option Function) (ps : Lis
 function_known w f None ps os at fitting source site known = absurd (cc known)
 function_known w f (Some g) ps os at fitting source site known =
     ap (λ (o : Option (List TypeId)). models.with_params o w f g os at fitting source site) known
+
+-- ---- functions as values
+
+pub value_unknown : (w : StageState) (f : FnId) (x : Option Function) (at : Place) (source : TermId) (site : Site)
+    → models.parameters_in_state w x ≡ None → models.function_value w f x at source site ≡ refuse Undefined at site
+value_unknown w f None at source site none = refl
+value_unknown w f (Some g) at source site none = ap (λ (ps : Option (List TypeId)). models.value_of ps w f g at source site) none
+
+pub value_known : (w : StageState) (f : FnId) (x : Option Function) (ps : List TypeId) (at : Place) (source : TermId) (site : Site)
+    → models.parameters_in_state w x ≡ Some ps
+    → models.function_value w f x at source site
+    ≡ models.by_result (models.result_in_state w x) f at site (λ result. signing ps result (λ of.
+    gives source at of (te.Constant (constants.FnValue f))))
+value_known w f None ps at source site known = absurd (cc known)
+value_known w f (Some g) ps at source site known =
+    ap (λ (o : Option (List TypeId)). models.value_of o w f g at source site) known
+
+-- ---- calls of values, by what their types have
+
+pub signed_means : (form : TypeForm) (s : Signature) (w : StageState) (m : Made) (os : List Operand) (at : Place) (fitting : Bool)
+    (source : TermId) (site : Site)
+    → signature_in form ≡ Some s → models.call_by_form form w m os at fitting source site ≡ signed_call s m os at fitting source site
+signed_means (forms.Function ps result) s w m os at fitting source site is =
+    ap (λ (o : Option Signature). signed_call (unwrap_or o s) m os at fitting source site) is
+signed_means (forms.Integer i) s w m os at fitting source site is = absurd (cc is)
+signed_means forms.Bool s w m os at fitting source site is = absurd (cc is)
+signed_means forms.Unit s w m os at fitting source site is = absurd (cc is)
+signed_means (forms.Pointer t) s w m os at fitting source site is = absurd (cc is)
+signed_means (forms.Array t n) s w m os at fitting source site is = absurd (cc is)
+signed_means (forms.Struct n p l) s w m os at fitting source site is = absurd (cc is)
+
+pub unsigned_means : (form : TypeForm) (w : StageState) (m : Made) (os : List Operand) (at : Place) (fitting : Bool) (source : TermId)
+    (site : Site)
+    → signature_in form ≡ None
+    → models.call_by_form form w m os at fitting source site ≡ models.apply (metamethod w m.of (codes "__apply")) m os at source site
+unsigned_means (forms.Function ps result) w m os at fitting source site none = absurd (cc none)
+unsigned_means _ w m os at fitting source site none = refl
 
 -- ---- casts and sizes, of the only operand
 

@@ -17,6 +17,7 @@ use Rattle.lua_value.specs.declared.value.Value.{Value}
 use Rattle.lua_value.specs.declared.value.Value.TheVariants as values
 use Rattle.lua_table.specs.Cells.{first_value}
 use Rattle.lua_value.specs.Values.{is_nil}
+use Rattle.check_cast.specs.Conversions.{implicit}
 use Rattle.check_cast.specs.declared.conversion.Conv.{Conv}
 use Rattle.check_cast.specs.declared.conversion.Conv.TheVariants as conv
 use Rattle.exotype.specs.World.{StageState}
@@ -30,12 +31,10 @@ use Rattle.check_model.specs.declared.question.CheckAnswer.TheVariants as answer
 use Rattle.check_model.specs.declared.made.Made.{Made}
 use Rattle.check_model.specs.declared.end.PartEnd.{PartEnd}
 use Rattle.check_model.specs.declared.end.PartEnd.TheVariants as ends
-use Rattle.check_model.specs.declared.rule.Mode.{Mode}
-use Rattle.check_model.specs.declared.rule.Mode.TheVariants.{Implicit}
 use Rattle.check_model.specs.declared.site.Site.{Site}
 use Rattle.check_model.specs.Typing.{form_in, made_of}
 use Rattle.check_model.specs.Plans.{BodyPlan, give, refuse, make, as_value, on_made, on_values, on_became, typing, calling, quoting, in_place}
-use Rattle.check_model.specs.Converting.{convert, converted, by_conv, cast_to, conv_of, takes_type, is_same, fit}
+use Rattle.check_model.specs.Converting.{convert, converted, by_conv, cast_to, takes_type, is_same, fit}
 use Rattle.check_expr.specs.Asking.{next_value, with_quoted}
 use Rattle.check_expr.specs.Steps.{with_node, with_stage}
 use Rattle.check_model.proofs.Composing.{BodyCourse, IsWith, going_on_passes, if_then, paid_then, then_twice, as_value_then}
@@ -116,7 +115,7 @@ cast_asked : (f : BodyJob → BodyCourse) (h : Value) (vs : List Value) (m : Mad
 cast_asked f h vs m to site go s [] = refl
 cast_asked f h vs m to site go s (a ∷ l) = cast_given f a.answer m to site go a.state l
 
-cast_continues : (f : BodyJob → BodyCourse) (h : Value) (m : Made) (to : TypeId) (site : Site) (go : Made → BodyPlan)
+pub cast_continues : (f : BodyJob → BodyCourse) (h : Value) (m : Made) (to : TypeId) (site : Site) (go : Made → BodyPlan)
     → Continues f (cast_to h m to site) go
 cast_continues f h m to site go =
     let asked : (Made → BodyPlan) → BodyPlan =
@@ -152,10 +151,10 @@ converted_continues f c w m to site go =
     (by_conv_continues f c w m to site go) (λ s l. refl))
     (by_conv_continues f c w m to site go)
 
-pub convert_continues : (f : BodyJob → BodyCourse) (mode : Mode) (m : Made) (to : TypeId) (site : Site) (go : Made → BodyPlan)
-    → Continues f (convert mode m to site) go
-convert_continues f mode m to site go s l =
-    converted_continues f (conv_of mode s.world.stage m.of to) s.world.stage m to site go s l
+pub convert_continues : (f : BodyJob → BodyCourse) (m : Made) (to : TypeId) (site : Site) (go : Made → BodyPlan)
+    → Continues f (convert m to site) go
+convert_continues f m to site go s l =
+    converted_continues f (implicit s.world.stage.store.types m.of to) s.world.stage m to site go s l
 
 -- a receiver that is made to fit
 pub fit_continues : (f : BodyJob → BodyCourse) (m : Made) (to : TypeId) (at : Place) (site : Site) (go : Made → BodyPlan)
@@ -167,14 +166,14 @@ fit_continues f m to at site go s l =
     λ k. if m.is_place then make m.source at to (te.Address m.id) k else refuse NotPlace m.at site in
     let target : (Made → BodyPlan) → BodyPlan = λ k. make m.source at to (te.Dereference m.id) (λ r. as_value r site (k r)) in
     let behind : (Made → BodyPlan) → BodyPlan =
-    λ k. if points_in (form_in w m.of) to then target k else convert Implicit m to site k in
+    λ k. if points_in (form_in w m.of) to then target k else convert m to site k in
     let others : (Made → BodyPlan) → BodyPlan = λ k. if points_in (form_in w to) m.of then addressed k else behind k in
     if_then f (same_type m.of to) (as_value m site (go m)) (others go) (as_value m site (give m)) (others give) k
     (value_continues f m site go)
     (if_then f (points_in (form_in w to) m.of) (addressed go) (behind go) (addressed give) (behind give) k
     (if_then f m.is_place (make m.source at to (te.Address m.id) go) (refuse NotPlace m.at site)
     (make m.source at to (te.Address m.id) give) (refuse NotPlace m.at site) k (λ t later. refl) (λ t later. refl))
-    (if_then f (points_in (form_in w m.of) to) (target go) (convert Implicit m to site go) (target give) (convert Implicit m to site give) k
+    (if_then f (points_in (form_in w m.of) to) (target go) (convert m to site go) (target give) (convert m to site give) k
     (λ t later. value_continues f (made_of (next_typed t.world.stage.store) m.source at to (te.Dereference m.id)) site go
     (state (with_node t.world (typed_kinds.Expression at to (te.Dereference m.id))) t.left) later)
-    (convert_continues f Implicit m to site go))) s l
+    (convert_continues f m to site go))) s l

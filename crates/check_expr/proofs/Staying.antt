@@ -9,13 +9,12 @@ use Rattle.terra_term.specs.WellTyped.{widest}
 use Rattle.terra_term.specs.declared.refusal.RefusalKind.TheVariants.{TooWide}
 use Rattle.check_cast.specs.declared.conversion.Conv.{Conv}
 use Rattle.check_cast.specs.declared.conversion.Conv.TheVariants as conv
-use Rattle.check_cast.specs.Conversions.{form_of, implicit_forms}
+use Rattle.check_cast.specs.Conversions.{form_of, implicit, implicit_forms}
 use Rattle.check_model.specs.declared.made.Made.{Made}
 use Rattle.check_model.specs.declared.question.BodyQuestion.TheVariants.{LayoutOf}
-use Rattle.check_model.specs.declared.rule.Mode.TheVariants.{Implicit}
 use Rattle.check_model.specs.declared.site.Site.{Site}
 use Rattle.check_model.specs.Typing.{TypingState, form_in, is_aggregate_form, bytes_in}
-use Rattle.check_model.specs.Converting.{convert, converted, conv_of, by_conv, takes_type}
+use Rattle.check_model.specs.Converting.{convert, converted, by_conv, takes_type}
 use Rattle.check_model.specs.Plans.{BodyPlan, reading, refuse, on_layout, is_wide, as_value}
 use Rattle.check_expr.specs.declared.frame.BodyFrame.{BodyFrame}
 use Rattle.check_expr.specs.Forms.{stands_as}
@@ -48,14 +47,14 @@ pub stays : (fs fs2 : List BodyFrame) (m : Made) (to : TypeId) (site : Site) (go
     (left left2 : ℕ) (step : BodyStep)
     → stands_as w.stage m.of to ≡ true
     → Goes fs (go m) w left fs2 step w2 left2
-    → Goes fs (convert Implicit m to site go) w left fs2 step w2 left2
+    → Goes fs (convert m to site go) w left fs2 step w2 left2
 stays fs fs2 m to site go w w2 left left2 step is g =
     let v = w.stage in
     let types = v.store.types in
     let parts = and_parts (same_type m.of to) (not (is_aggregate_form (form_in v m.of))) is in
-    let same : conv_of Implicit v m.of to ≡ conv.Same =
+    let same : implicit v.store.types m.of to ≡ conv.Same =
     ap (λ (b : Bool). if b then conv.Same else implicit_forms (form_of types m.of) (form_of types to)) parts.0 in
-    moved fs fs2 (converted (conv_of Implicit v m.of to) v m to site go) (converted conv.Same v m to site go) w w w2 left left2 step
+    moved fs fs2 (converted (implicit v.store.types m.of to) v m to site go) (converted conv.Same v m to site go) w w w2 left left2 step
     (ap (λ (c : Conv). converted c v m to site go) same) refl
     (either fs fs2 (takes_type v m to) (by_conv conv.Same v m to site go) w w2 left left2 step
     (used fs fs2 m site (go m) w w2 left left2 step (denied (is_aggregate_form (form_in v m.of)) parts.1) g))

@@ -8,6 +8,8 @@ use Rattle.lua_value.specs.Values.{is_nil}
 use Rattle.lua_table.specs.Heap.{macro_at}
 use Rattle.terra_term.specs.declared.refusal.RefusalKind.{RefusalKind}
 use Rattle.terra_term.specs.declared.refusal.RefusalKind.TheVariants.{NotCallable}
+use Rattle.terra_term.specs.declared.operators.Operation.TheVariants as operations
+use Rattle.terra_term.specs.declared.typed.TypedExpression.TheVariants as te
 use Rattle.terra_term.specs.declared.term.Expression.{Expression}
 use Rattle.terra_term.specs.declared.term.Expression.TheVariants as e
 use Rattle.exotype.specs.World.{StageState}
@@ -15,10 +17,11 @@ use Rattle.check_model.specs.declared.site.Site.{Site}
 use Rattle.check_model.specs.declared.made.Made.{Made}
 use Rattle.check_model.specs.declared.job.Operand.{Operand}
 use Rattle.check_model.specs.Typing.{function_at}
-use Rattle.check_model.specs.Plans.{BodyPlan, refuse, ready}
-use Rattle.check_model.specs.Calls.{call_function, call_primitive, call_macro, cast, call_size, call_metamethod}
+use Rattle.check_model.specs.Plans.{BodyPlan, refuse, gives, ready}
+use Rattle.check_model.specs.Calls.{call_function, call_primitive, call_macro, cast, call_size, call_metamethod, counted, arguments}
 use Rattle.check_expr.specs.declared.calls.Callee.{Callee}
 use Rattle.check_expr.specs.declared.calls.Callee.TheVariants as callees
+use Rattle.check_expr.specs.declared.known.Signature.{Signature}
 
 abbrev pub callee_in : Expression → Callee
 callee_in (e.Function f) = callees.Function f
@@ -45,6 +48,12 @@ ready_if (Some m) = ready m ∷ []
 -- the call of a metamethod, where there is one, and else this refusal
 abbrev pub by_handler : Value → RefusalKind → List Operand → Place → TermId → Site → BodyPlan
 by_handler h kind os at source site = if is_nil h then refuse kind at site else call_metamethod h os at source site
+
+-- a call of a value with these parameters and this result
+abbrev pub signed_call : Signature → Made → List Operand → Place → Bool → TermId → Site → BodyPlan
+signed_call s m os at fitting source site =
+    counted os s.parameters at site
+    (arguments fitting os s.parameters at site (m.id ∷ []) (λ ids. gives source at s.result (te.Operate operations.CallValue ids)))
 
 -- the only operand, where there is one and no more
 abbrev pub only_of : List Operand → Option Operand

@@ -8,11 +8,17 @@ use Rattle.exotype.specs.World.{StageState}
 use Rattle.check_model.specs.Typing.{form_in, is_aggregate_form}
 use Rattle.check_expr.specs.declared.entries.Elements.{Elements}
 use Rattle.check_expr.specs.declared.entries.Elements.TheVariants as elements
+use Rattle.check_expr.specs.declared.known.Signature.{Signature}
 pub use Rattle.terra_types.specs.Scalars.{bool_form}
 
 abbrev pub target_in : TypeForm → Option TypeId
 target_in (forms.Pointer t) = Some t
 target_in _ = None
+
+-- the types of the parameters and of the result of a function type
+abbrev pub signature_in : TypeForm → Option Signature
+signature_in (forms.Function ps result) = Some (record { parameters = ps; result = result })
+signature_in _ = None
 
 -- what a type has elements of
 abbrev pub elements_in : TypeForm → Elements

@@ -35,8 +35,8 @@ use Rattle.check_model.specs.declared.question.CheckAnswer.{CheckAnswer}
 use Rattle.check_model.specs.Typing.{TypingState, form_in, struct_of, bytes_in, with_variable, with_variables}
 use Rattle.check_model.specs.Plans.{BodyPlan, reading, refuse, give, gives, states, on_made, on_stated, typing}
 use Rattle.check_model.specs.Plans.{as_value, on_layout, is_wide, leaving, ids_of, on_values, calling, quoting, quotes_of, in_place}
-use Rattle.check_model.specs.declared.rule.Mode.TheVariants.{Implicit, Explicit}
-use Rattle.check_model.specs.Converting.{convert}
+use Rattle.check_model.specs.Plans.{signing}
+use Rattle.check_model.specs.Converting.{convert, cast_made, own}
 use Rattle.check_model.specs.Calls.{argument, arguments, on_result, call_value}
 use Rattle.check_model.specs.Operators.{binary_plan, unary_plan, both}
 use Rattle.exotype.specs.declared.property.Known.TheVariants as known
@@ -86,6 +86,7 @@ meet_right f x y = both f.op f.of x y f.node.at f.node.source
 abbrev pub operation_of : Target → Operation
 operation_of (called.Function g) = operations.Call g
 operation_of (called.Primitive p) = operations.Primitive p
+operation_of called.Value = operations.CallValue
 
 -- the call of what has so many operands
 abbrev pub called_with : CallFrame → TypeId → List TermId → BodyPlan
@@ -94,6 +95,10 @@ called_with f result ids = gives f.node.source f.node.at result (te.Operate (ope
 -- the operands that are left
 abbrev pub operands_from : CallFrame → Bool → List TermId → TypeId → BodyPlan
 operands_from f fitting ids result = arguments fitting f.operands f.types f.node.at f.node.site ids (called_with f result)
+
+-- a function as a value, whose parameters and result have these types
+abbrev pub value_with : FnId → List TypeId → Node → TypeId → BodyPlan
+value_with f ps n result = signing ps result (λ of. gives n.source n.at of (te.Constant (constants.FnValue f)))
 
 -- the operands that are left of those of which Lua code is given typed quotes, and its call
 abbrev pub quotes_from : QuotesFrame → List Value → BodyPlan
@@ -186,12 +191,12 @@ with_made (of_made.Unary op n) m = reading (λ w. unary_plan w op (form_in w m.o
 with_made (of_made.Left op right n) x =
     typing right n.site (λ y. reading (λ w. binary_plan w op x y n.at n.source n.site))
 with_made (of_made.Right op x n) y = reading (λ w. binary_plan w op x y n.at n.source n.site)
-with_made (of_made.MeetLeft f b) x = convert Implicit b f.meet f.node.site (λ y. meet_right f x y)
+with_made (of_made.MeetLeft f b) x = convert b f.meet f.node.site (λ y. meet_right f x y)
 with_made (of_made.MeetRight f x) y = meet_right f x y
-with_made (of_made.Callee os at source site) m = call_value m os at source site
+with_made (of_made.Callee os at fitting source site) m = call_value m os at fitting source site
 with_made (of_made.Quoted f) m = quoting m (λ q. quotes_from f (f.values ++ q ∷ []))
-with_made (of_made.Cast to n) m = convert Explicit m to n.site (λ r. give (record r { source = n.source }))
-with_made (of_made.Recast source) r = give (record r { source = source })
+with_made (of_made.Cast to n) m = cast_made m to n.source n.at n.site
+with_made (of_made.Own to n) r = own r to n.source n.at
 with_made (of_made.OfType to at site) r = if same_type r.of to then as_value r site (give r) else refuse Mismatch at site
 with_made (of_made.Argument p f result) m =
     argument f.fitting m p f.node.at f.node.site (λ r. operands_from f false (f.ids ++ r.id ∷ []) result)
@@ -203,7 +208,7 @@ with_made (of_made.Extract l n) o = extracted l n o
 with_made (of_made.Object i n) x = typing i n.site (λ y. reading (λ w. index_plan w x y n.at n.source n.site))
 with_made (of_made.Key x n) y = reading (λ w. index_plan w x y n.at n.source n.site)
 with_made (of_made.Initial l f) m =
-    convert Implicit m l.of f.node.site (λ r. values_from f (f.offsets ++ l.offset ∷ []) (f.ids ++ r.id ∷ []))
+    convert m l.of f.node.site (λ r. values_from f (f.offsets ++ l.offset ∷ []) (f.ids ++ r.id ∷ []))
 with_made (of_made.Initialised l f) r = values_from f (f.offsets ++ l.offset ∷ []) (f.ids ++ r.id ∷ [])
 with_made (of_made.Let count ids n) m =
     as_value m n.site (leaving count (gives n.source n.at m.of (te.Let ids m.id)))
@@ -286,6 +291,7 @@ after (frames.Doing f) r = on_made r (λ m. with_doing f m)
 after (frames.Block f) r = on_stated r (λ id result. block_from f result (f.ids ++ id ∷ []))
 after (frames.Laid at site next) r = on_answer r (λ a. on_layout a at site (laid_then next site))
 after (frames.Result g f) r = on_answer r (λ a. on_result a f.node.at f.node.site (λ result. operands_from f f.fitting f.ids result))
+after (frames.Value g ps n) r = on_answer r (λ a. on_result a n.at n.site (λ result. value_with g ps n result))
 after (frames.Asked next) r = on_answer r (λ a. asked_then next a)
 after (frames.Function f base) r = close_function f base r
 

@@ -12,7 +12,7 @@ use crate::frame::{AssignedFrame, BodyFrame, DoingFrame, TargetFrame, ValueFrame
 use crate::nodes::{refuse, states};
 use crate::step::BodyStep;
 use check_model::rest::Rest;
-use check_model::{BodyJob, Made, Mode, Site, Typing};
+use check_model::{BodyJob, Made, Site, Typing};
 use std::alloc::Global;
 use terra_term::{RefusalKind, TermList, TypedStatement};
 use tl_base::{List, NoMemory, Place, Step, TermId};
@@ -214,7 +214,7 @@ fn conversion_left(
         Some(place) => {
             let site = frame.site;
             frames.push(BodyFrame::Doing(DoingFrame::Assigned(frame)))?;
-            convert(frames, typing, Mode::Implicit, made, place.of, site)
+            convert(frames, typing, made, place.of, site)
         }
     }
 }

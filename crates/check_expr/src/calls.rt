@@ -1,20 +1,21 @@
 // Calls: of functions, primitives, macros, types and `sizeof`, and of typed values.
 
-ghost use Rattle.std.specs.Prelude.{◌≡◌, ℕ, [], ◌∷◌, ◌++◌, false, IfOk, OnOk};
+ghost use Rattle.std.specs.Prelude.{◌≡◌, ℕ, [], ◌∷◌, ◌++◌, false, codes, IfOk, OnOk};
 ghost use Rattle.check_model.specs.Calls as models;
 ghost use Rattle.check_model.specs.Plans as plans;
-ghost use Rattle.check_model.specs.Converting as converting;
+ghost use Rattle.check_model.specs.Structs.{metamethod};
 ghost use Rattle.check_model.specs.Typing.{expression_at, function_at};
 ghost use Rattle.lua_table.specs.Heap.{macro_at};
-ghost use Rattle.check_expr.specs.Callees.{callee_in, named_plan, ready_if, only_of, by_handler};
+ghost use Rattle.check_expr.specs.Callees.{callee_in, named_plan, ready_if, only_of, by_handler, signed_call};
 ghost use Rattle.check_expr.specs.Frames.{operands_from, operation_of, on_answer, called_with};
 ghost use Rattle.check_expr.specs.Keeping.{KeepsTyping};
 ghost use Rattle.check_expr.specs.Steps.{Goes, Does};
 
 use crate::asking::{Spliced, quotes_left, splice};
+use crate::casting::cast_made;
 use crate::converting::{convert, fit};
 use crate::frame::{BodyFrame, CallFrame, LaidThen, MadeFrame, QuotesFrame, Target};
-use crate::known::{parameter_types, result_type};
+use crate::known::{Signature, parameter_types, result_type, signature_of};
 use crate::layouts::lay_out;
 use crate::loops::UNIT;
 use crate::nodes::{gives, pointer_to, refuse};
@@ -22,8 +23,7 @@ use crate::reading::{macro_function, metamethod, place_of};
 use crate::step::{BodyStep, Node};
 use check_model::rest::Rest;
 use check_model::{
-    BodyJob, BodyQuestion, CheckAnswer, KnownResult, Made, Mode, Operand, OperandList, PartEnd,
-    Typing,
+    BodyJob, BodyQuestion, CheckAnswer, KnownResult, Made, Operand, OperandList, PartEnd, Typing,
 };
 use exotype::World;
 use lua_value::{Primitive, Value};
@@ -265,7 +265,7 @@ pub fn argument(
     if fitting {
         fit(frames, typing, made, parameter, node.at, node.site)
     } else {
-        convert(frames, typing, Mode::Implicit, made, parameter, node.site)
+        convert(frames, typing, made, parameter, node.site)
     }
 }
 
@@ -295,6 +295,7 @@ fn operation_of(target: Target) -> Operation
     match target {
         Target::Function(f) => Operation::Call(f),
         Target::Primitive(primitive) => Operation::Primitive(primitive),
+        Target::Value => Operation::CallValue,
     }
 }
 
@@ -463,24 +464,6 @@ fn only(operands: Rest<Operand>) -> Option<Operand>
     }
 }
 
-/// Converts a typed expression to a type by a cast.
-pub fn cast_made(
-    frames: &mut Vec<BodyFrame>,
-    typing: &mut Typing,
-    to: TypeId,
-    node: Node,
-    made: Made,
-) -> Result<BodyStep, NoMemory>
-    ensures means { IfOk result (λ step. (left : ℕ) →
-        Goes frames.old.items
-        (converting.convert Mode.Explicit made to node.site (λ r. plans.give (record r { source = node.source })))
-        typing.old left frames.new.items step typing.new left) }
-    ensures kept { OnOk result (KeepsTyping typing.old typing.new) }
-{
-    frames.push(BodyFrame::Made(MadeFrame::Recast(node.source)))?;
-    convert(frames, typing, Mode::Explicit, made, to, node.site)
-}
-
 /// The size of the only operand, which is a type.
 fn call_size(
     frames: &mut Vec<BodyFrame>,
@@ -549,7 +532,8 @@ pub fn call_term(
     match callee_of(&typing.world, term) {
         Callee::Value => {
             let operands = OperandList::from_vec(operands);
-            Ok(Step::Enter(BodyJob::Callee(term, operands, node.at, node.source, node.site)))
+            let job = BodyJob::Callee(term, operands, node.at, fitting, node.source, node.site);
+            Ok(Step::Enter(job))
         }
         callee => {
             let operands = Rest::from_vec(operands);
@@ -604,8 +588,64 @@ pub fn call_handler(
     }
 }
 
-/// Calls a typed expression: a struct by `__apply`.
+/// Calls a typed expression: a value of function type, or else by its `__apply`.
 pub fn call_value(
+    frames: &mut Vec<BodyFrame>,
+    typing: &mut Typing,
+    budget: &mut Budget,
+    made: Made,
+    operands: OperandList,
+    fitting: bool,
+    node: Node,
+) -> Result<BodyStep, NoMemory>
+    ensures means { IfOk result (λ step.
+        Goes frames.old.items (models.call_value made operands node.at fitting node.source node.site)
+        typing.old budget.old frames.new.items step typing.new budget.new) }
+    ensures kept { OnOk result (KeepsTyping typing.old typing.new) }
+{
+    let signature = signature_of(&typing.world, made.of)?;
+    match signature {
+        Some(signature) => call_signed(frames, typing, signature, made, operands, fitting, node),
+        None => apply(frames, typing, budget, made, operands, node),
+    }
+}
+
+/// Calls a value of function type, which is the first operand.
+fn call_signed(
+    frames: &mut Vec<BodyFrame>,
+    typing: &mut Typing,
+    signature: Signature,
+    made: Made,
+    operands: OperandList,
+    fitting: bool,
+    node: Node,
+) -> Result<BodyStep, NoMemory>
+    ensures means { IfOk result (λ step. (left : ℕ) →
+        Goes frames.old.items (signed_call signature made operands node.at fitting node.source node.site)
+        typing.old left frames.new.items step typing.new left) }
+    ensures kept { OnOk result (KeepsTyping typing.old typing.new) }
+{
+    let operands = Rest::from_list(operands);
+    let given = operands.len();
+    let wanted = signature.parameters.len();
+    if given != wanted {
+        return Ok(refuse(RefusalKind::WrongCount, node.at, node.site));
+    }
+    let mut ids = List::new(typing.world.store.allocator());
+    ids.push(made.id)?;
+    let frame = CallFrame {
+        target: Target::Value,
+        operands,
+        types: signature.parameters,
+        ids,
+        fitting,
+        node,
+    };
+    operands_left(frames, typing, frame, signature.result)
+}
+
+/// Calls a value of another type by its `__apply`.
+fn apply(
     frames: &mut Vec<BodyFrame>,
     typing: &mut Typing,
     budget: &mut Budget,
@@ -614,7 +654,8 @@ pub fn call_value(
     node: Node,
 ) -> Result<BodyStep, NoMemory>
     ensures means { IfOk result (λ step.
-        Goes frames.old.items (models.call_value made operands node.at node.source node.site)
+        Goes frames.old.items
+        (models.apply (metamethod typing.old.stage made.of (codes "__apply")) made operands node.at node.source node.site)
         typing.old budget.old frames.new.items step typing.new budget.new) }
     ensures kept { OnOk result (KeepsTyping typing.old typing.new) }
 {

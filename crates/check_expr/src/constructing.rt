@@ -16,7 +16,7 @@ use crate::nodes::{gives, refuse};
 use crate::reading::{bytes, is_struct};
 use crate::step::{BodyStep, Node};
 use check_model::rest::Rest;
-use check_model::{BodyJob, Made, Mode, Typing};
+use check_model::{BodyJob, Made, Typing};
 use exotype::World;
 use terra_term::{OffsetList, Operation, RefusalKind, TermList, TypedExpression};
 use terra_types::{Laid, TypeForm};
@@ -231,14 +231,14 @@ pub fn initial(
 ) -> Result<BodyStep, NoMemory>
     ensures means { IfOk result (λ step. (left : ℕ) →
         Goes frames.old.items
-        (converting.convert Mode.Implicit made laid.of frame.node.site
+        (converting.convert made laid.of frame.node.site
         (λ r. values_from frame (frame.offsets ++ laid.offset ∷ []) (frame.ids ++ r.id ∷ [])))
         typing.old left frames.new.items step typing.new left) }
     ensures kept { OnOk result (KeepsTyping typing.old typing.new) }
 {
     let site = frame.node.site;
     frames.push(BodyFrame::Made(MadeFrame::Initialised(laid, frame)))?;
-    convert(frames, typing, Mode::Implicit, made, laid.of, site)
+    convert(frames, typing, made, laid.of, site)
 }
 
 /// Goes on with the values behind one that is converted.

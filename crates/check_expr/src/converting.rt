@@ -13,10 +13,10 @@ use crate::asking::{ask, two_values};
 use crate::frame::{AskedThen, BodyFrame, MadeFrame};
 use crate::layouts::as_value;
 use crate::nodes::{gives, make, new_quote, refuse};
-use crate::reading::{is_nil, is_pointer, metamethod_of_either, points_to};
+use crate::reading::{is_nil, metamethod_of_either, points_to, takes_nil};
 use crate::step::BodyStep;
-use check_cast::{Conv, explicit, implicit};
-use check_model::{Made, Mode, Site, Typing};
+use check_cast::{Conv, implicit};
+use check_model::{Made, Site, Typing};
 use lua_value::{Value, Values};
 use terra_term::{Constant, Operation, RefusalKind, TermList, TypedExpression};
 use tl_base::{List, NoMemory, Place, TermId, TypeId};
@@ -40,32 +40,20 @@ pub fn two(typing: &Typing, first: TermId, second: TermId) -> Result<TermList, N
     TermList::from_list(ids)
 }
 
-/// How a value of a type becomes one of another.
-fn conversion(typing: &Typing, mode: Mode, from: TypeId, to: TypeId) -> Conv
-    ensures { result ≡ models.conv_of mode typing.now.stage from to }
-{
-    let types = typing.world.store.types();
-    match mode {
-        Mode::Implicit => implicit(types, from, to),
-        Mode::Explicit => explicit(types, from, to),
-    }
-}
-
-/// Converts an expression to a type.
+/// Converts an expression to a type, without a cast.
 pub fn convert(
     frames: &mut Vec<BodyFrame>,
     typing: &mut Typing,
-    mode: Mode,
     made: Made,
     to: TypeId,
     site: Site,
 ) -> Result<BodyStep, NoMemory>
     ensures means { IfOk result (λ step. (left : ℕ) →
-        Goes frames.old.items (models.convert mode made to site give) typing.old left frames.new.items step typing.new left) }
+        Goes frames.old.items (models.convert made to site give) typing.old left frames.new.items step typing.new left) }
     ensures kept { OnOk result (KeepsTyping typing.old typing.new) }
 {
-    let conv = conversion(typing, mode, made.of, to);
-    if conv != Conv::Same && is_nil(&typing.world, made) && is_pointer(&typing.world, to) {
+    let conv = implicit(typing.world.store.types(), made.of, to);
+    if conv != Conv::Same && is_nil(&typing.world, made) && takes_nil(&typing.world, to) {
         remade(typing, made, to, TypedExpression::Constant(Constant::Nil))
     } else {
         by_conversion(frames, typing, conv, made, to, site)
@@ -119,7 +107,7 @@ fn remade(
 }
 
 /// Converts an expression by `__cast`, which is asked.
-fn cast(
+pub fn cast(
     frames: &mut Vec<BodyFrame>,
     typing: &mut Typing,
     made: Made,
@@ -208,6 +196,6 @@ pub fn fit(
         )?;
         as_value(frames, typing, target, site)
     } else {
-        convert(frames, typing, Mode::Implicit, made, to, site)
+        convert(frames, typing, made, to, site)
     }
 }

@@ -18,6 +18,7 @@ use crate::nodes::{gives, refuse};
 use crate::operators::BOOL;
 use crate::quoted::typed_quote;
 use crate::step::{BodyStep, Node};
+use crate::values::function_value;
 use check_model::rest::Rest;
 use check_model::{BodyJob, Made, OperandList, Site, Typing};
 use std::alloc::Global;
@@ -87,7 +88,10 @@ pub fn expression(
                     let id = *global;
                     global_variable(typing, id, node)
                 }
-                Expression::Function(_) => Ok(refuse(RefusalKind::FunctionValue, node.at, site)),
+                Expression::Function(f) => {
+                    let f = *f;
+                    function_value(frames, typing, f, node)
+                }
                 Expression::Primitive(_) => Ok(refuse(RefusalKind::BadOperand, node.at, site)),
                 Expression::Type(_) => Ok(refuse(RefusalKind::BadOperand, node.at, site)),
                 Expression::Macro(_) => Ok(refuse(RefusalKind::BadOperand, node.at, site)),
@@ -222,7 +226,8 @@ fn call(
     match callee_of(&typing.world, f) {
         Callee::Value => {
             let operands = OperandList::from_vec(operands);
-            Ok(Step::Enter(BodyJob::Callee(f, operands, node.at, node.source, node.site)))
+            let job = BodyJob::Callee(f, operands, node.at, false, node.source, node.site);
+            Ok(Step::Enter(job))
         }
         callee => {
             if !budget.pay(1) {

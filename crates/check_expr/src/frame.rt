@@ -22,6 +22,8 @@ pub enum BodyFrame {
     Laid(Place, Site, LaidThen),
     /// It goes on with the result type of a function that is called.
     Result(FnId, CallFrame),
+    /// The same, for a function that stands as a value, whose parameters have these types.
+    Value(FnId, Rest<TypeId>, Node),
     /// It goes on with the answer of Lua code.
     Asked(AskedThen),
     /// It goes on however the body of this function ended, before which there were so many variables.
@@ -41,14 +43,14 @@ pub enum MadeFrame {
     MeetLeft(MeetFrame, Made),
     /// The right operand, converted, with the left one.
     MeetRight(MeetFrame, Made),
-    /// What is called.
-    Callee(OperandList, Place, TermId, Site),
+    /// What is called; the first operand may be a receiver that is made to fit.
+    Callee(OperandList, Place, bool, TermId, Site),
     /// An operand of a call of Lua code, which is given a typed quote of it.
     Quoted(QuotesFrame),
     /// What is converted to a type by a cast.
     Cast(TypeId, Node),
-    /// What a cast gave.
-    Recast(TermId),
+    /// What a cast to this type is of, which has the type.
+    Own(TypeId, Node),
     /// What `__cast` gave for a node at this place, which must have this type.
     OfType(TypeId, Place, Site),
     /// An argument, with the type of its parameter.
@@ -117,11 +119,13 @@ pub struct MeetFrame {
     pub node: Node,
 }
 
-/// What is called by its name.
+/// What is called.
 #[derive(Clone, Copy)]
 pub enum Target {
     Function(FnId),
     Primitive(Primitive),
+    /// The first of the operands.
+    Value,
 }
 
 /// A call: the operands that are left, the types of the parameters that are left, what was made of the operands before, and whether the

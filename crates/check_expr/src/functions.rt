@@ -16,7 +16,6 @@ use crate::layouts::lay_out;
 use crate::loops::UNIT;
 use crate::nodes::{new_node, refuse};
 use crate::step::BodyStep;
-use crate::variables::is_function;
 use check_model::rest::Rest;
 use check_model::{PartEnd, Site, Typing};
 use exotype::World;
@@ -187,9 +186,6 @@ fn parameters_left(
         Some(parameter) => {
             if !budget.pay(1) {
                 return Ok(Step::Spent);
-            }
-            if is_function(&typing.world, parameter.of) {
-                return Ok(refuse(RefusalKind::FunctionValue, parameter.place, frame.site));
             }
             let name = TypedName {
                 symbol: parameter.symbol,

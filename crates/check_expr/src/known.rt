@@ -2,6 +2,8 @@
 
 ghost use Rattle.std.specs.Prelude.{◌≡◌, IfOk, slice_get};
 ghost use Rattle.check_model.specs.Calls as models;
+ghost use Rattle.check_model.specs.Typing.{form_in};
+ghost use Rattle.check_expr.specs.Forms.{signature_in};
 
 use check_model::KnownResult;
 use check_model::rest::Rest;
@@ -10,6 +12,26 @@ use std::alloc::Global;
 use terra_term::{FunctionState, Parameter, Term, Typed};
 use terra_types::TypeForm;
 use tl_base::{FnId, List, NoMemory, TermId, TypeId};
+
+/// The types of the parameters and of the result of a function type.
+#[derive(Drop)]
+pub struct Signature {
+    pub parameters: Rest<TypeId>,
+    pub result: TypeId,
+}
+
+/// What a type has where it is a function type.
+pub fn signature_of(world: &World, of: TypeId) -> Result<Option<Signature>, NoMemory>
+    ensures { IfOk result (λ signature. signature ≡ signature_in (form_in world.now of)) }
+{
+    match world.store.types().form(of) {
+        Some(TypeForm::Function(parameters, returns)) => Ok(Some(Signature {
+            parameters: Rest::copy(world.store.allocator(), parameters.as_slice())?,
+            result: *returns,
+        })),
+        _ => Ok(None),
+    }
+}
 
 /// The types of parameters.
 fn types_of(alloc: Global, parameters: &[Parameter]) -> Result<Rest<TypeId>, NoMemory>

@@ -16,6 +16,7 @@ pub mod assigning;
 pub mod blocks;
 pub mod body;
 pub mod calls;
+pub mod casting;
 pub mod constructing;
 pub mod converting;
 pub mod entries;
@@ -33,6 +34,7 @@ pub mod quoted;
 pub mod reading;
 pub mod statements;
 pub mod step;
+pub mod values;
 pub mod variables;
 
 pub use body::Body;

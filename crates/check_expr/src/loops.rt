@@ -18,7 +18,7 @@ use crate::reading::is_integer;
 use crate::step::BodyStep;
 use check_cast::meet;
 use check_model::rest::Rest;
-use check_model::{BodyJob, Made, Mode, Site, Typing};
+use check_model::{BodyJob, Made, Site, Typing};
 use exotype::World;
 use terra_term::{RefusalKind, TermList, TypedName, TypedStatement, VarName};
 use tl_base::{List, NoMemory, Place, Step, TermId, TypeId};
@@ -264,7 +264,7 @@ fn conversions_left(
         Some(made) => {
             let (of, site) = (frame.of, frame.site);
             frames.push(BodyFrame::Doing(DoingFrame::Counted(frame)))?;
-            convert(frames, typing, Mode::Implicit, made, of, site)
+            convert(frames, typing, made, of, site)
         }
     }
 }

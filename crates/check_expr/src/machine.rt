@@ -9,7 +9,8 @@ ghost use Rattle.check_expr.specs.Steps.{Goes};
 
 use crate::asking::{after_asked, quoted};
 use crate::blocks::after_statement;
-use crate::calls::{after_result, argument, call_value, cast_made, fitted};
+use crate::calls::{after_result, argument, call_value, fitted};
+use crate::casting::{cast_made, own};
 use crate::constructing::{initial, initialised};
 use crate::converting::value_of_type;
 use crate::entries::{extract, index, select};
@@ -22,6 +23,7 @@ use crate::nodes::states;
 use crate::operators::{binary, both, meet_next, unary};
 use crate::statements::{perform, return_value, returned, statement};
 use crate::step::{BodyStep, Node};
+use crate::values::after_value;
 use crate::{assigning, loops, variables};
 use check_model::{BodyEnd, BodyJob, BodyQuestion, CheckAnswer, Made, PartEnd, Typing};
 use terra_term::TypedStatement;
@@ -55,13 +57,13 @@ fn with_made(
         MadeFrame::MeetRight(frame, left) => {
             both(typing, frame.op, frame.of, left, made, frame.node)
         }
-        MadeFrame::Callee(operands, at, source, site) => {
+        MadeFrame::Callee(operands, at, fitting, source, site) => {
             let node = Node { source, at, site };
-            call_value(frames, typing, budget, made, operands, node)
+            call_value(frames, typing, budget, made, operands, fitting, node)
         }
         MadeFrame::Quoted(frame) => quoted(frames, typing, frame, made),
         MadeFrame::Cast(to, node) => cast_made(frames, typing, to, node, made),
-        MadeFrame::Recast(source) => Ok(Step::Return(PartEnd::Made(Made { source, ..made }))),
+        MadeFrame::Own(to, node) => own(typing, to, node, made),
         MadeFrame::OfType(to, at, site) => value_of_type(frames, typing, to, at, site, made),
         MadeFrame::Argument(parameter, frame, of) => {
             argument(frames, typing, parameter, frame, of, made)
@@ -212,8 +214,8 @@ impl Machine for Steps {
         match job {
             BodyJob::Expression(term, site) => expression(frames, world, budget, term, site),
             BodyJob::Statement(term, site) => statement(frames, world, budget, term, site),
-            BodyJob::Callee(term, operands, at, source, site) => {
-                let frame = MadeFrame::Callee(operands, at, source, site);
+            BodyJob::Callee(term, operands, at, fitting, source, site) => {
+                let frame = MadeFrame::Callee(operands, at, fitting, source, site);
                 frames.push(BodyFrame::Made(frame))?;
                 expression(frames, world, budget, term, site)
             }
@@ -236,6 +238,7 @@ impl Machine for Steps {
                 after_layout(frames, world, budget, at, site, then, end)
             }
             BodyFrame::Result(_, frame) => after_result(frames, world, frame, end),
+            BodyFrame::Value(f, types, node) => after_value(world, f, types, node, end),
             BodyFrame::Asked(then) => after_asked(frames, world, budget, then, end),
             BodyFrame::Function(f, base) => Ok(close(world, f, base, end)),
         }

@@ -5,7 +5,7 @@ ghost use Rattle.lua_value.specs.declared.value.Value.TheVariants as values;
 ghost use Rattle.terra_term.specs.Held.{next_typed, with_typed, next_quote, with_quote, QuotesTyped};
 ghost use Rattle.terra_term.specs.declared.typed.Typed.TheVariants as typed_kinds;
 ghost use Rattle.exotype.specs.Becoming as becoming;
-ghost use Rattle.exotype.specs.Types.{pointer_id, with_pointer};
+ghost use Rattle.exotype.specs.Types.{pointer_id, with_pointer, function_id, with_function};
 ghost use Rattle.exotype.specs.World.{with_store};
 ghost use Rattle.check_model.specs.Plans as plans;
 ghost use Rattle.check_model.specs.Typing.{TypingState, is_place_form, made_of};
@@ -61,6 +61,19 @@ pub fn pointer_to(typing: &mut Typing, of: TypeId) -> Result<TypeId, NoMemory>
     ensures kept { OnOk result (KeepsTyping typing.old typing.new) }
 {
     typing.world.pointer_to(of)
+}
+
+/// Makes the type of functions of these parameters and this result.
+pub fn function_of(
+    typing: &mut Typing,
+    parameters: &[TypeId],
+    of: TypeId,
+) -> Result<TypeId, NoMemory>
+    ensures id { IfOk result (λ id. id ≡ function_id typing.old.stage parameters.now of) }
+    ensures ok { OnOk result (typing.new ≡ with_stage typing.old (with_function typing.old.stage parameters.now of)) }
+    ensures kept { OnOk result (KeepsTyping typing.old typing.new) }
+{
+    typing.world.function_of(parameters, of)
 }
 
 /// Makes a value a term, at the place of what it stands for.

@@ -24,7 +24,7 @@ use crate::reading::{
 };
 use crate::step::{BodyStep, Node};
 use check_cast::meet;
-use check_model::{Made, Mode, Operand, Rule, Typing};
+use check_model::{Made, Operand, Rule, Typing};
 use exotype::World;
 use lua_value::Value;
 use terra_term::{Constant, Operation, RefusalKind, TypedExpression, UnaryOperator};
@@ -117,6 +117,16 @@ fn on_pointers(of: TypeId, op: BinaryOperator) -> Rule
     }
 }
 
+/// An operator on two function values, of which one may be `nil`.
+fn on_functions(op: BinaryOperator) -> Rule
+    ensures { result ≡ models.on_functions op }
+{
+    match op {
+        BinaryOperator::Equal | BinaryOperator::NotEqual => Rule::Addresses,
+        _ => Rule::Unknown,
+    }
+}
+
 /// How an operator works on operands of two forms of types.
 fn rule_of_forms(op: BinaryOperator, left: &TypeForm, right: &TypeForm) -> Rule
     ensures { result ≡ models.rule_of op left.now right.now }
@@ -133,6 +143,11 @@ fn rule_of_forms(op: BinaryOperator, left: &TypeForm, right: &TypeForm) -> Rule
         TypeForm::Pointer(of) => match right {
             TypeForm::Integer(_) => on_pointer(*of, op),
             TypeForm::Pointer(_) => on_pointers(*of, op),
+            TypeForm::Function(_, _) => on_functions(op),
+            _ => Rule::Unknown,
+        },
+        TypeForm::Function(_, _) => match right {
+            TypeForm::Function(_, _) | TypeForm::Pointer(_) => on_functions(op),
             _ => Rule::Unknown,
         },
         _ => Rule::Unknown,
@@ -332,14 +347,7 @@ fn convert_left(
     ensures kept { OnOk result (KeepsTyping typing.old typing.new) }
 {
     frames.push(BodyFrame::Made(MadeFrame::MeetLeft(frame, right)))?;
-    convert(
-        frames,
-        typing,
-        Mode::Implicit,
-        left,
-        frame.meet,
-        frame.node.site,
-    )
+    convert(frames, typing, left, frame.meet, frame.node.site)
 }
 
 /// Converts the right operand, behind the left one.
@@ -352,7 +360,7 @@ pub fn meet_next(
 ) -> Result<BodyStep, NoMemory>
     ensures means { IfOk result (λ step. (units : ℕ) →
         Goes frames.old.items
-        (converting.convert Mode.Implicit right frame.meet frame.node.site (λ y. meet_right frame left y))
+        (converting.convert right frame.meet frame.node.site (λ y. meet_right frame left y))
         typing.old units frames.new.items step typing.new units) }
     ensures kept { OnOk result (KeepsTyping typing.old typing.new) }
 {
@@ -373,19 +381,12 @@ fn convert_right(
 ) -> Result<BodyStep, NoMemory>
     ensures means { IfOk result (λ step. (units : ℕ) →
         Goes frames.old.items
-        (converting.convert Mode.Implicit right frame.meet frame.node.site (λ y. meet_right frame left y))
+        (converting.convert right frame.meet frame.node.site (λ y. meet_right frame left y))
         typing.old units frames.new.items step typing.new units) }
     ensures kept { OnOk result (KeepsTyping typing.old typing.new) }
 {
     frames.push(BodyFrame::Made(MadeFrame::MeetRight(frame, left)))?;
-    convert(
-        frames,
-        typing,
-        Mode::Implicit,
-        right,
-        frame.meet,
-        frame.node.site,
-    )
+    convert(frames, typing, right, frame.meet, frame.node.site)
 }
 
 /// An operator on two operands as they are.
@@ -448,7 +449,7 @@ pub fn difference(
     gives(typing, node.source, node.at, INT64, form)
 }
 
-/// An operator on the addresses in two pointers, of which a `nil` takes the other one's type.
+/// An operator on two addresses or function values, of which a `nil` takes the other one's type.
 fn addresses(
     typing: &mut Typing,
     op: BinaryOperator,
@@ -465,11 +466,11 @@ fn addresses(
     let second_is_nil = is_nil(&typing.world, right);
     let left = retyped(typing, first_is_nil, left, right)?;
     let right = retyped(typing, second_is_nil, right, left)?;
-    same_pointers(typing, op, left, right, node)
+    same_addresses(typing, op, left, right, node)
 }
 
-/// An operator on the addresses in two pointers of one type.
-fn same_pointers(
+/// An operator on two addresses or function values of one type.
+fn same_addresses(
     typing: &mut Typing,
     op: BinaryOperator,
     left: Made,
@@ -477,7 +478,7 @@ fn same_pointers(
     node: Node,
 ) -> Result<BodyStep, NoMemory>
     ensures means { IfOk result (λ step. (units : ℕ) →
-        Does (models.same_pointers op left right node.at node.source node.site) typing.old units step typing.new units) }
+        Does (models.same_addresses op left right node.at node.source node.site) typing.old units step typing.new units) }
     ensures kept { OnOk result (KeepsTyping typing.old typing.new) }
 {
     if left.of.0 == right.of.0 {

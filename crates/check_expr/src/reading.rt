@@ -5,6 +5,7 @@ ghost use Rattle.lua_table.specs.Heap.{macro_at};
 ghost use Rattle.terra_term.specs.WellTyped as tests;
 ghost use Rattle.check_model.specs.Typing as models;
 ghost use Rattle.check_model.specs.Plans.{is_wide};
+ghost use Rattle.check_model.specs.Converting.{takes_nil};
 ghost use Rattle.check_expr.specs.Forms.{bool_form, stands_as, target_in};
 ghost use Rattle.check_model.specs.Structs as structs;
 
@@ -92,13 +93,30 @@ pub fn target(world: &World, of: TypeId) -> Option<TypeId>
 }
 
 /// Whether a type is a pointer type.
-pub fn is_pointer(world: &World, of: TypeId) -> bool
+fn is_pointer(world: &World, of: TypeId) -> bool
     ensures { result ≡ tests.pointer_form (models.form_in world.now of) }
 {
     match world.store.types().form(of) {
         Some(TypeForm::Pointer(_)) => true,
         _ => false,
     }
+}
+
+/// Whether a type is a function type.
+fn is_function(world: &World, of: TypeId) -> bool
+    ensures { result ≡ tests.function_form (models.form_in world.now of) }
+{
+    match world.store.types().form(of) {
+        Some(TypeForm::Function(_, _)) => true,
+        _ => false,
+    }
+}
+
+/// Whether `nil` takes a type: a pointer type or a function type.
+pub fn takes_nil(world: &World, of: TypeId) -> bool
+    ensures { result ≡ takes_nil (models.form_in world.now of) }
+{
+    is_pointer(world, of) || is_function(world, of)
 }
 
 /// Whether a type is that of pointers to another.

@@ -17,7 +17,7 @@ use crate::nodes::{refuse, states};
 use crate::step::BodyStep;
 use crate::variables::var;
 use check_model::rest::Rest;
-use check_model::{BodyJob, Made, Mode, Site, Typing};
+use check_model::{BodyJob, Made, Site, Typing};
 use std::alloc::Global;
 use terra_term::{RefusalKind, Statement, Term, TermList, TypedStatement};
 use tl_base::{Budget, NoMemory, Place, Step, TermId, TypeId};
@@ -210,7 +210,7 @@ pub fn return_value(
         }
         Some(of) => {
             frames.push(BodyFrame::Doing(DoingFrame::Returned(of, at)))?;
-            convert(frames, typing, Mode::Implicit, made, of, site)
+            convert(frames, typing, made, of, site)
         }
     }
 }

@@ -1,7 +1,6 @@
 // `var`.
 
 ghost use Rattle.std.specs.Prelude.{◌≡◌, ℕ, [], ◌∷◌, ◌++◌, IfOk, OnOk};
-ghost use Rattle.terra_types.specs.Layouts as layouts;
 ghost use Rattle.check_model.specs.Statements as models;
 ghost use Rattle.check_model.specs.Typing.{with_variables};
 ghost use Rattle.check_expr.specs.Frames as waiting;
@@ -15,10 +14,8 @@ use crate::nodes::{refuse, states};
 use crate::reading::is_nil;
 use crate::step::BodyStep;
 use check_model::rest::Rest;
-use check_model::{BodyJob, Made, Mode, Site, Typing};
-use exotype::World;
+use check_model::{BodyJob, Made, Site, Typing};
 use terra_term::{RefusalKind, TermList, TypedName, TypedNameList, TypedStatement, VarName};
-use terra_types::TypeForm;
 use tl_base::{Budget, List, NoMemory, Place, Step, TermId, TypeId};
 
 /// A `var`, with values or without.
@@ -135,7 +132,7 @@ pub fn value(
     match name.of {
         Some(of) => {
             frames.push(BodyFrame::Doing(DoingFrame::VarReady(name, of, frame)))?;
-            convert(frames, typing, Mode::Implicit, made, of, site)
+            convert(frames, typing, made, of, site)
         }
         None => {
             if is_nil(&typing.world, made) {
@@ -201,16 +198,6 @@ fn declare(
     names_left(frames, typing, budget, frame)
 }
 
-/// Whether a type is a function type.
-pub fn is_function(world: &World, of: TypeId) -> bool
-    ensures { result ≡ layouts.is_function world.now.store.types of }
-{
-    match world.store.types().form(of) {
-        Some(TypeForm::Function(_, _)) => true,
-        _ => false,
-    }
-}
-
 /// Declares the names that are left, each of which is paid for.
 fn names_left(
     frames: &mut Vec<BodyFrame>,
@@ -252,9 +239,6 @@ fn name_for(
     match name.of {
         None => Ok(refuse(RefusalKind::WrongCount, at, site)),
         Some(of) => {
-            if is_function(&typing.world, of) {
-                return Ok(refuse(RefusalKind::FunctionValue, name.place, site));
-            }
             let typed = TypedName {
                 symbol: name.symbol,
                 of,

@@ -5,7 +5,7 @@ use Rattle.terra_term.specs.declared.refusal.RefusalKind.{RefusalKind}
 use Rattle.terra_term.specs.declared.refusal.RefusalKind.TheVariants.{Undefined, Mismatch, NotCallable, NoField, NoMethod, BadOperand}
 use Rattle.terra_term.specs.declared.refusal.RefusalKind.TheVariants.{NotPlace, WrongCount, OutOfScope, Misplaced, RecursiveNeedsType}
 use Rattle.terra_term.specs.declared.refusal.RefusalKind.TheVariants.{Incomplete, BadEntries, TooWide, TooLarge, NotConstant}
-use Rattle.terra_term.specs.declared.refusal.RefusalKind.TheVariants.{CallbackRaised, FunctionValue}
+use Rattle.terra_term.specs.declared.refusal.RefusalKind.TheVariants.{CallbackRaised}
 use Rattle.lua_ops.proofs.Placing.{ten_digits}
 use Rattle.check_library.specs.Answers.{kind_text, refusal_text}
 
@@ -27,7 +27,6 @@ kind_is_short TooWide = omega arith
 kind_is_short TooLarge = omega arith
 kind_is_short NotConstant = omega arith
 kind_is_short CallbackRaised = omega arith
-kind_is_short FunctionValue = omega arith
 
 pub is_short : (k : RefusalKind) (line word : ℕ) → line < 2 ^ 32 → word < 2 ^ 32 → length (refusal_text k line word) ≤ 65535
 is_short k line word l w =

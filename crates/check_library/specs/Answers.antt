@@ -10,7 +10,7 @@ use Rattle.terra_term.specs.declared.refusal.RefusalKind.{RefusalKind}
 use Rattle.terra_term.specs.declared.refusal.RefusalKind.TheVariants.{Undefined, Mismatch, NotCallable, NoField, NoMethod, BadOperand}
 use Rattle.terra_term.specs.declared.refusal.RefusalKind.TheVariants.{NotPlace, WrongCount, OutOfScope, Misplaced, RecursiveNeedsType}
 use Rattle.terra_term.specs.declared.refusal.RefusalKind.TheVariants.{Incomplete, BadEntries, TooWide, TooLarge, NotConstant}
-use Rattle.terra_term.specs.declared.refusal.RefusalKind.TheVariants.{CallbackRaised, FunctionValue}
+use Rattle.terra_term.specs.declared.refusal.RefusalKind.TheVariants.{CallbackRaised}
 use Rattle.exotype.specs.World.{StageState}
 use Rattle.terra_lib.specs.Answers.{Turned, on_heap}
 use Rattle.check_model.specs.declared.question.CheckAnswer.{CheckAnswer}
@@ -55,7 +55,6 @@ kind_text TooWide = codes "TooWide"
 kind_text TooLarge = codes "TooLarge"
 kind_text NotConstant = codes "NotConstant"
 kind_text CallbackRaised = codes "CallbackRaised"
-kind_text FunctionValue = codes "FunctionValue"
 
 abbrev pub refusal_text : RefusalKind → (line word : ℕ) → List ℕ
 refusal_text kind line word =

@@ -47,7 +47,6 @@ pub fn kind_name(kind: RefusalKind) -> &'static str
         RefusalKind::TooLarge => "TooLarge",
         RefusalKind::NotConstant => "NotConstant",
         RefusalKind::CallbackRaised => "CallbackRaised",
-        RefusalKind::FunctionValue => "FunctionValue",
     }
 }
 

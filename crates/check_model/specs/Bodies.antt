@@ -33,18 +33,18 @@ use Rattle.check_model.specs.declared.question.BodyQuestion.{BodyQuestion}
 use Rattle.check_model.specs.declared.question.CheckAnswer.{CheckAnswer}
 use Rattle.check_model.specs.declared.question.CheckAnswer.TheVariants as answers
 use Rattle.check_model.specs.Typing.{TypingState, function_at, with_variable, cut_to}
-use Rattle.check_model.specs.Plans.{BodyPlan, then_on, reading, writing, on_made, refuse, adding}
+use Rattle.check_model.specs.Plans.{BodyPlan, then_on, reading, writing, on_made, refuse, adding, laid_out}
 use Rattle.check_model.specs.Calls.{call_value}
 use Rattle.check_model.specs.Expressions.{statements, expression_job}
-use Rattle.check_model.specs.Statements.{may_be, statement_job}
+use Rattle.check_model.specs.Statements.{statement_job}
 
 -- ---- jobs, each of which pays one unit first
 
 abbrev pub body_job : BodyJob → BodyPlan
 body_job (jobs.Expression t site) = expression_job t site
 body_job (jobs.Statement t site) = statement_job t site
-body_job (jobs.Callee t os at source site) =
-    then_on (expression_job t site) (λ r. on_made r (λ m. call_value m os at source site))
+body_job (jobs.Callee t os at fitting source site) =
+    then_on (expression_job t site) (λ r. on_made r (λ m. call_value m os at fitting source site))
 
 -- ---- what is asked for: a function that is defined
 
@@ -55,11 +55,11 @@ most_nodes = MAX_TERM_NODES
 abbrev pub most_levels : ℕ
 most_levels = MAX_TERM_LEVELS
 
--- each parameter is a node, and a variable of the body
+-- each parameter is a node, and a variable of the body, whose type is laid out
 abbrev pub parameters : List Parameter → Site → BodyPlan → BodyPlan
 parameters [] site rest = rest
 parameters (p ∷ ps) site rest =
-    Pay 1 (may_be p.of p.place site (Read (λ w. Write (with_variable w p.symbol p.of) (parameters ps site rest))))
+    Pay 1 (laid_out p.of p.place site (Read (λ w. Write (with_variable w p.symbol p.of) (parameters ps site rest))))
 
 abbrev pub names_of : List Parameter → List TypedName
 names_of [] = []

@@ -41,12 +41,11 @@ use Rattle.exotype.specs.World.{StageState}
 use Rattle.check_model.specs.declared.known.KnownResult.{KnownResult}
 use Rattle.check_model.specs.declared.known.KnownResult.TheVariants.{Is, NotYet, BeingTyped}
 use Rattle.check_model.specs.declared.made.Made.{Made}
-use Rattle.check_model.specs.declared.rule.Mode.TheVariants.{Implicit, Explicit}
-use Rattle.check_model.specs.Typing.{bytes_in, expression_at, place_of, function_at}
+use Rattle.check_model.specs.Typing.{form_in, bytes_in, expression_at, place_of, function_at}
 use Rattle.check_model.specs.Structs.{metamethod}
 use Rattle.check_model.specs.Plans.{BodyPlan, reading, give, gives, refuse, laid_out, calling, becoming}
-use Rattle.check_model.specs.Plans.{in_place, operand, ready, quotes_of, pointing}
-use Rattle.check_model.specs.Converting.{convert, fit}
+use Rattle.check_model.specs.Plans.{in_place, operand, ready, quotes_of, pointing, signing}
+use Rattle.check_model.specs.Converting.{convert, cast_made, fit}
 pub use Rattle.terra_term.specs.Held.{written_in}
 
 -- ---- what is known of a function
@@ -129,7 +128,7 @@ by_result NotYet f at site go = AskFor (ResultOf f) (λ a. on_result a at site g
 -- each operand is typed and converted before the next one; the first may be a receiver, which is made to fit
 abbrev pub argument : Bool → Made → TypeId → Place → Site → (Made → BodyPlan) → BodyPlan
 argument true m p at site go = fit m p at site go
-argument false m p at site go = convert Implicit m p site go
+argument false m p at site go = convert m p site go
 
 abbrev pub arguments : Bool → List Operand → List TypeId → Place → Site → List TermId → (List TermId → BodyPlan) → BodyPlan
 arguments fitting [] ps at site ids go = go ids
@@ -154,6 +153,17 @@ abbrev pub call_function : StageState → FnId → Option Function → List Oper
 call_function w f (Some g) os at fitting source site = with_params (parameter_types w g g.state) w f g os at fitting source site
 call_function w f None os at fitting source site = refuse Undefined at site
 
+-- A function's name as a value: of its function type. It needs the function's types as a call does.
+abbrev pub value_of : Option (List TypeId) → StageState → FnId → Function → Place → TermId → Site → BodyPlan
+value_of None w f g at source site = refuse Undefined at site
+value_of (Some ps) w f g at source site =
+    by_result (known_result w g g.state) f at site (λ result.
+    signing ps result (λ of. gives source at of (te.Constant (constants.FnValue f))))
+
+abbrev pub function_value : StageState → FnId → Option Function → Place → TermId → Site → BodyPlan
+function_value w f (Some g) at source site = value_of (parameter_types w g g.state) w f g at source site
+function_value w f None at source site = refuse Undefined at site
+
 abbrev pub call_by : Primitive → List TypeId → TypeId → List Operand → Place → Bool → TermId → Site → BodyPlan
 call_by p ps result os at fitting source site =
     counted os ps at site (arguments fitting os ps at site [] (λ ids. gives source at result (te.Operate (operations.Primitive p) ids)))
@@ -164,7 +174,7 @@ call_primitive Write os at fitting source site = pointing uint8 (λ p. call_by W
 call_primitive Alloc os at fitting source site = pointing uint8 (λ p. call_by Alloc (int64 ∷ []) p os at fitting source site)
 
 abbrev pub cast : TypeId → List Operand → Place → TermId → Site → BodyPlan
-cast to (o ∷ []) at source site = operand o site (λ m. convert Explicit m to site (λ r. give (record r { source = source })))
+cast to (o ∷ []) at source site = operand o site (λ m. cast_made m to source at site)
 cast to _ at source site = refuse WrongCount at site
 
 abbrev pub size_constant : TypeId → Place → TermId → Site → BodyPlan
@@ -212,7 +222,7 @@ abbrev pub call_term : TermId → List Operand → Place → Bool → TermId →
 call_term t os at fitting source site =
     reading (λ w.
     if is_called (expression_at w t) then call_named w (expression_at w t) os at fitting source site
-    else Do (jobs.Callee t os at source site) Give)
+    else Do (jobs.Callee t os at fitting source site) Give)
 
 -- a call of a metamethod
 abbrev pub call_metamethod : Value → List Operand → Place → TermId → Site → BodyPlan
@@ -221,6 +231,12 @@ call_metamethod h os at source site = becoming h at site (λ t. call_term t os a
 abbrev pub apply : Value → Made → List Operand → Place → TermId → Site → BodyPlan
 apply h m os at source site = if is_nil h then refuse NotCallable at site else call_metamethod h (ready m ∷ os) at source site
 
--- a call of a typed expression: of a struct with `__apply`
-abbrev pub call_value : Made → List Operand → Place → TermId → Site → BodyPlan
-call_value m os at source site = reading (λ w. apply (metamethod w m.of (codes "__apply")) m os at source site)
+-- a call of a value of function type, which is evaluated before the arguments; any other value is called by its `__apply`
+abbrev pub call_by_form : TypeForm → StageState → Made → List Operand → Place → Bool → TermId → Site → BodyPlan
+call_by_form (forms.Function ps result) w m os at fitting source site =
+    counted os ps at site (arguments fitting os ps at site (m.id ∷ []) (λ ids. gives source at result (te.Operate operations.CallValue ids)))
+call_by_form _ w m os at fitting source site = apply (metamethod w m.of (codes "__apply")) m os at source site
+
+-- a call of a typed expression; where it is a method, the first operand is a receiver
+abbrev pub call_value : Made → List Operand → Place → Bool → TermId → Site → BodyPlan
+call_value m os at fitting source site = reading (λ w. call_by_form (form_in w m.of) w m os at fitting source site)

@@ -1,6 +1,7 @@
 -- Conversions, and how the receiver of a method is made to fit.
-use Rattle.std.specs.Prelude.{Bool, true, false, ◌&&◌, codes, if◌then◌else◌, [], ◌∷◌}
+use Rattle.std.specs.Prelude.{Bool, true, false, ◌&&◌, ◌||◌, codes, if◌then◌else◌, [], ◌∷◌}
 use Rattle.tl_base.specs.declared.place.Place.{Place}
+use Rattle.tl_base.specs.declared.ids.TermId.{TermId}
 use Rattle.tl_base.specs.declared.ids.TypeId.{TypeId}
 use Rattle.lua_value.specs.declared.value.Value.{Value}
 use Rattle.lua_value.specs.declared.value.Value.TheVariants as values
@@ -11,21 +12,16 @@ use Rattle.terra_term.specs.declared.operators.Constant.TheVariants as constants
 use Rattle.terra_term.specs.declared.typed.TypedExpression.TheVariants as te
 use Rattle.check_cast.specs.declared.conversion.Conv.{Conv}
 use Rattle.check_cast.specs.declared.conversion.Conv.TheVariants as conv
+use Rattle.terra_types.specs.declared.types.TypeForm.{TypeForm}
 use Rattle.terra_types.specs.Making.{same_type}
-use Rattle.terra_term.specs.WellTyped.{pointer_form, points_in}
+use Rattle.terra_term.specs.WellTyped.{pointer_form, function_form, points_in}
 use Rattle.check_cast.specs.Conversions.{implicit, explicit}
 use Rattle.exotype.specs.World.{StageState}
 use Rattle.check_model.specs.declared.site.Site.{Site}
 use Rattle.check_model.specs.declared.made.Made.{Made}
-use Rattle.check_model.specs.declared.rule.Mode.{Mode}
-use Rattle.check_model.specs.declared.rule.Mode.TheVariants.{Implicit, Explicit}
 use Rattle.check_model.specs.Typing.{form_in, is_nil_made}
 use Rattle.check_model.specs.Structs.{metamethod_of_either}
-use Rattle.check_model.specs.Plans.{BodyPlan, reading, refuse, make, as_value, calling, quoting, in_place}
-
-abbrev pub conv_of : Mode → StageState → TypeId → TypeId → Conv
-conv_of Implicit w from to = implicit w.store.types from to
-conv_of Explicit w from to = explicit w.store.types from to
+use Rattle.check_model.specs.Plans.{BodyPlan, reading, refuse, make, gives, as_value, calling, quoting, in_place}
 
 -- what `__cast` gives must have the type
 abbrev pub cast_to : Value → Made → TypeId → Site → (Made → BodyPlan) → BodyPlan
@@ -46,17 +42,45 @@ abbrev pub is_same : Conv → Bool
 is_same conv.Same = true
 is_same _ = false
 
--- `nil` takes the type of any pointer
+-- `nil` takes any pointer type, and any function type
+abbrev pub takes_nil : TypeForm → Bool
+takes_nil form = pointer_form form || function_form form
+
 abbrev pub takes_type : StageState → Made → TypeId → Bool
-takes_type w m to = is_nil_made w m && pointer_form (form_in w to)
+takes_type w m to = is_nil_made w m && takes_nil (form_in w to)
 
 abbrev pub converted : Conv → StageState → Made → TypeId → Site → (Made → BodyPlan) → BodyPlan
 converted c w m to site go =
     if takes_type w m to then (if is_same c then by_conv c w m to site go else make m.source m.at to (te.Constant constants.Nil) go)
     else by_conv c w m to site go
 
-abbrev pub convert : Mode → Made → TypeId → Site → (Made → BodyPlan) → BodyPlan
-convert mode m to site go = reading (λ w. converted (conv_of mode w m.of to) w m to site go)
+-- converts an expression without a cast
+abbrev pub convert : Made → TypeId → Site → (Made → BodyPlan) → BodyPlan
+convert m to site go = reading (λ w. converted (implicit w.store.types m.of to) w m to site go)
+
+-- ---- casts
+
+-- A cast is an expression of its own: its place is that of its `(`, and it is never a place. What has the type already, or gets it from
+-- `__cast`, is the value of a `let` without statements.
+abbrev pub own : Made → TypeId → TermId → Place → BodyPlan
+own m to source at = gives source at to (te.Let [] m.id)
+
+abbrev pub cast_by : Conv → StageState → Made → TypeId → TermId → Place → Site → BodyPlan
+cast_by conv.Same w m to source at site = as_value m site (own m to source at)
+cast_by conv.Array w m to source at site = if m.is_place then gives source at to (te.Decay m.id) else refuse NotPlace m.at site
+cast_by conv.No w m to source at site =
+    cast_to (metamethod_of_either w m.of to (codes "__cast")) m to site (λ r. own r to source at)
+cast_by _ w m to source at site = gives source at to (te.Operate operations.Convert (m.id ∷ []))
+
+abbrev pub casting : StageState → Made → TypeId → TermId → Place → Site → BodyPlan
+casting w m to source at site =
+    if takes_type w m to then gives source at to (te.Constant constants.Nil)
+    else cast_by (explicit w.store.types m.of to) w m to source at site
+
+abbrev pub cast_made : Made → TypeId → TermId → Place → Site → BodyPlan
+cast_made m to source at site = reading (λ w. casting w m to source at site)
+
+-- ---- receivers
 
 -- a receiver is passed as it is, by address or by target, or else converted
 abbrev pub fit : Made → TypeId → Place → Site → (Made → BodyPlan) → BodyPlan
@@ -67,4 +91,4 @@ fit m to at site go =
     then (if m.is_place then make m.source at to (te.Address m.id) go else refuse NotPlace m.at site)
     else (if points_in (form_in w m.of) to
     then make m.source at to (te.Dereference m.id) (λ r. as_value r site (go r))
-    else convert Implicit m to site go)))
+    else convert m to site go)))

@@ -17,7 +17,7 @@ use Rattle.lua_value.specs.declared.value.Value.TheVariants as values
 use Rattle.lua_value.specs.Values.{is_nil}
 use Rattle.terra_term.specs.declared.refusal.RefusalKind.{RefusalKind}
 use Rattle.terra_term.specs.declared.refusal.RefusalKind.TheVariants.{Mismatch, NoField, NoMethod, BadOperand, NotPlace, WrongCount}
-use Rattle.terra_term.specs.declared.refusal.RefusalKind.TheVariants.{OutOfScope, Incomplete, TooWide, CallbackRaised, FunctionValue}
+use Rattle.terra_term.specs.declared.refusal.RefusalKind.TheVariants.{OutOfScope, Incomplete, TooWide, CallbackRaised}
 use Rattle.terra_term.specs.declared.operators.Operation.TheVariants as operations
 use Rattle.terra_term.specs.declared.operators.Constant.TheVariants as constants
 use Rattle.terra_term.specs.declared.store.TerraGlobal.{TerraGlobal}
@@ -41,13 +41,12 @@ use Rattle.exotype.specs.declared.property.Property.TheVariants.{Method}
 use Rattle.exotype.specs.declared.property.Known.{Known}
 use Rattle.exotype.specs.declared.property.Known.TheVariants as known
 use Rattle.check_model.specs.declared.made.Made.{Made}
-use Rattle.check_model.specs.declared.rule.Mode.TheVariants.{Implicit}
-use Rattle.check_model.specs.Typing.{TypingState, made_at, form_in, struct_of, bytes_in, expression_at, variable_at}
+use Rattle.check_model.specs.Typing.{TypingState, made_at, form_in, struct_of, bytes_in, expression_at, variable_at, function_at}
 use Rattle.check_model.specs.Structs.{metamethod, method_at}
 use Rattle.check_model.specs.Plans.{BodyPlan, reading, writing, give, gives, refuse, on_stated, typing, laid_out}
 use Rattle.check_model.specs.Plans.{as_value, asking, calling, quoting, becoming, in_place, ready, untyped, quotes_of, leaving}
 use Rattle.check_model.specs.Converting.{convert}
-use Rattle.check_model.specs.Calls.{is_called, call_named, call_term}
+use Rattle.check_model.specs.Calls.{is_called, call_named, call_term, function_value}
 use Rattle.check_model.specs.Operators.{binary_plan, unary_plan}
 
 -- ---- variables and globals
@@ -173,7 +172,7 @@ into [] ts at site offsets ids go = go offsets ids
 into (l ∷ ls) [] at site offsets ids go = go offsets ids
 into (None ∷ ls) (t ∷ ts) at site offsets ids go = refuse NoField at site
 into (Some l ∷ ls) (t ∷ ts) at site offsets ids go =
-    typing t site (λ m. convert Implicit m l.of site (λ r. into ls ts at site (offsets ++ l.offset ∷ []) (ids ++ r.id ∷ []) go))
+    typing t site (λ m. convert m l.of site (λ r. into ls ts at site (offsets ++ l.offset ∷ []) (ids ++ r.id ∷ []) go))
 
 abbrev pub constructed : TypeId → Place → TermId → List ℕ → List TermId → BodyPlan
 constructed of at source offsets ids = gives source at of (te.Operate (operations.Construct offsets) ids)
@@ -249,14 +248,14 @@ typed_plan w source made site =
 abbrev pub call_plan : StageState → TermId → List TermId → Place → TermId → Site → BodyPlan
 call_plan w f args at source site =
     if is_called (expression_at w f) then Pay 1 (call_named w (expression_at w f) (untyped args) at false source site)
-    else Do (jobs.Callee f (untyped args) at source site) Give
+    else Do (jobs.Callee f (untyped args) at false source site) Give
 
 abbrev pub expression_plan : TypingState → expressions.Expression → Place → TermId → Site → BodyPlan
 expression_plan w (e.Number bits of) at t site = gives t at of (te.Constant (constants.Number bits))
 expression_plan w (e.Truth b) at t site = gives t at boolean (te.Constant (constants.Truth b))
 expression_plan w e.Nil at t site = gives t at rawstring (te.Constant constants.Nil)
 expression_plan w (e.Variable x) at t site = variable (variable_at w site.base x) x at t site
-expression_plan w (e.Function f) at t site = refuse FunctionValue at site
+expression_plan w (e.Function f) at t site = function_value w.stage f (function_at w.stage f) at t site
 expression_plan w (e.Primitive p) at t site = refuse BadOperand at site
 expression_plan w (e.Static address) at t site = gives t at rawstring (te.Constant (constants.Static address))
 expression_plan w (e.Global g) at t site = global (slice_get w.stage.store.globals g.0) at t site

@@ -22,7 +22,6 @@ use Rattle.check_cast.specs.Conversions.{meet}
 use Rattle.exotype.specs.World.{StageState}
 use Rattle.check_model.specs.declared.site.Site.{Site}
 use Rattle.check_model.specs.declared.made.Made.{Made}
-use Rattle.check_model.specs.declared.rule.Mode.TheVariants.{Implicit}
 use Rattle.check_model.specs.declared.rule.Rule.{Rule}
 use Rattle.check_model.specs.declared.rule.Rule.TheVariants.{Meets, Compares, Shifts, Tells, Ands, Ors, Addresses, Forward, Back, Differs}
 use Rattle.check_model.specs.declared.rule.Rule.TheVariants.{Unknown}
@@ -86,11 +85,20 @@ on_pointers t binary.Greater = Addresses
 on_pointers t binary.GreaterEqual = Addresses
 on_pointers t _ = Unknown
 
+-- function values are equal or not; a pointer beside one is `nil`, or of another type
+abbrev pub on_functions : BinaryOperator → Rule
+on_functions binary.Equal = Addresses
+on_functions binary.NotEqual = Addresses
+on_functions _ = Unknown
+
 abbrev pub rule_of : BinaryOperator → TypeForm → TypeForm → Rule
 rule_of op (forms.Integer i) (forms.Integer j) = on_integers op
 rule_of op forms.Bool forms.Bool = on_truths op
 rule_of op (forms.Pointer t) (forms.Integer i) = on_pointer t op
 rule_of op (forms.Pointer t) (forms.Pointer u) = on_pointers t op
+rule_of op (forms.Function ps r) (forms.Function qs s) = on_functions op
+rule_of op (forms.Function ps r) (forms.Pointer t) = on_functions op
+rule_of op (forms.Pointer t) (forms.Function ps r) = on_functions op
 rule_of op _ _ = Unknown
 
 -- ---- binary operators
@@ -101,15 +109,15 @@ both op of a b at source = gives source at of (te.Operate (operations.Binary op)
 -- at a type, to which both operands are converted
 abbrev pub at_type : TypeId → BinaryOperator → (of : TypeId) → Made → Made → Place → TermId → Site → BodyPlan
 at_type m op of a b at source site =
-    convert Implicit a m site (λ x. convert Implicit b m site (λ y. both op of x y at source))
+    convert a m site (λ x. convert b m site (λ y. both op of x y at source))
 
--- of two pointers a `nil` takes the other one's type
+-- of two pointers or function values a `nil` takes the other one's type
 abbrev pub retyped : StageState → Made → Made → (Made → BodyPlan) → BodyPlan
 retyped w m other go =
     if is_nil_made w m && not (same_type m.of other.of) then make m.source m.at other.of (te.Constant constants.Nil) go else go m
 
-abbrev pub same_pointers : BinaryOperator → Made → Made → Place → TermId → Site → BodyPlan
-same_pointers op a b at source site = if same_type a.of b.of then both op boolean a b at source else refuse BadOperand at site
+abbrev pub same_addresses : BinaryOperator → Made → Made → Place → TermId → Site → BodyPlan
+same_addresses op a b at source site = if same_type a.of b.of then both op boolean a b at source else refuse BadOperand at site
 
 abbrev pub meeting : StageState → Made → Made → TypeId
 meeting w a b = unwrap_or (meet w.store.types a.of b.of) a.of
@@ -121,7 +129,7 @@ by_rule Shifts w op a b at source site = both op a.of a b at source
 by_rule Tells w op a b at source site = both op boolean a b at source
 by_rule Ands w op a b at source site = gives source at boolean (te.Both a.id b.id)
 by_rule Ors w op a b at source site = gives source at boolean (te.Either a.id b.id)
-by_rule Addresses w op a b at source site = retyped w a b (λ x. retyped w b x (λ y. same_pointers op x y at source site))
+by_rule Addresses w op a b at source site = retyped w a b (λ x. retyped w b x (λ y. same_addresses op x y at source site))
 by_rule (Forward t) w op a b at source site =
     laid_out t at site (gives source at a.of (te.Operate operations.StepForward (a.id ∷ b.id ∷ [])))
 by_rule (Back t) w op a b at source site = laid_out t at site (gives source at a.of (te.Operate operations.StepBack (a.id ∷ b.id ∷ [])))

@@ -17,7 +17,7 @@ use Rattle.terra_term.specs.declared.typed.TypedStatement.{TypedStatement}
 use Rattle.terra_term.specs.Held.{next_typed, with_typed, next_quote, with_quote}
 use Rattle.terra_term.specs.WellTyped.{widest}
 use Rattle.exotype.specs.World.{StageState, with_store}
-use Rattle.exotype.specs.Types.{pointer_id, with_pointer}
+use Rattle.exotype.specs.Types.{pointer_id, with_pointer, function_id, with_function}
 use Rattle.exotype.specs.Becoming.{term_of, with_term_of, spliced_nodes}
 use Rattle.exotype.specs.declared.became.Became.{Became}
 use Rattle.exotype.specs.declared.became.Became.TheVariants as became
@@ -106,6 +106,10 @@ ids_of (m ∷ ms) = m.id ∷ ids_of ms
 -- the pointer type of a type
 abbrev pub pointing : TypeId → (TypeId → BodyPlan) → BodyPlan
 pointing t go = reading (λ w. writing (with_pointer w t) (go (pointer_id w t)))
+
+-- the function type of parameters and a result
+abbrev pub signing : List TypeId → TypeId → (TypeId → BodyPlan) → BodyPlan
+signing params result go = reading (λ w. writing (with_function w params result) (go (function_id w params result)))
 
 -- ---- layouts
 

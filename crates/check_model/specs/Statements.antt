@@ -5,8 +5,7 @@ use Rattle.tl_base.specs.declared.ids.TypeId.{TypeId}
 use Rattle.tl_base.specs.declared.ids.TermId.{TermId}
 use Rattle.tl_base.specs.Plan.{Read, Write, Pay}
 use Rattle.terra_types.specs.Opening.{boolean, unit}
-use Rattle.terra_types.specs.Layouts.{is_function}
-use Rattle.terra_term.specs.declared.refusal.RefusalKind.TheVariants.{Mismatch, BadOperand, NotPlace, WrongCount, Misplaced, FunctionValue}
+use Rattle.terra_term.specs.declared.refusal.RefusalKind.TheVariants.{Mismatch, BadOperand, NotPlace, WrongCount, Misplaced}
 use Rattle.terra_term.specs.declared.lists.VarName.{VarName}
 use Rattle.terra_term.specs.declared.lists.TypedName.{TypedName}
 use Rattle.terra_term.specs.declared.term.Term as nodes
@@ -21,7 +20,6 @@ use Rattle.check_cast.specs.Conversions.{meet}
 use Rattle.exotype.specs.World.{StageState}
 use Rattle.check_model.specs.declared.site.Site.{Site}
 use Rattle.check_model.specs.declared.made.Made.{Made}
-use Rattle.check_model.specs.declared.rule.Mode.TheVariants.{Implicit}
 use Rattle.check_model.specs.Typing.{form_in, is_nil_made, with_variable, with_variables}
 use Rattle.check_model.specs.Plans.{BodyPlan, reading, refuse, states, typing, laid_out, as_value, ids_of, leaving}
 use Rattle.check_model.specs.Converting.{convert}
@@ -44,7 +42,7 @@ condition t site go = typing t site (λ m. if same_type m.of boolean then go m e
 
 -- types the values of names, each of which has its type then
 abbrev pub value_for : Option TypeId → Made → Site → (TypeId → Made → BodyPlan) → BodyPlan
-value_for (Some t) m site go = convert Implicit m t site (go t)
+value_for (Some t) m site go = convert m t site (go t)
 value_for None m site go = reading (λ w. if is_nil_made w m then refuse Mismatch m.at site else as_value m site (go m.of m))
 
 abbrev pub values_for : List VarName → List TermId → Site → List VarName → List TermId → (List VarName → List TermId → BodyPlan) → BodyPlan
@@ -54,14 +52,10 @@ values_for (n ∷ ns) (t ∷ more) site names ids go =
     typing t site (λ m. value_for n.of m site (λ of r.
     values_for ns more site (names ++ record { symbol = n.symbol; of = Some of; place = n.place } ∷ []) (ids ++ r.id ∷ []) go))
 
--- a variable of a type, declared at a place
-abbrev pub may_be : TypeId → Place → Site → BodyPlan → BodyPlan
-may_be of at site rest = reading (λ w. if is_function w.store.types of then refuse FunctionValue at site else laid_out of at site rest)
-
--- each name is a node, and needs a type
+-- each name is a node, and needs a type that is laid out
 abbrev pub name_for : Option TypeId → VarName → Place → Site → (TypedName → BodyPlan) → BodyPlan
 name_for None n at site go = refuse WrongCount at site
-name_for (Some of) n at site go = may_be of n.place site (go (record { symbol = n.symbol; of = of }))
+name_for (Some of) n at site go = laid_out of n.place site (go (record { symbol = n.symbol; of = of }))
 
 abbrev pub names_for : List VarName → Place → Site → List TypedName → (List TypedName → BodyPlan) → BodyPlan
 names_for [] at site names go = go names
@@ -93,7 +87,7 @@ targets (t ∷ more) site ms go =
 abbrev pub converting_all : List Made → List Made → Site → List TermId → (List TermId → BodyPlan) → BodyPlan
 converting_all [] places site ids go = go ids
 converting_all (m ∷ ms) [] site ids go = go ids
-converting_all (m ∷ ms) (p ∷ ps) site ids go = convert Implicit m p.of site (λ r. converting_all ms ps site (ids ++ r.id ∷ []) go)
+converting_all (m ∷ ms) (p ∷ ps) site ids go = convert m p.of site (λ r. converting_all ms ps site (ids ++ r.id ∷ []) go)
 
 abbrev pub assign_plan : List TermId → List TermId → Place → Site → BodyPlan
 assign_plan places values at site =
@@ -120,7 +114,7 @@ meet_of w (m ∷ ms) = meet_from w m.of ms
 
 abbrev pub all_to : TypeId → List Made → Site → List TermId → (List TermId → BodyPlan) → BodyPlan
 all_to t [] site ids go = go ids
-all_to t (m ∷ ms) site ids go = convert Implicit m t site (λ r. all_to t ms site (ids ++ r.id ∷ []) go)
+all_to t (m ∷ ms) site ids go = convert m t site (λ r. all_to t ms site (ids ++ r.id ∷ []) go)
 
 abbrev pub counting : TypeId → VarName → List Made → List TermId → Place → Site → BodyPlan
 counting t name ms body at site =
@@ -148,7 +142,7 @@ else_plan (Some more) m stats result at site =
 
 abbrev pub return_value : Option TypeId → Made → Place → Site → BodyPlan
 return_value None m at site = as_value m site (states at (ts.Return (Some m.id)) (Some m.of))
-return_value (Some t) m at site = convert Implicit m t site (λ r. states at (ts.Return (Some r.id)) (Some t))
+return_value (Some t) m at site = convert m t site (λ r. states at (ts.Return (Some r.id)) (Some t))
 
 abbrev pub return_nothing : Option TypeId → Place → Site → BodyPlan
 return_nothing None at site = states at (ts.Return None) (Some unit)

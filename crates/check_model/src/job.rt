@@ -25,8 +25,9 @@ pub type OperandList = List<Operand>;
 pub enum BodyJob {
     Expression(TermId, Site),
     Statement(TermId, Site),
-    /// An expression is typed and called with these operands, for the node at this place that the second term is.
-    Callee(TermId, OperandList, Place, TermId, Site),
+    /// An expression is typed and called with these operands, of which the first may be a receiver that is made to fit, for the node
+    /// at this place that the second term is.
+    Callee(TermId, OperandList, Place, bool, TermId, Site),
 }
 
 /// A function that a check reached, with the place and the function of the first call that reached it.

@@ -22,6 +22,6 @@ pub use known::KnownResult;
 pub use made::Made;
 pub use question::{BodyQuestion, CheckAnswer, CheckQuestion, LayoutQuestion};
 pub use rest::Rest;
-pub use rule::{Mode, Rule};
+pub use rule::Rule;
 pub use site::Site;
 pub use typing::Typing;

@@ -1,13 +1,6 @@
-// How operators work on operands, and how values are converted.
+// How operators work on operands.
 
 use tl_base::TypeId;
-
-/// Whether a cast is written.
-#[derive(Clone, Copy, PartialEq, Eq)]
-pub enum Mode {
-    Implicit,
-    Explicit,
-}
 
 /// How an operator works on operands of two types.
 #[derive(Clone, Copy, PartialEq, Eq)]
@@ -24,7 +17,7 @@ pub enum Rule {
     Ands,
     /// Of two bools, the second evaluated where the first is false.
     Ors,
-    /// On two pointers of one type, with a bool as its result.
+    /// On two pointers or two function values of one type, with a bool as its result.
     Addresses,
     /// A pointer to this is moved forward.
     Forward(TypeId),

@@ -1,8 +1,8 @@
 -- A world with another typed node, or another type, is sound where it was.
-use Rattle.std.proofs.Common.{◌≡◌, ℕ, zero, suc, ◌+◌, ◌<◌, ◌≤◌, Bool, true, false, List, [], ◌∷◌, ◌++◌, length, get_or, position, Option}
+use Rattle.std.proofs.Common.{◌≡◌, ℕ, ◌+◌, ◌<◌, ◌≤◌, Bool, true, false, List, [], ◌∷◌, ◌++◌, length, get_or, position, Option}
 use Rattle.std.proofs.Common.{Some, None, refl, sym, ap, ◌∙◌, subst, arith, slice_get}
-use Rattle.std.specs.Prelude.{◌⊎◌, unwrap_or, if◌then◌else◌}
-use mathlib.Core.Logic.{inl, inr}
+use Rattle.std.specs.Prelude.{unwrap_or, if◌then◌else◌}
+use mathlib.Core.Logic.{inl}
 use Rattle.std.proofs.lemmas.Bool.{ltb-true, lt-ltb, eqb-true}
 use Rattle.std.proofs.lemmas.List.{length-append}
 use Rattle.std.proofs.lemmas.List.Quantifiers.{position-Some}
@@ -36,7 +36,7 @@ use Rattle.terra_term.proofs.Staying.{kept-front}
 use Rattle.exotype.specs.World.{StageState, with_store}
 use Rattle.exotype.specs.Types.{is_type, pointer_id, with_pointer}
 use Rattle.check_model.specs.Typing.{function_at}
-use Rattle.check_sound.specs.Sound.{foreseen, IsThere, IsSound, HasBodyOf, is_plain_node, typed_body, body_in}
+use Rattle.check_sound.specs.Sound.{foreseen, IsThere, IsSound, HasBodyOf, typed_body, body_in}
 use Rattle.check_sound.proofs.Tests.{no, none-some, same-some, same-refl}
 use Rattle.check_sound.proofs.Shapes.{size-kept}
 use Rattle.check_sound.proofs.Foreseen.{body-item, count-trees}
@@ -94,6 +94,7 @@ module _ (w : StageState) (old : IsSound w) (ts : List TypeForm) (ns : List Type
     parameters = h.parameters;
     result = there-still h.body.result h.result;
     small = h.small;
+    shallow = h.shallow;
   }
 
   pub listed-fair : Fair (listed w ts ns)
@@ -104,9 +105,8 @@ module _ (w : StageState) (old : IsSound w) (ts : List TypeForm) (ns : List Type
     defined = λ f g at. (old.functions f g at).1.1;
   }
 
-  pub listed-sound : ((i : ℕ) (n : Typed) → slice_get ns i ≡ Some n →
-      (slice_get w.store.typed i ≡ Some n) ⊎ (is_plain_node n ≡ true)) → IsSound (listed w ts ns)
-  listed-sound plain = sound-from w (listed w ts ns) old listed-fair listed-grows (record {
+  pub listed-sound : IsSound (listed w ts ns)
+  listed-sound = sound-from w (listed w ts ns) old listed-fair listed-grows (record {
     memory = old.memory;
     functions = λ f g at. (
       (old.functions f g at).0,
@@ -124,7 +124,6 @@ module _ (w : StageState) (old : IsSound w) (ts : List TypeForm) (ns : List Type
     constants = λ i x at. at;
     statics = λ i x at. inl at;
     fits = fits-same w (listed w ts ns) refl refl old.fits;
-    plain = plain;
     symbols = λ i x at. at;
     kept = λ t x at. inl at;
   })
@@ -146,18 +145,11 @@ added-grows w old n =
 pub added-leads : (w : StageState) → IsSound w → (n : Typed) → Leads w (added w n)
 added-leads w sound n = leads-by w (added w n) (added-grows w sound n) refl refl refl
 
-new-last : (ns : List Typed) (n m : Typed) (i : ℕ) → is_plain_node n ≡ true → slice_get (ns ++ n ∷ []) i ≡ Some m →
-    (slice_get ns i ≡ Some m) ⊎ (is_plain_node m ≡ true)
-new-last [] n m zero h at = inr (subst (λ x. is_plain_node x ≡ true) (same-some n m at) h)
-new-last [] n m (suc i) h at = absurd (none-some m at)
-new-last (x ∷ ns) n m zero h at = inl at
-new-last (x ∷ ns) n m (suc i) h at = new-last ns n m i h at
-
-pub added-sound : (w : StageState) → IsSound w → (n : Typed) → is_plain_node n ≡ true → IsSound (added w n)
-added-sound w old n plain =
+pub added-sound : (w : StageState) → IsSound w → (n : Typed) → IsSound (added w n)
+added-sound w old n =
     listed-sound w old w.store.types (w.store.typed ++ n ∷ []) old.types (fair-of w old).lies
     (keeps-types w.store.types)
-    (kept-front w.store.typed (n ∷ [])) (λ i m at. new-last w.store.typed n m i plain at)
+    (kept-front w.store.typed (n ∷ []))
 
 -- the tree of the node
 pub added-tree : (ns : List Typed) (n : Typed) → slice_get (typed_trees (ns ++ n ∷ [])) (length ns) ≡ Some
@@ -286,7 +278,7 @@ points-now w old t within =
       sound = listed-sound w old (with_form w.store.types (forms.Pointer t)) w.store.typed
           (pointed-types w.store.types old.types lies t within)
           (pointed-lies w.store.types old.types lies t within) (pointed-keeps w.store.types old.types lies t within)
-          (λ i x h. h) (λ i n at. inl at);
+          (λ i x h. h);
       grows = listed-grows w old (with_form w.store.types (forms.Pointer t)) w.store.typed
           (pointed-types w.store.types old.types lies t within)
           (pointed-lies w.store.types old.types lies t within) (pointed-keeps w.store.types old.types lies t within)

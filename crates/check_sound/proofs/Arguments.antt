@@ -23,7 +23,6 @@ use Rattle.check_model.specs.declared.job.Operand.TheVariants.{Untyped, Typed}
 use Rattle.check_model.specs.declared.end.PartEnd.{PartEnd}
 use Rattle.check_model.specs.declared.end.PartEnd.TheVariants as ends
 use Rattle.check_model.specs.declared.made.Made.{Made}
-use Rattle.check_model.specs.declared.rule.Mode.TheVariants.{Implicit}
 use Rattle.check_model.specs.Typing.{TypingState, made_of}
 use Rattle.check_model.specs.Plans.{BodyPlan, give, gives, calling, quoting, in_place, operand, untyped, quotes_of}
 use Rattle.check_model.specs.Calls.{argument, arguments}
@@ -118,7 +117,7 @@ module _ (q : PartEnd → TypingState → Type 0) (b : ℕ) (s : Scope) where
         Holds q (argument fitting m to at site go) w
     holds-argument true w i r m to at go placed known there k = holds-fit q b s w i r m to at site base go
         placed known there k
-    holds-argument false w i r m to at go placed known there k = holds-convert q b s w i r Implicit m to site
+    holds-argument false w i r m to at go placed known there k = holds-convert q b s w i r m to site
         base go known there k
 
     -- what the arguments leave

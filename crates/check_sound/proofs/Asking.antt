@@ -50,7 +50,7 @@ module _ (w : StageState) (old : IsSound w) (q : Quote) where
     types = old.types;
     lies = (fair-of w old).lies;
     bodies = λ f t made g at is. let b = old.typed_bodies f t made g at is in
-        record { body = b.body; there = b.there; parameters = b.parameters; result = b.result; small = b.small };
+        record { body = b.body; there = b.there; parameters = b.parameters; result = b.result; small = b.small; shallow = b.shallow };
     defined = (fair-of w old).defined;
   }
 
@@ -89,7 +89,6 @@ module _ (w : StageState) (old : IsSound w) (q : Quote) where
         constant-sound w (quoted w q) (fair-of w old) quoted-fair quoted-grows x (old.constants i x at);
     statics = old.statics;
     fits = fits-same w (quoted w q) refl refl old.fits;
-    plain = old.plain;
     symbols = λ i x at. any-grows w (quoted w q) (fair-of w old) quoted-fair quoted-grows x.of (old.symbols i x at);
     settled = old.settled;
   }

@@ -69,6 +69,7 @@ module _ (w : StageState) (old : IsSound w) (ss : List Static) (t : Term) where
         (kept-front w.store.terms (t ∷ [])) x.0 within));
     result = h.result;
     small = h.small;
+    shallow = h.shallow;
   }
 
   leafed-fair : Fair (leafed w ss t)
@@ -104,7 +105,6 @@ module _ (w : StageState) (old : IsSound w) (ss : List Static) (t : Term) where
         constants = λ i x at. at;
         statics = statics;
         fits = fits;
-        plain = λ i n at. inl at;
         symbols = λ i x at. at;
         kept = λ t x at. inl at;
       })

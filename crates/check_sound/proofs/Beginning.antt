@@ -67,7 +67,6 @@ begins-sound memory h = record {
   constants = λ i c at. absurd (none-some c at);
   statics = λ i x at. absurd (none-some x at);
   fits = record { below = omega arith; half = omega arith };
-  plain = λ i n at. absurd (none-some n at);
   symbols = λ i x at. absurd (none-some x at);
   settled = λ t v h. absurd (unasked-apart v h);
 }

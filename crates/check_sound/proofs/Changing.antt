@@ -135,7 +135,7 @@ module _ (w : StageState) (old : IsSound w) (f : FnId) (g : Function) (at : func
 
   has-still : (t made : TermId) → HasBodyOf w t made → HasBodyOf v t made
   has-still t made h =
-      record { body = h.body; there = h.there; parameters = h.parameters; result = h.result; small = h.small }
+      record { body = h.body; there = h.there; parameters = h.parameters; result = h.result; small = h.small; shallow = h.shallow }
 
   there-still : (o : Option TermId) → TermIsThere w o → TermIsThere v o
   there-still None h = tt
@@ -190,7 +190,6 @@ module _ (w : StageState) (old : IsSound w) (f : FnId) (g : Function) (at : func
       constants = λ i x there. there;
       statics = λ i x there. inl there;
       fits = fits-same w v refl refl old.fits;
-      plain = λ i n there. inl there;
       symbols = λ i x there. there;
       kept = λ t x there. inl there;
     });

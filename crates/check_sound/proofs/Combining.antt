@@ -27,7 +27,7 @@ use Rattle.check_model.specs.declared.question.CheckAnswer.TheVariants as answer
 use Rattle.check_model.specs.Typing.{TypingState, form_in, is_aggregate_form, is_place_form, made_of}
 use Rattle.check_model.specs.Plans.{BodyPlan, refuse, on_made, typing, make, pointing, laid_out, on_layout}
 use Rattle.check_model.specs.Keeping as keeping
-use Rattle.check_sound.specs.Sound.{foreseen, IsThere, IsSound, is_plain_form}
+use Rattle.check_sound.specs.Sound.{foreseen, IsThere, IsSound}
 use Rattle.check_sound.proofs.Shapes.{struct-stays}
 use Rattle.check_sound.proofs.Scalars.{flat-layout, sized-layout}
 use Rattle.check_sound.proofs.Grows.{Grows, grows-itself, grows-twice, tree-same, longer}
@@ -128,7 +128,6 @@ pub record Makes (s : Scope) (w : StageState) (at : Place) (of : TypeId) (form :
     (tree : typed.Form) : Type 0 where
   pub placed : is_placed at ≡ true
   pub there : IsThere w of
-  pub plain : is_plain_form form ≡ true
   pub planted : typed_planted (typed_trees w.store.typed) (typed_kinds.Expression at of form) ≡ typed.expression
       (typed.typed at of tree)
   pub it : (u : Within) → is_typed (foreseen w) u s (typed.typed at of tree) ≡ true
@@ -146,12 +145,12 @@ known-added s w sound source at of form tree h =
     record {
       below = added-below w.store.typed n;
       it = λ u. ap (is_typed (foreseen v) u s) same ∙
-          typed-grows w v (fair-of w sound) (fair-of v (added-sound w sound n h.plain)) (added-grows w sound n) u s
+          typed-grows w v (fair-of w sound) (fair-of v (added-sound w sound n)) (added-grows w sound n) u s
           (typed.typed at of tree) (h.it u);
       of = ap type_of same;
       place = ap is_place same ∙ h.place;
       placed = h.placed;
-      there = there-grows w v (fair-of w sound) (fair-of v (added-sound w sound n h.plain)) (added-grows w sound n) of h.there;
+      there = there-grows w v (fair-of w sound) (fair-of v (added-sound w sound n)) (added-grows w sound n) of h.there;
     }
 
 module _ (q : PartEnd → TypingState → Type 0) (b : ℕ) (s : Scope) (w : TypingState) (i : In b s w) where
@@ -164,7 +163,7 @@ module _ (q : PartEnd → TypingState → Type 0) (b : ℕ) (s : Scope) (w : Typ
   holds-make source at of form tree go h k =
       let n = typed_kinds.Expression at of form in
       let v : TypingState = record w { stage = added w.stage n } in
-      k v (step-to b s w v i (added-sound w.stage i.sound n h.plain) (added-leads w.stage i.sound n) refl)
+      k v (step-to b s w v i (added-sound w.stage i.sound n) (added-leads w.stage i.sound n) refl)
       (known-added s w.stage i.sound source at of form tree h)
 
   pub holds-pointing : (t : TypeId) (go : TypeId → BodyPlan) → IsThere w.stage t →

@@ -1,5 +1,5 @@
 -- What a conversion says of its types.
-use Rattle.std.proofs.Common.{◌≡◌, ℕ, Bool, true, false, List, refl, sym, ap, ◌∙◌, subst}
+use Rattle.std.proofs.Common.{◌≡◌, ℕ, Bool, true, false, refl, sym, ap, ◌∙◌, subst}
 use Rattle.std.specs.Prelude.{◌&&◌, ◌||◌, not, if◌then◌else◌}
 use Rattle.std.proofs.lemmas.Bool.{and_from, or_right, or_left}
 use Rattle.tl_base.specs.declared.ids.TypeId.{TypeId}
@@ -11,10 +11,8 @@ use Rattle.check_cast.specs.declared.conversion.Conv.{Conv}
 use Rattle.check_cast.specs.declared.conversion.Conv.TheVariants as conv
 use Rattle.check_cast.specs.Conversions.{form_of, implicit, explicit, implicit_forms, explicit_forms, array_conversion}
 use Rattle.terra_term.specs.Stores.{Contents}
-use Rattle.terra_term.specs.WellTyped.{same, form_at, integer_form, pointer_form, is_integer, is_pointer, is_function, is_array_of}
+use Rattle.terra_term.specs.WellTyped.{same, form_at, integer_form, pointer_form, is_integer, is_pointer, is_function, is_array_of, function_form}
 use Rattle.terra_term.specs.WellTyped.{array_in, target_in, converts}
-use Rattle.check_model.specs.declared.rule.Mode.{Mode}
-use Rattle.check_model.specs.declared.rule.Mode.TheVariants.{Implicit, Explicit}
 use Rattle.check_sound.proofs.Tests.{same-id}
 use Rattle.check_sound.proofs.Scalars.{is_scalar, truth-is}
 
@@ -83,21 +81,22 @@ module _ (c : Contents) (a : AreTypes c.types) (from to : TypeId) (apart : same 
   explicit-fact (forms.Integer i) (forms.Pointer t) p q =
       by-forms (forms.Integer i) (forms.Pointer t) p q refl refl
       (or_left (same to boolean || true) _ (or_right (same to boolean) true refl))
+  explicit-fact (forms.Function ps r) (forms.Integer i) p q =
+      by-forms (forms.Function ps r) (forms.Integer i) p q refl refl
+      (or_right (same from boolean && true) (is_function c from && true)
+      (and_from (is_function c from) true (ap function_form p) refl))
   explicit-fact _ _ p q = tt
 
-abbrev pub conv_in : Mode → List TypeForm → TypeId → TypeId → Conv
-conv_in Implicit ts from to = implicit ts from to
-conv_in Explicit ts from to = explicit ts from to
-
-pub conversion-fact : (c : Contents) → AreTypes c.types → (mode : Mode) (from to : TypeId) →
-    Fact c (conv_in mode c.types from to) from to
-conversion-fact c a Implicit from to = by (same_type from to) refl
+pub without-cast : (c : Contents) → AreTypes c.types → (from to : TypeId) → Fact c (implicit c.types from to) from to
+without-cast c a from to = by (same_type from to) refl
   where
     by : (b : Bool) → same_type from to ≡ b → Fact c (if b then conv.Same else implicit_forms (form_of c.types from)
         (form_of c.types to)) from to
     by true e = same-id from to e
     by false e = implicit-fact c a from to e (form_of c.types from) (form_of c.types to) refl refl
-conversion-fact c a Explicit from to = by (same_type from to) refl
+
+pub by-cast : (c : Contents) → AreTypes c.types → (from to : TypeId) → Fact c (explicit c.types from to) from to
+by-cast c a from to = by (same_type from to) refl
   where
     by : (b : Bool) → same_type from to ≡ b → Fact c (if b then conv.Same else explicit_forms (form_of c.types from)
         (form_of c.types to)) from to

@@ -122,6 +122,19 @@ types_a_cast_of_nil : passes (body (f 0) (given Go (with_pointers (world compare
 unfolding run_within run_job
 types_a_cast_of_nil = refl
 
+-- terra f() : int var g = f return g() end
+abbrev by_value : List Term
+by_value =
+    kinds.Expression (at 1 8) (e.Function (f 0))
+    ∷ kinds.Statement (at 1 5) (s.Var (record { symbol = record { 0 = 1 }; of = None; place = at 1 6 } ∷ []) (Some (t 0 ∷ [])))
+    ∷ kinds.Expression (at 1 10) (e.Variable (record { 0 = 1 })) ∷ kinds.Expression (at 1 11) (e.Call (t 2) [])
+    ∷ kinds.Statement (at 1 9) (s.Return (t 3 ∷ [])) ∷ kinds.Function [] (Some int32) (t 1 ∷ t 4 ∷ []) ∷ []
+
+-- a function that stands as a value and is called by it is of its function type
+types_a_call_by_value : passes (body (f 0) (given Go (world by_value (standing.Defined (t 5)) []) 20) []) ≡ true
+unfolding run_within run_job
+types_a_call_by_value = refl
+
 -- a check asks for the body of a function that is defined, for one unit, and refuses one that isn't at its own place
 asks_for_the_body :
     check (f 0) (given Go (stage nothing (standing.Defined (t 0)) []) 3) []

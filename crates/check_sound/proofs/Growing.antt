@@ -54,10 +54,10 @@ module _ (c d : Contents) (k : KeepsTypes c.types d.types) (a : AreTypes c.types
     typed-stays u s (typed at of (Global address)) g h =
         keep _ _ _ _ (keep _ _ _ _ (stay _) (layout-stays c d k a b lies of)) (stay _) h
     typed-stays u s (typed at of (Operate op es)) g h =
-        keep _ _ _ _ (keep _ _ _ _ (keep _ _ _ _ (stay _)
+        keep _ _ _ _ (keep _ _ _ _ (keep _ _ _ _ (keep _ _ _ _ (stay _)
         (list-stays u s es (right (operation_events at op) (list_events es) g)))
         (all-usable c d k a b lies (types_in es)))
-        (operation-stays c d k a b lies at op (types_in es) of (left (operation_events at op) (list_events es) g)) h
+        (operation-stays c d k a b lies at op (types_in es) of (left (operation_events at op) (list_events es) g))) (stay _) h
     typed-stays u s (typed at of (Both x y)) g h =
         keep _ _ _ _ (keep _ _ _ _ (keep _ _ _ _ (keep _ _ _ _ (keep _ _ _ _ (stay _)
         (typed-stays u s x (left (events_of x) (events_of y) g)))

@@ -22,13 +22,14 @@ pub mod Parts
 pub mod OfConverting
 pub mod Signatures
 pub mod Arguments
+pub mod NewTypes
+pub mod FunctionTypes
 pub mod OfFunctions
 pub mod OfCasts
 pub mod OfCalls
 pub mod Rules
 pub mod OfOperators
 pub mod OfUnary
-pub mod NewTypes
 pub mod Scopes
 pub mod Blocks
 pub mod Entries

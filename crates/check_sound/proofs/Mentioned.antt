@@ -92,7 +92,7 @@ module _ (c : Contents) (f : FnId) where
     in-typed u s (typed at of (Variable x)) h n = absurd n
     in-typed u s (typed at of (Global address)) h n = absurd n
     in-typed u s (typed at of (Operate op es)) h n =
-        let p = and_parts _ _ h in
+        let p = and_parts _ _ (and_parts _ _ h).0 in
         let q = and_parts _ _ (and_parts _ _ p.0).0 in
         either (operation_events at op) (list_events es) (operation-some at op (types_in es) of p.1)
         (in-list u s es q.1) n

@@ -16,7 +16,6 @@ use Rattle.exotype.specs.World.{StageState}
 use Rattle.check_model.specs.declared.site.Site.{Site}
 use Rattle.check_model.specs.declared.end.PartEnd.{PartEnd}
 use Rattle.check_model.specs.declared.made.Made.{Made}
-use Rattle.check_model.specs.declared.rule.Mode.TheVariants.{Implicit}
 use Rattle.check_model.specs.Typing.{TypingState}
 use Rattle.check_model.specs.Plans.{BodyPlan, refuse, states, ids_of}
 use Rattle.check_model.specs.Statements.{typing_all, targets, converting_all, assign_plan}
@@ -83,7 +82,7 @@ module _ (q : PartEnd → TypingState → Type 0) (b : ℕ) (s : Scope) (site : 
   holds-converting [] (p ∷ ps) ids us go w i r known places same l u k = absurd (omega (arith, same))
   holds-converting (m ∷ ms) [] ids us go w i r known places same l u k = absurd (omega (arith, same))
   holds-converting (m ∷ ms) (p ∷ ps) ids us go w i r known places same l u k =
-      holds-convert q b s w i r Implicit m p.of site base (λ x. converting_all ms ps site (ids ++ x.id ∷ []) go) known.0
+      holds-convert q b s w i r m p.of site base (λ x. converting_all ms ps site (ids ++ x.id ∷ []) go) known.0
       places.0.there
       (λ x v o now is usable. holds-converting ms ps (ids ++ x.id ∷ []) (us ++ p.of ∷ []) go v o.inside
       (refuses-on q w v r o.moves)

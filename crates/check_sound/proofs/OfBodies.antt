@@ -2,7 +2,7 @@
 use Rattle.std.proofs.Common.{◌≡◌, ℕ, Bool, true, false, List, [], ◌∷◌, ◌++◌, length, drop, append_assoc, append-nil, Option, Some, None}
 use Rattle.std.proofs.Common.{refl, sym, ap, ◌∙◌, subst, arith, slice_get}
 use Rattle.std.specs.Prelude.{◌≤◌, ◌||◌, min, nat_lt, option_map, unwrap_or, if◌then◌else◌}
-use Rattle.std.proofs.lemmas.Bool.{and_from, ltb-false}
+use Rattle.std.proofs.lemmas.Bool.{and_from, ltb-false, ltb-true}
 use Rattle.tl_base.specs.declared.place.Place.{Place}
 use Rattle.tl_base.specs.declared.ids.TermId.{TermId}
 use Rattle.tl_base.specs.declared.ids.TypeId.{TypeId}
@@ -19,6 +19,7 @@ use Rattle.terra_term.specs.Planted.{typed_trees, typed_block_at}
 use Rattle.terra_term.specs.TypedTerms as typed
 use Rattle.terra_term.specs.WellTyped.{is_placed, body_typed, names_laid_out, types_of_names, with_names, all_typed}
 use Rattle.exotype.specs.World.{StageState}
+use Rattle.terra_term.specs.Sizes as sizes
 use Rattle.terra_term.specs.Sizes.{most, capped, leaf, body_size, typed_item_size}
 use Rattle.exotype.specs.Terms.{typed_size}
 use Rattle.check_model.specs.declared.site.Site.{Site}
@@ -31,7 +32,7 @@ use Rattle.check_model.specs.Typing.{TypingState, with_variable}
 use Rattle.check_model.specs.Plans.{BodyPlan, then_on, on_made, refuse}
 use Rattle.check_model.specs.Calls.{call_value, params_of, written_in, types_of}
 use Rattle.check_model.specs.Expressions.{statements, expression_job}
-use Rattle.check_model.specs.Bodies.{body, body_job, parameters, names_of, most_nodes, is_too_large, made_function, definition_plan}
+use Rattle.check_model.specs.Bodies.{body, body_job, parameters, names_of, most_nodes, most_levels, is_too_large, made_function, definition_plan}
 use Rattle.check_sound.specs.Sound.{foreseen, IsThere, IsThereIfAny, ParametersAreThere, IsSound, typed_body, body_in}
 use Rattle.check_sound.proofs.Tests.{no}
 use Rattle.check_sound.proofs.Foreseen.{body-item}
@@ -40,13 +41,13 @@ use Rattle.check_sound.proofs.Leading.{leads-itself, leads-twice, Moves, moves-i
 use Rattle.check_sound.proofs.Worlds.{fair-of, any-grows, there-grows, body-grows, statements-grow}
 use Rattle.check_sound.proofs.Running.{AllThere, scope_of, Fits, ResultThere, LeavesMade, Leaves, Holds, Outcome, EachHolds, SeesAll}
 use Rattle.check_sound.proofs.Running.{AreOperands}
-use Rattle.check_sound.proofs.Combining.{In, Refuses, refuses-on, all-there}
+use Rattle.check_sound.proofs.Combining.{In, Refuses, refuses-on, all-there, holds-laid}
 use Rattle.check_sound.proofs.Adding.{added, added-grows, added-leads, added-sound, added-tree}
 use Rattle.check_sound.proofs.Blocks.{More, Block, more-to, holds-statements}
 use Rattle.check_sound.proofs.Scopes.{there-append}
-use Rattle.check_sound.proofs.OfVars.{laid-snoc, laid-grows, holds-may-be}
+use Rattle.check_sound.proofs.OfVars.{laid-snoc, laid-grows}
 use Rattle.check_sound.proofs.Arguments.{unit-there, operands-still}
-use Rattle.check_sound.proofs.OfCalls.{holds-apply}
+use Rattle.check_sound.proofs.OfCalls.{holds-value-called}
 use Rattle.check_sound.proofs.OfExpressions.{holds-expression-job}
 use Rattle.check_sound.proofs.OfStatements.{holds-statement-job}
 
@@ -75,25 +76,25 @@ expression-holds job t site w sound h k =
     (λ why v s g. (s, (g, k (ends.Refused why) v tt))) t
     (λ m v p known. (p.inside.sound, (p.moves, k (ends.Made m) v (p.same, known))))
 
-callee-holds : (t : TermId) (os : List Operand) (at : Place) (source : TermId) (site : Site) (w : TypingState) →
+callee-holds : (t : TermId) (os : List Operand) (at : Place) (fitting : Bool) (source : TermId) (site : Site) (w : TypingState) →
     IsSound w.stage → SeesAll site w → is_placed at ≡ true → AreOperands (scope_of site.base w) w.stage os →
-    Holds (Outcome (jobs.Callee t os at source site) w) (body_job (jobs.Callee t os at source site)) w
-callee-holds t os at source site w sound h placed known =
-    let q = Outcome (jobs.Callee t os at source site) w in
-    holds-then q (expression_job t site) (λ r. on_made r (λ m. call_value m os at source site)) w
-    (holds-expression-job (λ r v. Holds q (on_made r (λ m. call_value m os at source site)) v) site.base
+    Holds (Outcome (jobs.Callee t os at fitting source site) w) (body_job (jobs.Callee t os at fitting source site)) w
+callee-holds t os at fitting source site w sound h placed known =
+    let q = Outcome (jobs.Callee t os at fitting source site) w in
+    holds-then q (expression_job t site) (λ r. on_made r (λ m. call_value m os at fitting source site)) w
+    (holds-expression-job (λ r v. Holds q (on_made r (λ m. call_value m os at fitting source site)) v) site.base
     (scope_of site.base w) site refl w (here site w sound h)
     (λ why v s g. (s, (g, tt))) t
-    (λ m v p mine. holds-apply q site.base (scope_of site.base w) site refl v p.inside
-    (λ why x s g. (s, (moves-twice w v x p.moves g, tt))) m os at source
+    (λ m v p mine. holds-value-called q site.base (scope_of site.base w) site refl v p.inside
+    (λ why x s g. (s, (moves-twice w v x p.moves g, tt))) m os at fitting source
     (λ n x o last. (o.inside.sound, (moves-twice w v x p.moves o.moves, (o.same ∙ p.same, last)))) placed mine
     (operands-still q site.base (scope_of site.base w) w v (here site w sound h) p os known)))
 
 pub each-holds : EachHolds
 each-holds (jobs.Expression t site) w sound ready = expression-holds (jobs.Expression t site) t site w sound ready
     (λ r v l. l)
-each-holds (jobs.Callee t os at source site) w sound ready =
-    callee-holds t os at source site w sound ready.0 ready.1.0 ready.1.1
+each-holds (jobs.Callee t os at fitting source site) w sound ready =
+    callee-holds t os at fitting source site w sound ready.0 ready.1.0 ready.1.1
 each-holds (jobs.Statement t site) w sound ready =
     holds-statement-job (Outcome (jobs.Statement t site) w) site.base (scope_of site.base w) site refl w
     (here site w sound ready.0)
@@ -128,24 +129,30 @@ pub record Defined (w v : StageState) (t id : TermId) : Type 0 where
   pub result : IsThere v body.result
   pub written : (r : TypeId) → written_in (slice_get v.store.terms t.0) ≡ Some r → body.result ≡ r
 
--- a body that has no more nodes than it may have
+-- a body that has no more nodes and levels than it may have
 abbrev pub IsSmall : StageState → TermId → Type 0
-IsSmall w id = (b : typed.Body) → typed_body w id ≡ Some b → (body_size b).nodes ≤ most_nodes
+IsSmall w id =
+    (b : typed.Body) → typed_body w id ≡ Some b → ((body_size b).nodes ≤ most_nodes) × ((body_size b).levels ≤ most_levels)
 
-false-left : (a b : Bool) → (a || b) ≡ false → a ≡ false
-false-left true b e = absurd (no (sym e))
-false-left false b e = refl
+both-false : (a b : Bool) → (a || b) ≡ false → (a ≡ false) × (b ≡ false)
+both-false true b e = absurd (no (sym e))
+both-false false b e = (refl, e)
 
 at-most : (n : ℕ) → min n most ≤ most_nodes → n ≤ most_nodes
 at-most n h = omega (arith, h)
+
+at-most-levels : (n : ℕ) → min n sizes.most_levels ≤ most_levels → n ≤ most_levels
+at-most-levels n h = omega (arith, h)
 
 small-enough : (w : StageState) (id : TermId) → is_too_large (typed_size w id) ≡ false → IsSmall w id
 small-enough w id e b there =
     let size : typed_size w id ≡ capped (body_size b) =
     ap (λ o. unwrap_or (option_map (λ item. capped (typed_item_size item)) o) leaf) (body-item w id b there) in
-    let few : nat_lt most_nodes (capped (body_size b)).nodes ≡ false =
-    false-left (nat_lt most_nodes (capped (body_size b)).nodes) _ (ap is_too_large (sym size) ∙ e) in
-    at-most (body_size b).nodes (ltb-false most_nodes (capped (body_size b)).nodes few)
+    let few = both-false (nat_lt most_nodes (capped (body_size b)).nodes) (nat_lt most_levels (capped (body_size b)).levels)
+    (ap is_too_large (sym size) ∙ e) in (
+      at-most (body_size b).nodes (ltb-false most_nodes (capped (body_size b)).nodes few.0),
+      at-most-levels (body_size b).levels (ltb-false most_levels (capped (body_size b)).levels few.1),
+    )
 
 abbrev pub Defines : TypingState → TermId → PartEnd → TypingState → Type 0
 Defines w t (ends.Stated id result) v = Defined w.stage v.stage t id × (Moves w v × IsSmall v.stage id)
@@ -178,8 +185,9 @@ module _ (q : PartEnd → TypingState → Type 0) (b : ℕ) (site : Site) (base 
       (subst (λ l. names_laid_out (foreseen v.stage) l ≡ true) (sym (append-nil done)) laid)
   holds-parameters (p ∷ ps) rest w v done i m r there laid k =
       let name : TypedName = record { symbol = p.symbol; of = p.of } in
-      holds-may-be q b (with_names done []) site base v m.inside (refuses-on q w v r m.moves) p.of p.place
-      (Read (λ x. Write (with_variable x p.symbol p.of) (parameters ps site rest))) there.0
+      holds-laid q b (with_names done []) v m.inside p.of p.place site
+      (Read (λ x. Write (with_variable x p.symbol p.of) (parameters ps site rest))) (refuses-on q w v r m.moves)
+      (ltb-true p.of.0 (length v.stage.store.types) there.0)
       (λ x o layout.
       let y : TypingState = with_variable x p.symbol p.of in
       let whole = leads-twice w.stage v.stage x.stage m.moves.leads o.moves.leads in
@@ -228,7 +236,7 @@ defined-now w v t ps result found body ids more site sound g term laid no_loop n
       body =
           typed_block_at (typed_trees v.stage.store.typed) ids;
     } in
-    let after : IsSound x = added-sound v.stage sound n refl in
+    let after : IsSound x = added-sound v.stage sound n in
     let more_grows : Grows v.stage x = added-grows v.stage sound n in
     let stands : body_typed (foreseen v.stage) b ≡ true =
     and_from _ _ laid

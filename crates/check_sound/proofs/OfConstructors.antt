@@ -17,7 +17,6 @@ use Rattle.terra_term.specs.TypedTerms as typed
 use Rattle.terra_term.specs.WellTyped.{Scope, is_placed, is_usable, struct_form, entries_typed, all_usable}
 use Rattle.check_model.specs.declared.site.Site.{Site}
 use Rattle.check_model.specs.declared.end.PartEnd.{PartEnd}
-use Rattle.check_model.specs.declared.rule.Mode.TheVariants.{Implicit}
 use Rattle.check_model.specs.Typing.{TypingState, form_in, bytes_in}
 use Rattle.check_model.specs.Plans.{BodyPlan, reading, refuse, laid_out}
 use Rattle.check_model.specs.Converting.{convert}
@@ -78,9 +77,9 @@ module _ (q : PartEnd → TypingState → Type 0) (b : ℕ) (s : Scope) (site : 
   holds-into (x ∷ ls) [] at os ids us of go w i r are l u fits k = k os ids us w (step-itself b s w i) l u fits
   holds-into (None ∷ ls) (t ∷ ts) at os ids us of go w i r are l u fits k = holds-refuse q b s w i r NoField at site
   holds-into (Some x ∷ ls) (t ∷ ts) at os ids us of go w i r are l u fits k =
-      holds-typing q b s w i t site (λ m. convert Implicit m x.of site
+      holds-typing q b s w i t site (λ m. convert m x.of site
       (λ z. into ls ts at site (os ++ x.offset ∷ []) (ids ++ z.id ∷ []) go)) base r
-      (λ m v p known. holds-convert q b s v p.inside (refuses-on q w v r p.moves) Implicit m x.of site base
+      (λ m v p known. holds-convert q b s v p.inside (refuses-on q w v r p.moves) m x.of site base
       (λ z. into ls ts at site (os ++ x.offset ∷ []) (ids ++ z.id ∷ []) go) known (there-still b s w v i p x.of are.0.1)
       (λ z y o now is usable.
       let whole = step-twice b s w v y p o in

@@ -2,7 +2,7 @@
 use Rattle.std.proofs.Common.{◌≡◌, ℕ, true, false, [], ◌∷◌, length, refl, ap, ◌∙◌, subst}
 use Rattle.std.specs.Prelude.{◌⊎◌, codes, nat_lt, if◌then◌else◌}
 use mathlib.Core.Logic.{inl, inr}
-use Rattle.std.proofs.lemmas.Bool.{and_from, and_parts, and_cases, ltb-true, or_left}
+use Rattle.std.proofs.lemmas.Bool.{and_from, and_parts, and_cases, ltb-true}
 use Rattle.tl_base.specs.declared.place.Place.{Place}
 use Rattle.tl_base.specs.declared.ids.TypeId.{TypeId}
 use Rattle.lua_value.specs.declared.value.Value.{Value}
@@ -13,7 +13,7 @@ use Rattle.terra_types.specs.declared.types.TypeForm.TheVariants as forms
 use Rattle.terra_types.specs.Making.{same_type}
 use Rattle.check_cast.specs.declared.conversion.Conv.{Conv}
 use Rattle.check_cast.specs.declared.conversion.Conv.TheVariants as conv
-use Rattle.check_cast.specs.Conversions.{form_of}
+use Rattle.check_cast.specs.Conversions.{form_of, implicit}
 use Rattle.terra_term.specs.declared.refusal.RefusalKind.TheVariants.{Mismatch, NotPlace, TooWide}
 use Rattle.terra_term.specs.declared.operators.Operation.TheVariants as operations
 use Rattle.terra_term.specs.declared.operators.Constant.TheVariants as constants
@@ -22,22 +22,20 @@ use Rattle.terra_term.specs.Held.{next_typed}
 use Rattle.terra_term.specs.Planted.{typed_trees, typed_at}
 use Rattle.terra_term.specs.TypedTerms as typed
 use Rattle.terra_term.specs.TypedTerms.{type_of, is_place}
-use Rattle.terra_term.specs.WellTyped.{Scope, is_placed, is_usable, has_layout, is_pointer, is_array_of, target_in, form_at, points_in}
-use Rattle.terra_term.specs.WellTyped.{points_to, pointer_form, converts}
+use Rattle.terra_term.specs.WellTyped.{Scope, is_placed, is_usable, has_layout, is_array_of, target_in, form_at, points_in}
+use Rattle.terra_term.specs.WellTyped.{points_to, pointer_form, converts, constant_typed}
 use Rattle.exotype.specs.World.{StageState}
 use Rattle.check_model.specs.declared.site.Site.{Site}
 use Rattle.check_model.specs.declared.made.Made.{Made}
 use Rattle.check_model.specs.declared.end.PartEnd.{PartEnd}
-use Rattle.check_model.specs.declared.rule.Mode.{Mode}
-use Rattle.check_model.specs.declared.rule.Mode.TheVariants.{Implicit, Explicit}
 use Rattle.check_model.specs.Typing.{TypingState, form_in, bytes_in, is_aggregate_form, is_nil_made, made_of}
 use Rattle.check_model.specs.Structs.{metamethod_of_either}
 use Rattle.check_model.specs.Plans.{BodyPlan, reading, refuse, make, as_value, is_wide, calling, quoting, in_place}
-use Rattle.check_model.specs.Converting.{conv_of, cast_to, by_conv, is_same, takes_type, converted, convert, fit}
-use Rattle.check_sound.specs.Sound.{foreseen, IsThere, IsSound}
+use Rattle.check_model.specs.Converting.{cast_to, by_conv, is_same, takes_nil, takes_type, converted, convert, fit}
+use Rattle.check_sound.specs.Sound.{foreseen, IsThere}
 use Rattle.check_sound.proofs.Tests.{no, same-id}
 use Rattle.check_sound.proofs.Scalars.{is_scalar, scalar-usable, flat-usable, narrow-usable}
-use Rattle.check_sound.proofs.Conversions.{Fact, conversion-fact}
+use Rattle.check_sound.proofs.Conversions.{Fact, without-cast}
 use Rattle.check_sound.proofs.Running.{Known, Holds}
 use Rattle.check_sound.proofs.Combining.{In, Step, Refuses, Makes, step-twice, refuses-on, still, usable-still, holds-make, holds-refuse}
 use Rattle.check_sound.proofs.Combining.{holds-if, holds-laid}
@@ -69,22 +67,25 @@ points-scalar (forms.Array u n) t h = absurd (no h)
 points-scalar (forms.Function ps x) t h = refl
 points-scalar (forms.Struct n p l) t h = absurd (no h)
 
-fact-of : (w : StageState) → IsSound w → (mode : Mode) (from to : TypeId) →
-    Fact (foreseen w) (conv_of mode w from to) from to
-fact-of w h Implicit from to = conversion-fact (foreseen w) h.types Implicit from to
-fact-of w h Explicit from to = conversion-fact (foreseen w) h.types Explicit from to
+pub nil-scalar : (f : TypeForm) → takes_nil f ≡ true → is_scalar f ≡ true
+nil-scalar (forms.Pointer t) h = refl
+nil-scalar (forms.Integer i) h = refl
+nil-scalar forms.Bool h = refl
+nil-scalar forms.Unit h = absurd (no h)
+nil-scalar (forms.Array t n) h = absurd (no h)
+nil-scalar (forms.Function ps x) h = refl
+nil-scalar (forms.Struct n p l) h = absurd (no h)
 
 -- ---- nodes
 
 pub makes-nil : (s : Scope) (w : StageState) (at : Place) (of : TypeId) → is_placed at ≡ true → IsThere w of →
-    is_pointer (foreseen w) of ≡ true →
+    constant_typed (foreseen w) of constants.Nil ≡ true →
     Makes s w at of (te.Constant constants.Nil) (typed.Constant' constants.Nil)
 makes-nil s w at of placed there h = record {
   placed = placed;
   there = there;
-  plain = refl;
   planted = refl;
-  it = λ u. and_from _ _ placed (or_left _ _ h);
+  it = λ u. and_from _ _ placed h;
   place = refl;
 }
 
@@ -95,7 +96,6 @@ pub makes-address : (s : Scope) (w : StageState) (at : Place) (of : TypeId) (m :
 makes-address s w at of m placed there known place points = record {
   placed = placed;
   there = there;
-  plain = refl;
   planted = refl;
   it = λ u. and_from _ _ (and_from _ _ (and_from _ _ placed (known.it u)) (known.place ∙ place))
       (ap (points_to (foreseen w) of) known.of ∙ points);
@@ -109,33 +109,31 @@ pub makes-target : (s : Scope) (w : StageState) (at : Place) (of : TypeId) (m : 
 makes-target s w at of m placed there known points = record {
   placed = placed;
   there = there;
-  plain = refl;
   planted = refl;
   it = λ u. and_from _ _ (and_from _ _ placed (known.it u)) (ap (λ t. points_to (foreseen w) t of) known.of ∙ points);
   place = refl;
 }
 
-makes-decay : (s : Scope) (w : StageState) (to : TypeId) (m : Made) → IsThere w to → Known s w m → m.is_place ≡ true →
-    Fact (foreseen w) conv.Array m.of to → Makes s w m.at to (te.Decay m.id)
+pub makes-decay : (s : Scope) (w : StageState) (at : Place) (to : TypeId) (m : Made) → is_placed at ≡ true → IsThere w to → Known s w m →
+    m.is_place ≡ true → Fact (foreseen w) conv.Array m.of to → Makes s w at to (te.Decay m.id)
     (typed.Decay (typed_at (typed_trees w.store.typed) m.id))
-makes-decay s w to m there known place fact = record {
-  placed = known.placed;
+makes-decay s w at to m placed there known place fact = record {
+  placed = placed;
   there = there;
-  plain = refl;
   planted = refl;
-  it = λ u. and_from _ _ (and_from _ _ (and_from _ _ (and_from _ _ known.placed (known.it u)) (known.place ∙ place))
+  it = λ u. and_from _ _ (and_from _ _ (and_from _ _ (and_from _ _ placed (known.it u)) (known.place ∙ place))
       fact.0)
       (ap (λ t. is_array_of (foreseen w) t (target_in (form_at (foreseen w) to))) known.of ∙ fact.1);
   place = refl;
 }
 
-makes-converted : (s : Scope) (w : StageState) (to : TypeId) (m : Made) → IsThere w to → Known s w m →
+pub makes-converted : (s : Scope) (w : StageState) (at : Place) (to : TypeId) (m : Made) → is_placed at ≡ true → IsThere w to → Known s w m →
     converts (foreseen w) m.of to ≡ true →
     is_scalar (form_of w.store.types m.of) ≡ true →
-    Makes s w m.at to (te.Operate operations.Convert (m.id ∷ []))
+    Makes s w at to (te.Operate operations.Convert (m.id ∷ []))
     (typed.Operate operations.Convert (typed.then_one (typed_at (typed_trees w.store.typed) m.id) typed.no_more))
-makes-converted s w to m there known h scalar =
-    operates s w m.at to operations.Convert (m.id ∷ []) (m.of ∷ []) refl known.placed there (part-of s w m known, tt)
+makes-converted s w at to m placed there known h scalar =
+    operates s w at to operations.Convert (m.id ∷ []) (m.of ∷ []) refl placed there (part-of s w m known, tt)
     (and_from _ _ (scalar-usable (foreseen w) m.of scalar) refl) (and_from _ _ refl h)
 
 module _ (q : PartEnd → TypingState → Type 0) (b : ℕ) (s : Scope) (w : TypingState) (i : In b s w)
@@ -172,7 +170,7 @@ module _ (q : PartEnd → TypingState → Type 0) (b : ℕ) (s : Scope) (w : Typ
       (usable-still b s w v i p to (scalar-usable (foreseen w.stage) to scalar)))
 
   -- what `__cast` gives has the type
-  holds-cast-to : (h : Value) (m : Made) (to : TypeId) (site : Site) → site.base ≡ b → (go : Made → BodyPlan) →
+  pub holds-cast-to : (h : Value) (m : Made) (to : TypeId) (site : Site) → site.base ≡ b → (go : Made → BodyPlan) →
       Known s w.stage m → Converts to go → Holds q (cast_to h m to site go) w
   holds-cast-to h m to site base go known k =
       holds-if q b s w i (is_nil h) (refuse Mismatch m.at site)
@@ -204,7 +202,7 @@ module _ (q : PartEnd → TypingState → Type 0) (b : ℕ) (s : Scope) (w : Typ
   by-conversion conv.Array m to site base go known there fact k =
       holds-if q b s w i m.is_place (make m.source m.at to (te.Decay m.id) go) (refuse NotPlace m.at site)
       (λ place. made-scalar m m.at to (te.Decay m.id) (typed.Decay (typed_at (typed_trees w.stage.store.typed) m.id)) go
-      (makes-decay s w.stage to m there known place fact) (pointer-scalar (form_in w.stage to) fact.0) k)
+      (makes-decay s w.stage m.at to m known.placed there known place fact) (pointer-scalar (form_in w.stage to) fact.0) k)
       (λ h. holds-refuse q b s w i r NotPlace m.at site)
   by-conversion conv.No m to site base go known there fact k =
       holds-cast-to (metamethod_of_either w.stage m.of to (codes "__cast")) m to site base go known k
@@ -212,14 +210,14 @@ module _ (q : PartEnd → TypingState → Type 0) (b : ℕ) (s : Scope) (w : Typ
       made-scalar m m.at to (te.Operate operations.Convert (m.id ∷ []))
       (typed.Operate operations.Convert (typed.then_one (typed_at (typed_trees w.stage.store.typed) m.id)
       typed.no_more)) go
-      (makes-converted s w.stage to m there known fact.0 fact.1.0) fact.1.1 k
+      (makes-converted s w.stage m.at to m known.placed there known fact.0 fact.1.0) fact.1.1 k
 
   as-nil : (m : Made) (to : TypeId) (go : Made → BodyPlan) → Known s w.stage m → IsThere w.stage to →
-      pointer_form (form_in w.stage to) ≡ true →
+      takes_nil (form_in w.stage to) ≡ true →
       Converts to go → Holds q (make m.source m.at to (te.Constant constants.Nil) go) w
-  as-nil m to go known there pointer k =
+  as-nil m to go known there takes k =
       made-scalar m m.at to (te.Constant constants.Nil) (typed.Constant' constants.Nil) go
-      (makes-nil s w.stage m.at to known.placed there pointer) (pointer-scalar (form_in w.stage to) pointer) k
+      (makes-nil s w.stage m.at to known.placed there takes) (nil-scalar (form_in w.stage to) takes) k
 
   converted-by : (c : Conv) (m : Made) (to : TypeId) (site : Site) → site.base ≡ b → (go : Made → BodyPlan) →
       Known s w.stage m → IsThere w.stage to →
@@ -231,14 +229,15 @@ module _ (q : PartEnd → TypingState → Type 0) (b : ℕ) (s : Scope) (w : Typ
       (λ h. holds-if q b s w i (is_same c) (by_conv c w.stage m to site go)
       (make m.source m.at to (te.Constant constants.Nil) go)
       (λ e. by-conversion c m to site base go known there fact k)
-      (λ e. as-nil m to go known there (and_parts (is_nil_made w.stage m) (pointer_form (form_in w.stage to)) h).1 k))
+      (λ e. as-nil m to go known there (and_parts (is_nil_made w.stage m) (takes_nil (form_in w.stage to)) h).1 k))
       (λ h. by-conversion c m to site base go known there fact k)
 
-  pub holds-convert : (mode : Mode) (m : Made) (to : TypeId) (site : Site) → site.base ≡ b → (go : Made → BodyPlan) →
+  pub holds-convert : (m : Made) (to : TypeId) (site : Site) → site.base ≡ b → (go : Made → BodyPlan) →
       Known s w.stage m → IsThere w.stage to →
-      Converts to go → Holds q (convert mode m to site go) w
-  holds-convert mode m to site base go known there k =
-      converted-by (conv_of mode w.stage m.of to) m to site base go known there (fact-of w.stage i.sound mode m.of to) k
+      Converts to go → Holds q (convert m to site go) w
+  holds-convert m to site base go known there k =
+      converted-by (implicit w.stage.store.types m.of to) m to site base go known there
+      (without-cast (foreseen w.stage) i.sound.types m.of to) k
 
 -- ---- receivers
 
@@ -251,21 +250,21 @@ module _ (q : PartEnd → TypingState → Type 0) (b : ℕ) (s : Scope) (w : Typ
       holds-if q b s w i (same_type m.of to) (as_value m site (go m))
       (if points_in (form_in w.stage to) m.of then (if m.is_place then make m.source at to (te.Address m.id) go else
       refuse NotPlace m.at site) else (if points_in (form_in w.stage m.of) to then
-      (make m.source at to (te.Dereference m.id) (λ x. as_value x site (go x))) else (convert Implicit m to site go)))
+      (make m.source at to (te.Dereference m.id) (λ x. as_value x site (go x))) else (convert m to site go)))
       (λ e. holds-value q b s w i r m site (go m) known
       (λ v p now usable. k m v p now (same-id m.of to e)
       (subst (λ t. is_usable (foreseen v.stage) t ≡ true) (same-id m.of to e) usable)))
       (λ e. holds-if q b s w i (points_in (form_in w.stage to) m.of)
       (if m.is_place then make m.source at to (te.Address m.id) go else refuse NotPlace m.at site)
       (if points_in (form_in w.stage m.of) to then (make m.source at to (te.Dereference m.id)
-      (λ x. as_value x site (go x))) else (convert Implicit m to site go))
+      (λ x. as_value x site (go x))) else (convert m to site go))
       (λ h. holds-if q b s w i m.is_place (make m.source at to (te.Address m.id) go) (refuse NotPlace m.at site)
       (λ place. made-scalar q b s w i r m at to (te.Address m.id)
       (typed.Address (typed_at (typed_trees w.stage.store.typed) m.id)) go
       (makes-address s w.stage at to m placed there known place h) (points-scalar (form_in w.stage to) m.of h) k)
       (λ c. holds-refuse q b s w i r NotPlace m.at site))
       (λ h. holds-if q b s w i (points_in (form_in w.stage m.of) to)
-      (make m.source at to (te.Dereference m.id) (λ x. as_value x site (go x))) (convert Implicit m to site go)
+      (make m.source at to (te.Dereference m.id) (λ x. as_value x site (go x))) (convert m to site go)
       (λ points. holds-make q b s w i m.source at to (te.Dereference m.id)
       (typed.Dereference (typed_at (typed_trees w.stage.store.typed) m.id))
       (λ x. as_value x site (go x)) (makes-target s w.stage at to m placed there known points)
@@ -274,4 +273,4 @@ module _ (q : PartEnd → TypingState → Type 0) (b : ℕ) (s : Scope) (w : Typ
       (go (made_of (next_typed w.stage.store) m.source at to (te.Dereference m.id))) now
       (λ x o later usable. k (made_of (next_typed w.stage.store) m.source at to (te.Dereference m.id)) x
       (step-twice b s w v x p o) later refl usable)))
-      (λ c. holds-convert q b s w i r Implicit m to site base go known there k)))
+      (λ c. holds-convert q b s w i r m to site base go known there k)))

@@ -1,6 +1,6 @@
 -- Entries leave typed terms.
 use Rattle.std.proofs.Common.{◌≡◌, ℕ, ◌<◌, true, false, [], ◌∷◌, length, Option, Some, None, refl, sym, ap, ◌∙◌, subst}
-use Rattle.std.specs.Prelude.{not, codes, if◌then◌else◌}
+use Rattle.std.specs.Prelude.{not, ◌&&◌, codes, if◌then◌else◌}
 use mathlib.Core.Logic.{inl, inr}
 use Rattle.std.proofs.lemmas.Bool.{and_from, not-true, not-false}
 use Rattle.tl_base.specs.declared.place.Place.{Place}
@@ -87,7 +87,6 @@ module _ (q : PartEnd → TypingState → Type 0) (b : ℕ) (s : Scope) (site : 
       (record {
         placed = placed;
         there = is.1;
-        plain = refl;
         planted = refl;
         it = λ z. and_from _ _ (and_from _ _ placed (known.it z))
             (ap (λ t. follows_in (foreseen w.stage) (form_at (foreseen w.stage) t) l.offset l.of) known.of ∙
@@ -104,7 +103,6 @@ module _ (q : PartEnd → TypingState → Type 0) (b : ℕ) (s : Scope) (site : 
       (record {
         placed = placed;
         there = is.1;
-        plain = refl;
         planted = refl;
         it = λ z. and_from _ _ (and_from _ _ (and_from _ _ placed (known.it z)) (known.place ∙ place))
             (ap (λ t. entry_of (foreseen w.stage) t l.offset l.of) known.of ∙ mine);
@@ -115,7 +113,7 @@ module _ (q : PartEnd → TypingState → Type 0) (b : ℕ) (s : Scope) (site : 
       (λ v p now usable. holds-gives q b s v p.inside source at l.of
       (te.Operate (operations.Extract l.offset) (o.id ∷ []))
       (typed.Operate (operations.Extract l.offset) (typed_list_at (typed_trees v.stage.store.typed) (o.id ∷ [])))
-      (operates s v.stage at l.of (operations.Extract l.offset) (o.id ∷ []) (o.of ∷ []) refl placed
+      (operates s v.stage at l.of (operations.Extract l.offset) (o.id ∷ []) (o.of ∷ []) (ap (λ z. not (z && true)) (now.place ∙ place)) placed
       (there-still b s w v i p l.of is.1) (part-of s v.stage o now, tt)
       (and_from _ _ usable refl) (and_from _ _ refl (entry-now w v i p o.of l.offset l.of mine)))
       (gives-on q b s w v p k))))

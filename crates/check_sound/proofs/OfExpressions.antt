@@ -1,14 +1,14 @@
 -- Expressions leave typed terms.
 use Rattle.std.proofs.Common.{◌≡◌, ℕ, true, false, List, length, Option, Some, None, refl, sym, ap, ◌∙◌, subst, slice_get}
 use Rattle.std.specs.Prelude.{unwrap_or}
-use Rattle.std.proofs.lemmas.Bool.{and_from}
+use Rattle.std.proofs.lemmas.Bool.{and_from, or_left}
 use Rattle.tl_base.specs.declared.place.Place.{Place}
 use Rattle.tl_base.specs.declared.ids.TermId.{TermId}
 use Rattle.tl_base.specs.declared.ids.TypeId.{TypeId}
 use Rattle.tl_base.specs.Plan.{Give, Do, Pay}
 use Rattle.terra_types.specs.declared.types.TypeForm.TheVariants as forms
 use Rattle.terra_types.specs.Opening.{boolean, rawstring}
-use Rattle.terra_term.specs.declared.refusal.RefusalKind.TheVariants.{BadOperand, FunctionValue}
+use Rattle.terra_term.specs.declared.refusal.RefusalKind.TheVariants.{BadOperand}
 use Rattle.terra_term.specs.declared.operators.Constant.TheVariants as constants
 use Rattle.terra_term.specs.declared.lists.TypedName.{TypedName}
 use Rattle.terra_term.specs.declared.operators.Constant.{Constant}
@@ -24,7 +24,7 @@ use Rattle.exotype.specs.World.{StageState}
 use Rattle.check_model.specs.declared.site.Site.{Site}
 use Rattle.check_model.specs.declared.job.BodyJob.TheVariants as jobs
 use Rattle.check_model.specs.declared.end.PartEnd.{PartEnd}
-use Rattle.check_model.specs.Typing.{TypingState, form_in, struct_of, expression_at, variable_at, cut_to}
+use Rattle.check_model.specs.Typing.{TypingState, form_in, struct_of, expression_at, variable_at, function_at, cut_to}
 use Rattle.check_model.specs.Plans.{reading, gives, typing, as_value, untyped, leaving}
 use Rattle.check_model.specs.Calls.{is_called, call_named}
 use Rattle.check_model.specs.Operators.{binary_plan, unary_plan}
@@ -41,6 +41,7 @@ use Rattle.check_sound.proofs.Combining.{holds-typing}
 use Rattle.check_sound.proofs.OfConverting.{holds-value, makes-nil}
 use Rattle.check_sound.proofs.Arguments.{are-untyped, Gives, gives-on, holds-gives}
 use Rattle.check_sound.proofs.OfCalls.{holds-named, holds-callee}
+use Rattle.check_sound.proofs.OfFunctions.{holds-function-value}
 use Rattle.check_sound.proofs.OfOperators.{holds-binary}
 use Rattle.check_sound.proofs.OfUnary.{holds-unary}
 use Rattle.check_sound.proofs.Signatures.{expression-sound}
@@ -94,7 +95,6 @@ module _ (q : PartEnd → TypingState → Type 0) (b : ℕ) (s : Scope) (site : 
       (record {
         placed = placed;
         there = now.there;
-        plain = refl;
         planted = refl;
         it = λ u. and_from _ _ (and_from _ _ (and_from _ _ (and_from _ _ placed (blocked.it u.result tt))
             (subst (λ l. is_typed (foreseen y.stage) u l (typed_at (typed_trees y.stage.store.typed) z.id) ≡ true)
@@ -111,10 +111,10 @@ module _ (q : PartEnd → TypingState → Type 0) (b : ℕ) (s : Scope) (site : 
   holds-call w i r f args at source k placed =
       holds-if q b s w i (is_called (expression_at w.stage f))
       (Pay 1 (call_named w.stage (expression_at w.stage f) (untyped args) at false source site))
-      (Do (jobs.Callee f (untyped args) at source site) Give)
+      (Do (jobs.Callee f (untyped args) at false source site) Give)
       (λ c. holds-named q b s site base w i r (expression_at w.stage f) (untyped args) at false source k placed
       (are-untyped s w.stage args) (expression-sound w.stage i.sound f))
-      (λ c. holds-callee q b s site base w i r f (untyped args) at source k placed (are-untyped s w.stage args))
+      (λ c. holds-callee q b s site base w i r f (untyped args) at false source k placed (are-untyped s w.stage args))
 
   makes-constant : (w : StageState) (at : Place) (of : TypeId) (c : Constant) → is_placed at ≡ true → IsThere w of →
       constant_typed (foreseen w) of c ≡ true →
@@ -122,7 +122,6 @@ module _ (q : PartEnd → TypingState → Type 0) (b : ℕ) (s : Scope) (site : 
   makes-constant w at of c placed there h = record {
     placed = placed;
     there = there;
-    plain = refl;
     planted = refl;
     it = λ u.
         and_from _ _ placed h;
@@ -136,7 +135,7 @@ module _ (q : PartEnd → TypingState → Type 0) (b : ℕ) (s : Scope) (site : 
       Holds q (gives t at rawstring (te.Constant constants.Nil)) w
   holds-nil w i at t k placed =
       holds-gives q b s w i t at rawstring (te.Constant constants.Nil) (typed.Constant' constants.Nil)
-      (makes-nil s w.stage at rawstring placed (text-there w.stage i.sound) (nil-there w.stage i.sound)) k
+      (makes-nil s w.stage at rawstring placed (text-there w.stage i.sound) (or_left _ _ (nil-there w.stage i.sound))) k
 
   pub holds-expression : (w : TypingState) (i : In b s w) (r : Refuses q w) (x : expressions.Expression) (at : Place)
       (t : TermId) → Gives q b s w →
@@ -152,7 +151,8 @@ module _ (q : PartEnd → TypingState → Type 0) (b : ℕ) (s : Scope) (site : 
   holds-expression w i r e.Nil at t k placed sound = holds-nil w i at t k placed
   holds-expression w i r (e.Variable x) at t k placed sound = holds-variable q b s site base w i r x at t k placed
       (variable_at w site.base x) refl
-  holds-expression w i r (e.Function f) at t k placed sound = holds-refuse q b s w i r FunctionValue at site
+  holds-expression w i r (e.Function f) at t k placed sound =
+      holds-function-value q b s site base w i r f at t k placed (function_at w.stage f) refl
   holds-expression w i r (e.Primitive p) at t k placed sound = holds-refuse q b s w i r BadOperand at site
   holds-expression w i r (e.Static address) at t k placed sound =
       holds-gives q b s w i t at rawstring (te.Constant (constants.Static address))

@@ -8,14 +8,18 @@ use Rattle.tl_base.specs.declared.ids.TermId.{TermId}
 use Rattle.tl_base.specs.declared.ids.TypeId.{TypeId}
 use Rattle.lua_value.specs.declared.primitive.Primitive.{Primitive}
 use Rattle.lua_value.specs.declared.primitive.Primitive.TheVariants.{PutByte, Write, Alloc}
+use Rattle.terra_types.specs.declared.types.TypeForm.TheVariants as forms
 use Rattle.terra_types.specs.Opening.{uint8, int64, unit}
 use Rattle.terra_term.specs.declared.refusal.RefusalKind.TheVariants.{Undefined, WrongCount, RecursiveNeedsType}
+use Rattle.terra_term.specs.declared.operators.Constant.TheVariants as constants
 use Rattle.terra_term.specs.declared.operators.Operation.TheVariants as operations
 use Rattle.terra_term.specs.declared.store.Function.{Function}
 use Rattle.terra_term.specs.declared.typed.TypedExpression.TheVariants as te
 use Rattle.terra_term.specs.Planted.{typed_trees, typed_list_at}
 use Rattle.terra_term.specs.TypedTerms as typed
-use Rattle.terra_term.specs.WellTyped.{Scope, is_placed, points_to, operation_typed, same}
+use Rattle.terra_term.specs.Stores.{callable_of}
+use Rattle.terra_term.specs.WellTyped.{Scope, is_placed, points_to, operation_typed, function_type_in, same}
+use Rattle.exotype.specs.Types.{function_id, with_function}
 use Rattle.check_model.specs.declared.site.Site.{Site}
 use Rattle.check_model.specs.declared.job.Operand.{Operand}
 use Rattle.check_model.specs.declared.end.PartEnd.{PartEnd}
@@ -24,10 +28,11 @@ use Rattle.check_model.specs.declared.question.CheckAnswer.{CheckAnswer}
 use Rattle.check_model.specs.declared.question.CheckAnswer.TheVariants as answers
 use Rattle.check_model.specs.declared.known.KnownResult.{KnownResult}
 use Rattle.check_model.specs.declared.known.KnownResult.TheVariants.{Is, NotYet, BeingTyped}
-use Rattle.check_model.specs.Typing.{TypingState, function_at}
-use Rattle.check_model.specs.Plans.{BodyPlan, gives, refuse}
+use Rattle.check_model.specs.Typing.{TypingState, form_in, function_at}
+use Rattle.check_model.specs.Plans.{BodyPlan, gives, refuse, signing}
 use Rattle.check_model.specs.Calls.{known_result, parameter_types, parameters_of, result_of, parameters_in_state, result_in_state}
 use Rattle.check_model.specs.Calls.{on_result, by_result, arguments, with_params, call_function, call_by, call_primitive}
+use Rattle.check_model.specs.Calls.{value_of, function_value}
 use Rattle.check_model.specs.Keeping as keeping
 use Rattle.check_sound.specs.Sound.{foreseen, IsThere, IsSound}
 use Rattle.check_sound.proofs.Knowing.{knows-to}
@@ -36,9 +41,10 @@ use Rattle.check_sound.specs.Growing.{Leads}
 use Rattle.check_sound.proofs.Leading.{moves-same}
 use Rattle.check_sound.proofs.Worlds.{fair-of}
 use Rattle.check_sound.proofs.Running.{Holds}
-use Rattle.check_sound.proofs.Combining.{In, Step, Refuses, step-to, step-itself, step-twice, refuses-on, there-still, holds-pointing}
+use Rattle.check_sound.proofs.Combining.{In, Step, Refuses, Makes, step-to, step-itself, step-twice, refuses-on, there-still, holds-pointing}
 use Rattle.check_sound.proofs.Combining.{holds-refuse, holds-if}
 use Rattle.check_sound.proofs.Parts.{TypesThere, types-there, operates}
+use Rattle.check_sound.proofs.FunctionTypes.{function-signed, function-leads}
 use Rattle.check_sound.proofs.Signatures.{params-there, result-there}
 use Rattle.check_sound.proofs.Arguments.{AreOperands, uint8-there, int64-there, unit-there, Gives, gives-on, holds-gives, operands-still}
 use Rattle.check_sound.proofs.Arguments.{holds-arguments}
@@ -115,6 +121,56 @@ module _ (q : PartEnd → TypingState → Type 0) (b : ℕ) (s : Scope) (site : 
   holds-function w i r f os at fitting source k placed known None there = holds-refuse q b s w i r Undefined at site
   holds-function w i r f os at fitting source k placed known (Some g) there =
       holds-params w i r f g os at fitting source k there placed known (parameter_types w.stage g g.state) refl
+
+  -- ---- functions as values
+
+  holds-signing : (w : TypingState) (i : In b s w) (ps : List TypeId) (r : TypeId) (go : TypeId → BodyPlan) →
+      TypesThere w.stage ps → IsThere w.stage r →
+      ((v : TypingState) (f : TypeId) → Step b s w v → form_in v.stage f ≡ forms.Function ps r → IsThere v.stage f →
+      Holds q (go f) v) →
+      Holds q (signing ps r go) w
+  holds-signing w i ps r go each back k =
+      let f = function-signed w.stage i.sound ps r each back in
+      let v : TypingState = record w { stage = with_function w.stage ps r } in
+      k v (function_id w.stage ps r) (step-to b s w v i f.sound (function-leads w.stage i.sound ps r each back) refl) f.form f.there
+
+  makes-value : (w : TypingState) (v : TypingState) → In b s w → Step b s w v → (f : FnId) (ps : List TypeId) (result of : TypeId)
+      (at : Place) → parameters_of w.stage f ≡ Some ps → result_of v.stage f ≡ Is result →
+      form_in v.stage of ≡ forms.Function ps result → IsThere v.stage of → is_placed at ≡ true →
+      Makes s v.stage at of (te.Constant (constants.FnValue f)) (typed.Constant' (constants.FnValue f))
+  makes-value w v i p f ps result of at params known form there placed = record {
+    placed = placed;
+    there = there;
+    planted = refl;
+    it = λ u. and_from _ _ placed
+        (ap (λ g. function_type_in g (callable_of (foreseen v.stage) f)) form ∙ called w v i p f ps result params known);
+    place = refl;
+  }
+
+  holds-value-params : (w : TypingState) (i : In b s w) (r : Refuses q w) (f : FnId) (g : Function) (at : Place) (source : TermId) →
+      Gives q b s w → function_at w.stage f ≡ Some g → is_placed at ≡ true → (o : Option (List TypeId)) →
+      parameter_types w.stage g g.state ≡ o → Holds q (value_of o w.stage f g at source site) w
+  holds-value-params w i r f g at source k there placed None is = holds-refuse q b s w i r Undefined at site
+  holds-value-params w i r f g at source k there placed (Some ps) is =
+      let params : parameters_of w.stage f ≡ Some ps = ap (parameters_in_state w.stage) there ∙ is in
+      holds-result w i r f (known_result w.stage g g.state) at
+      (λ result. signing ps result (λ of. gives source at of (te.Constant (constants.FnValue f))))
+      (ap (result_in_state w.stage) there)
+      (λ result v p z. holds-signing v p.inside ps result (λ of. gives source at of (te.Constant (constants.FnValue f)))
+      (types-there w.stage v.stage i.sound p.inside.sound p.grows ps (params-there w.stage i.sound g ps is))
+      (result-there v.stage p.inside.sound f result z)
+      (λ x of o form back.
+      let whole = step-twice b s w v x p o in
+      holds-gives q b s x o.inside source at of (te.Constant (constants.FnValue f)) (typed.Constant' (constants.FnValue f))
+      (makes-value w x i whole f ps result of at params (o.grows.results f result z) form back placed)
+      (gives-on q b s w x whole k)))
+
+  pub holds-function-value : (w : TypingState) (i : In b s w) (r : Refuses q w) (f : FnId) (at : Place) (source : TermId) →
+      Gives q b s w → is_placed at ≡ true → (o : Option Function) → function_at w.stage f ≡ o →
+      Holds q (function_value w.stage f o at source site) w
+  holds-function-value w i r f at source k placed None there = holds-refuse q b s w i r Undefined at site
+  holds-function-value w i r f at source k placed (Some g) there =
+      holds-value-params w i r f g at source k there placed (parameter_types w.stage g g.state) refl
 
   -- ---- primitives
 

@@ -18,7 +18,6 @@ use Rattle.terra_term.specs.WellTyped.{Scope, is_placed, are_bounds, is_integer,
 use Rattle.check_model.specs.declared.site.Site.{Site}
 use Rattle.check_model.specs.declared.end.PartEnd.{PartEnd}
 use Rattle.check_model.specs.declared.made.Made.{Made}
-use Rattle.check_model.specs.declared.rule.Mode.TheVariants.{Implicit}
 use Rattle.check_model.specs.Typing.{TypingState, form_in, with_variable, cut_to}
 use Rattle.check_model.specs.Plans.{BodyPlan, reading, refuse, states, leaving}
 use Rattle.check_model.specs.Statements.{block, in_loop, integers, meet_of, all_to, counting, for_plan}
@@ -79,7 +78,7 @@ module _ (q : PartEnd → TypingState → Type 0) (b : ℕ) (s : Scope) (site : 
   holds-all-to [] t ids us go w i r known there l k = k ids w (step-itself b s w i)
       (subst (Listed s w.stage ids) (sym (append-nil us)) l)
   holds-all-to (m ∷ ms) t ids us go w i r known there l k =
-      holds-convert q b s w i r Implicit m t site base (λ x. all_to t ms site (ids ++ x.id ∷ []) go) known.0 there
+      holds-convert q b s w i r m t site base (λ x. all_to t ms site (ids ++ x.id ∷ []) go) known.0 there
       (λ x v o now is usable. holds-all-to ms t (ids ++ x.id ∷ []) (us ++ t ∷ []) go v o.inside
       (refuses-on q w v r o.moves)
       (all-grow s w.stage v.stage i.sound o.inside.sound o.grows ms known.1) (there-still b s w v i o t there)

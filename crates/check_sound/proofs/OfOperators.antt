@@ -21,13 +21,13 @@ use Rattle.terra_term.specs.declared.typed.TypedExpression.TheVariants as te
 use Rattle.terra_term.specs.Held.{next_typed}
 use Rattle.terra_term.specs.Planted.{typed_trees, typed_at, typed_list_at}
 use Rattle.terra_term.specs.TypedTerms as typed
+use Rattle.terra_term.specs.TypedTerms.{Expressions}
 use Rattle.terra_term.specs.WellTyped.{Scope, same, is_placed, is_usable, has_layout, is_integer, is_pointer, integer_form, pointer_form}
-use Rattle.terra_term.specs.WellTyped.{struct_form, target_in, form_at, compares, binary_typed, operation_typed, bytes_at}
+use Rattle.terra_term.specs.WellTyped.{struct_form, target_in, form_at, compares, binary_typed, operation_typed, takes_values, bytes_at}
 use Rattle.exotype.specs.World.{StageState}
 use Rattle.check_model.specs.declared.site.Site.{Site}
 use Rattle.check_model.specs.declared.end.PartEnd.{PartEnd}
 use Rattle.check_model.specs.declared.made.Made.{Made}
-use Rattle.check_model.specs.declared.rule.Mode.TheVariants.{Implicit}
 use Rattle.check_model.specs.declared.rule.Rule.{Rule}
 use Rattle.check_model.specs.declared.rule.Rule.TheVariants.{Meets, Compares, Shifts, Tells, Ands, Ors, Addresses, Forward, Back, Differs}
 use Rattle.check_model.specs.declared.rule.Rule.TheVariants.{Unknown}
@@ -36,9 +36,9 @@ use Rattle.check_model.specs.Structs.{metamethod_of_either}
 use Rattle.check_model.specs.Plans.{BodyPlan, reading, make, gives, refuse, laid_out, ready}
 use Rattle.check_model.specs.Calls.{call_metamethod}
 use Rattle.check_model.specs.Converting.{convert}
-use Rattle.check_model.specs.Operators.{event_of, rule_of, both, at_type, retyped, same_pointers, meeting, by_rule, by_metamethod}
+use Rattle.check_model.specs.Operators.{event_of, rule_of, both, at_type, retyped, same_addresses, meeting, by_rule, by_metamethod}
 use Rattle.check_model.specs.Operators.{binary_plan}
-use Rattle.check_sound.specs.Sound.{foreseen, IsThere, IsSound, is_plain_operation}
+use Rattle.check_sound.specs.Sound.{foreseen, IsThere, IsSound}
 use Rattle.check_sound.proofs.Tests.{same-id, same-refl}
 use Rattle.check_sound.proofs.Shapes.{form-stays, stays-is}
 use Rattle.check_sound.proofs.Scalars.{target-there, long-at}
@@ -49,7 +49,8 @@ use Rattle.check_sound.proofs.OfConverting.{holds-convert, makes-nil}
 use Rattle.check_sound.proofs.Arguments.{Gives, gives-on, holds-gives}
 use Rattle.check_sound.proofs.OfCalls.{holds-metamethod}
 use Rattle.check_sound.proofs.Rules.{integer-there, boolean-there, truth-usable, integer-usable, pointer-usable, two, RuleFact, rule-fact}
-use Rattle.check_sound.proofs.Rules.{both-compare, integers-comparable, pointers-comparable, truths-comparable, meets, shifted}
+use Rattle.check_sound.proofs.Rules.{both-compare, integers-comparable, truths-comparable, meets, shifted}
+use Rattle.check_sound.proofs.Rules.{addressed, addressed-nil, addressed-usable, addressed-comparable}
 use Rattle.check_sound.proofs.Rules.{meet-integer}
 
 module _ (q : PartEnd → TypingState → Type 0) (b : ℕ) (s : Scope) (site : Site) (base : site.base ≡ b) where
@@ -70,6 +71,11 @@ module _ (q : PartEnd → TypingState → Type 0) (b : ℕ) (s : Scope) (site : 
       form-stays w.stage.store.types v.stage.store.types p.grows.types pointer_form refl (λ n x. refl) t
       (ap pointer_form h) ∙ h
 
+  addressed-still : (w v : TypingState) → In b s w → Step b s w v → (op : BinaryOperator) (t : TypeId) →
+      addressed op (form_in w.stage t) ≡ true → addressed op (form_in v.stage t) ≡ true
+  addressed-still w v i p op t h = stays-is w.stage.store.types v.stage.store.types p.grows.types (addressed op) refl
+      (λ n x. refl) t h
+
   holds-at-type : (w : TypingState) (i : In b s w) (r : Refuses q w) (m : TypeId) (op : BinaryOperator) (of : TypeId)
       (x y : Made) (at : Place) (source : TermId) →
       Gives q b s w → is_placed at ≡ true → Known s w.stage x → Known s w.stage y →
@@ -78,9 +84,9 @@ module _ (q : PartEnd → TypingState → Type 0) (b : ℕ) (s : Scope) (site : 
       binary_typed (foreseen v.stage) op m m of ≡ true) →
       Holds q (at_type m op of x y at source site) w
   holds-at-type w i r m op of x y at source k placed a c integer there h =
-      holds-convert q b s w i r Implicit x m site base
-      (λ x2. convert Implicit y m site (λ y2. both op of x2 y2 at source)) a (integer-there w.stage m integer)
-      (λ x2 v p known is u. holds-convert q b s v p.inside (refuses-on q w v r p.moves) Implicit y m site base
+      holds-convert q b s w i r x m site base
+      (λ x2. convert y m site (λ y2. both op of x2 y2 at source)) a (integer-there w.stage m integer)
+      (λ x2 v p known is u. holds-convert q b s v p.inside (refuses-on q w v r p.moves) y m site base
       (λ y2. both op of x2 y2 at source) (still b s w v i p y c)
       (there-still b s w v i p m (integer-there w.stage m integer))
       (λ y2 z o known2 is2 u2.
@@ -108,42 +114,42 @@ module _ (q : PartEnd → TypingState → Type 0) (b : ℕ) (s : Scope) (site : 
       (typed.Operate (operations.Binary op) (typed_list_at (typed_trees w.stage.store.typed) (x.id ∷ y.id ∷ [])))
       (two s w.stage at of (operations.Binary op) x y refl placed there a c u v (and_from _ _ refl h)) k
 
-  holds-retyped : (w : TypingState) (i : In b s w) (old : StageState) (m other : Made) (go : Made → BodyPlan) →
+  holds-retyped : (w : TypingState) (i : In b s w) (old : StageState) (op : BinaryOperator) (m other : Made) (go : Made → BodyPlan) →
       Known s w.stage m →
-      IsThere w.stage other.of → is_pointer (foreseen w.stage) m.of ≡ true →
-      is_pointer (foreseen w.stage) other.of ≡ true →
-      ((x : Made) (v : TypingState) → Step b s w v → Known s v.stage x → is_pointer (foreseen v.stage) x.of ≡ true →
+      IsThere w.stage other.of → addressed op (form_in w.stage m.of) ≡ true →
+      addressed op (form_in w.stage other.of) ≡ true →
+      ((x : Made) (v : TypingState) → Step b s w v → Known s v.stage x → addressed op (form_in v.stage x.of) ≡ true →
       Holds q (go x) v) →
       Holds q (retyped old m other go) w
-  holds-retyped w i old m other go known there mine others k =
+  holds-retyped w i old op m other go known there mine others k =
       holds-if q b s w i (is_nil_made old m && not (same_type m.of other.of))
       (make m.source m.at other.of (te.Constant constants.Nil) go) (go m)
       (λ c. holds-make q b s w i m.source m.at other.of (te.Constant constants.Nil) (typed.Constant' constants.Nil) go
-      (makes-nil s w.stage m.at other.of known.placed there others)
+      (makes-nil s w.stage m.at other.of known.placed there (addressed-nil op (form_in w.stage other.of) others))
       (λ v p now. k (made_of (next_typed w.stage.store) m.source m.at other.of (te.Constant constants.Nil)) v p now
-      (pointer-still w v i p other.of others)))
+      (addressed-still w v i p op other.of others)))
       (λ c. k m w (step-itself b s w i) known mine)
 
   holds-addresses : (w : TypingState) (i : In b s w) (r : Refuses q w) (old : StageState) (op : BinaryOperator)
       (x y : Made) (at : Place) (source : TermId) →
       Gives q b s w → is_placed at ≡ true → Known s w.stage x → Known s w.stage y → compares op ≡ true →
-      is_pointer (foreseen w.stage) x.of ≡ true →
-      is_pointer (foreseen w.stage) y.of ≡ true → Holds q
-      (retyped old x y (λ z. retyped old y z (λ u. same_pointers op z u at source site))) w
+      addressed op (form_in w.stage x.of) ≡ true →
+      addressed op (form_in w.stage y.of) ≡ true → Holds q
+      (retyped old x y (λ z. retyped old y z (λ u. same_addresses op z u at source site))) w
   holds-addresses w i r old op x y at source k placed a c e f g =
-      holds-retyped w i old x y (λ z. retyped old y z (λ u. same_pointers op z u at source site)) a c.there f g
-      (λ z v p known pointer. holds-retyped v p.inside old y z (λ u. same_pointers op z u at source site)
+      holds-retyped w i old op x y (λ z. retyped old y z (λ u. same_addresses op z u at source site)) a c.there f g
+      (λ z v p known first. holds-retyped v p.inside old op y z (λ u. same_addresses op z u at source site)
       (still b s w v i p y c) known.there
-      (pointer-still w v i p y.of g) pointer
-      (λ u v2 o known2 pointer2. holds-if q b s v2 o.inside (same_type z.of u.of) (both op boolean z u at source)
+      (addressed-still w v i p op y.of g) first
+      (λ u v2 o known2 second. holds-if q b s v2 o.inside (same_type z.of u.of) (both op boolean z u at source)
       (refuse BadOperand at site)
       (λ same_of. holds-both v2 o.inside op boolean z u at source (gives-on q b s w v2 (step-twice b s w v v2 p o) k)
       placed
       (boolean-there v2.stage o.inside.sound) (still b s v v2 p.inside o z known) known2
-      (pointer-usable v2.stage z.of (pointer-still v v2 p.inside o z.of pointer))
-      (pointer-usable v2.stage u.of pointer2)
+      (addressed-usable v2.stage op z.of (addressed-still v v2 p.inside o op z.of first))
+      (addressed-usable v2.stage op u.of second)
       (both-compare (foreseen v2.stage) op z.of u.of e same_of
-      (pointers-comparable (foreseen v2.stage) op z.of (pointer-still v v2 p.inside o z.of pointer))))
+      (addressed-comparable (foreseen v2.stage) op z.of (addressed-still v v2 p.inside o op z.of first))))
       (λ d. holds-refuse q b s v2 o.inside (refuses-on q w v2 r (step-twice b s w v v2 p o).moves) BadOperand at site)))
 
   -- a pointer that is moved
@@ -157,14 +163,14 @@ module _ (q : PartEnd → TypingState → Type 0) (b : ℕ) (s : Scope) (site : 
       (ap (λ f. has_layout (foreseen w) (target_in f)) p ∙ layout)
 
   holds-moved : (w : TypingState) (i : In b s w) (r : Refuses q w) (op : Operation) (t : TypeId) (x y : Made)
-      (at : Place) (source : TermId) → is_plain_operation op ≡ true → Gives q b s w →
+      (at : Place) (source : TermId) → ((es : Expressions) → takes_values op es ≡ true) → Gives q b s w →
       is_placed at ≡ true → Known s w.stage x → Known s w.stage y →
       form_of w.stage.store.types x.of ≡ forms.Pointer t → is_integer (foreseen w.stage) y.of ≡ true →
       ((v : TypingState) → Step b s w v → form_of v.stage.store.types x.of ≡ forms.Pointer t →
       is_integer (foreseen v.stage) y.of ≡ true →
       has_layout (foreseen v.stage) t ≡ true → operation_typed (foreseen v.stage) op (x.of ∷ y.of ∷ []) x.of ≡ true) →
       Holds q (laid_out t at site (gives source at x.of (te.Operate op (x.id ∷ y.id ∷ [])))) w
-  holds-moved w i r op t x y at source plain k placed a c pointer integer h =
+  holds-moved w i r op t x y at source takes k placed a c pointer integer h =
       holds-laid q b s w i t at site (gives source at x.of (te.Operate op (x.id ∷ y.id ∷ []))) r
       (target-there w.stage.store.types i.sound.types x.of t pointer)
       (λ v p layout.
@@ -173,7 +179,8 @@ module _ (q : PartEnd → TypingState → Type 0) (b : ℕ) (s : Scope) (site : 
       let known = still b s w v i p x a in
       holds-gives q b s v p.inside source at x.of (te.Operate op (x.id ∷ y.id ∷ []))
       (typed.Operate op (typed_list_at (typed_trees v.stage.store.typed) (x.id ∷ y.id ∷ [])))
-      (two s v.stage at x.of op x y plain placed known.there known (still b s w v i p y c)
+      (two s v.stage at x.of op x y (takes (typed_list_at (typed_trees v.stage.store.typed) (x.id ∷ y.id ∷ []))) placed
+      known.there known (still b s w v i p y c)
       (pointer-usable v.stage x.of (ap pointer_form now)) (integer-usable v.stage y.of n)
       (h v p now n layout))
       (gives-on q b s w v p k))
@@ -216,7 +223,6 @@ module _ (q : PartEnd → TypingState → Type 0) (b : ℕ) (s : Scope) (site : 
   makes-both w sound at x y placed a c e f = record {
     placed = placed;
     there = boolean-there w sound;
-    plain = refl;
     planted = refl;
     it = λ u. and_from _ _ (and_from _ _ (and_from _ _ (and_from _ _ (and_from _ _ placed (a.it u)) (c.it u))
         (ap (λ t. same t boolean) a.of ∙ e)) (ap (λ t. same t boolean) c.of ∙ f)) refl;
@@ -230,7 +236,6 @@ module _ (q : PartEnd → TypingState → Type 0) (b : ℕ) (s : Scope) (site : 
   makes-either w sound at x y placed a c e f = record {
     placed = placed;
     there = boolean-there w sound;
-    plain = refl;
     planted = refl;
     it = λ u. and_from _ _ (and_from _ _ (and_from _ _ (and_from _ _ (and_from _ _ placed (a.it u)) (c.it u))
         (ap (λ t. same t boolean) a.of ∙ e)) (ap (λ t. same t boolean) c.of ∙ f)) refl;
@@ -276,10 +281,10 @@ module _ (q : PartEnd → TypingState → Type 0) (b : ℕ) (s : Scope) (site : 
   holds-rule w i r Addresses op x y at source k placed a c h =
       holds-addresses w i r w.stage op x y at source k placed a c h.0 h.1.0 h.1.1
   holds-rule w i r (Forward t) op x y at source k placed a c h =
-      holds-moved w i r operations.StepForward t x y at source refl k placed a c h.0 h.1
+      holds-moved w i r operations.StepForward t x y at source (λ es. refl) k placed a c h.0 h.1
       (λ v p pointer n layout. and_from _ _ refl (moved v.stage x y t pointer n layout))
   holds-rule w i r (Back t) op x y at source k placed a c h =
-      holds-moved w i r operations.StepBack t x y at source refl k placed a c h.0 h.1
+      holds-moved w i r operations.StepBack t x y at source (λ es. refl) k placed a c h.0 h.1
       (λ v p pointer n layout. and_from _ _ refl (moved v.stage x y t pointer n layout))
   holds-rule w i r (Differs t) op x y at source k placed a c h =
       holds-if q b s w i (same_type x.of y.of)

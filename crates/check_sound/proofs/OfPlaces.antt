@@ -47,7 +47,6 @@ module _ (q : PartEnd → TypingState → Type 0) (b : ℕ) (s : Scope) (site : 
       (record {
         placed = placed;
         there = variable-there w.stage x t (drop b w.variables) i.names found;
-        plain = refl;
         planted = refl;
         it = λ u. and_from _ _ placed scope;
         place = refl;
@@ -63,7 +62,6 @@ module _ (q : PartEnd → TypingState → Type 0) (b : ℕ) (s : Scope) (site : 
       (record {
         placed = placed;
         there = layout-there w.stage g.of sound.0;
-        plain = refl;
         planted = refl;
         it = λ u. and_from _ _ (and_from _ _ placed sound.0) (lt-ltb g.address _ sound.1);
         place = refl;
@@ -94,7 +92,6 @@ module _ (q : PartEnd → TypingState → Type 0) (b : ℕ) (s : Scope) (site : 
       (record {
         placed = placed;
         there = layout-there v.stage t layout;
-        plain = refl;
         planted = refl;
         it = λ u. and_from _ _ (and_from _ _ (and_from _ _
             (and_from _ _ (and_from _ _ placed (known.it u)) (other.it u))
@@ -115,7 +112,6 @@ module _ (q : PartEnd → TypingState → Type 0) (b : ℕ) (s : Scope) (site : 
       (record {
         placed = placed;
         there = layout-there v.stage t layout;
-        plain = refl;
         planted = refl;
         it = λ u. and_from _ _ (and_from _ _ (and_from _ _
             (and_from _ _ (and_from _ _ (and_from _ _ placed (known.it u)) (other.it u))

@@ -17,7 +17,6 @@ use Rattle.exotype.specs.World.{StageState}
 use Rattle.check_model.specs.declared.site.Site.{Site}
 use Rattle.check_model.specs.declared.end.PartEnd.{PartEnd}
 use Rattle.check_model.specs.declared.made.Made.{Made}
-use Rattle.check_model.specs.declared.rule.Mode.TheVariants.{Implicit}
 use Rattle.check_model.specs.Typing.{TypingState}
 use Rattle.check_model.specs.Plans.{refuse, states, typing, as_value}
 use Rattle.check_model.specs.Statements.{return_value, return_nothing, returned, return_plan}
@@ -71,7 +70,7 @@ module _ (q : PartEnd → TypingState → Type 0) (b : ℕ) (s : Scope) (site : 
       (typed.Return (typed_at (typed_trees v.stage.store.typed) m.id)) (Some m.of)
       (makes-return v.stage m m.of at placed outside now refl now.there usable (λ z x. absurd (cc (sym e ∙ x)))) k)
   holds-return-value w0 w i0 i p0 r m at k placed outside known (Some t) e there =
-      holds-convert q b s w i r Implicit m t site base (λ x. states at (made_kinds.Return (Some x.id)) (Some t)) known
+      holds-convert q b s w i r m t site base (λ x. states at (made_kinds.Return (Some x.id)) (Some t)) known
       there
       (λ x v p now is usable. holds-states q b s site base w0 v [] (step-more w0 v (step-twice b s w0 w v p0 p)) i0 at
       (made_kinds.Return (Some x.id))

@@ -8,9 +8,8 @@ use Rattle.tl_base.specs.declared.place.Place.{Place}
 use Rattle.tl_base.specs.declared.ids.TermId.{TermId}
 use Rattle.tl_base.specs.declared.ids.TypeId.{TypeId}
 use Rattle.tl_base.specs.Plan.{Read, Write}
-use Rattle.terra_types.specs.Layouts.{is_function}
 use Rattle.terra_types.specs.Opening.{unit}
-use Rattle.terra_term.specs.declared.refusal.RefusalKind.TheVariants.{Mismatch, WrongCount, FunctionValue}
+use Rattle.terra_term.specs.declared.refusal.RefusalKind.TheVariants.{Mismatch, WrongCount}
 use Rattle.terra_term.specs.declared.lists.TypedName.{TypedName}
 use Rattle.terra_term.specs.declared.lists.VarName.{VarName}
 use Rattle.terra_term.specs.declared.typed.TypedStatement.TheVariants as ts
@@ -22,10 +21,9 @@ use Rattle.exotype.specs.World.{StageState}
 use Rattle.check_model.specs.declared.site.Site.{Site}
 use Rattle.check_model.specs.declared.end.PartEnd.{PartEnd}
 use Rattle.check_model.specs.declared.made.Made.{Made}
-use Rattle.check_model.specs.declared.rule.Mode.TheVariants.{Implicit}
 use Rattle.check_model.specs.Typing.{TypingState, is_nil_made, with_variables}
-use Rattle.check_model.specs.Plans.{BodyPlan, refuse, states, laid_out, as_value}
-use Rattle.check_model.specs.Statements.{value_for, values_for, may_be, name_for, names_for, declaring, var_plan}
+use Rattle.check_model.specs.Plans.{BodyPlan, refuse, states, as_value}
+use Rattle.check_model.specs.Statements.{value_for, values_for, name_for, names_for, declaring, var_plan}
 use Rattle.check_sound.specs.Sound.{foreseen, IsThere, IsThereIfAny, NamesAreThere, IsSound}
 use Rattle.check_sound.proofs.Tests.{ids-refl}
 use Rattle.check_sound.proofs.Passing.{names-laid}
@@ -83,15 +81,6 @@ Valued ns ids us = (ids ≡ []) ⊎ (some_types ns ≡ us)
 module _ (q : PartEnd → TypingState → Type 0) (b : ℕ) (s : Scope) (site : Site) (base : site.base ≡ b) where
   -- ---- names
 
-  pub holds-may-be : (w : TypingState) (i : In b s w) (r : Refuses q w) (of : TypeId) (at : Place) (rest : BodyPlan) →
-      IsThere w.stage of →
-      ((v : TypingState) → Step b s w v → has_layout (foreseen v.stage) of ≡ true → Holds q rest v) →
-      Holds q (may_be of at site rest) w
-  holds-may-be w i r of at rest there k =
-      holds-if q b s w i (is_function w.stage.store.types of) (refuse FunctionValue at site) (laid_out of at site rest)
-      (λ c. holds-refuse q b s w i r FunctionValue at site)
-      (λ c. holds-laid q b s w i of at site rest r (ltb-true of.0 (length w.stage.store.types) there) k)
-
   -- what the names leave
   abbrev Named : TypingState → List TypeId → (List TypedName → BodyPlan) → Type 0
   Named w us go =
@@ -107,7 +96,8 @@ module _ (q : PartEnd → TypingState → Type 0) (b : ℕ) (s : Scope) (site : 
       Holds q (go (record { symbol = n.symbol; of = of })) v) → Holds q (name_for o n at site go) w
   holds-name w i r None n at go there k = holds-refuse q b s w i r WrongCount at site
   holds-name w i r (Some of) n at go there k =
-      holds-may-be w i r of n.place (go (record { symbol = n.symbol; of = of })) there
+      holds-laid q b s w i of n.place site (go (record { symbol = n.symbol; of = of })) r
+      (ltb-true of.0 (length w.stage.store.types) there)
       (λ v p layout. k of v refl p layout (there-still b s w v i p of there))
 
   holds-names : (ns : List VarName) (at : Place) (named : List TypedName) (go : List TypedName → BodyPlan)
@@ -196,7 +186,7 @@ module _ (q : PartEnd → TypingState → Type 0) (b : ℕ) (s : Scope) (site : 
       is_usable (foreseen v.stage) of ≡ true → Holds q (go of x) v) →
       Holds q (value_for o m site go) w
   holds-value-for w i r (Some t) m go known there k =
-      holds-convert q b s w i r Implicit m t site base (go t) known there
+      holds-convert q b s w i r m t site base (go t) known there
       (λ x v p now is usable. k t x v p now is usable)
   holds-value-for w i r None m go known there k =
       holds-if q b s w i (is_nil_made w.stage m) (refuse Mismatch m.at site) (as_value m site (go m.of m))

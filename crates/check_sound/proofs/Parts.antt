@@ -9,10 +9,10 @@ use Rattle.terra_term.specs.declared.typed.TypedExpression.TheVariants as te
 use Rattle.terra_term.specs.Planted.{typed_trees, typed_at, typed_list_at}
 use Rattle.terra_term.specs.TypedTerms as typed
 use Rattle.terra_term.specs.TypedTerms.{type_of, is_place}
-use Rattle.terra_term.specs.WellTyped.{Within, Scope, is_typed, are_typed, is_placed, is_usable, all_usable, types_in, operation_typed}
+use Rattle.terra_term.specs.WellTyped.{Within, Scope, is_typed, are_typed, is_placed, is_usable, all_usable, types_in, operation_typed, takes_values}
 use Rattle.exotype.specs.World.{StageState}
 use Rattle.check_model.specs.declared.made.Made.{Made}
-use Rattle.check_sound.specs.Sound.{foreseen, IsThere, IsSound, is_plain_operation}
+use Rattle.check_sound.specs.Sound.{foreseen, IsThere, IsSound}
 use Rattle.check_sound.proofs.Grows.{Grows, tree-same, longer, AllBelow}
 use Rattle.check_sound.proofs.Worlds.{fair-of, typed-grows, there-grows}
 use Rattle.check_sound.proofs.Passing.{all-usable}
@@ -107,16 +107,15 @@ usable-snoc w (x ∷ ts) t h u = let p = and_parts _ _ h in and_from _ _ p.0 (us
 -- ---- nodes of operations
 
 pub operates : (s : Scope) (w : StageState) (at : Place) (of : TypeId) (op : Operation) (is : List TermId)
-    (ts : List TypeId) → is_plain_operation op ≡ true → is_placed at ≡ true →
+    (ts : List TypeId) → takes_values op (typed_list_at (typed_trees w.store.typed) is) ≡ true → is_placed at ≡ true →
     IsThere w of → Listed s w is ts → all_usable (foreseen w) ts ≡ true → operation_typed (foreseen w) op ts of ≡ true →
     Makes s w at of (te.Operate op is) (typed.Operate op (typed_list_at (typed_trees w.store.typed) is))
-operates s w at of op is ts plain placed there l usable h = record {
+operates s w at of op is ts takes placed there l usable h = record {
   placed = placed;
   there = there;
-  plain = plain;
   planted = refl;
-  it = λ u. and_from _ _ (and_from _ _ (and_from _ _ placed (listed-typed s w is ts l u))
+  it = λ u. and_from _ _ (and_from _ _ (and_from _ _ (and_from _ _ placed (listed-typed s w is ts l u))
       (ap (all_usable (foreseen w)) (listed-types s w is ts l) ∙ usable))
-      (ap (λ z. operation_typed (foreseen w) op z of) (listed-types s w is ts l) ∙ h);
+      (ap (λ z. operation_typed (foreseen w) op z of) (listed-types s w is ts l) ∙ h)) takes;
   place = refl;
 }

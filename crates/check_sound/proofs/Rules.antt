@@ -1,7 +1,8 @@
 -- By which rule an operator works, and what it gives.
 use Rattle.std.proofs.Common.{◌≡◌, Bool, true, false, [], ◌∷◌, refl, ap, ◌∙◌}
-use Rattle.std.specs.Prelude.{◌&&◌, ◌||◌, unwrap_or, if◌then◌else◌}
-use Rattle.std.proofs.lemmas.Bool.{and_from, lt-ltb, or_left, or_right}
+use Rattle.std.specs.Prelude.{◌⊎◌, ◌&&◌, ◌||◌, unwrap_or, if◌then◌else◌}
+use mathlib.Core.Logic.{inl, inr}
+use Rattle.std.proofs.lemmas.Bool.{and_from, and_parts, lt-ltb, or_cases, or_left, or_right}
 use Rattle.std.proofs.lemmas.Option.{slice_get_within}
 use Rattle.tl_base.specs.declared.place.Place.{Place}
 use Rattle.tl_base.specs.declared.ids.TypeId.{TypeId}
@@ -17,21 +18,23 @@ use Rattle.terra_term.specs.declared.typed.TypedExpression.TheVariants as te
 use Rattle.terra_term.specs.Planted.{typed_trees, typed_list_at}
 use Rattle.terra_term.specs.TypedTerms as typed
 use Rattle.terra_term.specs.Stores.{Contents}
-use Rattle.terra_term.specs.WellTyped.{Scope, same, is_placed, is_usable, is_integer, is_pointer, integer_form, pointer_form, compares}
-use Rattle.terra_term.specs.WellTyped.{shifts, equates, comparable, binary_typed, operation_typed}
+use Rattle.terra_term.specs.WellTyped.{Scope, same, is_placed, is_usable, is_integer, is_pointer, is_function, integer_form, pointer_form, compares}
+use Rattle.terra_term.specs.WellTyped.{function_form}
+use Rattle.terra_term.specs.WellTyped.{shifts, equates, comparable, binary_typed, operation_typed, takes_values}
 use Rattle.exotype.specs.World.{StageState}
 use Rattle.check_model.specs.declared.made.Made.{Made}
 use Rattle.check_model.specs.declared.rule.Rule.{Rule}
 use Rattle.check_model.specs.declared.rule.Rule.TheVariants.{Meets, Compares, Shifts, Tells, Ands, Ors, Addresses, Forward, Back, Differs}
 use Rattle.check_model.specs.declared.rule.Rule.TheVariants.{Unknown}
-use Rattle.check_model.specs.Operators.{on_integers, on_truths, on_pointer, on_pointers, rule_of}
-use Rattle.check_sound.specs.Sound.{foreseen, IsThere, IsSound, is_plain_operation}
+use Rattle.check_model.specs.Converting.{takes_nil}
+use Rattle.check_model.specs.Operators.{on_integers, on_truths, on_pointer, on_pointers, on_functions, rule_of}
+use Rattle.check_sound.specs.Sound.{foreseen, IsThere, IsSound}
 use Rattle.check_sound.proofs.Tests.{no, same-id, same-refl}
 use Rattle.check_sound.proofs.Scalars.{is_scalar, scalar-usable, in-range, boolean-at, truth-is}
 use Rattle.check_sound.proofs.Running.{Known}
 use Rattle.check_sound.proofs.Combining.{Makes}
 use Rattle.check_sound.proofs.Parts.{part-of, operates}
-use Rattle.check_sound.proofs.OfConverting.{pointer-scalar}
+use Rattle.check_sound.proofs.OfConverting.{pointer-scalar, nil-scalar}
 
 -- ---- forms
 
@@ -68,23 +71,54 @@ pub pointer-usable : (w : StageState) (t : TypeId) → is_pointer (foreseen w) t
 pointer-usable w t h = scalar-usable (foreseen w) t (pointer-scalar (form_of w.store.types t) h)
 
 -- two operands
-pub two : (s : Scope) (w : StageState) (at : Place) (of : TypeId) (op : Operation) (x y : Made) → is_plain_operation op ≡ true →
+pub two : (s : Scope) (w : StageState) (at : Place) (of : TypeId) (op : Operation) (x y : Made) →
+    takes_values op (typed_list_at (typed_trees w.store.typed) (x.id ∷ y.id ∷ [])) ≡ true →
     is_placed at ≡ true → IsThere w of →
     Known s w x → Known s w y → is_usable (foreseen w) x.of ≡ true → is_usable (foreseen w) y.of ≡ true →
     operation_typed (foreseen w) op (x.of ∷ y.of ∷ []) of ≡ true →
     Makes s w at of (te.Operate op (x.id ∷ y.id ∷ [])) (typed.Operate op
     (typed_list_at (typed_trees w.store.typed) (x.id ∷ y.id ∷ [])))
-two s w at of op x y plain placed there a b u v h =
-    operates s w at of op (x.id ∷ y.id ∷ []) (x.of ∷ y.of ∷ []) plain placed there (part-of s w x a, (part-of s w y b, tt))
+two s w at of op x y takes placed there a b u v h =
+    operates s w at of op (x.id ∷ y.id ∷ []) (x.of ∷ y.of ∷ []) takes placed there (part-of s w x a, (part-of s w y b, tt))
     (and_from _ _ u (and_from _ _ v refl)) h
 
-pub one : (s : Scope) (w : StageState) (at : Place) (of : TypeId) (op : Operation) (x : Made) → is_plain_operation op ≡ true →
+pub one : (s : Scope) (w : StageState) (at : Place) (of : TypeId) (op : Operation) (x : Made) →
+    takes_values op (typed_list_at (typed_trees w.store.typed) (x.id ∷ [])) ≡ true →
     is_placed at ≡ true → IsThere w of → Known s w x →
     is_usable (foreseen w) x.of ≡ true → operation_typed (foreseen w) op (x.of ∷ []) of ≡ true →
     Makes s w at of (te.Operate op (x.id ∷ [])) (typed.Operate op
     (typed_list_at (typed_trees w.store.typed) (x.id ∷ [])))
-one s w at of op x plain placed there a u h =
-    operates s w at of op (x.id ∷ []) (x.of ∷ []) plain placed there (part-of s w x a, tt) (and_from _ _ u refl) h
+one s w at of op x takes placed there a u h =
+    operates s w at of op (x.id ∷ []) (x.of ∷ []) takes placed there (part-of s w x a, tt) (and_from _ _ u refl) h
+
+-- ---- operands that are compared as addresses
+
+-- a pointer, and at an equality a function value
+abbrev pub addressed : BinaryOperator → TypeForm → Bool
+addressed op f = pointer_form f || (function_form f && equates op)
+
+pub addressed-nil : (op : BinaryOperator) (f : TypeForm) → addressed op f ≡ true → takes_nil f ≡ true
+addressed-nil op (forms.Pointer t) h = refl
+addressed-nil op (forms.Function ps x) h = refl
+addressed-nil op (forms.Integer i) h = absurd (no h)
+addressed-nil op forms.Bool h = absurd (no h)
+addressed-nil op forms.Unit h = absurd (no h)
+addressed-nil op (forms.Array t n) h = absurd (no h)
+addressed-nil op (forms.Struct n p l) h = absurd (no h)
+
+nil-addressed : (op : BinaryOperator) (f : TypeForm) → equates op ≡ true → takes_nil f ≡ true → addressed op f ≡ true
+nil-addressed op (forms.Pointer t) e h = refl
+nil-addressed op (forms.Function ps x) e h = e
+nil-addressed op (forms.Integer i) e h = absurd (no h)
+nil-addressed op forms.Bool e h = absurd (no h)
+nil-addressed op forms.Unit e h = absurd (no h)
+nil-addressed op (forms.Array t n) e h = absurd (no h)
+nil-addressed op (forms.Struct n p l) e h = absurd (no h)
+
+pub addressed-usable : (w : StageState) (op : BinaryOperator) (t : TypeId) → addressed op (form_of w.store.types t) ≡ true →
+    is_usable (foreseen w) t ≡ true
+addressed-usable w op t h =
+    scalar-usable (foreseen w) t (nil-scalar (form_of w.store.types t) (addressed-nil op (form_of w.store.types t) h))
 
 -- ---- rules
 
@@ -98,7 +132,8 @@ RuleFact c Tells op a b = (compares op ≡ true) × ((equates op ≡ true) ×
     ((same a boolean ≡ true) × (same b boolean ≡ true)))
 RuleFact c Ands op a b = (same a boolean ≡ true) × (same b boolean ≡ true)
 RuleFact c Ors op a b = (same a boolean ≡ true) × (same b boolean ≡ true)
-RuleFact c Addresses op a b = (compares op ≡ true) × ((is_pointer c a ≡ true) × (is_pointer c b ≡ true))
+RuleFact c Addresses op a b = (compares op ≡ true) ×
+    ((addressed op (form_of c.types a) ≡ true) × (addressed op (form_of c.types b) ≡ true))
 RuleFact c (Forward t) op a b = (form_of c.types a ≡ forms.Pointer t) × (is_integer c b ≡ true)
 RuleFact c (Back t) op a b = (form_of c.types a ≡ forms.Pointer t) × (is_integer c b ≡ true)
 RuleFact c (Differs t) op a b = (form_of c.types a ≡ forms.Pointer t) × (is_pointer c b ≡ true)
@@ -133,13 +168,33 @@ module _ (c : Contents) (a b : TypeId) where
   of-pointers : (op : BinaryOperator) (t : TypeId) → form_of c.types a ≡ forms.Pointer t → is_pointer c b ≡ true →
       RuleFact c (on_pointers t op) op a b
   of-pointers binary.Subtract t h k = (h, k)
-  of-pointers binary.Equal t h k = (refl, (ap pointer_form h, k))
-  of-pointers binary.NotEqual t h k = (refl, (ap pointer_form h, k))
-  of-pointers binary.Less t h k = (refl, (ap pointer_form h, k))
-  of-pointers binary.LessEqual t h k = (refl, (ap pointer_form h, k))
-  of-pointers binary.Greater t h k = (refl, (ap pointer_form h, k))
-  of-pointers binary.GreaterEqual t h k = (refl, (ap pointer_form h, k))
+  of-pointers binary.Equal t h k = (refl, (ap (addressed binary.Equal) h, or_left _ _ k))
+  of-pointers binary.NotEqual t h k = (refl, (ap (addressed binary.NotEqual) h, or_left _ _ k))
+  of-pointers binary.Less t h k = (refl, (ap (addressed binary.Less) h, or_left _ _ k))
+  of-pointers binary.LessEqual t h k = (refl, (ap (addressed binary.LessEqual) h, or_left _ _ k))
+  of-pointers binary.Greater t h k = (refl, (ap (addressed binary.Greater) h, or_left _ _ k))
+  of-pointers binary.GreaterEqual t h k = (refl, (ap (addressed binary.GreaterEqual) h, or_left _ _ k))
   of-pointers _ t h k = tt
+
+  of-functions : (op : BinaryOperator) (f g : TypeForm) → form_of c.types a ≡ f → form_of c.types b ≡ g →
+      takes_nil f ≡ true → takes_nil g ≡ true → RuleFact c (on_functions op) op a b
+  of-functions binary.Equal f g p q h k = (
+    refl,
+    (
+      ap (addressed binary.Equal) p ∙ nil-addressed binary.Equal f refl h,
+      ap (addressed binary.Equal) q ∙
+          nil-addressed binary.Equal g refl k,
+    ),
+  )
+  of-functions binary.NotEqual f g p q h k = (
+    refl,
+    (
+      ap (addressed binary.NotEqual) p ∙ nil-addressed binary.NotEqual f refl h,
+      ap (addressed binary.NotEqual) q ∙
+          nil-addressed binary.NotEqual g refl k,
+    ),
+  )
+  of-functions _ f g p q h k = tt
 
 pub rule-fact : (w : StageState) → IsSound w → (op : BinaryOperator) (a b : TypeId) (f g : TypeForm) →
     form_of w.store.types a ≡ f →
@@ -150,6 +205,12 @@ rule-fact w h op a b forms.Bool forms.Bool p q = of-truths (foreseen w) a b op (
     (truth-is w.store.types h.types b q)
 rule-fact w h op a b (forms.Pointer t) (forms.Integer i) p q = of-pointer (foreseen w) a b op t p (ap integer_form q)
 rule-fact w h op a b (forms.Pointer t) (forms.Pointer u) p q = of-pointers (foreseen w) a b op t p (ap pointer_form q)
+rule-fact w h op a b (forms.Function ps x) (forms.Function qs y) p q =
+    of-functions (foreseen w) a b op (forms.Function ps x) (forms.Function qs y) p q refl refl
+rule-fact w h op a b (forms.Function ps x) (forms.Pointer t) p q =
+    of-functions (foreseen w) a b op (forms.Function ps x) (forms.Pointer t) p q refl refl
+rule-fact w h op a b (forms.Pointer t) (forms.Function ps x) p q =
+    of-functions (foreseen w) a b op (forms.Pointer t) (forms.Function ps x) p q refl refl
 rule-fact w h op a b _ _ p q = tt
 
 -- ---- what operators give
@@ -166,9 +227,15 @@ pub integers-comparable : (c : Contents) (op : BinaryOperator) (a : TypeId) → 
     comparable c op a ≡ true
 integers-comparable c op a h = or_left _ _ (or_left _ _ h)
 
-pub pointers-comparable : (c : Contents) (op : BinaryOperator) (a : TypeId) → is_pointer c a ≡ true →
+pub addressed-comparable : (c : Contents) (op : BinaryOperator) (a : TypeId) → addressed op (form_of c.types a) ≡ true →
     comparable c op a ≡ true
-pointers-comparable c op a h = or_left _ _ (or_right (is_integer c a) (is_pointer c a) h)
+addressed-comparable c op a h = by (or_cases (is_pointer c a) (is_function c a && equates op) h)
+  where
+    by : (is_pointer c a ≡ true) ⊎ ((is_function c a && equates op) ≡ true) → comparable c op a ≡ true
+    by (inl p) = or_left _ _ (or_right (is_integer c a) (is_pointer c a) p)
+    by (inr p) =
+        let both = and_parts (is_function c a) (equates op) p in
+        or_right (is_integer c a || is_pointer c a) _ (and_from _ _ both.1 (or_right (same a boolean) (is_function c a) both.0))
 
 pub truths-comparable : (c : Contents) (op : BinaryOperator) (a : TypeId) → equates op ≡ true → same a boolean ≡ true →
     comparable c op a ≡ true

@@ -96,7 +96,7 @@ Ready (jobs.Expression t site) w = SeesAll site w
 Ready (jobs.Statement t site) w =
     SeesAll site w × ((is_statement (slice_get w.stage.store.terms t.0) ≡ true) × ResultThere site.in_let w.stage
     site.result)
-Ready (jobs.Callee t os at source site) w =
+Ready (jobs.Callee t os at fitting source site) w =
     SeesAll site w × ((is_placed at ≡ true) × AreOperands (scope_of site.base w) w.stage os)
 
 abbrev pub LeavesMade : Site → TypingState → PartEnd → TypingState → Type 0
@@ -112,7 +112,7 @@ LeavesStated site w _ v = ⊥
 abbrev pub Leaves : BodyJob → TypingState → PartEnd → TypingState → Type 0
 Leaves (jobs.Expression t site) w r v = LeavesMade site w r v
 Leaves (jobs.Statement t site) w r v = LeavesStated site w r v
-Leaves (jobs.Callee t os at source site) w r v = LeavesMade site w r v
+Leaves (jobs.Callee t os at fitting source site) w r v = LeavesMade site w r v
 
 -- ---- what holds of a plan
 

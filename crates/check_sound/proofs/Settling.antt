@@ -149,7 +149,7 @@ settles w old t n p at es l is =
     let keeps = set-keeps ts old.types lies t n p at l ok in
     let next = set ts old.types lies t n p at l ok in
     subst (λ z. Settles w (listed w z w.store.typed) t) (sym (set-is ts old.types lies t n p at l ok)) (record {
-      sound = listed-sound w old next w.store.typed types all keeps (λ i x h. h) (λ i n at. inl at);
+      sound = listed-sound w old next w.store.typed types all keeps (λ i x h. h);
       leads = leads-by w (listed w next w.store.typed)
           (listed-grows w old next w.store.typed types all keeps (λ i x h. h)) refl refl refl;
       size = ap is_some (set-size ts old.types lies t n p at l ok);
@@ -174,7 +174,7 @@ module _ (w : StageState) (old : IsSound w) (kept : KeptState) where
     types = old.types;
     lies = (fair-of w old).lies;
     bodies = λ f t made g at is. let b = old.typed_bodies f t made g at is in
-        record { body = b.body; there = b.there; parameters = b.parameters; result = b.result; small = b.small };
+        record { body = b.body; there = b.there; parameters = b.parameters; result = b.result; small = b.small; shallow = b.shallow };
     defined = (fair-of w old).defined;
   }
 
@@ -197,7 +197,6 @@ module _ (w : StageState) (old : IsSound w) (kept : KeptState) where
     constants = λ i x at. at;
     statics = λ i x at. inl at;
     fits = fits-same w (kept_else w kept) refl refl old.fits;
-    plain = λ i n at. inl at;
     symbols = λ i x at. at;
     kept = λ t x at. inr (settled t x at);
   })

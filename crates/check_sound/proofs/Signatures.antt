@@ -50,7 +50,7 @@ module _ (w : StageState) (sound : IsSound w) where
         within,
       )
 
-  params-form : (t : TypeId) (f : TypeForm) (ps : List TypeId) → form_of w.store.types t ≡ f → params_in f ≡ Some ps →
+  pub params-form : (t : TypeId) (f : TypeForm) (ps : List TypeId) → form_of w.store.types t ≡ f → params_in f ≡ Some ps →
       TypesThere w ps
   params-form t (forms.Function qs r) ps e h =
       let d = declared-form t (forms.Function qs r) e refl in
@@ -62,7 +62,7 @@ module _ (w : StageState) (sound : IsSound w) where
   params-form t (forms.Array u n) ps e h = absurd (none-some ps h)
   params-form t (forms.Struct n p l) ps e h = absurd (none-some ps h)
 
-  result-form : (t : TypeId) (f : TypeForm) (r : TypeId) → form_of w.store.types t ≡ f → result_in f ≡ Some r →
+  pub result-form : (t : TypeId) (f : TypeForm) (r : TypeId) → form_of w.store.types t ≡ f → result_in f ≡ Some r →
       IsThere w r
   result-form t (forms.Function qs x) r e h =
       let d = declared-form t (forms.Function qs x) e refl in

@@ -68,10 +68,10 @@ stated-added site s w sound at form tree more result h =
       below = added-below w.store.typed n;
       after = ap (λ x. after_one x s) same ∙ h.after;
       it = λ of f. ap (one_typed (foreseen v) (where_it_stands of site) s) same ∙
-          one-grows w v (fair-of w sound) (fair-of v (added-sound w sound n refl)) (added-grows w sound n)
+          one-grows w v (fair-of w sound) (fair-of v (added-sound w sound n)) (added-grows w sound n)
           (where_it_stands of site) s (typed.statement at tree) (h.it of f);
       kept = h.kept;
-      there = result-grows w v sound (added-sound w sound n refl) (added-grows w sound n) site.in_let result h.there;
+      there = result-grows w v sound (added-sound w sound n) (added-grows w sound n) site.in_let result h.there;
     }
 
 -- a step that changes no variable
@@ -119,9 +119,9 @@ module _ (q : PartEnd → TypingState → Type 0) (b : ℕ) (s : Scope) (site : 
       let x : TypingState = record v { stage = added v.stage n } in
       let sound = m.inside.sound in
       k (next_typed v.stage.store) result more x
-      (more-to b s w x more i (added-sound v.stage sound n refl)
+      (more-to b s w x more i (added-sound v.stage sound n)
       (leads-twice w.stage v.stage x.stage m.moves.leads (added-leads v.stage sound n)) m.variables
-      (all-there v.stage x.stage sound (added-sound v.stage sound n refl) (added-grows v.stage sound n) more m.names))
+      (all-there v.stage x.stage sound (added-sound v.stage sound n) (added-grows v.stage sound n) more m.names))
       (stated-added site s v.stage sound at form tree more result h)
 
   -- ---- blocks and conditions

@@ -201,13 +201,14 @@ module _ (w : TypingState) (base : ℕ) (s : Scope) (site : scope_of base w ≡ 
         (and_from _ _ p.0 z.0, z.1)
     typed-here u v front marks (typed at of (Global address)) rest h k = (h, k)
     typed-here u v front marks (typed at of (Operate op es)) rest h k =
-        let p = and_parts _ _ h in
+        let o = and_parts _ _ h in
+        let p = and_parts _ _ o.0 in
         let q = and_parts _ _ p.0 in
         let r = and_parts _ _ q.0 in
         let z = list-here u v front marks es rest r.1
         (past-operation front marks at op (list_events es ++ rest)
         (regroup front marks (operation_events at op) (list_events es) rest k)) in
-        (and_from _ _ (and_from _ _ (and_from _ _ r.0 z.0) q.1) p.1, z.1)
+        (and_from _ _ (and_from _ _ (and_from _ _ (and_from _ _ r.0 z.0) q.1) p.1) o.1, z.1)
     typed-here u v front marks (typed at of (Both a b)) rest h k =
         let p = and_parts _ _ h in
         let q = and_parts _ _ p.0 in

@@ -246,7 +246,7 @@ module _ (w : StageState) (sound : IsSound w) where
   type-there u s (typed at of (Constant' x)) all h = constant-there of x (and_parts _ _ h).1
   type-there u s (typed at of (Variable x)) all h = all x of (and_parts _ _ h).1
   type-there u s (typed at of (Global address)) all h = layout-there w of (and_parts _ _ (and_parts _ _ h).0).1
-  type-there u s (typed at of (Operate op es)) all h = operation-there op (types_in es) of (and_parts _ _ h).1
+  type-there u s (typed at of (Operate op es)) all h = operation-there op (types_in es) of (and_parts _ _ (and_parts _ _ h).0).1
   type-there u s (typed at of (Both a b)) all h = as-there of boolean (and_parts _ _ h).1 bool-there
   type-there u s (typed at of (Either a b)) all h = as-there of boolean (and_parts _ _ h).1 bool-there
   type-there u s (typed at of (Dereference p)) all h =
@@ -266,7 +266,7 @@ module _ (w : StageState) (sound : IsSound w) where
   typed-placed u s (typed at of (Constant' x)) h = (and_parts _ _ h).0
   typed-placed u s (typed at of (Variable x)) h = (and_parts _ _ h).0
   typed-placed u s (typed at of (Global address)) h = (and_parts _ _ (and_parts _ _ h).0).0
-  typed-placed u s (typed at of (Operate op es)) h = (and_parts _ _ (and_parts _ _ (and_parts _ _ h).0).0).0
+  typed-placed u s (typed at of (Operate op es)) h = (and_parts _ _ (and_parts _ _ (and_parts _ _ (and_parts _ _ h).0).0).0).0
   typed-placed u s (typed at of (Both a b)) h =
       (and_parts _ _ (and_parts _ _ (and_parts _ _ (and_parts _ _ (and_parts _ _ h).0).0).0).0).0
   typed-placed u s (typed at of (Either a b)) h =

@@ -98,7 +98,7 @@ module _ (w : StageState) (old : IsSound w) (f : FnId) (g : Function) (at : func
   finished-changes w0 t id d few (standing.Typing u) is term =
       let same : u ≡ t = same-some u t term in
       let has : HasBodyOf w u id = subst (λ z. HasBodyOf w z id) (sym same)
-      (record { body = d.body; there = d.is; parameters = d.parameters; result = d.result; small = few d.body d.is }) in
+      (record { body = d.body; there = d.is; parameters = d.parameters; result = d.result; small = (few d.body d.is).0; shallow = (few d.body d.is).1 }) in
       record {
         stays = subst (λ z. Stays z (standing.Typed u id)) (sym is) (stays-finished (standing.Typing u) id);
         parameters = λ ps p. ap (parameter_types w g) (sym is) ∙ p;

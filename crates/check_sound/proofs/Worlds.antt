@@ -42,7 +42,7 @@ use Rattle.exotype.specs.declared.property.Known.TheVariants as known
 use Rattle.check_model.specs.Typing.{function_at}
 use Rattle.check_sound.specs.Sound.{foreseen, outermost, IsTypedSomewhere, QuoteIsSound, IsThere, IsThereIfAny, TermIsThere}
 use Rattle.check_sound.specs.Sound.{ParametersAreThere, NamesAreThere, is_statement, AreStatements, AreStatementsIfAny, ExpressionIsSound}
-use Rattle.check_sound.specs.Sound.{StatementIsSound, TermIsSound, ConstantIsSound, StaticsFit, IsSound, is_plain_node, typed_body}
+use Rattle.check_sound.specs.Sound.{StatementIsSound, TermIsSound, ConstantIsSound, StaticsFit, IsSound, typed_body}
 use Rattle.check_sound.proofs.Tests.{got, keep_or, stay, no}
 use Rattle.check_sound.proofs.Knowing.{BodiesThere, knows-to, knows-from}
 use Rattle.check_sound.proofs.Shapes.{size-kept}
@@ -201,8 +201,6 @@ pub record Follows (w v : StageState) : Type 0 where
   pub statics : (i : ℕ) (x : Static) → slice_get v.store.statics i ≡ Some x →
       (slice_get w.store.statics i ≡ Some x) ⊎ (x.address < 2 ^ 64)
   pub fits : StaticsFit v
-  pub plain : (i : ℕ) (n : Typed) → slice_get v.store.typed i ≡ Some n →
-      (slice_get w.store.typed i ≡ Some n) ⊎ (is_plain_node n ≡ true)
   pub symbols : (i : ℕ) (x : Symbol) → slice_get v.store.symbols i ≡ Some x → slice_get w.store.symbols i ≡ Some x
   pub kept : (t : TypeId) (x : Value) → known_of v.kept (Entries t) ≡ known.Value x →
       (known_of w.kept (Entries t) ≡ known.Value x) ⊎ (is_some (size_of v.store.types t) ≡ true)
@@ -221,10 +219,6 @@ module _ (w v : StageState) (old : IsSound w) (h : Fair v) (g : Grows w v) where
       is_some (size_of v.store.types t) ≡ true
   new-size t x (inl at) = sized-grows w v (fair-of w old) h g t (old.settled t x at)
   new-size t x (inr p) = p
-
-  new-node : (n : Typed) (i : ℕ) → (slice_get w.store.typed i ≡ Some n) ⊎ (is_plain_node n ≡ true) → is_plain_node n ≡ true
-  new-node n i (inl at) = old.plain i n at
-  new-node n i (inr p) = p
 
   pub sound-from : Follows w v → IsSound v
   sound-from c = record {
@@ -248,7 +242,6 @@ module _ (w v : StageState) (old : IsSound w) (h : Fair v) (g : Grows w v) where
     constants = λ i x at. constant-sound w v (fair-of w old) h g x (old.constants i x (c.constants i x at));
     statics = λ i x at. new-static x i (c.statics i x at);
     fits = c.fits;
-    plain = λ i n at. new-node n i (c.plain i n at);
     symbols = λ i x at. any-grows w v (fair-of w old) h g x.of (old.symbols i x (c.symbols i x at));
     settled = λ t x at. new-size t x (c.kept t x at);
   }

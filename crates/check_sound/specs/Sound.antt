@@ -33,10 +33,6 @@ use Rattle.terra_term.specs.declared.term.Expression.TheVariants as e
 use Rattle.terra_term.specs.declared.term.Statement.{Statement}
 use Rattle.terra_term.specs.declared.term.Statement.TheVariants as s
 use Rattle.terra_term.specs.declared.operators.Constant.TheVariants as constants
-use Rattle.terra_term.specs.declared.typed.Typed.{Typed}
-use Rattle.terra_term.specs.declared.typed.Typed.TheVariants as nodes
-use Rattle.terra_term.specs.declared.typed.TypedExpression.{TypedExpression}
-use Rattle.terra_term.specs.declared.typed.TypedExpression.TheVariants as of_typed
 use Rattle.terra_term.specs.Held.{term_in, first_static, statics_end}
 use Rattle.terra_term.specs.Sizes.{body_size}
 use Rattle.terra_term.specs.Planted.{typed_at, typed_trees}
@@ -52,10 +48,9 @@ use Rattle.check_model.specs.Typing.{function_at, bytes_in}
 use Rattle.check_model.specs.declared.known.KnownResult.{KnownResult}
 use Rattle.check_model.specs.declared.known.KnownResult.TheVariants.{Is}
 use Rattle.check_model.specs.Calls.{known_result, parameter_types, params_of}
-use Rattle.check_model.specs.Bodies.{most_nodes}
+use Rattle.check_model.specs.Bodies.{most_nodes, most_levels}
 use Rattle.check_model.specs.Checks.{was_reached, mentions_at}
 use Rattle.check_model.specs.declared.job.Reached.{Reached}
-pub use Rattle.terra_term.specs.WellTyped.{is_plain_operation}
 pub use Rattle.terra_term.specs.Stores.{body_in}
 
 -- ---- functions as they are foreseen
@@ -182,22 +177,15 @@ TermIsSound w (kinds.Function params result body) = ParametersAreThere w params 
 abbrev pub ConstantIsSound : StageState → TerraConstant → Type 0
 ConstantIsSound w c = (same_type c.of boolean || constant_typed (foreseen w) c.of (constants.Number c.value)) ≡ true
 
-abbrev pub is_plain_form : TypedExpression → Bool
-is_plain_form (of_typed.Operate op es) = is_plain_operation op
-is_plain_form x = true
-
-abbrev pub is_plain_node : Typed → Bool
-is_plain_node (nodes.Expression at of x) = is_plain_form x
-is_plain_node n = true
-
 -- a typed function has its body, whose parameters have the types that its term gives them, whose result type is there, and which has no
--- more nodes than a body may have
+-- more nodes and levels than a body may have
 pub record HasBodyOf (w : StageState) (t made : TermId) : Type 0 where
   pub body : typed.Body
   pub there : typed_body w made ≡ Some body
   pub parameters : types_of_names body.parameters ≡ params_of (slice_get w.store.terms t.0)
   pub result : IsThere w body.result
   pub small : (body_size body).nodes ≤ most_nodes
+  pub shallow : (body_size body).levels ≤ most_levels
 
 -- an entry of a struct lies within it
 pub record LiesWithin (w : StageState) (struct : TypeId) (l : Laid) : Type 0 where
@@ -229,7 +217,6 @@ pub record IsSound (w : StageState) : Type 0 where
   pub constants : (i : ℕ) (c : TerraConstant) → slice_get w.store.constants i ≡ Some c → ConstantIsSound w c
   pub statics : (i : ℕ) (x : Static) → slice_get w.store.statics i ≡ Some x → x.address < 2 ^ 64
   pub fits : StaticsFit w
-  pub plain : (i : ℕ) (n : Typed) → slice_get w.store.typed i ≡ Some n → is_plain_node n ≡ true
   pub symbols : (i : ℕ) (x : Symbol) → slice_get w.store.symbols i ≡ Some x → IsThereIfAny w x.of
   pub settled : (t : TypeId) (v : Value) → known_of w.kept (Entries t) ≡ known.Value v → is_some (size_of w.store.types t) ≡ true
 

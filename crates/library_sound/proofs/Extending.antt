@@ -96,6 +96,7 @@ module _ (w v : StageState) (old : IsSound w) (x : Extends w v) where
     parameters = h.parameters ∙ ap (λ ts. params_of (slice_get ts t.0)) (sym x.terms);
     result = there-kept w.store.types v.store.types x.keeps h.body.result h.result;
     small = h.small;
+    shallow = h.shallow;
   }
 
   extended-fair : Fair v
@@ -157,7 +158,6 @@ module _ (w v : StageState) (old : IsSound w) (x : Extends w v) where
     constants = λ i c at. constant-still i c (x.constants i c at);
     statics = λ i s at. static-still i s (x.statics i s at);
     fits = x.fits;
-    plain = λ i n at. old.plain i n (ap (λ ns. slice_get ns i) (sym x.typed_nodes) ∙ at);
     symbols = λ i s at. symbol-still i s (x.symbols i s at);
     settled = λ t value at.
         sized-grows w v (fair-of w old) extended-fair extended-grows t

@@ -218,7 +218,7 @@ module _ (store : Contents) (c : Call) (h : CallsFine c) where
   is_at w names (typed at of (Constant' k)) t = (and_parts _ _ t).0
   is_at w names (typed at of (Variable x)) t = (and_parts _ _ t).0
   is_at w names (typed at of (Global a)) t = (three _ _ _ t).0
-  is_at w names (typed at of (Operate op es)) t = (four _ _ _ _ t).0
+  is_at w names (typed at of (Operate op es)) t = (four _ _ _ _ (and_parts _ _ t).0).0
   is_at w names (typed at of (Both a b)) t = (five _ _ _ _ _ (and_parts _ _ t).0).0
   is_at w names (typed at of (Either a b)) t = (five _ _ _ _ _ (and_parts _ _ t).0).0
   is_at w names (typed at of (Dereference e)) t = (three _ _ _ t).0
@@ -252,7 +252,7 @@ module _ (store : Contents) (c : Call) (h : CallsFine c) where
         fine_reached c.store.types want at of a s p.0
     fine_meant w names want (typed at of (Operate op es)) from t s =
         let p = four (is_placed at) (are_typed store w names es) (typing.all_usable store (types_in es))
-        (typing.operation_typed store op (types_in es) of) t in
+        (typing.operation_typed store op (types_in es) of) (and_parts _ (typing.takes_values op es) t).0 in
         fine_next (meant_all c the_value es from s) (λ vs s'. operated c at of op (types_of es) vs s')
         (fine_all w names the_value es from p.1 s) (λ vs s'. fine_operated c h at of op (types_of es) vs s' p.0)
     fine_meant w names want (typed at of (Both a b)) from t s =

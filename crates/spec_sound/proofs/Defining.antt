@@ -116,7 +116,6 @@ module _ (w : StageState) (old : IsSound w) (fs : List Function)
     constants = λ i x there. there;
     statics = λ i x there. inl there;
     fits = fits-same w v refl refl old.fits;
-    plain = λ i n there. inl there;
     symbols = λ i x there. there;
     kept = λ t x there. inl there;
   })

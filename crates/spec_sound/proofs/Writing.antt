@@ -107,7 +107,6 @@ module _ (w : StageState) (old : IsSound w) (heap : LuaState) (structs : List St
     constants = λ i c at. constant-sound w v (fair-of w old) beside-fair beside-grows c (old.constants i c at);
     statics = old.statics;
     fits = fits-same w v refl refl old.fits;
-    plain = old.plain;
     symbols = λ i x at. symbol-still i x (symbols i x at);
     settled = old.settled;
   }
@@ -151,7 +150,7 @@ struct-follows w old place =
     let ts = types.with_struct w.store.types place in
     let f = follows-struct w.store.types old.types (fair-of w old).lies place in
     let x = listed w ts w.store.typed in
-    let sound = listed-sound w old ts w.store.typed f.types f.lies f.keeps (λ i n h. h) (λ i n at. inl at) in
+    let sound = listed-sound w old ts w.store.typed f.types f.lies f.keeps (λ i n h. h) in
     let grows = listed-grows w old ts w.store.typed f.types f.lies f.keeps (λ i n h. h) in
     next-twice w x (with_struct w place) (record { sound = sound; leads = leads-by w x grows refl refl refl })
     (beside-follows x sound (with_struct w place).heap (with_struct w place).kept.structs w.store.symbols w.store.quotes

@@ -320,7 +320,7 @@ module _ (store : Contents) (entries : List FnId) (homes : List Home) where
         let y = reached-bytes types want at of (a_word (Constant g)) u m s in omega (arith, y)
     expression-bytes want (typed at of (Operate op es)) from w names scope u m a h s =
         let t = four (typing.is_placed at) (are_typed store w names es) (typing.all_usable store (types_in es))
-        (typing.operation_typed store op (types_in es) of) h in
+        (typing.operation_typed store op (types_in es) of) (and_parts _ (typing.takes_values op es) h).0 in
         let p = pieces c es from scope u in
         let x = expressions-bytes es from w names scope u t.1 in
         let y = operation-bytes at of op (types_of es) (types_in es) p.result p.used m t.3 (value-slack want types of m a s) in

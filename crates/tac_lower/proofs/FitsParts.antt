@@ -102,7 +102,7 @@ placed-at : (store : Contents) (w : Within) (names : List TypedName) (e : Expres
 placed-at store w names (typed at of (Constant' k)) h = (and_parts (typing.is_placed at) _ h).0
 placed-at store w names (typed at of (Variable x)) h = (and_parts (typing.is_placed at) _ h).0
 placed-at store w names (typed at of (Global a)) h = (three (typing.is_placed at) _ _ h).0
-placed-at store w names (typed at of (Operate op es)) h = (four (typing.is_placed at) _ _ _ h).0
+placed-at store w names (typed at of (Operate op es)) h = (four (typing.is_placed at) _ _ _ (and_parts _ _ h).0).0
 placed-at store w names (typed at of (Both a b)) h = (five (typing.is_placed at) _ _ _ _ (and_parts _ _ h).0).0
 placed-at store w names (typed at of (Either a b)) h = (five (typing.is_placed at) _ _ _ _ (and_parts _ _ h).0).0
 placed-at store w names (typed at of (Dereference p)) h = (three (typing.is_placed at) _ _ h).0

@@ -89,7 +89,7 @@ module _ (types : List TypeForm) (tac : Tac) where
           fits.reached-ok types tac want at of (a_word (Constant g)) u n p.0 (λ y. p.2)
       expression-ok want (typed at of (Operate op es)) from w names scope u n a h d =
           let t = four (typing.is_placed at) (are_typed store w names es) (typing.all_usable store (types_in es))
-          (typing.operation_typed store op (types_in es) of) h in
+          (typing.operation_typed store op (types_in es) of) (and_parts _ (typing.takes_values op es) h).0 in
           let us = subst (λ l. typing.all_usable store l ≡ true) (types-are es) t.2 in
           let ot = subst (λ l. typing.operation_typed store op l of ≡ true) (types-are es) t.3 in
           let p = pieces c es from scope u in

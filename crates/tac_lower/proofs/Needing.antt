@@ -324,7 +324,7 @@ module _ (store : Contents) (are : AreTypes store.types) (entries : List FnId) (
           ltb-true address (2 ^ 64) (three (typing.is_placed at) (typing.has_layout store of) (nat_lt address (2 ^ 64)) h).2
       expression-needs want (typed at of (Operate op es)) from w names r a h d =
           let p = four (typing.is_placed at) (are_typed store w names es) (typing.all_usable store (types_in es))
-          (typing.operation_typed store op (types_in es) of) h in (
+          (typing.operation_typed store op (types_in es) of) (and_parts _ (typing.takes_values op es) h).0 in (
             value-asked want a,
             expressions-need es from w names r p.1
                 (second-half types frame homes (operation_events at op) (list_events es) from (declared-operation at op) d),

@@ -102,7 +102,7 @@ module _ (c : Call) (h : CallsSound c) where
     sound-meant w names want (typed at of (Global a)) from t s v = reaches want at of a names s v
     sound-meant w names want (typed at of (Operate op es)) from t s v =
         let p = four (typing.is_placed at) (are_typed c.store w names es) (typing.all_usable c.store (types_in es))
-        (typing.operation_typed c.store op (types_in es) of) t in
+        (typing.operation_typed c.store op (types_in es) of) (and_parts _ (typing.takes_values op es) t).0 in
         leaves-next names names (meant_all c the_value es from s) (λ vs s'. operated c at of op (types_of es) vs s')
         (sound-all w names the_value es from p.1 s v)
         (λ vs s' v'. leaves-kept names (shape s'.variables) (operated c at of op (types_of es) vs s')

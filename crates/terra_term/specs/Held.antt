@@ -1,6 +1,6 @@
 -- What a store holds, what each call reads of it, and what each call makes of it. Ids are places in these lists, and an id past
 -- the end names nothing.
-use Rattle.std.specs.Prelude.{ℕ, ◌<◌, ◌+◌, ◌*◌, ◌/◌, Bool, true, false, ◌&&◌, nat_eq, nat_le, if◌then◌else◌, List, [], ◌∷◌, ◌++◌, length}
+use Rattle.std.specs.Prelude.{◌≡◌, ℕ, ◌<◌, ◌+◌, ◌*◌, ◌/◌, Bool, true, false, ◌&&◌, nat_eq, nat_le, if◌then◌else◌, List, [], ◌∷◌, ◌++◌, length}
 use Rattle.std.specs.Prelude.{find, position, bytes_eq, Option, Some, None, slice_get, slice_set, option_map}
 use Rattle.std.specs.Option.{option_map_or}
 use Rattle.tl_base.specs.declared.place.Place.{Place}
@@ -19,6 +19,7 @@ use Rattle.terra_term.specs.declared.refusal.RefusalKind.{RefusalKind}
 use Rattle.terra_term.specs.declared.refusal.RefusalKind.TheVariants as kinds
 use Rattle.terra_term.specs.declared.refusal.Standing.{Standing}
 use Rattle.terra_term.specs.declared.refusal.Standing.TheVariants as standings
+use Rattle.terra_term.specs.declared.store.Extern.{Extern}
 use Rattle.terra_term.specs.declared.store.Function.{Function}
 use Rattle.terra_term.specs.declared.store.FunctionState.{FunctionState}
 use Rattle.terra_term.specs.declared.store.FunctionState.TheVariants as states
@@ -34,11 +35,13 @@ use Rattle.terra_term.specs.declared.term.Term.TheVariants as term_kinds
 use Rattle.terra_term.specs.declared.term.Expression.TheVariants as expression_kinds
 use Rattle.terra_term.specs.declared.typed.Typed.{Typed}
 
--- types, symbols, functions, quotes, globals, constants, statics, the bytes of names, and the nodes of specialised and typed terms
+-- types, symbols, functions, those of which another unit has the body, quotes, globals, constants, statics, the bytes of
+-- names, and the nodes of specialised and typed terms
 pub record Held : Type 0 where
   pub types : List TypeForm
   pub symbols : List Symbol
   pub functions : List Function
+  pub externs : List Extern
   pub quotes : List Quote
   pub globals : List TerraGlobal
   pub constants : List TerraConstant
@@ -52,6 +55,7 @@ empty types = record {
   types = types;
   symbols = [];
   functions = [];
+  externs = [];
   quotes = [];
   globals = [];
   constants = [];
@@ -152,6 +156,10 @@ abbrev pub refusal_in : FunctionState → Option Refusal
 refusal_in (states.Refused t why) = Some why
 refusal_in _ = None
 
+-- a function of which another unit has the body, behind the others
+abbrev pub with_extern : Held → Extern → Held
+with_extern s x = record s { externs = s.externs ++ x ∷ [] }
+
 -- a function with another state, and with another place too
 abbrev pub state_changed : Option Function → FunctionState → List Function → ℕ → List Function
 state_changed None state fs i = fs
@@ -200,9 +208,18 @@ end_from end (s ∷ ss) = end_from (s.address + length s.bytes) ss
 abbrev pub statics_end : List Static → ℕ
 statics_end statics = end_from first_static statics
 
+-- the first multiple of 16 at or after an address
+abbrev pub next_from : (end : ℕ) → ℕ
+next_from end = (end + 15) / 16 * 16
+
 -- the address of the next static: the first multiple of 16 at or after the last one's end
 abbrev pub next_static : List Static → ℕ
-next_static statics = (statics_end statics + 15) / 16 * 16
+next_static statics = next_from (statics_end statics)
+
+-- statics stand one behind the other, each at the first multiple of 16 at or after the end of the one before
+abbrev pub AreStacked : (end : ℕ) → List Static → Type 0
+AreStacked end [] = Unit {0}
+AreStacked end (s ∷ ss) = (s.address ≡ next_from end) × AreStacked (s.address + length s.bytes) ss
 
 -- whether statics with so many bytes more take at most half of the memory
 abbrev pub has_room : (memory : ℕ) → List Static → (size : ℕ) → Bool

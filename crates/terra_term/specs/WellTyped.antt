@@ -249,6 +249,11 @@ operation_typed store operations.CallValue ts of = calls_in (form_at store (firs
 operation_typed store (operations.Construct offsets) ts of =
     is_struct store of && is_usable store of && entries_typed store of offsets ts
 
+-- an entry of a place is selected; what is extracted from is none
+abbrev pub takes_values : Operation → Expressions → Bool
+takes_values (operations.Extract offset) es = not (places_in es)
+takes_values _ es = true
+
 -- Where a statement stands: the result type of its function, in a loop or not, and in the statements of a `let` or not.
 pub record Within : Type 0 where
   pub result : TypeId
@@ -300,7 +305,8 @@ abbrev mutual
   is_typed store w scope (typed at of (Variable x)) = is_placed at && in_scope x of scope
   is_typed store w scope (typed at of (Global address)) = is_placed at && has_layout store of && nat_lt address (2 ^ 64)
   is_typed store w scope (typed at of (Operate op es)) =
-      is_placed at && are_typed store w scope es && all_usable store (types_in es) && operation_typed store op (types_in es) of
+      is_placed at && are_typed store w scope es && all_usable store (types_in es) &&
+      operation_typed store op (types_in es) of && takes_values op es
   is_typed store w scope (typed at of (Both a b)) =
       is_placed at && is_typed store w scope a && is_typed store w scope b &&
       same (type_of a) boolean && same (type_of b) boolean && same of boolean

@@ -30,8 +30,8 @@ pub use piece::text_of_integer;
 pub use refusal::{Refusal, RefusalKind, Standing};
 pub use size::Size;
 pub use store::{
-    Export, Function, FunctionState, Quote, Static, Store, Symbol, TerraConstant, TerraGlobal,
-    TextBytes,
+    Export, Extern, Function, FunctionState, Quote, Static, Store, Symbol, TerraConstant,
+    TerraGlobal, TextBytes,
 };
 pub use term::{Expression, Initialiser, Statement, Term};
 pub use text::term_text;

@@ -4,10 +4,10 @@ ghost use Rattle.std.specs.Prelude.{◌≡◌, ◌≤◌, ◌++◌, ◌∷◌, [
 ghost use Rattle.std.specs.Option.{option_copied};
 ghost use Rattle.tl_base.specs.declared.limits.TheConstants.Limits.{MAX_MEMORY};
 ghost use Rattle.terra_term.specs.Held.{empty, next_symbol, with_symbol, next_function, with_function, state_of, term_in, standing_in};
-ghost use Rattle.terra_term.specs.Held.{standing_of, with_defined, with_state, begun, finished, refused, next_quote, with_quote};
+ghost use Rattle.terra_term.specs.Held.{standing_of, with_defined, with_extern, with_state, begun, finished, refused, next_quote, with_quote};
 ghost use Rattle.terra_term.specs.Held.{next_constant, with_constant, next_term, with_term, next_typed, with_typed, NamesTyped};
 ghost use Rattle.terra_term.specs.Held.{QuotesTyped, ended, text_address, room_for, placed_text, with_text, placed_global, with_global};
-ghost use Rattle.terra_term.specs.Held.{name_of, name_place, with_name};
+ghost use Rattle.terra_term.specs.Held.{name_of, name_place, with_name, first_static, AreStacked};
 ghost use Rattle.terra_term.specs.Sizes.{size_of_term, size_of_typed};
 ghost use Rattle.terra_term.specs.Finding.{texts_in, found_texts, ids_of};
 
@@ -50,6 +50,13 @@ pub struct Function {
     pub place: Place,
     pub declared: Option<TypeId>,
     pub state: FunctionState,
+}
+
+/// A function whose body is in another unit, where it has this name.
+#[derive(Drop)]
+pub struct Extern {
+    pub name: Text,
+    pub function: FnId,
 }
 
 /// A quote.
@@ -97,8 +104,9 @@ pub struct Export {
     pub function: FnId,
 }
 
-/// What a staging has made of Terra: types, symbols, functions, quotes, globals, constants, statics, the names of fields and
-/// methods, and all terms. Ids are places in these lists, and an id past the end names nothing.
+/// What a staging has made of Terra: types, symbols, functions, those of which another unit has the body, quotes, globals,
+/// constants, statics, the names of fields and methods, and all terms. Ids are places in these lists, and an id past the end
+/// names nothing.
 ///
 /// Nothing is taken away, and what is there stays as it is, but for the states of functions. After `NoMemory` the store is as it
 /// was.
@@ -108,6 +116,7 @@ pub struct Store {
     types: Types,
     symbols: Vec<Symbol>,
     functions: Vec<Function>,
+    externs: Vec<Extern>,
     quotes: Vec<Quote>,
     globals: Vec<TerraGlobal>,
     constants: Vec<TerraConstant>,
@@ -140,6 +149,7 @@ impl Model for Store {
       types = s.types;
       symbols = s.symbols.items;
       functions = s.functions.items;
+      externs = s.externs.items;
       quotes = s.quotes.items;
       globals = s.globals.items;
       constants = s.constants.items;
@@ -171,6 +181,7 @@ impl Store {
             types,
             symbols: Vec::new(alloc),
             functions: Vec::new(alloc),
+            externs: Vec::new(alloc),
             quotes: Vec::new(alloc),
             globals: Vec::new(alloc),
             constants: Vec::new(alloc),
@@ -323,6 +334,22 @@ impl Store {
         self.set_state(f, state);
     }
 
+    /// Says that another unit has the body of a function, under a name.
+    pub fn new_extern(&mut self, name: Text, function: FnId) -> Result<(), NoMemory>
+        ensures ok { OnOk result (self.new ≡ with_extern self.old (record { name = name; function = function })) }
+        ensures err { OnErr result (self.new ≡ self.old) }
+    {
+        self.externs.push(Extern { name, function })?;
+        Ok(())
+    }
+
+    /// The functions of which another unit has the body, in the order in which they were made so.
+    pub fn externs(&self) -> &[Extern]
+        ensures { result.now ≡ self.now.externs }
+    {
+        &self.externs
+    }
+
     /// Makes a quote. The typed term of a typed one is there.
     pub fn new_quote(&mut self, quote: Quote) -> Result<QuoteId, NoMemory>
         requires { QuotesTyped (length self.old.typed) quote }
@@ -423,6 +450,13 @@ impl Store {
             Some(node) => Some(node.size()),
             None => None,
         }
+    }
+
+    /// Statics stand one behind the other, each at the next multiple of 16. This is a law, and does nothing.
+    pub fn statics_are_stacked(&self)
+        ensures { AreStacked first_static self.now.statics }
+    {
+        let _statics = &self.statics;
     }
 
     /// Where a static of so many bytes comes to lie; `None` exactly where it would pass half of the memory, which is in bytes.

@@ -11,7 +11,7 @@ use Rattle.terra_types.specs.declared.layout.Layout.{Layout}
 use Rattle.terra_types.specs.declared.measure.Measure.{Measure}
 use Rattle.terra_types.specs.declared.types.TypeForm.{TypeForm}
 use Rattle.terra_types.specs.Laying.{added_to, walked}
-use Rattle.terra_types.specs.Layouts.{begun, is_function, is_laid, is_named, layout_of, may_stand, placed, rounded, rounded_up, with_entry}
+use Rattle.terra_types.specs.Layouts.{begun, is_laid, is_named, layout_of, may_stand, placed, rounded, rounded_up, with_entry}
 use Rattle.terra_types.specs.Sizes.{Within, largest_size, measure_of, for_some}
 
 -- ---- names
@@ -73,52 +73,44 @@ module _ (types : List TypeForm) where
   -- ---- the walk
 
   abbrev whole : Layout → List Entry → Option Layout
-  whole l es = if apart l.entries es && may_stand types es then for_some (placed types l es) rounded_up else None
+  whole l es = if apart l.entries es && may_stand es then for_some (placed types l es) rounded_up else None
 
   none_either : (b : Bool) (o : Option Layout) → o ≡ None → (if b then o else None) ≡ None
   none_either true o h = h
   none_either false o h = refl
 
-  refused : (a b c d : Bool) (o : Option Layout) → (if (a && b) && (c && (false && d)) then o else None) ≡ None
-  refused true true true d o = refl
-  refused true true false d o = refl
-  refused true false c d o = refl
-  refused false b c d o = refl
-
-  regrouped : (a n m : Bool) → ((a && not n) && m) ≡ ((true && a) && (not n && (true && m)))
+  regrouped : (a n m : Bool) → ((a && not n) && m) ≡ ((true && a) && (not n && m))
   regrouped true n m = refl
   regrouped false n m = refl
 
-  -- one entry, where it is no function and its measure is known
+  -- one entry, where its measure is known
   of_measure : (l : Layout) (e : Entry) (es : List Entry) (m : Measure) → Within m → 1 ≤ l.align → ((t : TypeId) → IfSome (measure_of types t) Within) →
       (walked types (with_entry l e m) es ≡ whole (with_entry l e m) es) →
-      for_some (added_to l e m) (λ next. walked types next es) ≡ (if (not (is_laid e.field l.entries) && apart l.entries es) && (not (is_named e.field es) && (true && may_stand types es)) then for_some (placed types (with_entry l e m) es) rounded_up else None)
+      for_some (added_to l e m) (λ next. walked types next es) ≡ (if (not (is_laid e.field l.entries) && apart l.entries es) && (not (is_named e.field es) && may_stand es) then for_some (placed types (with_entry l e m) es) rounded_up else None)
   of_measure l e es m within align sound rest = by_size (nat_le (with_entry l e m).size largest_size) refl
     where
-      by_name : (b : Bool) → for_some (if b then None else Some (with_entry l e m)) (λ next. walked types next es) ≡ (if (not b && apart l.entries es) && (not (is_named e.field es) && (true && may_stand types es)) then for_some (placed types (with_entry l e m) es) rounded_up else None)
+      by_name : (b : Bool) → for_some (if b then None else Some (with_entry l e m)) (λ next. walked types next es) ≡ (if (not b && apart l.entries es) && (not (is_named e.field es) && may_stand es) then for_some (placed types (with_entry l e m) es) rounded_up else None)
       by_name true = refl
       by_name false =
           rest ∙
           ap (λ b. if b then for_some (placed types (with_entry l e m) es) rounded_up else None)
-          (ap (λ b. b && may_stand types es) (apart-push l.entries (record { field = e.field; offset = rounded l.size m.align; of = e.of }) es) ∙ regrouped (apart l.entries es) (is_named e.field es) (may_stand types es))
+          (ap (λ b. b && may_stand es) (apart-push l.entries (record { field = e.field; offset = rounded l.size m.align; of = e.of }) es) ∙ regrouped (apart l.entries es) (is_named e.field es) (may_stand es))
 
-      by_size : (b : Bool) → nat_le (with_entry l e m).size largest_size ≡ b → for_some (if b then (if is_laid e.field l.entries then None else Some (with_entry l e m)) else None) (λ next. walked types next es) ≡ (if (not (is_laid e.field l.entries) && apart l.entries es) && (not (is_named e.field es) && (true && may_stand types es)) then for_some (placed types (with_entry l e m) es) rounded_up else None)
+      by_size : (b : Bool) → nat_le (with_entry l e m).size largest_size ≡ b → for_some (if b then (if is_laid e.field l.entries then None else Some (with_entry l e m)) else None) (λ next. walked types next es) ≡ (if (not (is_laid e.field l.entries) && apart l.entries es) && (not (is_named e.field es) && may_stand es) then for_some (placed types (with_entry l e m) es) rounded_up else None)
       by_size true at = by_name (is_laid e.field l.entries)
       by_size false at =
-          sym (none_either ((not (is_laid e.field l.entries) && apart l.entries es) && (not (is_named e.field es) && (true && may_stand types es))) (for_some (placed types (with_entry l e m) es) rounded_up)
+          sym (none_either ((not (is_laid e.field l.entries) && apart l.entries es) && (not (is_named e.field es) && may_stand es)) (for_some (placed types (with_entry l e m) es) rounded_up)
           (too_large (with_entry l e m) es (leb-false (with_entry l e m).size largest_size at) (omega (arith, align)) sound))
 
   walked-whole : (l : Layout) (es : List Entry) → 1 ≤ l.align → ((t : TypeId) → IfSome (measure_of types t) Within) → walked types l es ≡ whole l es
   walked-whole l [] align sound = refl
   walked-whole l (e ∷ es) align sound =
-      by_function (is_function types e.of) (measure_of types e.of) (sound e.of) (λ m. walked-whole (with_entry l e m) es (omega (arith, align)) sound)
+      by_own (measure_of types e.of) (sound e.of) (λ m. walked-whole (with_entry l e m) es (omega (arith, align)) sound)
     where
-      by_function : (f : Bool) (o : Option Measure) → IfSome o Within → ((m : Measure) → walked types (with_entry l e m) es ≡ whole (with_entry l e m) es) → for_some (if f then None else for_some o (added_to l e)) (λ next. walked types next es) ≡ (if (not (is_laid e.field l.entries) && apart l.entries es) && (not (is_named e.field es) && (not f && may_stand types es)) then for_some (for_some o (λ m. placed types (with_entry l e m) es)) rounded_up else None)
-      by_function true o within rest =
-          sym (refused (not (is_laid e.field l.entries)) (apart l.entries es) (not (is_named e.field es)) (may_stand types es) (for_some (for_some o (λ m. placed types (with_entry l e m) es)) rounded_up))
-      by_function false None within rest =
-          sym (none_either ((not (is_laid e.field l.entries) && apart l.entries es) && (not (is_named e.field es) && (true && may_stand types es))) None refl)
-      by_function false (Some m) within rest = of_measure l e es m within align sound (rest m)
+      by_own : (o : Option Measure) → IfSome o Within → ((m : Measure) → walked types (with_entry l e m) es ≡ whole (with_entry l e m) es) → for_some (for_some o (added_to l e)) (λ next. walked types next es) ≡ (if (not (is_laid e.field l.entries) && apart l.entries es) && (not (is_named e.field es) && may_stand es) then for_some (for_some o (λ m. placed types (with_entry l e m) es)) rounded_up else None)
+      by_own None within rest =
+          sym (none_either ((not (is_laid e.field l.entries) && apart l.entries es) && (not (is_named e.field es) && may_stand es)) None refl)
+      by_own (Some m) within rest = of_measure l e es m within align sound (rest m)
 
   all_apart : (es : List Entry) → apart [] es ≡ true
   all_apart [] = refl
@@ -126,4 +118,4 @@ module _ (types : List TypeForm) where
 
   pub walked-layout : (es : List Entry) → ((t : TypeId) → IfSome (measure_of types t) Within) → layout_of types es ≡ walked types begun es
   walked-layout es sound =
-      sym (walked-whole begun es (lit≤ tt) sound ∙ ap (λ b. if b && may_stand types es then for_some (placed types begun es) rounded_up else None) (all_apart es))
+      sym (walked-whole begun es (lit≤ tt) sound ∙ ap (λ b. if b && may_stand es then for_some (placed types begun es) rounded_up else None) (all_apart es))

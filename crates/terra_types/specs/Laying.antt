@@ -4,7 +4,7 @@ use Rattle.terra_types.specs.declared.layout.Entry.{Entry}
 use Rattle.terra_types.specs.declared.layout.Layout.{Layout}
 use Rattle.terra_types.specs.declared.measure.Measure.{Measure}
 use Rattle.terra_types.specs.declared.types.TypeForm.{TypeForm}
-use Rattle.terra_types.specs.Layouts.{is_function, is_laid, rounded_up, with_entry}
+use Rattle.terra_types.specs.Layouts.{is_laid, rounded_up, with_entry}
 use Rattle.terra_types.specs.Sizes.{largest_size, measure_of, for_some}
 
 -- an entry of a known measure behind the others; none where the limit is passed, or the name is there
@@ -15,7 +15,7 @@ added_to l e m =
     else None
 
 abbrev pub with_next : List TypeForm → Layout → Entry → Option Layout
-with_next types l e = if is_function types e.of then None else for_some (measure_of types e.of) (added_to l e)
+with_next types l e = for_some (measure_of types e.of) (added_to l e)
 
 abbrev pub walked : List TypeForm → Layout → List Entry → Option Layout
 walked types l [] = rounded_up l

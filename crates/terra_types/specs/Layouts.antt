@@ -38,17 +38,14 @@ abbrev pub is_function_form : TypeForm → Bool
 is_function_form (forms.Function params result) = true
 is_function_form _ = false
 
-abbrev pub is_function : List TypeForm → TypeId → Bool
-is_function types t = is_function_form (unwrap_or (slice_get types t.0) forms.Unit)
-
 abbrev pub is_named : TextId → List Entry → Bool
 is_named field [] = false
 is_named field (e ∷ es) = nat_eq field.0 e.field.0 || is_named field es
 
--- no two entries have one name, and none is a function
-abbrev pub may_stand : List TypeForm → List Entry → Bool
-may_stand types [] = true
-may_stand types (e ∷ es) = not (is_named e.field es) && (not (is_function types e.of) && may_stand types es)
+-- no two entries have one name
+abbrev pub may_stand : List Entry → Bool
+may_stand [] = true
+may_stand (e ∷ es) = not (is_named e.field es) && may_stand es
 
 abbrev pub rounded_up : Layout → Option Layout
 rounded_up l =
@@ -57,7 +54,7 @@ rounded_up l =
 
 -- the layout of a struct with these entries; none where they are bad
 abbrev pub layout_of : List TypeForm → List Entry → Option Layout
-layout_of types es = if may_stand types es then for_some (placed types begun es) rounded_up else None
+layout_of types es = if may_stand es then for_some (placed types begun es) rounded_up else None
 
 -- a name that an entry has
 abbrev pub is_laid : TextId → List Laid → Bool

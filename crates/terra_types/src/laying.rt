@@ -3,19 +3,18 @@
 ghost use Rattle.std.specs.Prelude.{◌≡◌, ◌≤◌, ◌+◌, IsTrue, Some, None, IfOk, IfSome, if◌then◌else◌};
 ghost use Rattle.terra_types.specs.Kept.{AreKept, forms_in};
 ghost use Rattle.terra_types.specs.Laying.{added_to, walked, with_next};
-ghost use Rattle.terra_types.specs.Layouts.{begun, is_function, layout_of, rounded, rounded_up};
+ghost use Rattle.terra_types.specs.Layouts.{begun, layout_of, rounded, rounded_up};
 ghost use Rattle.terra_types.specs.Sizes.{largest_size, settled, Within};
 
 use crate::layout::{Entry, Laid, LaidList, Layout};
 use crate::measure::{LARGEST_SIZE, Measure};
 use crate::measuring::measure_in;
-use crate::table::{Table, kept_of};
-use crate::types::TypeForm;
+use crate::table::Table;
 use std::alloc::Global;
-use tl_base::{NoMemory, TypeId};
+use tl_base::NoMemory;
 
-/// The layout of a struct with these entries. None where a name stands twice, where a type is a function or has no size, or where
-/// the struct would pass the limit.
+/// The layout of a struct with these entries. None where a name stands twice, where a type has no size, or where the struct would
+/// pass the limit.
 pub(crate) fn lay_out(
     alloc: Global,
     table: &Table,
@@ -45,9 +44,6 @@ fn put(table: &Table, layout: &mut Layout, entry: Entry) -> Result<bool, NoMemor
     ensures value { IfOk result (λ put. (if put then Some layout.new else None) ≡ with_next (forms_in table.now.entries) layout.old entry) }
     ensures laid { IfOk result (λ put. IsTrue put → Within (settled layout.new)) }
 {
-    if is_function_type(table, entry.of) {
-        return Ok(false);
-    }
     match measure_in(table, entry.of) {
         Some(measure) => add(layout, entry, measure),
         None => Ok(false),
@@ -105,17 +101,4 @@ fn rounded_to(size: u64, align: u64) -> u64
     ensures bound { result ≤ size + 8 }
 {
     (size + (align - 1)) / align * align
-}
-
-/// Whether a type is that of functions.
-fn is_function_type(table: &Table, t: TypeId) -> bool
-    ensures { result ≡ is_function (forms_in table.now.entries) t }
-{
-    match kept_of(table, t) {
-        Some(kept) => match kept.form {
-            TypeForm::Function(_, _) => true,
-            _ => false,
-        },
-        None => false,
-    }
 }

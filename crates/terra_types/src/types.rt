@@ -213,8 +213,7 @@ impl Types {
     }
 
     /// Settles the layout of a struct that has none yet, by its entries in order. It is `Bad`, and nothing is changed, where a
-    /// field is named twice, where an entry is of a function type or of one without a size, or where the struct would pass the
-    /// limit.
+    /// field is named twice, where an entry is of a type without a size, or where the struct would pass the limit.
     pub fn settle(&mut self, t: TypeId, entries: Vec<Entry>) -> Result<Settled, NoMemory>
         requires { IsTrue (is_unsettled self.old t) }
         ensures answer { IfOk result (λ settled. settled ≡ settled_answer (layout_of self.old entries.items)) }

@@ -1,7 +1,6 @@
 use Rattle.std.proofs.Common.{List, ◌∷◌, refl, ap}
 use Rattle.tl_base.specs.declared.ids.TermId.{TermId}
 use Rattle.check_model.specs.declared.made.Made.{Made}
-use Rattle.check_model.specs.declared.rule.Mode.TheVariants.{Implicit}
 use Rattle.check_model.specs.Plans.{BodyPlan}
 use Rattle.check_model.specs.Statements as models
 use Rattle.check_expr.specs.declared.frame.DoingFrame.TheVariants as of_doing
@@ -35,6 +34,6 @@ returns-in_ok-push-in-Some-clause-means c = carried _ _ c.convert.result c.conve
     let fs2 = c.convert.new.frames.items in
     let w2 = c.convert.new.typing in
     moved fs fs2 (plan f.places) (plan (p ∷ rest)) w w w2 left left step (ap plan c.in-Some.ensures) refl
-    (behind_doing_convert fs c.push.new.self.items fs2 (of_doing.Assigned (record f { places = rest })) Implicit a.made
+    (behind_doing_convert fs c.push.new.self.items fs2 (of_doing.Assigned (record f { places = rest })) a.made
     p.of f.site w w2 left left
     step c.in_ok-push-in-Some.ensures.items (g left)))

@@ -1,6 +1,5 @@
 use Rattle.std.proofs.Common.{Bool, false, [], ◌∷◌, ◌++◌, refl, ap}
 use Rattle.check_model.specs.declared.made.Made.{Made}
-use Rattle.check_model.specs.declared.rule.Mode.TheVariants.{Implicit}
 use Rattle.check_model.specs.Calls as models
 use Rattle.check_model.specs.Converting.{convert, fit}
 use Rattle.check_model.specs.Plans.{BodyPlan}
@@ -38,9 +37,9 @@ returns-else-fitting-clause-means c = carried _ _ c.convert.result c.convert.ens
     let w = a.typing.now in
     let w2 = c.convert.new.typing in
     let go : Made → BodyPlan = λ r. operands_from f false (f.ids ++ r.id ∷ []) a.of in
-    moved fs fs2 (models.argument f.fitting a.made a.parameter n.at n.site go) (convert Implicit a.made a.parameter
+    moved fs fs2 (models.argument f.fitting a.made a.parameter n.at n.site go) (convert a.made a.parameter
     n.site go) w w w2 left left
     step (ap (λ (b : Bool). models.argument b a.made a.parameter n.at n.site go) c.if-fitting.false) refl
-    (behind_convert fs c.push.new.self.items fs2 (of_made.Fitted f a.of) Implicit a.made a.parameter n.site w w2 left
+    (behind_convert fs c.push.new.self.items fs2 (of_made.Fitted f a.of) a.made a.parameter n.site w w2 left
     left step
     c.in_ok-push.ensures.items (g left)))

@@ -23,10 +23,10 @@ returns-in-Value-clause-means c =
     let left = a.budget.now in
     let x = expression_at w.stage a.term in
     let os = c.from_vec-operands.result in
-    let job = jobs.Callee a.term os n.at n.source n.site in
+    let job = jobs.Callee a.term os n.at a.fitting n.source n.site in
     let plan : Bool → List Operand → BodyPlan = λ b all.
     if b then models.call_named w.stage x all n.at a.fitting n.source n.site else Do
-    (jobs.Callee a.term all n.at n.source n.site) Give in
+    (jobs.Callee a.term all n.at a.fitting n.source n.site) Give in
     moved fs fs (plan (models.is_called x) a.operands.items) (plan false os) w w w left left (Enter job)
     (ap (λ (b : Bool). plan b a.operands.items)
     (value_uncalled x (ap (λ (v : TypingState). callee_in (expression_at v.stage a.term)) (sym c.typing.view_is) ∙ sym
@@ -50,7 +50,7 @@ returns-in_default-clause-means c = carried _ _ c.call_named.result c.call_named
     let last = c.from_vec-operands-in_default.result in
     let plan : Bool → BodyPlan = λ b.
     if b then models.call_named w.stage x os n.at a.fitting n.source n.site else Do
-    (jobs.Callee a.term os n.at n.source n.site) Give in
+    (jobs.Callee a.term os n.at a.fitting n.source n.site) Give in
     let named : Callee → List Operand → BodyPlan = λ k all. named_plan k w.stage all n.at a.fitting n.source n.site in
     let same = ap (λ (v : TypingState). callee_in (expression_at v.stage a.term)) (sym c.typing.view_is) ∙ sym
     c.callee_of.ensures in

@@ -24,10 +24,10 @@ returns-in-Value-clause-means c =
     let left = a.budget.now in
     let x = expression_at w.stage a.f in
     let os = c.from_vec-operands.result in
-    let job = jobs.Callee a.f os n.at n.source n.site in
+    let job = jobs.Callee a.f os n.at false n.source n.site in
     let plan : Bool → List Operand → BodyPlan = λ b all.
     if b then Pay 1 (models.call_named w.stage x all n.at false n.source n.site) else Do
-    (jobs.Callee a.f all n.at n.source n.site) Give in
+    (jobs.Callee a.f all n.at false n.source n.site) Give in
     moved fs fs (plan (models.is_called x) (untyped a.arguments)) (plan false os) w w w left left (Enter job)
     (ap (λ (b : Bool). plan b (untyped a.arguments))
     (value_uncalled x (ap (λ (v : TypingState). callee_in (expression_at v.stage a.f)) (sym c.typing.view_is) ∙ sym
@@ -47,7 +47,7 @@ returns-then-not-pay-clause-means c =
     let x = expression_at w.stage a.f in
     let os = untyped a.arguments in
     let call = models.call_named w.stage x os n.at false n.source n.site in
-    let plan : Bool → BodyPlan = λ b. if b then Pay 1 call else Do (jobs.Callee a.f os n.at n.source n.site) Give in
+    let plan : Bool → BodyPlan = λ b. if b then Pay 1 call else Do (jobs.Callee a.f os n.at false n.source n.site) Give in
     let same = ap (λ (v : TypingState). callee_in (expression_at v.stage a.f)) (sym c.typing.view_is) ∙ sym
     c.callee_of.ensures in
     moved fs fs (plan (models.is_called x)) (plan true) w w w left c.pay.new.self Spent
@@ -69,7 +69,7 @@ returns c =
     let os = untyped a.arguments in
     let last = c.from_vec-operands-in_default.result in
     let call = models.call_named w.stage x os n.at false n.source n.site in
-    let plan : Bool → BodyPlan = λ b. if b then Pay 1 call else Do (jobs.Callee a.f os n.at n.source n.site) Give in
+    let plan : Bool → BodyPlan = λ b. if b then Pay 1 call else Do (jobs.Callee a.f os n.at false n.source n.site) Give in
     let named : Callee → List Operand → BodyPlan = λ k all. named_plan k w.stage all n.at false n.source n.site in
     let same = ap (λ (v : TypingState). callee_in (expression_at v.stage a.f)) (sym c.typing.view_is) ∙ sym
     c.callee_of.ensures in

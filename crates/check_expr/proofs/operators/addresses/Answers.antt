@@ -9,16 +9,16 @@ use Rattle.tl_base.proofs.Results.{carried, on-ok}
 use Rattle.check_expr.proofs.operators.addresses.Goals as goal
 
 pub returns-clause-means : goal.returns-clause-means
-returns-clause-means c = carried _ _ c.same_pointers.result c.same_pointers.ensures.means (λ step g units fs.
+returns-clause-means c = carried _ _ c.same_addresses.result c.same_addresses.ensures.means (λ step g units fs.
     let a = c.args in
     let n = a.node in
     let w = a.typing.now in
     let v = c.retyped.new.typing in
     let u = c.retyped-2.new.typing in
-    let w2 = c.same_pointers.new.typing in
+    let w2 = c.same_addresses.new.typing in
     let x = c.in_ok-left.left in
     let y = c.in_ok-right.right in
-    let last : Made → Made → BodyPlan = λ l r. models.same_pointers a.op l r n.at n.source n.site in
+    let last : Made → Made → BodyPlan = λ l r. models.same_addresses a.op l r n.at n.source n.site in
     retyped_goes fs fs w.stage c.is_nil-first_is_nil.result a.left a.right x (λ l. models.retyped w.stage a.right l
     (last l)) w v w2 units units step
     (c.is_nil-first_is_nil.ensures ∙ ap (λ (t : TypingState). is_nil_made t.stage a.left) c.typing.view_is)
@@ -30,7 +30,7 @@ returns-clause-means c = carried _ _ c.same_pointers.result c.same_pointers.ensu
     c.in_ok-right.ensures.ok (g units fs)))
 
 pub returns-clause-kept : goal.returns-clause-kept
-returns-clause-kept c = on-ok c.same_pointers.result c.same_pointers.ensures.kept (λ g.
-    keeps_then c.args.typing.now c.retyped.new.typing c.same_pointers.new.typing c.in_ok-left.ensures.kept
-    (keeps_then c.retyped.new.typing c.retyped-2.new.typing c.same_pointers.new.typing c.in_ok-right.ensures.kept
+returns-clause-kept c = on-ok c.same_addresses.result c.same_addresses.ensures.kept (λ g.
+    keeps_then c.args.typing.now c.retyped.new.typing c.same_addresses.new.typing c.in_ok-left.ensures.kept
+    (keeps_then c.retyped.new.typing c.retyped-2.new.typing c.same_addresses.new.typing c.in_ok-right.ensures.kept
     g))

@@ -1,6 +1,5 @@
 use Rattle.std.proofs.Common.{sym, ap, ◌∙◌}
 use Rattle.check_model.specs.declared.made.Made.{Made}
-use Rattle.check_model.specs.declared.rule.Mode.TheVariants.{Implicit}
 use Rattle.check_model.specs.Converting.{convert}
 use Rattle.check_model.specs.Plans.{BodyPlan}
 use Rattle.check_model.specs.Typing.{TypingState}
@@ -15,7 +14,7 @@ returns-then-is_value_of-clause-means c =
     let a = c.args in
     let f = a.frame in
     let site = f.node.site in
-    let go : Made → BodyPlan = λ x. convert Implicit a.right f.meet site (λ y. meet_right f x y) in
+    let go : Made → BodyPlan = λ x. convert a.right f.meet site (λ y. meet_right f x y) in
     carried _ _ c.meet_next.result c.meet_next.ensures.means (λ step g left.
     stays a.frames.now.items c.meet_next.new.frames.items a.left f.meet site go a.typing.now c.meet_next.new.typing left left step
     (ap (λ (v : TypingState). stands_as v.stage a.left.of f.meet) (sym c.typing.view_is) ∙ sym c.is_value_of.ensures

@@ -1,4 +1,3 @@
-use Rattle.check_model.specs.declared.rule.Mode.TheVariants.{Implicit}
 use Rattle.check_expr.specs.declared.frame.MadeFrame.TheVariants as of_made
 use Rattle.check_expr.proofs.Behind.{behind_convert}
 use Rattle.tl_base.proofs.Results.{carried}
@@ -8,6 +7,6 @@ pub returns-clause-means : goal.returns-clause-means
 returns-clause-means c = carried _ _ c.convert.result c.convert.ensures.means (λ step g left.
     let a = c.args in
     behind_convert a.frames.now.items c.push.new.self.items c.convert.new.frames.items (of_made.MeetRight a.frame
-    a.left) Implicit a.right a.frame.meet a.frame.node.site
+    a.left) a.right a.frame.meet a.frame.node.site
     a.typing.now c.convert.new.typing left left step c.in_ok-push.ensures.items
     (g left))

@@ -1,6 +1,5 @@
 use Rattle.std.proofs.Common.{Option, refl, ap}
 use Rattle.tl_base.specs.declared.ids.TypeId.{TypeId}
-use Rattle.check_model.specs.declared.rule.Mode.TheVariants.{Implicit}
 use Rattle.check_model.specs.Converting.{convert}
 use Rattle.check_model.specs.Plans.{as_value}
 use Rattle.check_model.specs.Statements as models
@@ -34,8 +33,8 @@ returns-in_ok-push-in-Some-clause-means c = carried _ _ c.convert.result c.conve
     let w = a.typing.now in
     let w2 = c.convert.new.typing in
     moved fs fs2 (models.return_value a.site.result m a.at a.site)
-    (convert Implicit m s.of a.site (λ r. waiting.with_doing (of_doing.Returned s.of a.at) r)) w w w2 left left step
+    (convert m s.of a.site (λ r. waiting.with_doing (of_doing.Returned s.of a.at) r)) w w w2 left left step
     (ap (λ (o : Option TypeId). models.return_value o m a.at a.site) s.is) refl
-    (behind_doing_convert fs c.push-in-Some.new.self.items fs2 (of_doing.Returned s.of a.at) Implicit m s.of a.site w w2
+    (behind_doing_convert fs c.push-in-Some.new.self.items fs2 (of_doing.Returned s.of a.at) m s.of a.site w w2
     left left step
     c.in_ok-push-in-Some.ensures.items (g left)))

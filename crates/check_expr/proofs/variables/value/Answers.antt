@@ -2,7 +2,6 @@ use Rattle.std.proofs.Common.{false, Option, None, [], ◌∷◌, ◌++◌, refl
 use Rattle.tl_base.specs.declared.ids.TypeId.{TypeId}
 use Rattle.terra_term.specs.declared.refusal.RefusalKind.TheVariants.{Mismatch}
 use Rattle.check_model.specs.declared.made.Made.{Made}
-use Rattle.check_model.specs.declared.rule.Mode.TheVariants.{Implicit}
 use Rattle.check_model.specs.Converting.{convert}
 use Rattle.check_model.specs.Plans.{BodyPlan, refuse, as_value}
 use Rattle.check_model.specs.Statements as models
@@ -24,9 +23,9 @@ returns-in_ok-push-in-Some-clause-means c = carried _ _ c.convert.result c.conve
     let w = a.typing.now in
     let w2 = c.convert.new.typing in
     let go : TypeId → Made → BodyPlan = λ t r. waiting.var_from f (f.typed ++ waiting.with_type a.name t ∷ []) (f.ids ++ r.id ∷ []) in
-    moved fs fs2 (models.value_for a.name.of a.made f.site go) (convert Implicit a.made s.of f.site (go s.of)) w w w2 left left
+    moved fs fs2 (models.value_for a.name.of a.made f.site go) (convert a.made s.of f.site (go s.of)) w w w2 left left
     step (ap (λ (o : Option TypeId). models.value_for o a.made f.site go) s.is) refl
-    (behind_doing_convert fs c.push.new.self.items fs2 (of_doing.VarReady a.name s.of f) Implicit a.made s.of f.site w w2 left left
+    (behind_doing_convert fs c.push.new.self.items fs2 (of_doing.VarReady a.name s.of f) a.made s.of f.site w w2 left left
     step c.in_ok-push-in-Some.ensures.items (g left)))
 
 pub returns-in_ok-push-in-None-clause-means : goal.returns-in_ok-push-in-None-clause-means

@@ -13,7 +13,7 @@ pub returns-in_ok-push-in-Callee-clause-means : goal.returns-in_ok-push-in-Calle
 returns-in_ok-push-in-Callee-clause-means c = carried _ _ c.expression-in-Callee.result c.expression-in-Callee.ensures.means (λ step g.
     let a = c.args in
     let m = c.in-Callee in
-    let f = frames.Made (of_made.Callee m.operands m.at m.source m.site) in
+    let f = frames.Made (of_made.Callee m.operands m.at m.fitting m.source m.site) in
     let q = expression_job m.term m.site in
     rw m.is (below a.frames.now.items c.push.new.self.items c.expression-in-Callee.new.frames.items f
     (then_on q (λ r. after f r)) q
