@@ -8,6 +8,7 @@ use Rattle.std.proofs.lemmas.List.{length-append, length-map}
 use Rattle.tl_base.specs.declared.ids.FnId.{FnId}
 use Rattle.tl_base.specs.declared.ids.TypeId.{TypeId}
 use Rattle.rv_isa.specs.Table.{word_of}
+use Rattle.rv_isa.specs.Registers.{S1}
 use Rattle.elf_image.specs.declared.image.Image.{Image}
 use Rattle.elf_image.specs.declared.image.Symbol.{Symbol}
 use Rattle.elf_image.specs.Exports.{is_in_text, names_differ, param_rule, result_rule}
@@ -43,7 +44,7 @@ use Rattle.rv_machine.specs.Machine.{Ran, State}
 use Rattle.rv_machine.specs.ImageRun.{RvRun}
 use Rattle.rv_machine.proofs.ImageRuns.{one_run}
 use Rattle.rv_select.specs.Numbers.{constant}
-use Rattle.rv_select.specs.Shapes.{jump, place_number, units_given, x9}
+use Rattle.rv_select.specs.Shapes.{jump, place_number, units_given}
 use Rattle.rv_select.proofs.Numbers.{constant-count}
 use Rattle.rv_link.specs.declared.function.Function.{Function}
 use Rattle.rv_link.specs.declared.function.Linked.{Linked}
@@ -68,9 +69,9 @@ use Rattle.back_end.proofs.WithoutCopies.{all_compiled, all_lowered, compiled-ru
 
 given-length : (units from at : ℕ) → (1 ≤ length (units_given units from at)) × (length (units_given units from at) ≤ 10)
 given-length units from at =
-    let e = length-append (constant x9 units) (jump false (from + 4 * length (constant x9 units)) at) in
-    let two : length (jump false (from + 4 * length (constant x9 units)) at) ≡ 2 = refl in
-    let c = constant-count x9 units in
+    let e = length-append (constant S1 units) (jump false (from + 4 * length (constant S1 units)) at) in
+    let two : length (jump false (from + 4 * length (constant S1 units)) at) ≡ 2 = refl in
+    let c = constant-count S1 units in
     (omega (arith, e, two), omega (arith, e, two, c))
 
 text-long : (linked : Linked) (text : List ℕ) (units at : ℕ) →

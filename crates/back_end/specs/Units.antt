@@ -25,7 +25,7 @@ pub record Needs (run : ℕ → Run) (m : ℕ) : Type 0 where
   pub fewer : (n : ℕ) → n < m → (less : List ℕ) × (run n ≡ More less)
 
 -- The one export of an image stands for a function, and from its address the image runs as the function means with so many counts, for all
--- arguments that are words of the parameters' types. Where the function ends, so does the image's run, and x9 is then what it didn't need;
+-- arguments that are words of the parameters' types. Where the function ends, so does the image's run, and S1 is then what it didn't need;
 -- where it needs more, the image's run breaks off with the same output.
 pub record AgreesCounted (store : Contents) (image : Image) (memory : ℕ) (f : FnId) (units : ℕ) : Type 0 where
   pub lawful : IsLawful image

@@ -49,7 +49,7 @@ fn symbol_alone(alloc: Global, store: &Store, at: u64, function: FnId) -> Result
 }
 
 /// An image of a function with all that it reaches, whose code counts, as its one export `f`. From there it runs with so many units: it ends
-/// as the function means, and x9 has what is left of them then, or it breaks off where the function needs more.
+/// as the function means, and S1 has what is left of them then, or it breaks off where the function needs more.
 pub fn compile_counted(
     alloc: Global,
     store: &Store,

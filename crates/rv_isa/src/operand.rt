@@ -3,7 +3,7 @@
 ghost use Rattle.std.specs.Prelude.{pos, negsuc, ◌≡◌, ◌<◌, ◌≤◌, ◌≤ℤ◌, ◌%◌, ◌^◌, ◌↔◌, IsSome, IfSome, unsigned_abs};
 ghost use Rattle.rv_isa.specs.Formats.{twos_complement};
 
-/// One of the registers x0 to x31.
+/// One of the registers x0 to x31. Its constants have the names of the RISC-V calling convention, section "Integer Register Convention".
 #[derive(Clone, Copy, PartialEq, Eq)]
 pub struct Register {
     /// From 0 to 31.
@@ -14,6 +14,68 @@ pub struct Register {
 impl Register {
     /// x0, which reads as zero.
     pub const ZERO: Register = Register { number: 0 };
+    /// x1, the return address of a call.
+    pub const RA: Register = Register { number: 1 };
+    /// x2, the stack pointer.
+    pub const SP: Register = Register { number: 2 };
+    /// x3, the global pointer.
+    pub const GP: Register = Register { number: 3 };
+    /// x4, the thread pointer.
+    pub const TP: Register = Register { number: 4 };
+    /// x5, the first temporary.
+    pub const T0: Register = Register { number: 5 };
+    /// x6, a temporary.
+    pub const T1: Register = Register { number: 6 };
+    /// x7, a temporary.
+    pub const T2: Register = Register { number: 7 };
+    /// x8, the first saved register, or the frame pointer.
+    pub const S0: Register = Register { number: 8 };
+    /// x9, a saved register.
+    pub const S1: Register = Register { number: 9 };
+    /// x10, the first argument, and the result.
+    pub const A0: Register = Register { number: 10 };
+    /// x11, the second argument, and the second word of the result.
+    pub const A1: Register = Register { number: 11 };
+    /// x12, an argument.
+    pub const A2: Register = Register { number: 12 };
+    /// x13, an argument.
+    pub const A3: Register = Register { number: 13 };
+    /// x14, an argument.
+    pub const A4: Register = Register { number: 14 };
+    /// x15, an argument.
+    pub const A5: Register = Register { number: 15 };
+    /// x16, an argument.
+    pub const A6: Register = Register { number: 16 };
+    /// x17, an argument.
+    pub const A7: Register = Register { number: 17 };
+    /// x18, a saved register.
+    pub const S2: Register = Register { number: 18 };
+    /// x19, a saved register.
+    pub const S3: Register = Register { number: 19 };
+    /// x20, a saved register.
+    pub const S4: Register = Register { number: 20 };
+    /// x21, a saved register.
+    pub const S5: Register = Register { number: 21 };
+    /// x22, a saved register.
+    pub const S6: Register = Register { number: 22 };
+    /// x23, a saved register.
+    pub const S7: Register = Register { number: 23 };
+    /// x24, a saved register.
+    pub const S8: Register = Register { number: 24 };
+    /// x25, a saved register.
+    pub const S9: Register = Register { number: 25 };
+    /// x26, a saved register.
+    pub const S10: Register = Register { number: 26 };
+    /// x27, a saved register.
+    pub const S11: Register = Register { number: 27 };
+    /// x28, a temporary.
+    pub const T3: Register = Register { number: 28 };
+    /// x29, a temporary.
+    pub const T4: Register = Register { number: 29 };
+    /// x30, a temporary.
+    pub const T5: Register = Register { number: 30 };
+    /// x31, a temporary.
+    pub const T6: Register = Register { number: 31 };
 
     /// The register of this number, or None where there is none.
     pub fn new(number: u8) -> Option<Register>

@@ -14,6 +14,7 @@ use Rattle.rv_isa.specs.declared.operation.BranchCondition.{BranchCondition}
 use Rattle.rv_isa.specs.declared.operation.BranchCondition.TheVariants.{Ne}
 use Rattle.rv_isa.specs.declared.operand.Register.{Register}
 use Rattle.rv_isa.specs.Table.{word_of}
+use Rattle.rv_isa.specs.Registers.{ZERO, T0}
 use Rattle.tl_base.specs.declared.place.Place.{Place}
 use Rattle.tac_form.specs.declared.tac.Part.{Part}
 use Rattle.tac_form.specs.declared.tac.Destination.{Destination}
@@ -25,7 +26,6 @@ use Rattle.tac_form.specs.declared.tac.Instruction.TheVariants.{Alloc, Call, Cal
 use Rattle.tac_form.specs.declared.tac.Instruction.TheVariants.{Store, TestDivisor, Write}
 use Rattle.tac_form.specs.declared.tac.Block.{Block}
 use Rattle.tac_form.specs.declared.tac.Tac.{Tac}
-use Rattle.rv_operators.specs.Codes.{x0, x5}
 use Rattle.rv_select.specs.declared.selected.Call.{Call as Site}
 use Rattle.rv_select.specs.Numbers.{lower_of, upper_of}
 use Rattle.rv_select.specs.declared.pairs.Pair.{Pair}
@@ -290,8 +290,8 @@ distance-moved b f t h =
     ap (λ z. z % 2 ^ 32) same
 
 abbrev jump-by : Bool → ℕ → List Instr
-jump-by true d = Jal x0 (jump_offset d) ∷ []
-jump-by false d = Auipc x5 (upper_of d) ∷ Jalr x0 x5 (lower_of d) ∷ []
+jump-by true d = Jal ZERO (jump_offset d) ∷ []
+jump-by false d = Auipc T0 (upper_of d) ∷ Jalr ZERO T0 (lower_of d) ∷ []
 
 jump-is : (short : Bool) (f t : ℕ) → jump short f t ≡ jump-by short (distance f t)
 jump-is true f t = refl
@@ -398,7 +398,7 @@ exit-moved code y setting held b at last starts moved (Jump e) same fits near =
     edge-from setting e b at (starts e.block) (b + at) (moved e.block) refl (same e.block (ltb-true e.block (length code.blocks) fits)) (omega (arith, near))
 exit-moved code y setting held b at last starts moved (Branch a e f) same fits near =
     ap (λ z. T ++ z)
-    (parted-moved setting Ne (read_in y x5 a) x0 b at (4 * length T) e f (starts e.block) (starts f.block) (moved e.block) (moved f.block)
+    (parted-moved setting Ne (read_in y T0 a) ZERO b at (4 * length T) e f (starts e.block) (starts f.block) (moved e.block) (moved f.block)
     (omega (arith, near, few)) (same e.block (ltb-true e.block (length code.blocks) parts.0)) (same f.block (ltb-true f.block (length code.blocks) parts.1)))
   where
     T : List Instr

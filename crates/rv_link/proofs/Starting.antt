@@ -11,6 +11,7 @@ use Rattle.elf_image.specs.Layout.{text_address}
 use Rattle.elf_image.specs.Written.{entries_bytes}
 use Rattle.rv_machine.specs.declared.stops.Stop.TheVariants as stops
 use Rattle.rv_isa.specs.Table.{word_of}
+use Rattle.rv_isa.specs.Registers.{S1}
 use Rattle.rv_machine.specs.Machine.{State, after_output, run_of, stands, start_registers}
 use Rattle.rv_machine.specs.Program.{IsProgram}
 use Rattle.rv_machine.specs.ImageRun.{image_start, private_bytes, region_bytes}
@@ -26,7 +27,7 @@ use Rattle.rv_select.specs.Numbers.{constant}
 use Rattle.rv_select.specs.Waiting.{IsLinked, IsPlaced}
 use Rattle.rv_select.specs.Whole.{AreShort, Ended, Starts, before_entry}
 use Rattle.rv_select.specs.Places.{layout_of}
-use Rattle.rv_select.specs.Shapes.{jump, place_number, units_given, x9}
+use Rattle.rv_select.specs.Shapes.{jump, place_number, units_given}
 use Rattle.rv_select.proofs.Branched.{low-near}
 use Rattle.rv_select.proofs.Jumps.{Jumped, jumps-there}
 use Rattle.rv_select.proofs.Numbers.{constant-count, constant-loads}
@@ -260,13 +261,13 @@ record Given (image : Image) (program : List (Option Instr)) (at units steps : �
 gives-units : (image : Image) (program : List (Option Instr)) (from at units : ℕ) (arguments : List ℕ) → from + 256 ≤ 2 ^ 30 → at < 2 ^ 30 →
     at % 2 ≡ 0 → units < 2 ^ 64 → length arguments ≤ 8 → Stands program from (units_given units from at) →
     Starts from (fresh image.memory image.statics) arguments (image_start image from arguments) →
-    Given image program at units (length (constant x9 units) + 2) arguments (image_start image from arguments)
+    Given image program at units (length (constant S1 units) + 2) arguments (image_start image from arguments)
 gives-units image program from at units arguments near low-at even small few there s =
     let m : State = image_start image from arguments in
-    let A : List Instr = constant x9 units in
+    let A : List Instr = constant S1 units in
     let J : List Instr = jump false (from + 4 * length A) at in
-    let l : Loads 9 A m units = constant-loads x9 m units (λ z. omega (arith, z)) (λ z. omega (arith, z)) small in
-    let short : length A ≤ 8 = constant-count x9 units in
+    let l : Loads 9 A m units = constant-loads S1 m units (λ z. omega (arith, z)) (λ z. omega (arith, z)) small in
+    let short : length A ≤ 8 = constant-count S1 units in
     let here : l.after.pc ≡ from + 4 * length A = l.behind ∙ low-near (from + 4 * length A) (omega (arith, near, short)) in
     let jump-there : Stands program (from + 4 * length A) J =
     subst (λ q. Stands program q J) (low-near (from + 4 * length A) (omega (arith, near, short)))
@@ -394,18 +395,18 @@ counted-images-carried functions values linked image f code units arguments r se
     words-stand linked.words.items [] G program
     (subst (λ z. IsProgram z program) (ap (λ z. linked.words.items ++ z) (sym (append-nil (map word_of G)))) in-text)
     (fits (length linked.words.items) (length G) end-near (given-few units from at)) in
-    let g : Given image program at units (length (constant x9 units) + 2) arguments start =
+    let g : Given image program at units (length (constant S1 units) + 2) arguments start =
     gives-units image program from at units arguments end-near (begins-near at _ pl.near) (begins-even at pl.aligned) small few there
     (images-start image from arguments lawful none few args) in
     let room : 512 * linked.frame ≤ length g.after.private =
     subst (λ z. 512 * linked.frame ≤ z) (sym (g.long ∙ (ap length (zeros-only image none) ∙ length-replicate image.private 0))) frame in
     let left : ℕ = left_after (begun p image.statics image.memory units f (map word arguments)) (left_in p run.0) units in
-    ends-counted image program from arguments (length (constant x9 units) + 2) ((units + 1) * length linked.words.items)
+    ends-counted image program from arguments (length (constant S1 units) + 2) ((units + 1) * length linked.words.items)
     ((units + 1) * length image.text) left (before_entry f (fresh image.memory image.statics) units) g.after r few decoded refl
-    (subst (λ z. length (constant x9 units) + 2 + (units + 1) * length linked.words.items ≤ (units + 1) * length z) (sym text)
-    (bound units (length linked.words.items) (length (constant x9 units) + 2) (length (linked.words.items ++ map word_of G))
+    (subst (λ z. length (constant S1 units) + 2 + (units + 1) * length linked.words.items ≤ (units + 1) * length z) (sym text)
+    (bound units (length linked.words.items) (length (constant S1 units) + 2) (length (linked.words.items ++ map word_of G))
     (length-append linked.words.items (map word_of G) ∙ ap (λ n. length linked.words.items + n) (length-map G word_of
-    ∙ length-append (constant x9 units) (jump false (from + 4 * length (constant x9 units)) at)))))
+    ∙ length-append (constant S1 units) (jump false (from + 4 * length (constant S1 units)) at)))))
     g.way
     (subst (λ c. Ended c program ((units + 1) * length linked.words.items) left (before_entry f (fresh image.memory image.statics) units)
     g.after r) counts
@@ -426,8 +427,8 @@ counted-images-carried functions values linked image f code units arguments r se
     given-few units from at =
         omega (
           arith,
-          length-append (constant x9 units) (jump false (from + 4 * length (constant x9 units)) at),
-          constant-count x9 units,
+          length-append (constant S1 units) (jump false (from + 4 * length (constant S1 units)) at),
+          constant-count S1 units,
         )
 
     at-least-once : (u b : ℕ) → b ≤ (u + 1) * b

@@ -73,7 +73,7 @@ EndsLike image at arguments n most (More out) = ImageGoesOn image at arguments n
 abbrev pub text_end : Linked → ℕ
 text_end linked = text_address + 4 * length linked.words.items
 
--- The image's run ends as one of three-address code does that had a count, with the same output, in at most so many steps, and x9 has the
+-- The image's run ends as one of three-address code does that had a count, with the same output, in at most so many steps, and S1 has the
 -- counts that are left then; where that needs more counts, it has written the same output and breaks off. Of code that is stuck nothing is
 -- promised.
 pub record CountedReturns (image : Image) (at : ℕ) (arguments : List ℕ) (most left : ℕ) (out : List ℕ) (result : ℕ → Type 0) : Type 0 where

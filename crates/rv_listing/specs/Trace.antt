@@ -7,6 +7,7 @@ use Rattle.rv_isa.specs.declared.instr.Instr.TheVariants.{Lui, Auipc, Jal, Jalr,
 use Rattle.rv_isa.specs.declared.instr.Instr.TheVariants.{RegisterImmediate, Shift, Addiw, ShiftWord}
 use Rattle.rv_isa.specs.declared.instr.Instr.TheVariants.{RegisterRegister, RegisterRegisterWord, Fence}
 use Rattle.rv_isa.specs.declared.instr.Instr.TheVariants.{Ecall, Ebreak}
+use Rattle.rv_isa.specs.Registers.{A0, A7}
 use Rattle.rv_machine.specs.Machine.{State, Moved, GoesOn, Writes, Faults, Throws, register_at, act, fetch, obeys}
 use Rattle.rv_listing.specs.Texts.{hex8, text_in}
 
@@ -27,7 +28,7 @@ writes_to (ShiftWord op rd rs1 count) s = rd.number
 writes_to (RegisterRegister op rd rs1 rs2) s = rd.number
 writes_to (RegisterRegisterWord op rd rs1 rs2) s = rd.number
 writes_to (Fence rd rs1 fields) s = 0
-writes_to Ecall s = if nat_eq (s.registers 17) 64 then 10 else 0
+writes_to Ecall s = if nat_eq (s.registers A7.number) 64 then A0.number else 0
 writes_to Ebreak s = 0
 
 -- a step leads to a state

@@ -5,6 +5,7 @@ ghost use Rattle.std.specs.Prelude.{Option, Some, None, map};
 ghost use Rattle.rv_isa.specs.Finds.{Finds};
 ghost use Rattle.rv_isa.specs.Table.{word_of};
 ghost use Rattle.rv_isa.specs.declared.instr.Instr.{Instr};
+ghost use Rattle.rv_isa.specs.Registers.{A7};
 ghost use Rattle.rv_machine.specs.Machine.{State};
 ghost use Rattle.rv_listing.specs.Texts.{IsWordText};
 ghost use Rattle.rv_listing.specs.Trace.{trace_line, change_text, written_by, OthersStay};
@@ -61,9 +62,9 @@ impl TraceLine {
     }
 }
 
-/// The register that a word writes where it doesn't stop the run, or 0 where it writes none; `call` is x17.
+/// The register that a word writes where it doesn't stop the run, or 0 where it writes none; `call` is a7.
 pub fn register_written(word: u32, call: u64) -> u32
-    ensures register { (found : Option Instr) (s : State) → Finds word_of word found → s.registers 17 ≡ call →
+    ensures register { (found : Option Instr) (s : State) → Finds word_of word found → s.registers A7.number ≡ call →
         result ≡ written_by found s }
     ensures most { result ≤ 31 }
 {
@@ -79,7 +80,7 @@ pub fn other_registers_stay()
 {}
 
 fn writes_to(i: Instr, call: u64) -> u32
-    ensures register { (s : State) → s.registers 17 ≡ call → result ≡ written_by (Some i) s }
+    ensures register { (s : State) → s.registers A7.number ≡ call → result ≡ written_by (Some i) s }
     ensures most { result ≤ 31 }
 {
     match i {
@@ -94,7 +95,7 @@ fn writes_to(i: Instr, call: u64) -> u32
         | Instr::ShiftWord { rd, .. }
         | Instr::RegisterRegister { rd, .. }
         | Instr::RegisterRegisterWord { rd, .. } => u32::from(rd.number),
-        Instr::Ecall if call == 64 => 10,
+        Instr::Ecall if call == 64 => u32::from(Register::A0.number),
         Instr::Ecall
         | Instr::Branch { .. }
         | Instr::Store { .. }

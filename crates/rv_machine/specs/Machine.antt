@@ -12,6 +12,7 @@ use Rattle.rv_isa.specs.declared.operation.StoreOp.{StoreOp}
 use Rattle.rv_isa.specs.declared.instr.Instr.{Instr}
 use Rattle.rv_isa.specs.declared.instr.Instr.TheVariants.{Lui, Auipc, Jal, Jalr, Branch, Load, Store, RegisterImmediate, Shift, Addiw}
 use Rattle.rv_isa.specs.declared.instr.Instr.TheVariants.{ShiftWord, RegisterRegister, RegisterRegisterWord, Fence, Ecall, Ebreak}
+use Rattle.rv_isa.specs.Registers.{SP, GP, TP, A0, A1, A2, A7}
 use Rattle.rv_machine.specs.declared.memory.Place.{Place}
 use Rattle.rv_machine.specs.declared.memory.Place.TheVariants.{Region, Private}
 use Rattle.rv_machine.specs.declared.stops.MachineKind.{MachineKind}
@@ -37,7 +38,7 @@ pub data Moved : Type 0 where
   Faults : (kind : MachineKind) → Moved
   Throws : (kind place : ℕ) → Moved
 
--- the value of a register. x0 reads zero
+-- the value of a register. ZERO reads zero
 abbrev pub value_at : State → Register → ℕ
 value_at s a = if nat_eq a.number 0 then 0 else s.registers a.number
 
@@ -45,7 +46,7 @@ value_at s a = if nat_eq a.number 0 then 0 else s.registers a.number
 abbrev pub register_at : State → ℕ → ℕ
 register_at s number = if nat_eq number 0 then 0 else s.registers number
 
--- the registers after a write. A write to x0 is dropped
+-- the registers after a write. A write to ZERO is dropped
 abbrev pub written : (ℕ → ℕ) → ℕ → ℕ → ℕ → ℕ
 written registers d value number =
     if nat_eq d 0 then registers number else (if nat_eq number d then value else registers number)
@@ -92,33 +93,33 @@ abbrev pub stores : State → StoreOp → ℕ → ℕ → Moved
 stores s op address value =
     stores_to s (low_bytes (store_width op) value) (place_of (length s.region) (length s.private) address (store_width op))
 
--- The call `write`: x10 names the output, which has the number 1, x11 is where the bytes lie and x12 how many they are. It
--- puts their number into x10.
+-- The call `write`: A0 names the output, which has the number 1, A1 is where the bytes lie and A2 how many they are. It
+-- puts their number into A0.
 abbrev pub returned : State → State
-returned s = at_with s (low (s.pc + 4)) 10 (s.registers 12)
+returned s = at_with s (low (s.pc + 4)) A0.number (s.registers A2.number)
 
 abbrev pub writes_from : State → Option Place → Moved
 writes_from s None = Faults BadCall
-writes_from s (Some place) = Writes (returned s) (bytes_at s.region s.private place (s.registers 12))
+writes_from s (Some place) = Writes (returned s) (bytes_at s.region s.private place (s.registers A2.number))
 
 -- no bytes lie nowhere, so every address will do for them
 abbrev pub write_call : State → Moved
 write_call s =
-    if nat_eq (s.registers 10) 1 then (if nat_eq (s.registers 12) 0 then GoesOn (returned s)
-    else writes_from s (place_of (length s.region) (length s.private) (s.registers 11) (s.registers 12)))
+    if nat_eq (s.registers A0.number) 1 then (if nat_eq (s.registers A2.number) 0 then GoesOn (returned s)
+    else writes_from s (place_of (length s.region) (length s.private) (s.registers A1.number) (s.registers A2.number)))
     else Faults BadCall
 
--- The call by which the program ends the run with a fault: x10 is its kind, from 1 to 6, and x11 its place in the source.
+-- The call by which the program ends the run with a fault: A0 is its kind, from 1 to 6, and A1 its place in the source.
 abbrev pub throw_call : State → Moved
 throw_call s =
-    if nat_le 1 (s.registers 10) && nat_le (s.registers 10) 6 then Throws (s.registers 10) (s.registers 11)
+    if nat_le 1 (s.registers A0.number) && nat_le (s.registers A0.number) 6 then Throws (s.registers A0.number) (s.registers A1.number)
     else Faults BadCall
 
--- ECALL: x17 says which of the two calls it is
+-- ECALL: A7 says which of the two calls it is
 abbrev pub calls : State → Moved
 calls s =
-    if nat_eq (s.registers 17) 64 then write_call s
-    else (if nat_eq (s.registers 17) 1024 then throw_call s else Faults BadCall)
+    if nat_eq (s.registers A7.number) 64 then write_call s
+    else (if nat_eq (s.registers A7.number) 1024 then throw_call s else Faults BadCall)
 
 -- the word of the upper immediate: twenty bits over twelve zeros, extended by their sign
 abbrev pub upper_word : UpperImmediate → ℕ
@@ -174,9 +175,9 @@ stands stop s = record { stop = stop; state = s; output = [] }
 abbrev pub after_output : List ℕ → Ran → Ran
 after_output bytes r = record { stop = r.stop; state = r.state; output = bytes ++ r.output }
 
--- at address 0 the run is over and gives x10
+-- at address 0 the run is over and gives A0
 abbrev pub unless_returned : State → Ran → Ran
-unless_returned s other = if nat_eq s.pc 0 then stands (Returned (s.registers 10)) s else other
+unless_returned s other = if nat_eq s.pc 0 then stands (Returned (s.registers A0.number)) s else other
 
 -- goes on after a step, or stops. An instruction that stops the run leaves the state as it was
 abbrev pub after_step : Moved → State → (State → Ran) → Ran
@@ -191,14 +192,14 @@ run_of program s zero = unless_returned s (stands Unfinished s)
 run_of program s (suc steps) =
     unless_returned s (after_step (step program s) s (λ next. run_of program next steps))
 
--- the registers at the start: x2 is the end of private memory, x3 where the heap begins, x4 the end of the region, x10 and
+-- the registers at the start: SP is the end of private memory, GP where the heap begins, TP the end of the region, A0 and
 -- those after it the arguments
 abbrev pub start_registers : (end heap limit : ℕ) → List ℕ → ℕ → ℕ
 start_registers end heap limit arguments number =
-    if nat_eq number 2 then end
-    else (if nat_eq number 3 then heap
-    else (if nat_eq number 4 then limit
-    else (if nat_lt number 10 then 0 else slice_index arguments (number - 10))))
+    if nat_eq number SP.number then end
+    else (if nat_eq number GP.number then heap
+    else (if nat_eq number TP.number then limit
+    else (if nat_lt number A0.number then 0 else slice_index arguments (number - A0.number))))
 
 -- the start at an address, with at most eight arguments
 abbrev pub start_state : (address heap : ℕ) → (arguments region private : List ℕ) → State

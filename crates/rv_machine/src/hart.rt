@@ -2,6 +2,7 @@
 
 ghost use Rattle.std.specs.Prelude.{◌≡◌, ◌≢◌, ◌+◌, ◌-◌, ◌%◌, ◌<◌, ◌≤◌, length, slice_index, IfErr, OnOk, OnErr};
 ghost use Rattle.tl_base.specs.declared.limits.TheConstants.Limits.{MAX_MEMORY};
+ghost use Rattle.rv_isa.specs.Registers.{A0};
 ghost use Rattle.rv_machine.specs.Word.{low, word};
 ghost use Rattle.rv_machine.specs.Memory.{most_private};
 ghost use Rattle.rv_machine.specs.Machine.{upper_word, written, start_registers};
@@ -203,7 +204,7 @@ impl Hart {
         ensures untouched { IfErr result (λ stop. stop ≢ WriteFault → out.new ≡ out.old) }
         ensures same { OnErr result (hart_state self.new ≡ hart_state self.old) }
     {
-        match self.registers[17] {
+        match self.read(Register::A7) {
             64 => self.write_call(out),
             1024 => Err(self.throw_call()),
             _ => Err(self.fault(MachineKind::BadCall)),
@@ -222,15 +223,15 @@ impl Hart {
         ensures untouched { IfErr result (λ stop. stop ≢ WriteFault → out.new ≡ out.old) }
         ensures same { OnErr result (hart_state self.new ≡ hart_state self.old) }
     {
-        if self.registers[10] != 1 {
+        if self.read(Register::A0) != 1 {
             return Err(self.fault(MachineKind::BadCall));
         }
-        let count = self.registers[12];
+        let count = self.read(Register::A2);
         if count == 0 {
             self.answer(count);
             return Ok(());
         }
-        let Some(place) = self.place(self.registers[11], count) else {
+        let Some(place) = self.place(self.read(Register::A1), count) else {
             return Err(self.fault(MachineKind::BadCall));
         };
         match write_all(out, self.bytes(place, count)) {
@@ -254,12 +255,12 @@ impl Hart {
         }
     }
 
-    // Puts the answer of a call into x10, and goes on at the next instruction.
+    // Puts the answer of a call into a0, and goes on at the next instruction.
     #[tactic(auto, unfolding(crate::specs::Word::low))]
     fn answer(&mut self, value: u64)
-        ensures { hart_state self.new ≡ at_with (hart_state self.old) (low ((hart_state self.old).pc + 4)) 10 value }
+        ensures { hart_state self.new ≡ at_with (hart_state self.old) (low ((hart_state self.old).pc + 4)) A0.number value }
     {
-        put(&mut self.registers, 10, value);
+        put(&mut self.registers, Register::A0.number, value);
         self.skip();
     }
 
@@ -267,11 +268,11 @@ impl Hart {
     fn throw_call(&self) -> Stop
         ensures { IsStop result (hart_state self.now).pc (throw_call (hart_state self.now)) }
     {
-        let kind = self.registers[10];
+        let kind = self.read(Register::A0);
         if 1 <= kind && kind <= 6 {
             Stop::TerraFault {
                 kind,
-                place: self.registers[11],
+                place: self.read(Register::A1),
             }
         } else {
             self.fault(MachineKind::BadCall)
@@ -415,10 +416,11 @@ fn registers_for(end: u64, heap: u64, limit: u64, arguments: &[u64]) -> [u64; 32
     ensures zero { slice_index result 0 ≡ 0 }
 {
     let mut registers = [0; 32];
-    registers[2] = end;
-    registers[3] = heap;
-    registers[4] = limit;
-    registers[10..10 + arguments.len()].copy_from_slice(arguments);
+    let first = usize::from(Register::A0.number);
+    registers[usize::from(Register::SP.number)] = end;
+    registers[usize::from(Register::GP.number)] = heap;
+    registers[usize::from(Register::TP.number)] = limit;
+    registers[first..first + arguments.len()].copy_from_slice(arguments);
     registers
 }
 

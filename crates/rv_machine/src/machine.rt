@@ -2,6 +2,7 @@
 
 ghost use Rattle.std.specs.Prelude.{◌≡◌, ◌≢◌, ◌+◌, ◌-◌, ◌*◌, ◌≤◌, ◌<◌, ◌^◌, ◌++◌, map, option_map, length, replicate, drop, IfOk, IfErr};
 ghost use Rattle.std.specs.Prelude.{OnOk, OnErr};
+ghost use Rattle.rv_isa.specs.Registers.{A0};
 ghost use Rattle.rv_machine.specs.Laws.{RunsGoOn, RunsStayOver, RunsStopAgain, OneProgram};
 ghost use Rattle.rv_machine.specs.Count.{UnfinishedTakesAll, OverAfterTaken, NotOverBefore, PartsTakeSteps, steps_to};
 ghost use Rattle.rv_machine.specs.Program.{IsProgram};
@@ -16,7 +17,7 @@ use crate::hart::Hart;
 use crate::quiet::place_at;
 use crate::stops::{MachineKind, Stop};
 use elf_image::{Entry, Image, entry_bytes};
-use rv_isa::decode;
+use rv_isa::{Register, decode};
 use std::alloc::Global;
 use tl_base::{NoMemory, Sink};
 
@@ -109,7 +110,7 @@ impl Machine {
         }
         self.count(steps);
         if self.hart.pc == 0 {
-            Stop::Returned(self.hart.registers[10])
+            Stop::Returned(self.hart.read(Register::A0))
         } else {
             Stop::Unfinished
         }
@@ -154,7 +155,7 @@ impl Machine {
     fn step<K: Sink>(&mut self, out: &mut K) -> Result<(), Stop>
         ensures going { OnOk result ((state_of self.old).pc ≢ 0) }
         ensures over { IfErr result (λ stop. (state_of self.old).pc ≡ 0 →
-            stop ≡ Returned ((state_of self.old).registers 10) × K.taken out.new ≡ K.taken out.old) }
+            stop ≡ Returned ((state_of self.old).registers A0.number) × K.taken out.new ≡ K.taken out.old) }
         ensures ok { OnOk result (WentOn (step (program_of self.old) (state_of self.old)) (state_of self.new)
             (K.taken out.old) (K.taken out.new) (out.new ≡ out.old)) }
         ensures quiet { OnOk result (K.faults out.new ≡ K.faults out.old) }
@@ -176,11 +177,11 @@ impl Machine {
 
     // How the run stops where the program counter is not in text.
     fn outside(&self) -> Stop
-        ensures over { (state_of self.now).pc ≡ 0 → result ≡ Returned ((state_of self.now).registers 10) }
+        ensures over { (state_of self.now).pc ≡ 0 → result ≡ Returned ((state_of self.now).registers A0.number) }
         ensures fault { (state_of self.now).pc ≢ 0 → result ≡ MachineFault BadFetch (state_of self.now).pc }
     {
         if self.hart.pc == 0 {
-            Stop::Returned(self.hart.registers[10])
+            Stop::Returned(self.hart.read(Register::A0))
         } else {
             self.hart.fault(MachineKind::BadFetch)
         }

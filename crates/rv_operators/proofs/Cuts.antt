@@ -55,7 +55,7 @@ wrapped-same : (sg : Bool) (bits m n : ℕ) → m % 2 ^ bits ≡ n % 2 ^ bits �
 unfolding wrapped
 wrapped-same sg bits m n e = ap (λ l. if sg && nat_le (2 ^ (bits - 1)) l then l + (2 ^ 64 - 2 ^ bits) else l) e
 
--- d isn't x0
+-- d isn't ZERO
 abbrev CutsAt : Width → Type 0
 CutsAt w = (d : Register) → d.number ≢ 0 → Cuts (cut d w) d w
 

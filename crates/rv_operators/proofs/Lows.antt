@@ -8,12 +8,13 @@ use Rattle.rv_isa.specs.declared.instr.Instr.{Instr}
 use Rattle.rv_isa.specs.declared.operation.RegisterOp.{RegisterOp}
 use Rattle.rv_isa.specs.declared.operation.RegisterOp.TheVariants as ops
 use Rattle.rv_isa.specs.declared.operand.Register.{Register}
+use Rattle.rv_isa.specs.Registers.{T1}
 use Rattle.std.proofs.lemmas.Bool.{ne_eqb}
 use Rattle.rv_machine.specs.Word.{low, difference}
 use Rattle.rv_machine.specs.Machine.{State, GoesOn, act, at_with, value_at}
 use Rattle.rv_machine.specs.Arithmetic.{register_value, shifted_left, shifted_right, shifted_signed}
 use Rattle.terra_words.specs.Words.{is_negative}
-use Rattle.rv_operators.specs.Codes.{is_width, of_both, shifted, x6}
+use Rattle.rv_operators.specs.Codes.{is_width, of_both, shifted}
 use Rattle.rv_operators.proofs.Sequences.{one, read-elsewhere, six-first}
 use Rattle.rv_operators.proofs.Values.{and-small, quotient-is, remainder-is, count-8, count-16, count-32}
 use Rattle.rv_operators.proofs.Signed.{shifted-is, quotient_of, remainder_of, quotient-is-signed, remainder-is-signed}
@@ -85,12 +86,12 @@ Shifts d a op bits x y n =
 -- its count's low bits first
 masked : (d a b : Register) (op : RegisterOp) (bits n v : ℕ) (s : State) (i : Instr) → a.number ≢ 6 →
     act i s ≡ GoesOn (at_with s (low (s.pc + 4)) 6 v) → v % 2 ^ 6 ≡ value_at s b % bits →
-    Shifts d a op bits (value_at s a) (value_at s b) n → Low d.number (i ∷ of_both d a x6 op) s bits n
+    Shifts d a op bits (value_at s a) (value_at s b) n → Low d.number (i ∷ of_both d a T1 op) s bits n
 masked d a b op bits n v s i six h e f =
     let t : State = at_with s (low (s.pc + 4)) 6 v in
     let same : value_at t a ≡ value_at s a = read-elsewhere s t a (ap (λ q. if q then v else s.registers a.number) (ne_eqb a.number 6 six)) in
-    let l : Low d.number (of_both d a x6 op) t bits n = f t x6 same e in
-    record { word = l.word; leads = six-first d.number i (of_both d a x6 op) s v l.word h l.leads; small = l.small; same = l.same }
+    let l : Low d.number (of_both d a T1 op) t bits n = f t T1 same e in
+    record { word = l.word; leads = six-first d.number i (of_both d a T1 op) s v l.word h l.leads; small = l.small; same = l.same }
 
 count-1 : (y : ℕ) → bit_and y 0 % 2 ^ 6 ≡ y % 1
 count-1 y =

@@ -8,6 +8,7 @@ use Rattle.rv_isa.specs.declared.operation.ImmediateOp.TheVariants as immediates
 use Rattle.rv_isa.specs.declared.operation.RegisterOp.TheVariants as ops
 use Rattle.rv_isa.specs.declared.operation.RegisterWordOp.TheVariants as word_ops
 use Rattle.rv_isa.specs.declared.operand.Register.{Register}
+use Rattle.rv_isa.specs.Registers.{ZERO}
 use Rattle.rv_machine.specs.Machine.{value_at}
 use Rattle.rv_machine.specs.Word.{difference, signed, extended_word}
 use Rattle.rv_machine.specs.Arithmetic.{flag, word_shifted_left}
@@ -17,7 +18,7 @@ use Rattle.terra_words.specs.declared.words.BinaryOperator.TheVariants.{Add, Sub
 use Rattle.terra_words.specs.declared.words.BinaryOperator.TheVariants.{ShiftRight, Equal, NotEqual, Less, LessEqual, Greater, GreaterEqual}
 use Rattle.terra_words.specs.Words.{applied}
 use Rattle.rv_operators.specs.Claims.{Computes}
-use Rattle.rv_operators.specs.Codes.{AreApart, is_width, x0, one_immediate, is_comparison, operation, word_operation, in_one, in_parts}
+use Rattle.rv_operators.specs.Codes.{AreApart, is_width, one_immediate, is_comparison, operation, word_operation, in_one, in_parts}
 use Rattle.rv_operators.specs.Codes.{code_of}
 use Rattle.rv_operators.proofs.Sequences.{one, two}
 use Rattle.rv_operators.proofs.Values.{width, wrapped-32, equal-words, other-words, turned, difference-32, signed-less}
@@ -51,7 +52,7 @@ equal-is : (w : Width) → ComputesAt (λ d a b. RegisterRegister ops.Sub d a b 
 unfolding applied
 equal-is w d a b p s x y v = two d _ _ s (difference (value_at s a) (value_at s b)) (λ x. flag (nat_lt x 1)) _ p.0 refl (λ t. refl) (equal-words (value_at s a) (value_at s b) x y)
 
-not-equal-is : (w : Width) → ComputesAt (λ d a b. RegisterRegister ops.Sub d a b ∷ RegisterRegister ops.Sltu d x0 d ∷ []) w NotEqual
+not-equal-is : (w : Width) → ComputesAt (λ d a b. RegisterRegister ops.Sub d a b ∷ RegisterRegister ops.Sltu d ZERO d ∷ []) w NotEqual
 unfolding applied
 not-equal-is w d a b p s x y v = two d _ _ s (difference (value_at s a) (value_at s b)) (λ x. flag (nat_lt 0 x)) _ p.0 refl (λ t. refl) (other-words (value_at s a) (value_at s b) x y)
 

@@ -75,7 +75,7 @@ low-more : (p n : ℕ) → low (low (p + 4) + 4 * n) ≡ low (p + 4 * suc n)
 unfolding low
 low-more p n = omega arith
 
--- an instruction that writes x6 before a sequence
+-- an instruction that writes T1 before a sequence
 pub six-first : (d : ℕ) (i : Instr) (rest : List Instr) (s : State) (v result : ℕ) → act i s ≡ GoesOn (at_with s (low (s.pc + 4)) 6 v) →
     Leads d rest (at_with s (low (s.pc + 4)) 6 v) result → Leads d (i ∷ rest) s result
 six-first d i rest s v result h l = record {

@@ -19,7 +19,7 @@ abbrev pub acts : List Instr → State → Moved
 acts [] s = GoesOn s
 acts (i ∷ is) s = then_on (act i s) (λ t. acts is t)
 
--- The sequence comes from a state to the address behind it, with this word in a register. It changes no other register but x6, and no
+-- The sequence comes from a state to the address behind it, with this word in a register. It changes no other register but T1, and no
 -- memory.
 pub record Leads (d : ℕ) (code : List Instr) (s : State) (result : ℕ) : Type 0 where
   pub after : State

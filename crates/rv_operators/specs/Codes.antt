@@ -13,6 +13,7 @@ use Rattle.rv_isa.specs.declared.operation.RegisterWordOp.TheVariants as word_op
 use Rattle.rv_isa.specs.declared.operand.Register.{Register}
 use Rattle.rv_isa.specs.declared.operand.Immediate.{Immediate}
 use Rattle.rv_isa.specs.declared.operand.ShiftCount.{ShiftCount}
+use Rattle.rv_isa.specs.Registers.{ZERO, T1}
 use Rattle.terra_words.specs.declared.words.Width.{Width}
 use Rattle.terra_words.specs.declared.words.BinaryOperator.{BinaryOperator}
 use Rattle.terra_words.specs.declared.words.BinaryOperator.TheVariants.{Add, Subtract, Multiply, Divide, Modulo, Xor, And, Or, ShiftLeft}
@@ -23,16 +24,6 @@ pub use Rattle.terra_words.specs.Words.{is_comparison}
 abbrev pub is_width : ℕ → Bool
 is_width bits = nat_eq bits 64 || (nat_eq bits 32 || (nat_eq bits 16 || (nat_eq bits 8 || nat_eq bits 1)))
 
--- two scratch registers, and the register that reads as zero
-abbrev pub x5 : Register
-x5 = record { number = 5; in_range = lit≤ tt }
-
-abbrev pub x6 : Register
-x6 = record { number = 6; in_range = lit≤ tt }
-
-abbrev pub x0 : Register
-x0 = record { number = 0; in_range = lit≤ tt }
-
 -- for a test turned round or a test with zero, and for an addition that only extends the sign
 abbrev pub one_immediate : Immediate
 one_immediate = record { value = pos 1; lowest = record { le = tt }; highest = record { le = tt } }
@@ -40,8 +31,8 @@ one_immediate = record { value = pos 1; lowest = record { le = tt }; highest = r
 abbrev pub zero_immediate : Immediate
 zero_immediate = record { value = pos 0; lowest = record { le = tt }; highest = record { le = tt } }
 
--- The registers of a sequence: d gets the result of the words in a and b. No result goes to x0, which drops it, and the first
--- operand isn't in x6, which takes the masked count of a shift.
+-- The registers of a sequence: d gets the result of the words in a and b. No result goes to ZERO, which drops it, and the first
+-- operand isn't in T1, which takes the masked count of a shift.
 abbrev pub AreApart : (d a : Register) → Type 0
 AreApart d a = (d.number ≢ 0) × (a.number ≢ 6)
 
@@ -87,12 +78,12 @@ mask_of bits =
     else (if nat_eq bits 8 then mask_8
     else zero_immediate))
 
--- A shift goes by its count modulo the bits of the width, in x6. One of 64 bits looks at no other bits of its count.
+-- A shift goes by its count modulo the bits of the width, in T1. One of 64 bits looks at no other bits of its count.
 abbrev pub counted : ℕ → Register → List Instr
-counted bits b = if nat_eq bits 64 then [] else RegisterImmediate immediates.Andi x6 b (mask_of bits) ∷ []
+counted bits b = if nat_eq bits 64 then [] else RegisterImmediate immediates.Andi T1 b (mask_of bits) ∷ []
 
 abbrev pub count_in : ℕ → Register → Register
-count_in bits b = if nat_eq bits 64 then b else x6
+count_in bits b = if nat_eq bits 64 then b else T1
 
 abbrev pub shifted : (d a b : Register) → ℕ → RegisterOp → List Instr
 shifted d a b bits op = counted bits b ++ of_both d a (count_in bits b) op
@@ -110,7 +101,7 @@ operation d a b w Or = of_both d a b ops.Or
 operation d a b w ShiftLeft = shifted d a b w.bits ops.Sll
 operation d a b w ShiftRight = shifted d a b w.bits (shifted_down w.signed)
 operation d a b w Equal = of_both d a b ops.Sub ++ RegisterImmediate immediates.Sltiu d d one_immediate ∷ []
-operation d a b w NotEqual = of_both d a b ops.Sub ++ RegisterRegister ops.Sltu d x0 d ∷ []
+operation d a b w NotEqual = of_both d a b ops.Sub ++ RegisterRegister ops.Sltu d ZERO d ∷ []
 operation d a b w Less = of_both d a b (below w.signed)
 operation d a b w LessEqual = with_other_result d (of_both d b a (below w.signed))
 operation d a b w Greater = of_both d b a (below w.signed)

@@ -12,10 +12,6 @@ use rv_isa::{
 use terra_words::{BinaryOperator, Width};
 use tl_base::NoMemory;
 
-const X0: Register = Register { number: 0 };
-/// The masked count of a shift.
-const X6: Register = Register { number: 6 };
-
 /// Emits the sequence for an operator at the width of a type: of the words in two registers, to a third.
 pub fn push_operator(
     code: &mut Vec<u32>,
@@ -112,12 +108,12 @@ fn put_shift(code: &mut Vec<u32>, rd: Register, a: Register, b: Register, bits: 
         code,
         Instr::RegisterImmediate {
             op: ImmediateOp::Andi,
-            rd: X6,
+            rd: Register::T1,
             rs1: b,
             imm: mask,
         },
     );
-    put_of_both(code, rd, a, X6, op);
+    put_of_both(code, rd, a, Register::T1, op);
 }
 
 fn put_comparison(
@@ -157,7 +153,7 @@ fn put_comparison(
                 Instr::RegisterRegister {
                     op: RegisterOp::Sltu,
                     rd,
-                    rs1: X0,
+                    rs1: Register::ZERO,
                     rs2: rd,
                 },
             );

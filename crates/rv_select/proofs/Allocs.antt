@@ -10,6 +10,7 @@ use Rattle.rv_isa.specs.declared.operation.BranchCondition.TheVariants.{Eq, Ltu}
 use Rattle.rv_isa.specs.declared.operation.ImmediateOp.TheVariants.{Addi}
 use Rattle.rv_isa.specs.declared.operation.RegisterOp.TheVariants.{Add, Sub}
 use Rattle.rv_isa.specs.declared.operation.ShiftOp.TheVariants.{Slli, Srli}
+use Rattle.rv_isa.specs.Registers.{ZERO, GP, TP, T0, T1, T2}
 use Rattle.reg_alloc.specs.declared.assignment.Home.{Home}
 use Rattle.reg_alloc.specs.declared.assignment.Home.TheVariants as homes
 use Rattle.terra_memory.specs.Numbers.{number_of}
@@ -19,12 +20,11 @@ use Rattle.tac_form.specs.declared.tac.Operand.{Operand}
 use Rattle.rv_machine.specs.Word.{low, difference}
 use Rattle.rv_machine.specs.Arithmetic.{shifted_left, shifted_right}
 use Rattle.rv_machine.specs.Machine.{GoesOn, State, act, at_with, fetch, run_of}
-use Rattle.rv_operators.specs.Codes.{x0, x5, x6}
 use Rattle.rv_operators.specs.Runs.{Stands}
 use Rattle.rv_select.specs.Numbers.{immediate_of, upper_of}
 use Rattle.rv_select.specs.Places.{AreBytes, Holds, Housed, IsFirst, IsHeld, IsHome, Keeps, Layout, World, area_offset, frame_bytes}
 use Rattle.rv_select.specs.Places.{home_of, slot_offset, value_in, word_at}
-use Rattle.rv_select.specs.Shapes.{allocated, first_taken, four, moved, offset_of, put_at, two, x3, x4, x7}
+use Rattle.rv_select.specs.Shapes.{allocated, first_taken, four, moved, offset_of, put_at, two}
 use Rattle.rv_select.specs.Steps.{Follows, behind, with_temp}
 use Rattle.rv_select.proofs.Claims.{Gives, with_region}
 use Rattle.rv_select.proofs.Straight.{Loads, behind-both, loads-five, low-below, low-small, written-elsewhere}
@@ -75,9 +75,9 @@ pc-bad p = omega arith
 module _ (program : List (Option Instr)) (t : State) (rest : List Instr) (v heap size : ℕ) (five : t.registers 5 ≡ v) (three : t.registers 3 ≡ heap) (four-is : t.registers 4 ≡ 2 ^ 30 + size)
     (word : v < 2 ^ 64) (sized : size % 1024 ≡ 0) (most : size ≤ 67108864) (begun : 2 ^ 30 ≤ heap) (limited : heap ≤ 2 ^ 30 + size - size / 4)
     (there : Stands program t.pc
-    (RegisterImmediate Addi x6 x3 (immediate_of 15) ∷ Shift Srli x6 x6 four ∷ Shift Slli x6 x6 four
-    ∷ Lui x7 (upper_of 0x40000000) ∷ RegisterRegister Sub x7 x4 x7 ∷ Shift Srli x7 x7 two ∷ RegisterRegister Sub x7 x4 x7
-    ∷ RegisterRegister Sub x7 x7 x6 ∷ Branch Ltu x7 x5 (offset_of 16) ∷ RegisterRegister Add x3 x6 x5 ∷ moved x5 x6 ∷ Branch Eq x0 x0 (offset_of 8) ∷ moved x5 x0 ∷ rest)) where
+    (RegisterImmediate Addi T1 GP (immediate_of 15) ∷ Shift Srli T1 T1 four ∷ Shift Slli T1 T1 four
+    ∷ Lui T2 (upper_of 0x40000000) ∷ RegisterRegister Sub T2 TP T2 ∷ Shift Srli T2 T2 two ∷ RegisterRegister Sub T2 TP T2
+    ∷ RegisterRegister Sub T2 T2 T1 ∷ Branch Ltu T2 T0 (offset_of 16) ∷ RegisterRegister Add GP T1 T0 ∷ moved T0 T1 ∷ Branch Eq ZERO ZERO (offset_of 8) ∷ moved T0 ZERO ∷ rest)) where
   abbrev start : ℕ
   start = (heap + 15) / 16 * 16
 
@@ -129,32 +129,32 @@ module _ (program : List (Option Instr)) (t : State) (rest : List Instr) (v heap
   abbrev f10 : State
   f10 = at_with f9 (low (f9.pc + 4)) 5 0
 
-  to-1 : act (RegisterImmediate Addi x6 x3 (immediate_of 15)) t ≡ GoesOn s1
+  to-1 : act (RegisterImmediate Addi T1 GP (immediate_of 15)) t ≡ GoesOn s1
   to-1 =
       ap (λ x. GoesOn (at_with t (low (t.pc + 4)) 6 (low (t.registers 3 + x)))) (immediate-is 15 (omega arith))
       ∙ (ap (λ x. GoesOn (at_with t (low (t.pc + 4)) 6 (low (x + 15)))) three ∙ ap (λ x. GoesOn (at_with t (low (t.pc + 4)) 6 x)) (low-small (heap + 15) (omega (arith, limited, most))))
 
-  to-2 : act (Shift Srli x6 x6 four) s1 ≡ GoesOn s2
+  to-2 : act (Shift Srli T1 T1 four) s1 ≡ GoesOn s2
   to-2 = ap (λ x. GoesOn (at_with s1 (low (s1.pc + 4)) 6 x)) (right-four (heap + 15))
 
-  to-3 : act (Shift Slli x6 x6 four) s2 ≡ GoesOn s3
+  to-3 : act (Shift Slli T1 T1 four) s2 ≡ GoesOn s3
   to-3 = ap (λ x. GoesOn (at_with s2 (low (s2.pc + 4)) 6 x)) (left-four ((heap + 15) / 16) (omega (arith, limited, most)))
 
-  to-5 : act (RegisterRegister Sub x7 x4 x7) s4 ≡ GoesOn s5
+  to-5 : act (RegisterRegister Sub T2 TP T2) s4 ≡ GoesOn s5
   to-5 =
       let same : 2 ^ 30 + size - 2 ^ 30 ≡ size = omega arith in
       ap (λ x. GoesOn (at_with s4 (low (s4.pc + 4)) 7 (difference x (2 ^ 30)))) four-is
       ∙ ap (λ x. GoesOn (at_with s4 (low (s4.pc + 4)) 7 x)) (less (2 ^ 30 + size) (2 ^ 30) (omega arith) (omega (arith, most)) ∙ same)
 
-  to-6 : act (Shift Srli x7 x7 two) s5 ≡ GoesOn s6
+  to-6 : act (Shift Srli T2 T2 two) s5 ≡ GoesOn s6
   to-6 = ap (λ x. GoesOn (at_with s5 (low (s5.pc + 4)) 7 x)) (right-two size)
 
-  to-7 : act (RegisterRegister Sub x7 x4 x7) s6 ≡ GoesOn s7
+  to-7 : act (RegisterRegister Sub T2 TP T2) s6 ≡ GoesOn s7
   to-7 =
       ap (λ x. GoesOn (at_with s6 (low (s6.pc + 4)) 7 (difference x (size / 4)))) four-is
       ∙ ap (λ x. GoesOn (at_with s6 (low (s6.pc + 4)) 7 x)) (less (2 ^ 30 + size) (size / 4) (omega arith) (omega (arith, most)))
 
-  to-8 : act (RegisterRegister Sub x7 x7 x6) s7 ≡ GoesOn s8
+  to-8 : act (RegisterRegister Sub T2 T2 T1) s7 ≡ GoesOn s8
   to-8 = ap (λ x. GoesOn (at_with s7 (low (s7.pc + 4)) 7 x)) (less limit start start-low (omega (arith, most)))
 
   way-8 : Way program 8 t s8
@@ -165,7 +165,7 @@ module _ (program : List (Option Instr)) (t : State) (rest : List Instr) (v heap
       (way-both program 4 1 t s4 s5
       (way-both program 3 1 t s3 s4
       (way-both program 2 1 t s2 s3 (way-both program 1 1 t s1 s2 (step-way program _ t s1 there.0 to-1) (step-way program _ s1 s2 there.1.0 to-2)) (step-way program _ s2 s3 there.1.1.0 to-3))
-      (step-way program (Lui x7 (upper_of 0x40000000)) s3 s4 there.1.1.1.0 refl))
+      (step-way program (Lui T2 (upper_of 0x40000000)) s3 s4 there.1.1.1.0 refl))
       (step-way program _ s4 s5 there.1.1.1.1.0 to-5))
       (step-way program _ s5 s6 there.1.1.1.1.1.0 to-6))
       (step-way program _ s6 s7 there.1.1.1.1.1.1.0 to-7))
@@ -180,12 +180,12 @@ module _ (program : List (Option Instr)) (t : State) (rest : List Instr) (v heap
         (way-both program 10 1 t g10 g11
         (way-both program 9 1 t g9 g10
         (way-both program 8 1 t s8 g9 way-8
-        (branch-way program Ltu x7 x5 16 s8 false (omega arith) (omega arith) there.1.1.1.1.1.1.1.1.0 (ap (λ x. nat_lt (limit - start) x) five ∙ le-ltb (limit - start) v h)))
-        (step-way program (RegisterRegister Add x3 x6 x5) g9 g10 there.1.1.1.1.1.1.1.1.1.0
+        (branch-way program Ltu T2 T0 16 s8 false (omega arith) (omega arith) there.1.1.1.1.1.1.1.1.0 (ap (λ x. nat_lt (limit - start) x) five ∙ le-ltb (limit - start) v h)))
+        (step-way program (RegisterRegister Add GP T1 T0) g9 g10 there.1.1.1.1.1.1.1.1.1.0
         (ap (λ x. GoesOn (at_with g9 (low (g9.pc + 4)) 3 (low (start + x)))) five ∙ ap (λ x. GoesOn (at_with g9 (low (g9.pc + 4)) 3 x)) (low-small (start + v) (omega (arith, h, start-low, most))))))
-        (step-way program (moved x5 x6) g10 g11 there.1.1.1.1.1.1.1.1.1.1.0
+        (step-way program (moved T0 T1) g10 g11 there.1.1.1.1.1.1.1.1.1.1.0
         (ap (λ x. GoesOn (at_with g10 (low (g10.pc + 4)) 5 x)) (low-small (start + 0) (omega (arith, start-low, most)) ∙ none-more))))
-        (branch-way program Eq x0 x0 8 g11 true (omega arith) (omega arith) there.1.1.1.1.1.1.1.1.1.1.1.0 refl),
+        (branch-way program Eq ZERO ZERO 8 g11 true (omega arith) (omega arith) there.1.1.1.1.1.1.1.1.1.1.1.0 refl),
     refl,
     refl,
     subst (λ q. Stands program q rest) (pc-eight g11.pc) there.1.1.1.1.1.1.1.1.1.1.1.1.1,
@@ -215,8 +215,8 @@ module _ (program : List (Option Instr)) (t : State) (rest : List Instr) (v heap
     f10,
     way-both program 9 1 t f9 f10
         (way-both program 8 1 t s8 f9 way-8
-        (branch-way program Ltu x7 x5 16 s8 true (omega arith) (omega arith) there.1.1.1.1.1.1.1.1.0 (ap (λ x. nat_lt (limit - start) x) five ∙ lt-ltb (limit - start) v h)))
-        (step-way program (moved x5 x0) f9 f10 (subst (λ q. fetch program q ≡ Some (Some (moved x5 x0))) (pc-sixteen s8.pc) there.1.1.1.1.1.1.1.1.1.1.1.1.0) (ap (λ x. GoesOn (at_with f9 (low (f9.pc + 4)) 5 x)) (low-small 0 (omega arith)))),
+        (branch-way program Ltu T2 T0 16 s8 true (omega arith) (omega arith) there.1.1.1.1.1.1.1.1.0 (ap (λ x. nat_lt (limit - start) x) five ∙ lt-ltb (limit - start) v h)))
+        (step-way program (moved T0 ZERO) f9 f10 (subst (λ q. fetch program q ≡ Some (Some (moved T0 ZERO))) (pc-sixteen s8.pc) there.1.1.1.1.1.1.1.1.1.1.1.1.0) (ap (λ x. GoesOn (at_with f9 (low (f9.pc + 4)) 5 x)) (low-small 0 (omega arith)))),
     refl,
     subst (λ q. Stands program q rest) (pc-twenty s8.pc) there.1.1.1.1.1.1.1.1.1.1.1.1.1,
     record { keeps = λ r b c d. written-elsewhere f9.registers 5 0 r b ∙ same r c d; region = refl; private = refl },
@@ -321,9 +321,9 @@ pc-all p n = omega arith
 -- the code behind the operand
 abbrev body : (put : List Instr) → List Instr
 body put =
-    RegisterImmediate Addi x6 x3 (immediate_of 15) ∷ Shift Srli x6 x6 four ∷ Shift Slli x6 x6 four
-    ∷ Lui x7 (upper_of 0x40000000) ∷ RegisterRegister Sub x7 x4 x7 ∷ Shift Srli x7 x7 two ∷ RegisterRegister Sub x7 x4 x7
-    ∷ RegisterRegister Sub x7 x7 x6 ∷ Branch Ltu x7 x5 (offset_of 16) ∷ RegisterRegister Add x3 x6 x5 ∷ moved x5 x6 ∷ Branch Eq x0 x0 (offset_of 8) ∷ moved x5 x0 ∷ put
+    RegisterImmediate Addi T1 GP (immediate_of 15) ∷ Shift Srli T1 T1 four ∷ Shift Slli T1 T1 four
+    ∷ Lui T2 (upper_of 0x40000000) ∷ RegisterRegister Sub T2 TP T2 ∷ Shift Srli T2 T2 two ∷ RegisterRegister Sub T2 TP T2
+    ∷ RegisterRegister Sub T2 T2 T1 ∷ Branch Ltu T2 T0 (offset_of 16) ∷ RegisterRegister Add GP T1 T0 ∷ moved T0 T1 ∷ Branch Eq ZERO ZERO (offset_of 8) ∷ moved T0 ZERO ∷ put
 
 body-count : (put : List Instr) → length (body put) ≡ 13 + length put
 body-count put = omega arith

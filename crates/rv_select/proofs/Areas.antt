@@ -19,11 +19,11 @@ use Rattle.tac_form.specs.declared.tac.Spot.TheVariants as spots
 use Rattle.tac_form.specs.Flow.{bytes_of, put, width_of}
 use Rattle.tac_form.specs.Weights.{most_moved}
 use Rattle.rv_isa.specs.declared.operand.Register.{Register}
+use Rattle.rv_isa.specs.Registers.{T1}
 use Rattle.rv_machine.specs.Word.{low}
 use Rattle.rv_machine.specs.Memory.{load_value, load_width, place_of, store_width}
 use Rattle.rv_machine.specs.Machine.{State, GoesOn, act, at_with, loads, loads_from, stores, stores_to, value_at}
 use Rattle.rv_operators.specs.Claims.{acts, then_on}
-use Rattle.rv_operators.specs.Codes.{x6}
 use Rattle.rv_operators.specs.Runs.{AreStraight, Stands}
 use Rattle.rv_operators.proofs.Runs.{straight-both}
 use Rattle.rv_operators.proofs.Sequences.{read-elsewhere}
@@ -185,7 +185,7 @@ area-comes y Used Next w base n steps weight target bs program m z way to small 
   keeps = area-keeps y base n bs m z there s;
 }
 
--- Straight code that puts bytes at an offset of private memory, and changes x5 to x7 alone besides.
+-- Straight code that puts bytes at an offset of private memory, and changes T0 to T2 alone besides.
 pub record Saves (code : List Instr) (m : State) (at : ℕ) (bs : List ℕ) : Type 0 where
   pub after : State
   pub goes : acts code m ≡ GoesOn after
@@ -210,7 +210,7 @@ then-saves a b m n at bs s l = record {
 abbrev pub saved : State → List ℕ → State
 saved t bytes = record { pc = low (t.pc + 4); registers = t.registers; region = t.region; private = bytes }
 
--- The number in x6 is stored at an offset of the frame.
+-- The number in T1 is stored at an offset of the frame.
 pub area-save : (y : Layout) (b : Register) (Used : ℕ → Type 0) (w : World) (base n offset v : ℕ) (size : Size) (m : State) → Holds y Used w base m → n < y.areas →
     offset + bytes_of size ≤ most_moved → b.number ≢ 7 → value_at m b ≡ v →
     Saves (framed (λ r far. Store (store_of size) r b far) (area_offset y n + offset)) m (base + (area_offset y n + offset)) (low_bytes (bytes_of size) v)
@@ -276,7 +276,7 @@ pub area-stores : (y : Layout) (held : Option ℕ) (size : Size) (n offset : ℕ
     (behind m (stored y held (spots.Area n offset) size b)) [] m
 area-stores y held size n offset b Used Next w base program m stands there within most r p h f =
     let A : List Instr = second_read y b in
-    let bb : Register = read_in y x6 b in
+    let bb : Register = read_in y T1 b in
     let B : List Instr = framed (λ r far. Store (store_of size) r bb far) (area_offset y n + offset) in
     let v : ℕ = value_in w.temps b in
     let bs : List ℕ = low_bytes (bytes_of size) v in

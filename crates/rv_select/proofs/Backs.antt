@@ -188,7 +188,7 @@ put-result p image program most size linked s a temps areas cs code up k more bo
       };
     }
 
--- The machine is back in a caller: x10 has the result, and all else is as the caller waits for it.
+-- The machine is back in a caller: A0 has the result, and all else is as the caller waits for it.
 pub record IsBack (s : tac.State) (depth up over link v : ℕ) (M n : State) : Type 0 where
   pub same : SameAbove up M n
   pub pc : n.pc ≡ link
@@ -248,7 +248,7 @@ behind_of p image most c depth link base placed m W =
     + 4 * length (call_begun (layout_of W.code (image c.waits.function).homes) (held_in W.code c.waits.block W.before) W.place
     W.arguments) + 8
 
--- What puts a result, which x5 has then, where the caller takes it: behind it the caller's temporaries and areas are these.
+-- What puts a result, which T0 has then, where the caller takes it: behind it the caller's temporaries and areas are these.
 abbrev Puts : List (Option Instr) → Layout → (sizes : List ℕ) → (U : ℕ → Type 0) → Destination → tac.State → Activation →
     (over depth up v : ℕ) → tac.Temps → tac.Areas → State → Type 0
 Puts program y sizes U to s a over depth up v temps areas n =

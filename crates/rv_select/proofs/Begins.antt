@@ -8,6 +8,7 @@ use Rattle.tl_base.specs.declared.ids.FnId.{FnId}
 use Rattle.tl_base.specs.declared.place.Place.{Place}
 use Rattle.rv_isa.specs.declared.instr.Instr.{Instr}
 use Rattle.rv_isa.specs.declared.operand.Register.{Register}
+use Rattle.rv_isa.specs.Registers.{TP, S0, A1}
 use Rattle.terra_memory.specs.Numbers.{low_bytes, number_of}
 use Rattle.terra_memory.specs.Region.{Contents, end_address, heap_limit}
 use Rattle.terra_words.specs.declared.words.FaultKind.TheVariants.{StackFull}
@@ -25,7 +26,7 @@ use Rattle.rv_select.specs.Numbers.{constant, register_of}
 use Rattle.rv_select.specs.Pairs.{reads_of}
 use Rattle.rv_select.specs.Asked.{asked_homes}
 use Rattle.rv_select.specs.Places.{AreBytes, Layout, frame_bytes, layout_of, private_word, uses}
-use Rattle.rv_select.specs.Shapes.{moved, place_number, x4, x8, x11}
+use Rattle.rv_select.specs.Shapes.{moved, place_number}
 use Rattle.rv_select.specs.Calls.{blocks_length, head_code, last_address}
 use Rattle.rv_select.specs.Entering.{arguments_stored, begun, entered, kept_offset, place_given, received, stored_below}
 use Rattle.rv_select.specs.Entering.{words_offset}
@@ -160,7 +161,7 @@ pc-begin : (p a b c x y : ℕ) → a ≡ low (p + 4) → b ≡ low (a + 4 * x) �
 unfolding low
 pc-begin p a b c x y e g h = omega arith
 
--- The machine stands behind the code by which x11 gets the place of a function whose frame isn't empty.
+-- The machine stands behind the code by which A1 gets the place of a function whose frame isn't empty.
 record Given (program : List (Option Instr)) (frame : ℕ) (at : Place) (m : State) : Type 0 where
   after : State
   way : Way program (length (place_given frame at)) m after
@@ -182,8 +183,8 @@ gives-place program zero at m p small there = record {
   private = refl;
 }
 gives-place program (suc n) at m p small there =
-    let E : List Instr = constant x11 (place_number at) in
-    let c : Loads 11 E m (place_number at) = constant-loads x11 m (place_number at) (λ z. omega (arith, z)) (λ z. omega (arith, z)) small in
+    let E : List Instr = constant A1 (place_number at) in
+    let c : Loads 11 E m (place_number at) = constant-loads A1 m (place_number at) (λ z. omega (arith, z)) (λ z. omega (arith, z)) small in
     record {
       after = c.after;
       way = straight-way program E m c.after there c.straight c.goes;
@@ -220,12 +221,12 @@ comes-in program code m there p eight place two four small region room =
     let v : ℕ = m.registers 4 in
     let t : State = at_with m (low (m.pc + 4)) 8 v in
     let none : v + 0 ≡ v = omega arith in
-    let to-t : act (moved x8 x4) m ≡ GoesOn t = ap (λ z. GoesOn (at_with m (low (m.pc + 4)) 8 z)) (ap low none ∙ low-small v four) in
+    let to-t : act (moved S0 TP) m ≡ GoesOn t = ap (λ z. GoesOn (at_with m (low (m.pc + 4)) 8 z)) (ap low none ∙ low-small v four) in
     let A : List Instr = arguments_stored q 0 in
     let E : List Instr = place_given code.frame code.place in
-    let is : begun code ≡ moved x8 x4 ∷ (A ++ E) = ap (λ b. moved x8 x4 ∷ (arguments_stored (if b then q else 0) 0 ++ E))
+    let is : begun code ≡ moved S0 TP ∷ (A ++ E) = ap (λ b. moved S0 TP ∷ (arguments_stored (if b then q else 0) 0 ++ E))
     (le-leb q 8 eight) in
-    let all : Stands program m.pc (moved x8 x4 ∷ (A ++ E)) = subst (λ z. Stands program m.pc z) is there in
+    let all : Stands program m.pc (moved S0 TP ∷ (A ++ E)) = subst (λ z. Stands program m.pc z) is there in
     let same : (r : ℕ) → r ≢ 8 → t.registers r ≡ m.registers r = λ r o. written-elsewhere m.registers 8 v r o in
     let l : Laid program q 0 (length m.private) E t =
     lays program q 0 (length m.private) E t all.1 (low-below (m.pc + 4)) (omega (arith, eight)) (same 2 (λ z. omega (arith, z)) ∙ two)
@@ -234,7 +235,7 @@ comes-in program code m there p eight place two four small region room =
     gives-place program code.frame code.place l.after (subst (λ z. z < 2 ^ 64) (sym l.pc) (low-below (t.pc + 4 * length A))) place l.there in
     let whole : Way program (1 + l.steps + length E) m c.after =
     way-both program (1 + l.steps) (length E) m l.after c.after
-    (way-both program 1 l.steps m t l.after (step-way program (moved x8 x4) m t all.0 to-t) l.way)
+    (way-both program 1 l.steps m t l.after (step-way program (moved S0 TP) m t all.0 to-t) l.way)
     c.way in
     record {
       after = c.after;

@@ -86,7 +86,7 @@ abbrev pub call_most : Program → Image → Tac → Activation → (left : ℕ)
 call_most p image code a zero place f arguments = length (begun_in image code a place arguments)
 call_most p image code a (suc left) place f arguments = length (begun_in image code a place arguments) + 2 + taking image f (p.code f)
 
--- what a call passes is in use before it, and is at home unless x5 holds it
+-- what a call passes is in use before it, and is at home unless T0 holds it
 part-first : (code : Tac) (homes : List (Option Home)) (held : Option ℕ) (Used : ℕ → Type 0) (q : Part) → part_fits code q ≡ true →
     ((t : ℕ) → has (part_reads q) t ≡ true → Used t) → ((t : ℕ) → has (part_asks held q) t ≡ true → HasHome (layout_of code homes) t) →
     IsPartFirst (layout_of code homes) held Used q

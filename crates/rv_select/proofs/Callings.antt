@@ -9,17 +9,16 @@ use Rattle.rv_isa.specs.declared.instr.Instr.{Instr}
 use Rattle.rv_isa.specs.declared.instr.Instr.TheVariants.{Auipc, Jalr, RegisterImmediate}
 use Rattle.rv_isa.specs.declared.operation.BranchCondition.TheVariants.{Ltu}
 use Rattle.rv_isa.specs.declared.operation.ImmediateOp.TheVariants.{Addi}
+use Rattle.rv_isa.specs.Registers.{ZERO, RA, T0, T1, A1, T3}
 use Rattle.terra_words.specs.declared.words.FaultKind.TheVariants.{CallDepth}
 use Rattle.tac_form.specs.declared.tac.Part.{Part}
 use Rattle.rv_machine.specs.Word.{low, word, extended_word}
 use Rattle.rv_machine.specs.Machine.{State, GoesOn, act, at_with}
-use Rattle.rv_operators.specs.Codes.{x0, x5, x6}
 use Rattle.rv_operators.specs.Runs.{Stands}
 use Rattle.rv_select.specs.Numbers.{constant, immediate_of, lower_of, upper_of}
 use Rattle.rv_select.specs.Places.{AreBytes, Holds, Housed, IsHeld, Layout, World, private_word}
-use Rattle.rv_select.specs.Shapes.{counted_if, distance, fault_call, place_number, take_count, x11}
+use Rattle.rv_select.specs.Shapes.{counted_if, distance, fault_call, place_number, take_count}
 use Rattle.rv_select.specs.Steps.{CountsLeft, Ends, EndsLeft, OnMore, with_count}
-use Rattle.rv_select.specs.Entering.{x1, x28}
 use Rattle.rv_select.specs.Calls.{call_begun, call_jump, depth_tested, one_more, passed}
 use Rattle.rv_select.proofs.Calm.{Calm, calm-both, calm-holds, calm-loads, calm-with, near-calm}
 use Rattle.rv_select.proofs.Counts.{TookCount, breaks-off, count-holds, count-left, ends-left, later-breaks, takes-count}
@@ -58,7 +57,7 @@ jumps-to program m from to rest e h k even there =
     let is : t ≡ to = ap (λ q. low (low (q + x) + word (lower_of n).value)) e ∙ target-is from to h k even in
     record {
       after = two;
-      way = way-both program 1 1 m one two (step-way program (Auipc x5 (upper_of n)) m one there.0 refl) (step-way program (Jalr x1 x5 (lower_of n)) one two there.1.0 refl);
+      way = way-both program 1 1 m one two (step-way program (Auipc T0 (upper_of n)) m one there.0 refl) (step-way program (Jalr RA T0 (lower_of n)) one two there.1.0 refl);
       pc = even-stays t to is even;
       link = written-there one.registers 1 (low (one.pc + 4)) (λ z. omega (arith, z)) ∙ pc-eight m.pc;
       others = λ r o five. written-elsewhere one.registers 1 (low (one.pc + 4)) r o ∙ written-elsewhere m.registers 5 (low (m.pc + x)) r five;
@@ -66,7 +65,7 @@ jumps-to program m from to rest e h k even there =
       private = refl;
     }
 
--- What comes before a call's jump: the parts' words lie below the frame, the call's place is in x11, x9 has so many counts that are left,
+-- What comes before a call's jump: the parts' words lie below the frame, the call's place is in A1, S1 has so many counts that are left,
 -- where code counts, and one more call waits.
 pub record Begun (program : List (Option Instr)) (y : Layout) (held : Option ℕ) (base : ℕ) (w : World) (at : Place)
     (ps : List Part) (left : ℕ) (rest : List Instr) (m : State) : Type 0 where
@@ -102,14 +101,14 @@ pc-counted : (p q n : ℕ) → q ≡ low (p + 4 * n) → low (q + 4 * 3) ≡ low
 unfolding low
 pc-counted p q n e = omega arith
 
--- A call's place is in x11, and a count is taken where code counts.
+-- A call's place is in A1, and a count is taken where code counts.
 record AtTest (program : List (Option Instr)) (y : Layout) (Used : ℕ → Type 0) (w : World) (base : ℕ) (counts : Bool) (at : Place) (left : ℕ)
     (rest : List Instr) (m : State) : Type 0 where
   after : State
   steps : ℕ
   way : Way program steps m after
-  few : steps ≤ length (constant x11 (place_number at)) + count_words counts
-  pc : after.pc ≡ low (m.pc + 4 * (length (constant x11 (place_number at)) + count_words counts))
+  few : steps ≤ length (constant A1 (place_number at)) + count_words counts
+  pc : after.pc ≡ low (m.pc + 4 * (length (constant A1 (place_number at)) + count_words counts))
   place : after.registers 11 ≡ place_number at
   count : after.registers 9 ≡ (with_count counts left m).registers 9
   keeps : (r : ℕ) → r ≢ 7 → r ≢ 9 → r ≢ 11 → after.registers r ≡ m.registers r
@@ -120,11 +119,11 @@ record AtTest (program : List (Option Instr)) (y : Layout) (Used : ℕ → Type 
 
 comes-to-test : (program : List (Option Instr)) (y : Layout) (Used : ℕ → Type 0) (w : World) (base : ℕ) (counts : Bool) (at : Place) (left : ℕ)
     (rest : List Instr) (m : State) → Holds y Used w base m → Housed y Used → place_number at < 2 ^ 64 → CountsLeft counts (suc left) m →
-    Stands program m.pc (constant x11 (place_number at) ++ counted_if counts rest) → AtTest program y Used w base counts at left rest m
+    Stands program m.pc (constant A1 (place_number at) ++ counted_if counts rest) → AtTest program y Used w base counts at left rest m
 comes-to-test program y Used w base false at left rest m p h fits c there =
-    let A : List Instr = constant x11 (place_number at) in
+    let A : List Instr = constant A1 (place_number at) in
     let l : Loads 11 A m (place_number at) =
-    constant-loads x11 m (place_number at) (λ z. omega (arith, z)) (λ z. omega (arith, z)) fits in
+    constant-loads A1 m (place_number at) (λ z. omega (arith, z)) (λ z. omega (arith, z)) fits in
     let none : length A ≡ length A + 0 = omega arith in
     record {
       after = l.after;
@@ -142,9 +141,9 @@ comes-to-test program y Used w base false at left rest m p h fits c there =
       there = subst (λ q. Stands program q rest) (sym l.behind) (stands-back program m.pc A rest p.pc there);
     }
 comes-to-test program y Used w base true at left rest m p h fits c there =
-    let A : List Instr = constant x11 (place_number at) in
+    let A : List Instr = constant A1 (place_number at) in
     let l : Loads 11 A m (place_number at) =
-    constant-loads x11 m (place_number at) (λ z. omega (arith, z)) (λ z. omega (arith, z)) fits in
+    constant-loads A1 m (place_number at) (λ z. omega (arith, z)) (λ z. omega (arith, z)) fits in
     let behind-a : Stands program l.after.pc (take_count ++ rest) =
     subst (λ q. Stands program q (take_count ++ rest)) (sym l.behind) (stands-back program m.pc A (take_count ++ rest) p.pc there) in
     let t : TookCount program left rest l.after =
@@ -171,13 +170,13 @@ comes-to-test program y Used w base true at left rest m p h fits c there =
 
 -- where no count is left the run breaks off
 pub call-breaks : (program : List (Option Instr)) (counts : Bool) (at : Place) (rest : List Instr) (m : State) → m.pc < 2 ^ 64 →
-    place_number at < 2 ^ 64 → CountsLeft counts 0 m → (whole : ℕ) → length (constant x11 (place_number at)) + count_words counts ≤ whole →
-    Stands program m.pc (constant x11 (place_number at) ++ counted_if counts rest) → OnMore counts program whole m
+    place_number at < 2 ^ 64 → CountsLeft counts 0 m → (whole : ℕ) → length (constant A1 (place_number at)) + count_words counts ≤ whole →
+    Stands program m.pc (constant A1 (place_number at) ++ counted_if counts rest) → OnMore counts program whole m
 call-breaks program false at rest m small fits c whole enough there = tt
 call-breaks program true at rest m small fits c whole enough there =
-    let A : List Instr = constant x11 (place_number at) in
+    let A : List Instr = constant A1 (place_number at) in
     let l : Loads 11 A m (place_number at) =
-    constant-loads x11 m (place_number at) (λ z. omega (arith, z)) (λ z. omega (arith, z)) fits in
+    constant-loads A1 m (place_number at) (λ z. omega (arith, z)) (λ z. omega (arith, z)) fits in
     later-breaks program (length A) 2 whole m l.after
     (straight-way program A m l.after (stands-front program m.pc A (take_count ++ rest) there) l.straight l.goes)
     (breaks-off program rest l.after (l.keeps 9 (λ z. omega (arith, z)) (λ z. omega (arith, z)) ∙ c.0)
@@ -186,13 +185,13 @@ call-breaks program true at rest m small fits c whole enough there =
 
 -- how many words there are
 pub begun-words : (y : Layout) (held : Option ℕ) (at : Place) (ps : List Part) →
-    length (call_begun y held at ps) ≡ length (constant x11 (place_number at)) + count_words y.extent.counts + (5 + (length (passed y held 0 ps) + 1))
+    length (call_begun y held at ps) ≡ length (constant A1 (place_number at)) + count_words y.extent.counts + (5 + (length (passed y held 0 ps) + 1))
 begun-words y held at ps =
     let P : List Instr = passed y held 0 ps in
     let tail : length (P ++ one_more) ≡ length P + 1 = length-append P one_more in
     omega (
       arith,
-      length-append (constant x11 (place_number at)) (counted_if y.extent.counts (depth_tested ++ (P ++ one_more))),
+      length-append (constant A1 (place_number at)) (counted_if y.extent.counts (depth_tested ++ (P ++ one_more))),
       counted-length y.extent.counts (depth_tested ++ (P ++ one_more)),
       tail,
     )
@@ -206,7 +205,7 @@ module _ (program : List (Option Instr)) (y : Layout) (held : Option ℕ) (Used 
     (left : ℕ) (counts : CountsLeft y.extent.counts (suc left) m)
     (there : Stands program m.pc (call_begun y held at ps ++ rest)) where
   abbrev A : List Instr
-  A = constant x11 (place_number at)
+  A = constant A1 (place_number at)
 
   abbrev P : List Instr
   P = passed y held 0 ps
@@ -235,7 +234,7 @@ module _ (program : List (Option Instr)) (y : Layout) (held : Option ℕ) (Used 
   way-2 : Way program (l.steps + 1) m t2
   way-2 =
       way-both program l.steps 1 m t1 t2 l.way
-      (step-way program (RegisterImmediate Addi x6 x0 (immediate_of 511)) t1 t2 after-1.0 (small-load x6 511 t1 (λ z. omega (arith, z)) (omega arith)))
+      (step-way program (RegisterImmediate Addi T1 ZERO (immediate_of 511)) t1 t2 after-1.0 (small-load T1 511 t1 (λ z. omega (arith, z)) (omega arith)))
 
   calm-2 : Calm t1 t2
   calm-2 = calm-with t1 (low (t1.pc + 4)) 6 511 refl
@@ -257,7 +256,7 @@ module _ (program : List (Option Instr)) (y : Layout) (held : Option ℕ) (Used 
   too-deep deep =
       let d : State = at_pc t2 (low (t2.pc + 4)) in
       let branch : Way program 1 t2 d =
-      branch-way program Ltu x28 x6 16 t2 false (omega arith) (omega arith) after-1.1.0 (ap (λ x. nat_lt x 511) depth-2 ∙ le-ltb w.depth 511 deep) in
+      branch-way program Ltu T3 T1 16 t2 false (omega arith) (omega arith) after-1.1.0 (ap (λ x. nat_lt x 511) depth-2 ∙ le-ltb w.depth 511 deep) in
       let last : Ends program CallDepth at 3 d =
       call-fails program d CallDepth at place-2 (omega arith) (omega arith) (stands-front program d.pc (fault_call CallDepth) (P ++ (one_more ++ rest)) after-1.1.1) in
       ends-left y.extent.counts program CallDepth at (l.steps + 1 + 1) 3 (length (call_begun y held at ps)) left m d
@@ -269,7 +268,7 @@ module _ (program : List (Option Instr)) (y : Layout) (held : Option ℕ) (Used 
   begins shallow reads room =
       let t3 : State = at_pc t2 (low (t2.pc + 16)) in
       let branch : Way program 1 t2 t3 =
-      branch-way program Ltu x28 x6 16 t2 true (omega arith) (omega arith) after-1.1.0 (ap (λ x. nat_lt x 511) depth-2 ∙ lt-ltb w.depth 511 shallow) in
+      branch-way program Ltu T3 T1 16 t2 true (omega arith) (omega arith) after-1.1.0 (ap (λ x. nat_lt x 511) depth-2 ∙ lt-ltb w.depth 511 shallow) in
       let calm-3 : Calm t1 t3 = calm-both t1 t2 t3 calm-2 (near-calm t2 t3 (near-pc t2 (low (t2.pc + 16)))) in
       let private-3 : t3.private ≡ m.private = calm-3.private ∙ l.private in
       let q : Holds y Used w base t3 = calm-holds y Used w base t1 t3 l.holds h calm-3 (low-below (t2.pc + 16)) in
@@ -282,14 +281,14 @@ module _ (program : List (Option Instr)) (y : Layout) (held : Option ℕ) (Used 
       let t5 : State = at_with t4 (low (t4.pc + 4)) 28 (suc w.depth) in
       let depth-4 : t4.registers 28 ≡ w.depth = pp.beneath.keeps 28 (λ z. omega (arith, z)) (λ z. omega (arith, z)) (λ z. omega (arith, z)) ∙ depth-2 in
       let one-sum : w.depth + 1 ≡ suc w.depth = omega arith in
-      let to-5 : act (RegisterImmediate Addi x28 x28 (immediate_of 1)) t4 ≡ GoesOn t5 =
+      let to-5 : act (RegisterImmediate Addi T3 T3 (immediate_of 1)) t4 ≡ GoesOn t5 =
       ap (λ v. GoesOn (at_with t4 (low (t4.pc + 4)) 28 (low (t4.registers 28 + v)))) (immediate-is 1 (omega arith))
       ∙ (ap (λ v. GoesOn (at_with t4 (low (t4.pc + 4)) 28 (low (v + 1)))) depth-4
       ∙ ap (λ v. GoesOn (at_with t4 (low (t4.pc + 4)) 28 v)) (low-small (w.depth + 1) (omega (arith, shallow)) ∙ one-sum)) in
       let way-3 : Way program (l.steps + 1 + 1) m t3 = way-both program (l.steps + 1) 1 m t2 t3 way-2 branch in
       let way-4 : Way program (l.steps + 1 + 1 + pp.steps) m t4 = way-both program (l.steps + 1 + 1) pp.steps m t3 t4 way-3 pp.way in
       let way-5 : Way program (l.steps + 1 + 1 + pp.steps + 1) m t5 =
-      way-both program (l.steps + 1 + 1 + pp.steps) 1 m t4 t5 way-4 (step-way program (RegisterImmediate Addi x28 x28 (immediate_of 1)) t4 t5 pp.there.0 to-5) in
+      way-both program (l.steps + 1 + 1 + pp.steps) 1 m t4 t5 way-4 (step-way program (RegisterImmediate Addi T3 T3 (immediate_of 1)) t4 t5 pp.there.0 to-5) in
       record {
         after = t5;
         steps = l.steps + 1 + 1 + pp.steps + 1;

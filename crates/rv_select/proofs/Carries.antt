@@ -102,7 +102,7 @@ operand-read code y Used (Temp t) fits f g =
     let here : has (t ∷ []) t ≡ true = ap (λ b. b || false) (eq-eqb t t refl) in (f t here, g t here)
 operand-read code y Used (Constant c) fits f g = ltb-true c (2 ^ 64) fits
 
--- an operand that x5 takes
+-- an operand that T0 takes
 pub first-read : (code : Tac) (y : Layout) (held : Option ℕ) (Used : ℕ → Type 0) (a : Operand) → operand_fits code a ≡ true →
     ((t : ℕ) → has (operand_reads a) t ≡ true → Used t) → ((t : ℕ) → has (first_asks held a) t ≡ true → HasHome y t) → IsFirst y held Used a
 first-read code y held Used (Temp t) fits f g =
@@ -112,7 +112,7 @@ first-read code y held Used (Temp t) fits f g =
     here = ap (λ b. b || false) (eq-eqb t t refl)
 first-read code y held Used (Constant c) fits f g = ltb-true c (2 ^ 64) fits
 
--- two operands, of which x5 takes the first
+-- two operands, of which T0 takes the first
 pub both-read : (code : Tac) (y : Layout) (held : Option ℕ) (Used : ℕ → Type 0) (a b : Operand) → operand_fits code a ≡ true → operand_fits code b ≡ true →
     ((t : ℕ) → has (operand_reads a) t ≡ true → Used t) → ((t : ℕ) → has (operand_reads b) t ≡ true → Used t) →
     ((t : ℕ) → has (both_ask held a b) t ≡ true → HasHome y t) → IsFirst y held Used a × IsRead y Used b
@@ -121,7 +121,7 @@ both-read code y held Used a b fit-a fit-b read-a read-b asked = (
   operand-read code y Used b fit-b read-b (λ t u. asked t (has-right (first_asks held a) (operand_reads b) t u)),
 )
 
--- one that x5 holds
+-- one that T0 holds
 second-read : (y : Layout) (held : Option ℕ) (Used : ℕ → Type 0) (a : Operand) → is_second held a ≡ true →
     ((t : ℕ) → has (operand_reads a) t ≡ true → Used t) → IsFirst y held Used a
 second-read y held Used (Temp t) e f = let here : has (t ∷ []) t ≡ true = ap (λ b. b || false) (eq-eqb t t refl) in (f t here, inl e)
@@ -144,7 +144,7 @@ place-small at h =
 pub nothing-written : (out : List ℕ) → out ≡ out ++ []
 nothing-written out = sym (append-nil out)
 
--- an instruction that leaves a temporary's word in x5
+-- an instruction that leaves a temporary's word in T0
 given : (written : List ℕ) {y : Layout} {program : List (Option Instr)} {Next : ℕ → Type 0} {w : World} {base most target d : ℕ} {m : State} →
     Gives y program Next w base most target d m →
     (out : List ℕ) × (written ≡ written ++ out) × (c : Comes y program Next w base most target out m) × IsHeld y (Some d) w.temps c.after
@@ -191,7 +191,7 @@ unturned : (held : Option ℕ) (a b : Operand) (t : ℕ) (turned second : Bool) 
     has (if turned then both_ask held b a else unturned-asks held a b second) t ≡ has (unturned-asks held a b second) t
 unturned held a b t turned second e = ap (λ c. has (if c then both_ask held b a else unturned-asks held a b second) t) e
 
--- an operand in x5 is held, and one that is held and not in x5 has a register as its home
+-- an operand in T0 is held, and one that is held and not in T0 has a register as its home
 five-second : (y : Layout) (held : Option ℕ) (b : Operand) → is_five y held b ≡ true → is_second held b ≡ true
 five-second y held (Temp t) e = five-held y held t e
 five-second y held (Constant c) e = cc

@@ -22,7 +22,7 @@ use Rattle.rv_select.specs.Places.{HasHome, IsFirst, IsHeld, Layout, World, Hold
 use Rattle.rv_select.specs.Shapes.{copied, computed, divisor_tested, held_after, is_five, is_turned, loaded, located, put_at, stored}
 use Rattle.rv_select.specs.Steps.{AreFewer, Comes, Ends, Follows, IsPlace, behind, with_temp}
 
--- The machine comes somewhere with the word of a temporary in x5, or in the register that is its home.
+-- The machine comes somewhere with the word of a temporary in T0, or in the register that is its home.
 pub record Gives (y : Layout) (program : List (Option Instr)) (Next : ℕ → Type 0) (w : World) (base most target d : ℕ) (m : State) : Type 0 where
   pub comes : Comes y program Next w base most target [] m
   pub five : IsHeld y (Some d) w.temps comes.after

@@ -8,13 +8,13 @@ use Rattle.rv_isa.specs.declared.instr.Instr.TheVariants.{RegisterImmediate, Sto
 use Rattle.rv_isa.specs.declared.operation.ImmediateOp.TheVariants.{Addi}
 use Rattle.rv_isa.specs.declared.operation.StoreOp.TheVariants.{Sd}
 use Rattle.rv_isa.specs.Table.{word_of}
+use Rattle.rv_isa.specs.Registers.{ZERO, T0}
 use Rattle.terra_memory.specs.Numbers.{low_bytes, overwritten}
 use Rattle.terra_memory.proofs.Overwriting.{length-overwritten}
 use Rattle.tac_form.specs.Weights.{most_moved}
 use Rattle.rv_machine.specs.Word.{low}
 use Rattle.rv_machine.specs.Machine.{State, GoesOn, act, stores, stores_to}
 use Rattle.rv_operators.specs.Claims.{acts, then_on}
-use Rattle.rv_operators.specs.Codes.{x0, x5}
 use Rattle.rv_operators.specs.Runs.{AreStraight, Stands}
 use Rattle.rv_operators.proofs.Runs.{straight-both}
 use Rattle.rv_select.specs.Numbers.{immediate_of}
@@ -89,12 +89,12 @@ zeros-address : (x a at : ℕ) → x ≡ 2 ^ 32 + a → a + at < 2 ^ 32 → low 
 unfolding low
 zeros-address x a at e h = omega arith
 
--- eight zeros behind where x5 points
+-- eight zeros behind where T0 points
 zero-fills : (m : State) (a at : ℕ) → m.registers 5 ≡ 2 ^ 32 + a → at ≤ 2047 → a + at + 8 ≤ length m.private → length m.private ≤ 603979776 → length m.region ≤ 67108864 →
-    Fills (Store Sd x5 x0 (immediate_of at) ∷ []) m (a + at) (nulls 8)
+    Fills (Store Sd T0 ZERO (immediate_of at) ∷ []) m (a + at) (nulls 8)
 zero-fills m a at five h room private region =
     let z : State = saved m (overwritten m.private (a + at) (nulls 8)) in
-    let e : act (Store Sd x5 x0 (immediate_of at)) m ≡ GoesOn z =
+    let e : act (Store Sd T0 ZERO (immediate_of at)) m ≡ GoesOn z =
     ap (λ k. stores m Sd (low (m.registers 5 + k)) 0) (immediate-is at h)
     ∙ (ap (λ k. stores m Sd k 0) (zeros-address (m.registers 5) a at five (omega arith))
     ∙ (ap (λ k. stores_to m (low_bytes 8 0) k) (private-part (length m.region) (length m.private) (a + at) 8 region room)
@@ -113,7 +113,7 @@ zeros-fill : (n : ℕ) (m : State) (a at : ℕ) → m.pc < 2 ^ 64 → m.register
     length m.region ≤ 67108864 → Fills (zeros n at) m (a + at) (nulls (8 * n))
 zeros-fill zero m a at p five h room private region = fills-none m (a + at) p
 zeros-fill (suc n) m a at p five h room private region =
-    let first : Fills (Store Sd x5 x0 (immediate_of at) ∷ []) m (a + at) (nulls 8) = zero-fills m a at five (omega arith) (omega arith) private region in
+    let first : Fills (Store Sd T0 ZERO (immediate_of at) ∷ []) m (a + at) (nulls 8) = zero-fills m a at five (omega arith) (omega arith) private region in
     let count : length (nulls 8) ≡ 8 = nulls-count 8 in
     let long : length first.after.private ≡ length m.private = ap length first.private ∙ length-overwritten m.private (nulls 8) (a + at) (omega (arith, count)) in
     let next : a + (at + 8) ≡ a + at + length (nulls 8) = omega (arith, count) in
@@ -122,7 +122,7 @@ zeros-fill (suc n) m a at p five h room private region =
     zeros-fill n first.after a (at + 8) (subst (λ z. z < 2 ^ 64) (sym first.behind) (low-below (m.pc + 4 * 1))) (first.keeps 5 ∙ five) (omega arith)
     (subst (λ z. a + (at + 8) + 8 * n ≤ z) (sym long) (omega arith)) (subst (λ z. z ≤ 603979776) (sym long) private) (subst (λ z. length z ≤ 67108864) (sym first.region) region) in
     subst (λ bs. Fills (zeros (suc n) at) m (a + at) bs) (nulls-both 8 (8 * n) ∙ ap nulls whole)
-    (fills-both (Store Sd x5 x0 (immediate_of at) ∷ []) (zeros n (at + 8)) m (a + at) (nulls 8) (nulls (8 * n)) first (omega (arith, count))
+    (fills-both (Store Sd T0 ZERO (immediate_of at) ∷ []) (zeros n (at + 8)) m (a + at) (nulls 8) (nulls (8 * n)) first (omega (arith, count))
     (subst (λ k. Fills (zeros n (at + 8)) first.after k (nulls (8 * n))) next rest))
 
 -- the first word of zeros, and the others
@@ -149,13 +149,13 @@ pub clears : (y : Layout) (n size : ℕ) (Used Next : ℕ → Type 0) (w : World
     Stands program m.pc (cleared y n size) → n < y.areas → size ≤ most_moved → Holds y Used w base m → Housed y Used → AreFewer Used Next →
     Comes y program Next (with_area w n (nulls size)) base (length (cleared y n size)) (behind m (cleared y n size)) [] m
 clears y n size Used Next w base program m stands there most p h f =
-    let A : List Instr = area_reached y x5 n 0 in
+    let A : List Instr = area_reached y T0 n 0 in
     let k : ℕ = (size + 7) / 8 in
     let B : List Instr = zeros k 0 in
     let at : ℕ = base + (area_offset y n + 0) in
     let all : base + (area_offset y n + 128) ≤ length m.private = area-room y base n 128 m p.frame there (omega arith) in
     let l : Loads 5 A m (2 ^ 32 + at) =
-    framed-address x5 (area_offset y n + 0) base m (λ e. omega (arith, e)) p.pc (area-near y base n 0 m p.frame there (omega arith)) p.frame.pointer (omega (arith, p.frame.private)) in
+    framed-address T0 (area_offset y n + 0) base m (λ e. omega (arith, e)) p.pc (area-near y base n 0 m p.frame there (omega arith)) p.frame.pointer (omega (arith, p.frame.private)) in
     let zeros-there : at + 0 + 8 * k ≤ length m.private = omega arith in
     let here : at + 0 ≡ base + area_offset y n = omega arith in
     let s : Saves (A ++ B) m (at + 0) (nulls (8 * k)) =
@@ -164,7 +164,7 @@ clears y n size Used Next w base program m stands there most p h f =
     (zeros-fill k l.after at 0 (subst (λ z. z < 2 ^ 64) (sym l.behind) (low-below (m.pc + 4 * length A))) l.gives (omega arith)
     (subst (λ z. at + 0 + 8 * k ≤ length z) (sym l.private) zeros-there) (subst (λ z. length z ≤ 603979776) (sym l.private) p.frame.private)
     (subst (λ z. length z ≤ 67108864) (sym l.region) (region-small y Used w base m p)))) in
-    let some-a : 1 ≤ length A = framed-some (λ r far. RegisterImmediate Addi x5 r far) (area_offset y n + 0) in
+    let some-a : 1 ≤ length A = framed-some (λ r far. RegisterImmediate Addi T0 r far) (area_offset y n + 0) in
     let count : length (A ++ B) ≡ length A + k = length-append A B ∙ ap (λ z. length A + z) (zeros-count k 0) in
     area-comes y Used Next w base n (length (A ++ B)) (length (A ++ B)) (behind m (A ++ B)) (nulls size) program m s.after
     (straight-way program (A ++ B) m s.after stands s.straight s.goes) s.behind (subst (λ z. z < 2 ^ 64) (sym s.behind) (low-below (m.pc + 4 * length (A ++ B))))

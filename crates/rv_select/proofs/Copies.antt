@@ -6,12 +6,12 @@ use Rattle.std.specs.List.{list_all}
 use Rattle.std.proofs.lemmas.Bool.{leb-true}
 use Rattle.std.proofs.lemmas.List.{length-append}
 use Rattle.rv_isa.specs.declared.instr.Instr.{Instr}
+use Rattle.rv_isa.specs.Registers.{T0, T1}
 use Rattle.terra_memory.specs.Numbers.{overwritten}
 use Rattle.terra_memory.proofs.Overwriting.{length-overwritten, part-overwritten}
 use Rattle.tac_form.specs.Fits.{area_fits}
 use Rattle.rv_machine.specs.declared.memory.Place.TheVariants.{Private}
 use Rattle.rv_machine.specs.Machine.{State}
-use Rattle.rv_operators.specs.Codes.{x5, x6}
 use Rattle.rv_operators.specs.Runs.{Stands}
 use Rattle.rv_select.specs.Places.{AreBytes, Holds, Housed, Layout, World, area_offset}
 use Rattle.rv_select.specs.Shapes.{all_carried, area_reached, to_area}
@@ -59,7 +59,7 @@ area-whole y Used w base n bs code m s p h k are =
       whole = subst AreBytes (sym same) (overwritten-bytes m.private bs (base + area_offset y n) p.frame.bytes are);
     }
 
--- The bytes lie where x5 points, which is none of the area's.
+-- The bytes lie where T0 points, which is none of the area's.
 pub copies-there : (y : Layout) (n size s : ℕ) (X : List ℕ) (Used Next : ℕ → Type 0) (w : World) (base : ℕ)
     (program : List (Option Instr)) (m : State) →
     Stands program m.pc (to_area y n 0 size) → n < y.areas → size ≤ 128 → length X ≡ size → m.registers 5 ≡ 2 ^ 32 + s →
@@ -67,15 +67,15 @@ pub copies-there : (y : Layout) (n size s : ℕ) (X : List ℕ) (Used Next : ℕ
     take size (drop s m.private) ≡ X → AreBytes X → Holds y Used w base m → Housed y Used → AreFewer Used Next →
     Comes y program Next (with_area w n X) base (length (to_area y n 0 size)) (behind m (to_area y n 0 size)) [] m
 copies-there y n size s X Used Next w base program m stands there short count five inside apart reads are p h f =
-    let B : List Instr = area_reached y x6 n 0 in
-    let C : List Instr = all_carried x5 x6 size in
+    let B : List Instr = area_reached y T1 n 0 in
+    let C : List Instr = all_carried T0 T1 size in
     let d : ℕ = base + (area_offset y n + 0) in
-    let l : Loads 6 B m (2 ^ 32 + d) = area-address y Used w base n 0 x6 m (λ e. omega (arith, e)) p there (omega arith) in
+    let l : Loads 6 B m (2 ^ 32 + d) = area-address y Used w base n 0 T1 m (λ e. omega (arith, e)) p there (omega arith) in
     let t : Holds y Used w base l.after = scratch-holds y Used w base B m l.after p h (loads-six B m (2 ^ 32 + d) l) in
     let room : d + size ≤ length l.after.private = area-inside y Used w base n 0 size l.after t there (omega (arith, short)) in
     let other : (s + size ≤ d) ⊎ (d + size ≤ s) =
     ⊎_elim (λ e. inl (omega (arith, e))) (λ e. inr (omega (arith, e, short))) apart in
-    let move : Moving x5 x6 (Private s) (Private d) X l.after = record {
+    let move : Moving T0 T1 (Private s) (Private d) X l.after = record {
       pc = t.pc;
       source = l.keeps 5 (λ e. omega (arith, e)) (λ e. omega (arith, e)) ∙ five;
       target = l.gives;
@@ -92,9 +92,9 @@ copies-there y n size s X Used Next w base program m stands there short count fi
     } in
     let r : Saves (B ++ C) m d X =
     then-saves B C m l.after d X (loads-six B m (2 ^ 32 + d) l)
-    (transfer-saves C l.after d X (all-moved x5 x6 (Private s) (Private d) X size l.after move count)) in
+    (transfer-saves C l.after d X (all-moved T0 T1 (Private s) (Private d) X size l.after move count)) in
     let all : length (B ++ C) ≡ length B + length C = length-append B C in
-    let some-b : 1 ≤ length B = area-some y x6 n 0 in
+    let some-b : 1 ≤ length B = area-some y T1 n 0 in
     area-comes y Used Next w base n (length (B ++ C)) (length (B ++ C)) (behind m (B ++ C)) X program m r.after
     (straight-way program (B ++ C) m r.after stands r.straight r.goes) r.behind (small-after (B ++ C) m r.after r.behind)
     (area-whole y Used w base n X (B ++ C) m r p there (omega (arith, count, short)) are) p h f there (omega arith) (omega arith)

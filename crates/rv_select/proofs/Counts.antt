@@ -9,6 +9,7 @@ use Rattle.rv_isa.specs.declared.instr.Instr.{Instr}
 use Rattle.rv_isa.specs.declared.instr.Instr.TheVariants.{Ebreak, RegisterImmediate}
 use Rattle.rv_isa.specs.declared.operation.BranchCondition.TheVariants.{Ne}
 use Rattle.rv_isa.specs.declared.operation.ImmediateOp.TheVariants.{Addi}
+use Rattle.rv_isa.specs.Registers.{ZERO, S1}
 use Rattle.reg_alloc.specs.declared.assignment.Home.{Home}
 use Rattle.reg_alloc.specs.declared.assignment.Home.TheVariants as homes
 use Rattle.terra_memory.specs.Numbers.{number_of}
@@ -16,12 +17,11 @@ use Rattle.rv_machine.specs.declared.stops.MachineKind.TheVariants.{Break}
 use Rattle.rv_machine.specs.declared.stops.Stop.TheVariants.{MachineFault, Returned}
 use Rattle.rv_machine.specs.Word.{low}
 use Rattle.rv_machine.specs.Machine.{State, GoesOn, act, after_step, at_with, fetch, obeys, run_of, stands, step}
-use Rattle.rv_operators.specs.Codes.{x0}
 use Rattle.rv_operators.specs.Runs.{Stands}
 use Rattle.rv_operators.proofs.Runs.{not-zero}
 use Rattle.rv_select.specs.Numbers.{below_zero}
 use Rattle.rv_select.specs.Places.{AreBytes, Holds, Housed, IsHome, Keeps, Layout, World, area_offset, frame_bytes, home_of, slot_offset, word_at}
-use Rattle.rv_select.specs.Shapes.{take_count, x9}
+use Rattle.rv_select.specs.Shapes.{take_count}
 use Rattle.rv_select.specs.Steps.{Breaks, CountsLeft, Ends, EndsLeft, with_count}
 use Rattle.rv_select.proofs.Faults.{branch-way}
 use Rattle.rv_select.proofs.Moves.{lasts-not}
@@ -43,7 +43,7 @@ pub breaks-off : (program : List (Option Instr)) (rest : List Instr) (m : State)
 breaks-off program rest m none there =
     let d : State = at_pc m (low (m.pc + 4)) in
     let way : Way program 1 m d =
-    branch-way program Ne x9 x0 8 m false (omega arith) (omega arith) there.0 (ap (λ z. not (nat_eq z 0)) none) in
+    branch-way program Ne S1 ZERO 8 m false (omega arith) (omega arith) there.0 (ap (λ z. not (nat_eq z 0)) none) in
     record {
       steps = 2;
       last = d;
@@ -86,17 +86,17 @@ takes-count program left rest m some small there =
     let d : State = at_pc m (low (m.pc + 8)) in
     let e : State = at_with d (low (d.pc + 4)) 9 left in
     let one : Way program 1 m d =
-    branch-way program Ne x9 x0 8 m true (omega arith) (omega arith) there.0
+    branch-way program Ne S1 ZERO 8 m true (omega arith) (omega arith) there.0
     (ap (λ z. not (nat_eq z 0)) some ∙ ap not (ne_eqb (suc left) 0 (λ z. omega (arith, z)))) in
-    let here : fetch program d.pc ≡ Some (Some (RegisterImmediate Addi x9 x9 (below_zero 0))) =
-    subst (λ q. fetch program q ≡ Some (Some (RegisterImmediate Addi x9 x9 (below_zero 0)))) (pc-eight m.pc) there.1.1.0 in
-    let to-e : act (RegisterImmediate Addi x9 x9 (below_zero 0)) d ≡ GoesOn e =
+    let here : fetch program d.pc ≡ Some (Some (RegisterImmediate Addi S1 S1 (below_zero 0))) =
+    subst (λ q. fetch program q ≡ Some (Some (RegisterImmediate Addi S1 S1 (below_zero 0)))) (pc-eight m.pc) there.1.1.0 in
+    let to-e : act (RegisterImmediate Addi S1 S1 (below_zero 0)) d ≡ GoesOn e =
     ap (λ z. GoesOn (at_with d (low (d.pc + 4)) 9 (low (m.registers 9 + z)))) (below-is 0 (omega arith))
     ∙ (ap (λ z. GoesOn (at_with d (low (d.pc + 4)) 9 (low (z + (2 ^ 64 - 1))))) some
     ∙ ap (λ z. GoesOn (at_with d (low (d.pc + 4)) 9 z)) (less left small)) in
     record {
       after = e;
-      way = way-both program 1 1 m d e one (step-way program (RegisterImmediate Addi x9 x9 (below_zero 0)) d e here to-e);
+      way = way-both program 1 1 m d e one (step-way program (RegisterImmediate Addi S1 S1 (below_zero 0)) d e here to-e);
       count = written-there m.registers 9 left (λ z. omega (arith, z));
       keeps = λ r o. written-elsewhere m.registers 9 left r o;
       region = refl;
@@ -105,7 +105,7 @@ takes-count program left rest m some small there =
       there = subst (λ q. Stands program q rest) (pc-twelve m.pc) there.1.1.1;
     }
 
--- What callers rest on is as it was but for x9.
+-- What callers rest on is as it was but for S1.
 pub counted-keeps : (y : Layout) (base left : ℕ) (m n after : State) → Keeps y base n after →
     ((r : ℕ) → r ≢ 5 → r ≢ 6 → r ≢ 7 → r ≢ 9 → n.registers r ≡ m.registers r) → n.registers 9 ≡ left → n.private ≡ m.private →
     Keeps y base (with_count true left m) after
@@ -120,13 +120,13 @@ counted-keeps y base left m n after k same count private = record {
   outside = λ at n o. k.outside at n o ∙ ap (λ z. take n (drop at z)) private;
 }
 
--- Where no count is taken x9 is what it was.
+-- Where no count is taken S1 is what it was.
 pub uncounted-keeps : (counts : Bool) (y : Layout) (base left : ℕ) (m after : State) → Keeps y base m after → CountsLeft counts left m →
     Keeps y base (with_count counts left m) after
 uncounted-keeps true y base left m after k c = counted-keeps y base left m m after k (λ r five six seven nine. refl) c.0 refl
 uncounted-keeps false y base left m after k c = k
 
--- x9 goes on to hold the counts that are left
+-- S1 goes on to hold the counts that are left
 pub counts-stay : (counts : Bool) (left : ℕ) (m n : State) → n.registers 9 ≡ m.registers 9 → CountsLeft counts left m → CountsLeft counts left n
 counts-stay true left m n e c = (e ∙ c.0, c.1)
 counts-stay false left m n e c = tt

@@ -12,19 +12,20 @@ use Rattle.rv_isa.specs.declared.operation.ImmediateOp.TheVariants.{Addi}
 use Rattle.rv_isa.specs.declared.operation.RegisterOp.TheVariants.{Add, Sub}
 use Rattle.rv_isa.specs.declared.operation.ShiftOp.TheVariants.{Srli}
 use Rattle.rv_isa.specs.declared.operation.StoreOp.TheVariants.{Sd}
+use Rattle.rv_isa.specs.Registers.{ZERO, RA, SP, TP, T0, T2, S0, A0, A7}
 use Rattle.terra_words.specs.declared.words.FaultKind.{FaultKind}
 use Rattle.terra_words.specs.declared.words.FaultKind.TheVariants.{StackFull}
 use Rattle.terra_words.specs.Words.{fault_number}
 use Rattle.rv_machine.specs.Word.{low, difference}
 use Rattle.rv_machine.specs.Machine.{State, GoesOn, Throws, act, at_with, run_of}
-use Rattle.rv_operators.specs.Codes.{x0, x5, zero_immediate}
+use Rattle.rv_operators.specs.Codes.{zero_immediate}
 use Rattle.rv_operators.specs.Runs.{Stands}
 use Rattle.rv_select.specs.Numbers.{constant, immediate_of, register_of, upper_of}
 use Rattle.rv_select.specs.Places.{AreBytes, Layout, private_word, uses}
-use Rattle.rv_select.specs.Shapes.{fault_call, limit_found, place_number, two, x2, x4, x7, x8, x10, x17}
+use Rattle.rv_select.specs.Shapes.{fault_call, limit_found, place_number, two}
 use Rattle.rv_select.specs.Steps.{Ends}
 use Rattle.rv_select.specs.Entering.{frame_taken, if_used, kept_offset, link_saved, pointer_down, region_taken, saved, stack_branch}
-use Rattle.rv_select.specs.Entering.{stack_tested, x1}
+use Rattle.rv_select.specs.Entering.{stack_tested}
 use Rattle.rv_select.proofs.Allocs.{less, right-two}
 use Rattle.rv_select.proofs.Faults.{branch-way, later-ends, small-load, throws}
 use Rattle.terra_memory.specs.Numbers.{number_of}
@@ -36,16 +37,16 @@ use Rattle.rv_select.proofs.Straight.{Loads, loads-both, loads-one, low-below, l
 use Rattle.rv_select.proofs.Ways.{Near, Way, at_pc, low-none, near-both, near-pc, stands-back, stands-front, step-way, straight-way}
 use Rattle.rv_select.proofs.Ways.{throw-step, way-both, way-none}
 
--- the call by which a run ends, at a place that stands in x11
+-- the call by which a run ends, at a place that stands in A1
 pub call-fails : (program : List (Option Instr)) (m : State) (kind : FaultKind) (at : Place) → m.registers 11 ≡ place_number at →
     1 ≤ fault_number kind → fault_number kind ≤ 5 → Stands program m.pc (fault_call kind) → Ends program kind at 3 m
 call-fails program m kind at e l u there =
     let b : State = at_with m (low (m.pc + 4)) 10 (fault_number kind) in
     let c : State = at_with b (low (b.pc + 4)) 17 1024 in
     let one : Way program 1 m b =
-    step-way program (RegisterImmediate Addi x10 x0 (immediate_of (fault_number kind))) m b there.0 (small-load x10 (fault_number kind) m (λ z. omega (arith, z)) (omega arith)) in
+    step-way program (RegisterImmediate Addi A0 ZERO (immediate_of (fault_number kind))) m b there.0 (small-load A0 (fault_number kind) m (λ z. omega (arith, z)) (omega arith)) in
     let two-way : Way program 1 b c =
-    step-way program (RegisterImmediate Addi x17 x0 (immediate_of 1024)) b c there.1.0 (small-load x17 1024 b (λ z. omega (arith, z)) (omega arith)) in
+    step-way program (RegisterImmediate Addi A7 ZERO (immediate_of 1024)) b c there.1.0 (small-load A7 1024 b (λ z. omega (arith, z)) (omega arith)) in
     let way : Way program (1 + 1) m c = way-both program 1 1 m b c one two-way in
     let last : act Ecall c ≡ Throws (fault_number kind) (place_number at) = throws c (fault_number kind) (place_number at) refl refl e l u in
     record {
@@ -58,30 +59,30 @@ call-fails program m kind at e l u there =
       count = refl;
     }
 
--- x7 gets the address at which the last quarter of the region begins
+-- T2 gets the address at which the last quarter of the region begins
 pub limit-loads : (m : State) (size : ℕ) → m.registers 4 ≡ 2 ^ 30 + size → size ≤ 67108864 → Loads 7 limit_found m (2 ^ 30 + size - size / 4)
 limit-loads m size e most =
-    let a : Loads 7 (Lui x7 (upper_of 0x40000000) ∷ []) m (2 ^ 30) = loads-one (Lui x7 (upper_of 0x40000000)) m 7 (2 ^ 30) (λ z. omega (arith, z)) refl refl in
+    let a : Loads 7 (Lui T2 (upper_of 0x40000000) ∷ []) m (2 ^ 30) = loads-one (Lui T2 (upper_of 0x40000000)) m 7 (2 ^ 30) (λ z. omega (arith, z)) refl refl in
     let same : 2 ^ 30 + size - 2 ^ 30 ≡ size = omega arith in
     let four-a : a.after.registers 4 ≡ 2 ^ 30 + size = a.keeps 4 (λ z. omega (arith, z)) (λ z. omega (arith, z)) ∙ e in
-    let b : Loads 7 (RegisterRegister Sub x7 x4 x7 ∷ []) a.after size =
-    loads-one (RegisterRegister Sub x7 x4 x7) a.after 7 size (λ z. omega (arith, z)) refl
+    let b : Loads 7 (RegisterRegister Sub T2 TP T2 ∷ []) a.after size =
+    loads-one (RegisterRegister Sub T2 TP T2) a.after 7 size (λ z. omega (arith, z)) refl
     (ap (λ x. GoesOn (at_with a.after (low (a.after.pc + 4)) 7 (difference x (a.after.registers 7)))) four-a
     ∙ (ap (λ x. GoesOn (at_with a.after (low (a.after.pc + 4)) 7 (difference (2 ^ 30 + size) x))) a.gives
     ∙ ap (λ x. GoesOn (at_with a.after (low (a.after.pc + 4)) 7 x)) (less (2 ^ 30 + size) (2 ^ 30) (omega arith) (omega (arith, most)) ∙ same))) in
-    let c : Loads 7 (Shift Srli x7 x7 two ∷ []) b.after (size / 4) =
-    loads-one (Shift Srli x7 x7 two) b.after 7 (size / 4) (λ z. omega (arith, z)) refl
+    let c : Loads 7 (Shift Srli T2 T2 two ∷ []) b.after (size / 4) =
+    loads-one (Shift Srli T2 T2 two) b.after 7 (size / 4) (λ z. omega (arith, z)) refl
     (ap (λ x. GoesOn (at_with b.after (low (b.after.pc + 4)) 7 x)) (right-two (b.after.registers 7) ∙ ap (λ x. x / 4) b.gives)) in
     let four-c : c.after.registers 4 ≡ 2 ^ 30 + size =
     c.keeps 4 (λ z. omega (arith, z)) (λ z. omega (arith, z)) ∙ (b.keeps 4 (λ z. omega (arith, z)) (λ z. omega (arith, z)) ∙ four-a) in
-    let d : Loads 7 (RegisterRegister Sub x7 x4 x7 ∷ []) c.after (2 ^ 30 + size - size / 4) =
-    loads-one (RegisterRegister Sub x7 x4 x7) c.after 7 (2 ^ 30 + size - size / 4) (λ z. omega (arith, z)) refl
+    let d : Loads 7 (RegisterRegister Sub T2 TP T2 ∷ []) c.after (2 ^ 30 + size - size / 4) =
+    loads-one (RegisterRegister Sub T2 TP T2) c.after 7 (2 ^ 30 + size - size / 4) (λ z. omega (arith, z)) refl
     (ap (λ x. GoesOn (at_with c.after (low (c.after.pc + 4)) 7 (difference x (c.after.registers 7)))) four-c
     ∙ (ap (λ x. GoesOn (at_with c.after (low (c.after.pc + 4)) 7 (difference (2 ^ 30 + size) x))) c.gives
     ∙ ap (λ x. GoesOn (at_with c.after (low (c.after.pc + 4)) 7 x)) (less (2 ^ 30 + size) (size / 4) (omega arith) (omega (arith, most))))) in
-    loads-both 7 (2 ^ 30) (2 ^ 30 + size - size / 4) (Lui x7 (upper_of 0x40000000) ∷ []) (RegisterRegister Sub x7 x4 x7 ∷ Shift Srli x7 x7 two ∷ RegisterRegister Sub x7 x4 x7 ∷ []) m a
-    (loads-both 7 size (2 ^ 30 + size - size / 4) (RegisterRegister Sub x7 x4 x7 ∷ []) (Shift Srli x7 x7 two ∷ RegisterRegister Sub x7 x4 x7 ∷ []) a.after b
-    (loads-both 7 (size / 4) (2 ^ 30 + size - size / 4) (Shift Srli x7 x7 two ∷ []) (RegisterRegister Sub x7 x4 x7 ∷ []) b.after c d))
+    loads-both 7 (2 ^ 30) (2 ^ 30 + size - size / 4) (Lui T2 (upper_of 0x40000000) ∷ []) (RegisterRegister Sub T2 TP T2 ∷ Shift Srli T2 T2 two ∷ RegisterRegister Sub T2 TP T2 ∷ []) m a
+    (loads-both 7 size (2 ^ 30 + size - size / 4) (RegisterRegister Sub T2 TP T2 ∷ []) (Shift Srli T2 T2 two ∷ RegisterRegister Sub T2 TP T2 ∷ []) a.after b
+    (loads-both 7 (size / 4) (2 ^ 30 + size - size / 4) (Shift Srli T2 T2 two ∷ []) (RegisterRegister Sub T2 TP T2 ∷ []) b.after c d))
 
 pc-sixteen : (p q : ℕ) → q ≡ low (p + 4) → low (q + 16) ≡ low (p + 20)
 unfolding low
@@ -99,7 +100,7 @@ pc-all : (p n k a b c : ℕ) → a ≡ low (p + 4 * n) → b ≡ low (a + 4 * k)
 unfolding low
 pc-all p n k a b c e g h = omega arith
 
--- The test of the data stack: where it passes, the frame's bytes are in x5.
+-- The test of the data stack: where it passes, the frame's bytes are in T0.
 pub record Passed (program : List (Option Instr)) (frame : ℕ) (rest : List Instr) (m : State) : Type 0 where
   pub after : State
   pub steps : ℕ
@@ -117,10 +118,10 @@ module _ (program : List (Option Instr)) (m : State) (frame size placed : ℕ) (
   limit = 2 ^ 30 + size - size / 4
 
   abbrev A : List Instr
-  A = constant x5 frame
+  A = constant T0 frame
 
   abbrev l : Loads 5 A m frame
-  l = constant-loads x5 m frame (λ z. omega (arith, z)) (λ z. omega (arith, z)) (omega arith)
+  l = constant-loads T0 m frame (λ z. omega (arith, z)) (λ z. omega (arith, z)) (omega arith)
 
   abbrev a : State
   a = l.after
@@ -157,7 +158,7 @@ module _ (program : List (Option Instr)) (m : State) (frame size placed : ℕ) (
   behind-b : Stands program b.pc (stack_branch ++ rest)
   behind-b = subst (λ q. Stands program q (stack_branch ++ rest)) (sym k.behind) (stands-back program a.pc limit_found (stack_branch ++ rest) a-small behind-a)
 
-  to-c : act (RegisterRegister Add x7 x7 x5) b ≡ GoesOn c
+  to-c : act (RegisterRegister Add T2 T2 T0) b ≡ GoesOn c
   to-c =
       ap (λ x. GoesOn (at_with b (low (b.pc + 4)) 7 (low (x + b.registers 5)))) k.gives
       ∙ (ap (λ x. GoesOn (at_with b (low (b.pc + 4)) 7 (low (limit + x)))) five-b
@@ -169,7 +170,7 @@ module _ (program : List (Option Instr)) (m : State) (frame size placed : ℕ) (
       (way-both program (length A) 4 m a b
       (straight-way program A m a (stands-front program m.pc A (limit_found ++ (stack_branch ++ rest)) all) l.straight l.goes)
       (straight-way program limit_found a b (stands-front program a.pc limit_found (stack_branch ++ rest) behind-a) k.straight k.goes))
-      (step-way program (RegisterRegister Add x7 x7 x5) b c behind-b.0 to-c)
+      (step-way program (RegisterRegister Add T2 T2 T0) b c behind-b.0 to-c)
 
   near-c : Near m c
   near-c = record {
@@ -185,7 +186,7 @@ module _ (program : List (Option Instr)) (m : State) (frame size placed : ℕ) (
   passes h =
       let d : State = at_pc c (low (c.pc + 16)) in
       let branch : Way program 1 c d =
-      branch-way program Geu x8 x7 16 c true (omega arith) (omega arith) behind-b.1.0
+      branch-way program Geu S0 T2 16 c true (omega arith) (omega arith) behind-b.1.0
       (ap (λ x. not (nat_lt x (c.registers 7))) eight-c ∙ ap not (le-ltb placed (limit + frame) h)) in
       let pc-c : d.pc ≡ low (b.pc + 4 * 5) = pc-branch b.pc c.pc d.pc refl refl in
       let pc-d : d.pc ≡ low (m.pc + 4 * (length A + (4 + 5))) = pc-all m.pc (length A) 4 a.pc b.pc d.pc l.behind k.behind pc-c in
@@ -204,7 +205,7 @@ module _ (program : List (Option Instr)) (m : State) (frame size placed : ℕ) (
   refuses at e h =
       let d : State = at_pc c (low (c.pc + 4)) in
       let branch : Way program 1 c d =
-      branch-way program Geu x8 x7 16 c false (omega arith) (omega arith) behind-b.1.0
+      branch-way program Geu S0 T2 16 c false (omega arith) (omega arith) behind-b.1.0
       (ap (λ x. not (nat_lt x (c.registers 7))) eight-c ∙ ap not (lt-ltb placed (limit + frame) h)) in
       let eleven : d.registers 11 ≡ place_number at = near-c.keeps 11 (λ z. omega (arith, z)) (λ z. omega (arith, z)) (λ z. omega (arith, z)) ∙ e in
       let last : Ends program StackFull at 3 d =
@@ -253,12 +254,12 @@ takes-region program zero size placed rest m p small four most eight placed-smal
     placed-still program rest (placed - 0) m p (eight ∙ same) there
 takes-region program (suc n) size placed rest m p small four most eight placed-small fits there =
     let A : List Instr = stack_tested (suc n) in
-    let S : List Instr = RegisterRegister Sub x8 x8 x5 ∷ [] in
+    let S : List Instr = RegisterRegister Sub S0 S0 T0 ∷ [] in
     let all : Stands program m.pc (A ++ (S ++ rest)) = subst (λ z. Stands program m.pc z) (append_assoc A S rest) there in
     let t : Passed program (suc n) (S ++ rest) m = passes program m (suc n) size placed (S ++ rest) p small four most eight placed-small all fits in
     let eight-t : t.after.registers 8 ≡ placed = t.near.keeps 8 (λ z. omega (arith, z)) (λ z. omega (arith, z)) (λ z. omega (arith, z)) ∙ eight in
     let b : State = at_with t.after (low (t.after.pc + 4)) 8 (placed - suc n) in
-    let to-b : act (RegisterRegister Sub x8 x8 x5) t.after ≡ GoesOn b =
+    let to-b : act (RegisterRegister Sub S0 S0 T0) t.after ≡ GoesOn b =
     ap (λ x. GoesOn (at_with t.after (low (t.after.pc + 4)) 8 (difference x (t.after.registers 5)))) eight-t
     ∙ (ap (λ x. GoesOn (at_with t.after (low (t.after.pc + 4)) 8 (difference placed x))) t.five
     ∙ ap (λ x. GoesOn (at_with t.after (low (t.after.pc + 4)) 8 x)) (less placed (suc n) (omega (arith, fits)) (omega (arith, placed-small)))) in
@@ -266,7 +267,7 @@ takes-region program (suc n) size placed rest m p small four most eight placed-s
     record {
       after = b;
       steps = t.steps + 1;
-      way = way-both program t.steps 1 m t.after b t.way (step-way program (RegisterRegister Sub x8 x8 x5) t.after b t.there.0 to-b);
+      way = way-both program t.steps 1 m t.after b t.way (step-way program (RegisterRegister Sub S0 S0 T0) t.after b t.there.0 to-b);
       few = omega (arith, t.few, count);
       eight = written-there t.after.registers 8 (placed - suc n) (λ z. omega (arith, z));
       keeps = λ r five six seven eight'. written-elsewhere t.after.registers 8 (placed - suc n) r eight' ∙ t.near.keeps r five six seven;
@@ -284,7 +285,7 @@ pub region-refused : (program : List (Option Instr)) (frame size placed : ℕ) (
 region-refused program zero size placed rest m p small four most eight placed-small above there at e h = absurd (omega (arith, above, h))
 region-refused program (suc n) size placed rest m p small four most eight placed-small above there at e h =
     let A : List Instr = stack_tested (suc n) in
-    let S : List Instr = RegisterRegister Sub x8 x8 x5 ∷ [] in
+    let S : List Instr = RegisterRegister Sub S0 S0 T0 ∷ [] in
     let r : Ends program StackFull at (length A) m =
     refuses program m (suc n) size placed (S ++ rest) p small four most eight placed-small
     (subst (λ z. Stands program m.pc z) (append_assoc A S rest) there) at (e (omega arith)) h in
@@ -319,7 +320,7 @@ one-if false i = omega arith
 
 pub saved-count : (y : Layout) (n x : ℕ) → length (saved y n x) ≤ n
 saved-count y zero x = omega arith
-saved-count y (suc n) x = used-count (uses y x) (Store Sd x2 (register_of x) (immediate_of (kept_offset x))) (saved y n (x + 1)) n (saved-count y n (x + 1))
+saved-count y (suc n) x = used-count (uses y x) (Store Sd SP (register_of x) (immediate_of (kept_offset x))) (saved y n (x + 1)) n (saved-count y n (x + 1))
 
 pub zero-sum : (x base : ℕ) → x ≡ 2 ^ 32 + base → base < 2 ^ 63 → low (x + 0) ≡ 2 ^ 32 + base
 unfolding low
@@ -332,7 +333,7 @@ pc-frame p n j k c d e a b o = omega arith
 -- The return address is kept in the frame, where the function makes calls.
 record LinkSaved (calls : Bool) (base : ℕ) (m : State) : Type 0 where
   after : State
-  is : Stored (if_used calls (Store Sd x2 x1 zero_immediate)) base (base + 8) m after
+  is : Stored (if_used calls (Store Sd SP RA zero_immediate)) base (base + 8) m after
   word : calls ≡ true → private_word after base ≡ low (m.registers 1)
 
 saves-link : (calls : Bool) (base : ℕ) (m : State) → m.pc < 2 ^ 64 → m.registers 2 ≡ 2 ^ 32 + base → base < 2 ^ 63 → base + 8 ≤ length m.private →
@@ -340,7 +341,7 @@ saves-link : (calls : Bool) (base : ℕ) (m : State) → m.pc < 2 ^ 64 → m.reg
 saves-link false base m p two small room region = record { after = m; is = stored-none base (base + 8) m p; word = λ z. cc }
 saves-link true base m p two small room region = record {
   after = word_stored m base (m.registers 1);
-  is = stored-one m x2 x1 zero_immediate base (m.registers 1) (zero-sum (m.registers 2) base two small) refl region room;
+  is = stored-one m SP RA zero_immediate base (m.registers 1) (zero-sum (m.registers 2) base two small) refl region room;
   word = λ z. word-stored m.private base (m.registers 1) room;
 }
 

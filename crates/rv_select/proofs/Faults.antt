@@ -9,23 +9,23 @@ use Rattle.rv_isa.specs.declared.instr.Instr.TheVariants.{Branch, RegisterImmedi
 use Rattle.rv_isa.specs.declared.operation.ImmediateOp.TheVariants.{Addi}
 use Rattle.rv_isa.specs.declared.operation.BranchCondition.{BranchCondition}
 use Rattle.rv_isa.specs.declared.operand.Register.{Register}
+use Rattle.rv_isa.specs.Registers.{ZERO, A0, A1, A7}
 use Rattle.rv_machine.specs.declared.stops.MachineKind.TheVariants.{BadCall}
 use Rattle.rv_machine.specs.Word.{low, word}
 use Rattle.rv_machine.specs.Arithmetic.{is_taken}
 use Rattle.rv_machine.specs.Machine.{State, GoesOn, Throws, Faults, act, at_with, fetch, goes_to, run_of, throw_call, value_at, write_call}
 use Rattle.terra_words.specs.declared.words.FaultKind.{FaultKind}
 use Rattle.terra_words.specs.Words.{fault_number}
-use Rattle.rv_operators.specs.Codes.{x0}
 use Rattle.rv_operators.specs.Runs.{Stands}
 use Rattle.rv_select.specs.Numbers.{constant, immediate_of}
-use Rattle.rv_select.specs.Shapes.{failed, fault_call, offset_of, place_number, x10, x11, x17}
+use Rattle.rv_select.specs.Shapes.{failed, fault_call, offset_of, place_number}
 use Rattle.rv_select.specs.Steps.{Ends}
 use Rattle.rv_select.proofs.Straight.{Loads}
 use Rattle.rv_select.proofs.Numbers.{constant-count, constant-loads, immediate-is}
 use Rattle.rv_select.proofs.Ways.{Way, at_pc, offset-is, stands-back, stands-front, step-way, straight-way, throw-step, way-both}
 
 pub small-load : (d : Register) (n : ℕ) (m : State) → d.number ≢ 0 → n ≤ 2047 →
-    act (RegisterImmediate Addi d x0 (immediate_of n)) m ≡ GoesOn (at_with m (low (m.pc + 4)) d.number n)
+    act (RegisterImmediate Addi d ZERO (immediate_of n)) m ≡ GoesOn (at_with m (low (m.pc + 4)) d.number n)
 unfolding low
 small-load d n m o h =
     let e : (0 + n) % 2 ^ 64 ≡ n = omega arith in
@@ -41,8 +41,8 @@ throws s kind place e f g h k =
 pub fails : (program : List (Option Instr)) (m : State) (kind : FaultKind) (at : Place) → m.pc < 2 ^ 64 → place_number at < 2 ^ 64 →
     1 ≤ fault_number kind → fault_number kind ≤ 5 → Stands program m.pc (failed kind at) → Ends program kind at (length (failed kind at)) m
 fails program m kind at p h l u there =
-    let code : List Instr = constant x11 (place_number at) in
-    let k : Loads 11 code m (place_number at) = constant-loads x11 m (place_number at) (λ e. omega (arith, e)) (λ e. omega (arith, e)) h in
+    let code : List Instr = constant A1 (place_number at) in
+    let k : Loads 11 code m (place_number at) = constant-loads A1 m (place_number at) (λ e. omega (arith, e)) (λ e. omega (arith, e)) h in
     let a : State = k.after in
     let rest : Stands program a.pc (fault_call kind) =
     subst (λ q. Stands program q (fault_call kind)) (sym k.behind) (stands-back program m.pc code (fault_call kind) p there) in
@@ -50,8 +50,8 @@ fails program m kind at p h l u there =
     let c : State = at_with b (low (b.pc + 4)) 17 1024 in
     let one : Way program (length code) m a = straight-way program code m a (stands-front program m.pc code (fault_call kind) there) k.straight k.goes in
     let two : Way program 1 a b =
-    step-way program (RegisterImmediate Addi x10 x0 (immediate_of (fault_number kind))) a b rest.0 (small-load x10 (fault_number kind) a (λ e. omega (arith, e)) (omega arith)) in
-    let three : Way program 1 b c = step-way program (RegisterImmediate Addi x17 x0 (immediate_of 1024)) b c rest.1.0 (small-load x17 1024 b (λ e. omega (arith, e)) (omega arith)) in
+    step-way program (RegisterImmediate Addi A0 ZERO (immediate_of (fault_number kind))) a b rest.0 (small-load A0 (fault_number kind) a (λ e. omega (arith, e)) (omega arith)) in
+    let three : Way program 1 b c = step-way program (RegisterImmediate Addi A7 ZERO (immediate_of 1024)) b c rest.1.0 (small-load A7 1024 b (λ e. omega (arith, e)) (omega arith)) in
     let way : Way program (length code + 1 + 1) m c = way-both program (length code + 1) 1 m b c (way-both program (length code) 1 m a b one two) three in
     let last : act Ecall c ≡ Throws (fault_number kind) (place_number at) = throws c (fault_number kind) (place_number at) refl refl k.gives l u in
     record {
@@ -88,7 +88,7 @@ branch-way program condition a b n m taken h k there e =
 
 pub failed-count : (kind : FaultKind) (at : Place) → length (failed kind at) ≤ 11
 failed-count kind at =
-    omega (arith, length-append (constant x11 (place_number at)) (fault_call kind), constant-count x11 (place_number at))
+    omega (arith, length-append (constant A1 (place_number at)) (fault_call kind), constant-count A1 (place_number at))
 
-pub failed_words : (kind : FaultKind) (at : Place) → length (failed kind at) ≡ length (constant x11 (place_number at)) + 3
-failed_words kind at = length-append (constant x11 (place_number at)) (fault_call kind)
+pub failed_words : (kind : FaultKind) (at : Place) → length (failed kind at) ≡ length (constant A1 (place_number at)) + 3
+failed_words kind at = length-append (constant A1 (place_number at)) (fault_call kind)

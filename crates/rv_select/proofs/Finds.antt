@@ -64,7 +64,7 @@ find-instruction program y sizes places held (j ∷ is) (suc k) i top at rest e 
     (stands-next program at A (B ++ rest) (omega (arith, near, count, small))
     (subst (λ z. Stands program at z) (append_assoc A B rest) there))
 
--- what x5 holds behind an instruction, and before an exit
+-- what T0 holds behind an instruction, and before an exit
 pub held-next : (held : Option ℕ) (is : List Instruction) (k : ℕ) (i : Instruction) → slice_get is k ≡ Some i →
     held_at held is (suc k) ≡ held_after i
 held-next held [] k i e = cc

@@ -9,16 +9,17 @@ use Rattle.rv_isa.specs.declared.operation.ImmediateOp.TheVariants.{Addi}
 use Rattle.rv_isa.specs.declared.operation.RegisterOp.TheVariants.{Add}
 use Rattle.rv_isa.specs.declared.operand.Register.{Register}
 use Rattle.rv_isa.specs.declared.operand.Immediate.{Immediate}
+use Rattle.rv_isa.specs.Registers.{SP, T2}
 use Rattle.rv_machine.specs.Word.{low, word, extended_word}
 use Rattle.rv_machine.specs.Machine.{State, GoesOn, act, at_with, value_at}
 use Rattle.rv_operators.specs.Claims.{acts}
 use Rattle.rv_operators.specs.Runs.{AreStraight}
 use Rattle.rv_select.specs.Numbers.{immediate_of, lower_of, upper_number, upper_of}
-use Rattle.rv_select.specs.Shapes.{framed, x2, x7}
+use Rattle.rv_select.specs.Shapes.{framed}
 use Rattle.rv_select.proofs.Straight.{Scratch, Loads, loads-one, loads-both, register-value, scratch-none, then-loads}
 use Rattle.rv_select.proofs.Numbers.{parts, extended-small, immediate-is, upper-is}
 
--- Code that comes before an instruction with a register and an offset, and changes x7 alone.
+-- Code that comes before an instruction with a register and an offset, and changes T2 alone.
 pub record Before (code : List Instr) (m after : State) : Type 0 where
   pub goes : acts code m ≡ GoesOn after
   pub behind : after.pc ≡ low (m.pc + 4 * length code)
@@ -51,10 +52,10 @@ pub record Reach (f : Register → Immediate → Instr) (offset : ℕ) (m : Stat
 near-reach : (f : Register → Immediate → Instr) (offset : ℕ) (m : State) → m.pc < 2 ^ 64 → offset < 2048 → Reach f offset m
 near-reach f offset m p h = record {
   first = [];
-  register = x2;
+  register = SP;
   far = immediate_of offset;
   at = m;
-  code = ap (λ b. if b then f x2 (immediate_of offset) ∷ [] else Lui x7 (upper_of offset) ∷ RegisterRegister Add x7 x7 x2 ∷ f x7 (lower_of offset) ∷ []) (le-leb offset 2047 (omega arith));
+  code = ap (λ b. if b then f SP (immediate_of offset) ∷ [] else Lui T2 (upper_of offset) ∷ RegisterRegister Add T2 T2 SP ∷ f T2 (lower_of offset) ∷ []) (le-leb offset 2047 (omega arith));
   before = record {
     goes = refl;
     behind = (scratch-none m p).behind;
@@ -78,22 +79,22 @@ far-sum u x l n e = omega arith
 far-reach : (f : Register → Immediate → Instr) (offset : ℕ) (m : State) → 2048 ≤ offset → offset < 2 ^ 30 → Reach f offset m
 far-reach f offset m h k =
     let u : ℕ = upper_number offset * 2 ^ 12 in
-    let l : Loads 7 (Lui x7 (upper_of offset) ∷ []) m u =
-    loads-one (Lui x7 (upper_of offset)) m 7 u (λ e. omega (arith, e)) refl
+    let l : Loads 7 (Lui T2 (upper_of offset) ∷ []) m u =
+    loads-one (Lui T2 (upper_of offset)) m 7 u (λ e. omega (arith, e)) refl
     (ap (λ v. GoesOn (at_with m (low (m.pc + 4)) 7 v)) (upper-word offset k)) in
     let v : ℕ = low (u + m.registers 2) in
-    let s : Loads 7 (RegisterRegister Add x7 x7 x2 ∷ []) l.after v =
-    loads-one (RegisterRegister Add x7 x7 x2) l.after 7 v (λ e. omega (arith, e)) refl
+    let s : Loads 7 (RegisterRegister Add T2 T2 SP ∷ []) l.after v =
+    loads-one (RegisterRegister Add T2 T2 SP) l.after 7 v (λ e. omega (arith, e)) refl
     (ap (λ a. GoesOn (at_with l.after (low (l.after.pc + 4)) 7 (low (a + l.after.registers 2)))) l.gives
     ∙ ap (λ a. GoesOn (at_with l.after (low (l.after.pc + 4)) 7 (low (u + a)))) (l.keeps 2 (λ e. omega (arith, e)) (λ e. omega (arith, e)))) in
-    let both : Loads 7 (Lui x7 (upper_of offset) ∷ RegisterRegister Add x7 x7 x2 ∷ []) m v =
-    loads-both 7 u v (Lui x7 (upper_of offset) ∷ []) (RegisterRegister Add x7 x7 x2 ∷ []) m l s in
+    let both : Loads 7 (Lui T2 (upper_of offset) ∷ RegisterRegister Add T2 T2 SP ∷ []) m v =
+    loads-both 7 u v (Lui T2 (upper_of offset) ∷ []) (RegisterRegister Add T2 T2 SP ∷ []) m l s in
     record {
-      first = Lui x7 (upper_of offset) ∷ RegisterRegister Add x7 x7 x2 ∷ [];
-      register = x7;
+      first = Lui T2 (upper_of offset) ∷ RegisterRegister Add T2 T2 SP ∷ [];
+      register = T2;
       far = lower_of offset;
       at = both.after;
-      code = ap (λ b. if b then f x2 (immediate_of offset) ∷ [] else Lui x7 (upper_of offset) ∷ RegisterRegister Add x7 x7 x2 ∷ f x7 (lower_of offset) ∷ []) (lt-leb offset 2047 (omega arith));
+      code = ap (λ b. if b then f SP (immediate_of offset) ∷ [] else Lui T2 (upper_of offset) ∷ RegisterRegister Add T2 T2 SP ∷ f T2 (lower_of offset) ∷ []) (lt-leb offset 2047 (omega arith));
       before = record {
         goes = both.goes;
         behind = both.behind;
@@ -104,7 +105,7 @@ far-reach f offset m h k =
         few = omega arith;
       };
       address =
-          ap (λ a. low (a + word (lower_of offset).value)) (register-value both.after x7 7 refl (λ e. omega (arith, e)) ∙ both.gives)
+          ap (λ a. low (a + word (lower_of offset).value)) (register-value both.after T2 7 refl (λ e. omega (arith, e)) ∙ both.gives)
           ∙ far-sum (upper_number offset) (m.registers 2) (word (lower_of offset).value) offset ((parts offset).near k);
     }
 
@@ -114,14 +115,14 @@ reach f offset m p k = ⊎_elim (λ h. near-reach f offset m p h) (λ h. far-rea
 pub framed-count : (f : Register → Immediate → Instr) (offset : ℕ) → length (framed f offset) ≤ 3
 framed-count f offset = either (nat_le offset 2047)
   where
-    either : (b : Bool) → length (if b then f x2 (immediate_of offset) ∷ [] else Lui x7 (upper_of offset) ∷ RegisterRegister Add x7 x7 x2 ∷ f x7 (lower_of offset) ∷ []) ≤ 3
+    either : (b : Bool) → length (if b then f SP (immediate_of offset) ∷ [] else Lui T2 (upper_of offset) ∷ RegisterRegister Add T2 T2 SP ∷ f T2 (lower_of offset) ∷ []) ≤ 3
     either true = omega arith
     either false = omega arith
 
 pub framed-some : (f : Register → Immediate → Instr) (offset : ℕ) → 1 ≤ length (framed f offset)
 framed-some f offset = either (nat_le offset 2047)
   where
-    either : (b : Bool) → 1 ≤ length (if b then f x2 (immediate_of offset) ∷ [] else Lui x7 (upper_of offset) ∷ RegisterRegister Add x7 x7 x2 ∷ f x7 (lower_of offset) ∷ [])
+    either : (b : Bool) → 1 ≤ length (if b then f SP (immediate_of offset) ∷ [] else Lui T2 (upper_of offset) ∷ RegisterRegister Add T2 T2 SP ∷ f T2 (lower_of offset) ∷ [])
     either true = omega arith
     either false = omega arith
 

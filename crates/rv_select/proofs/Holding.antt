@@ -15,6 +15,7 @@ use Rattle.rv_isa.specs.declared.operation.RegisterOp.TheVariants.{Sltu}
 use Rattle.rv_isa.specs.declared.operation.RegisterWordOp.{RegisterWordOp}
 use Rattle.rv_isa.specs.declared.operation.ShiftOp.{ShiftOp}
 use Rattle.rv_isa.specs.declared.operation.ShiftOp.TheVariants.{Slli, Srli, Srai}
+use Rattle.rv_isa.specs.Registers.{ZERO, T1}
 use Rattle.rv_machine.specs.Word.{low, word, difference, signed, extended_word}
 use Rattle.rv_machine.specs.Machine.{State, GoesOn, act, at_with, value_at}
 use Rattle.rv_machine.specs.Arithmetic.{flag, immediate_value, shift_value, shifted_left, shifted_right, word_shifted_left}
@@ -29,7 +30,7 @@ use Rattle.tac_form.specs.declared.tac.Operand.TheVariants.{Temp, Constant}
 use Rattle.tac_form.specs.Weights.{operand_words, operator_words}
 use Rattle.rv_operators.specs.Claims.{Leads}
 use Rattle.rv_operators.specs.Codes.{code_of, counted, cut, in_one, in_parts, is_comparison, is_width, one_immediate, operation}
-use Rattle.rv_operators.specs.Codes.{word_operation, x0, x6}
+use Rattle.rv_operators.specs.Codes.{word_operation}
 use Rattle.rv_operators.specs.Runs.{AreStraight}
 use Rattle.rv_operators.proofs.Cuts.{Low, by-width, low-bits, low-word, then-cut}
 use Rattle.rv_operators.proofs.Lows.{shifted_of}
@@ -321,7 +322,7 @@ not-equal-is d a z w c s h k n =
     (one d _ s (flag (nat_lt 0 x)) _ z refl (other-word x)))
     (λ o.
     let some : 0 < c = omega (arith, o) in
-    subst (λ b. Leads d.number (if b then RegisterRegister Sltu d x0 a ∷ [] else by_number d a Addi (opposite c) ∷ RegisterRegister Sltu d x0 d ∷ []) s (words.flag (not (nat_eq x c))))
+    subst (λ b. Leads d.number (if b then RegisterRegister Sltu d ZERO a ∷ [] else by_number d a Addi (opposite c) ∷ RegisterRegister Sltu d ZERO d ∷ []) s (words.flag (not (nat_eq x c))))
     (sym (ne_eqb c 0 o))
     (two d _ _ s (low (x + opposite c)) (λ v. flag (nat_lt 0 v)) _ z (number-acts d a z Addi (opposite c) s (opposite-word c n)) (λ q. refl)
     (ap (λ v. flag (nat_lt 0 v)) (difference-is x c some) ∙ other-words x c h k)))
@@ -401,7 +402,7 @@ folded-few d a w Or c = few-more 3 _ (omega arith) (with-cut d (by_number d a Or
 folded-few d a w ShiftLeft c = few-more 3 _ (omega arith) (up-few d a (c % w.bits) w)
 folded-few d a w ShiftRight c = shift-few d a (shift_down w.signed) (c % w.bits) w
 folded-few d a w Equal c = few-more 2 _ (omega arith) (test-few d a c (λ r. RegisterImmediate Sltiu d r one_immediate) refl refl)
-folded-few d a w NotEqual c = few-more 2 _ (omega arith) (test-few d a c (λ r. RegisterRegister Sltu d x0 r) refl refl)
+folded-few d a w NotEqual c = few-more 2 _ (omega arith) (test-few d a c (λ r. RegisterRegister Sltu d ZERO r) refl refl)
 folded-few d a w Less c = record { few = omega arith; straight = refl }
 folded-few d a w GreaterEqual c = record { few = omega arith; straight = refl }
 folded-few d a w LessEqual c = record { few = omega arith; straight = refl }
@@ -436,7 +437,7 @@ folded-some d a w Or c e = omega arith
 folded-some d a w ShiftLeft c e = up-some d a (c % w.bits) w
 folded-some d a w ShiftRight c e = omega arith
 folded-some d a w Equal c e = test-some d a c (λ r. RegisterImmediate Sltiu d r one_immediate)
-folded-some d a w NotEqual c e = test-some d a c (λ r. RegisterRegister Sltu d x0 r)
+folded-some d a w NotEqual c e = test-some d a c (λ r. RegisterRegister Sltu d ZERO r)
 folded-some d a w Less c e = omega arith
 folded-some d a w GreaterEqual c e = omega arith
 folded-some d a w LessEqual c e = omega arith
@@ -480,23 +481,23 @@ code-some d a b w op =
 pub second-least : (y : Layout) (b : Operand) → length (second_read y b) ≤ operand_words b
 second-least y b = either (is_there y b)
   where
-    either : (c : Bool) → length (if c then [] else taken y x6 b) ≤ operand_words b
+    either : (c : Bool) → length (if c then [] else taken y T1 b) ≤ operand_words b
     either true = omega arith
-    either false = operand-count y x6 b
+    either false = operand-count y T1 b
 
 read-some : (y : Layout) (d a : Register) (w : Width) (op : BinaryOperator) (b : Operand) →
-    1 ≤ length (second_read y b ++ code_of d a (read_in y x6 b) w op)
+    1 ≤ length (second_read y b ++ code_of d a (read_in y T1 b) w op)
 read-some y d a w op b =
-    omega (arith, length-append (second_read y b) (code_of d a (read_in y x6 b) w op), code-some d a (read_in y x6 b) w op)
+    omega (arith, length-append (second_read y b) (code_of d a (read_in y T1 b) w op), code-some d a (read_in y T1 b) w op)
 
 read-count : (y : Layout) (d a : Register) (w : Width) (op : BinaryOperator) (b : Operand) →
-    length (second_read y b ++ code_of d a (read_in y x6 b) w op) ≤ operand_words b + operator_words op
+    length (second_read y b ++ code_of d a (read_in y T1 b) w op) ≤ operand_words b + operator_words op
 read-count y d a w op b =
     omega (
       arith,
-      length-append (second_read y b) (code_of d a (read_in y x6 b) w op),
+      length-append (second_read y b) (code_of d a (read_in y T1 b) w op),
       second-least y b,
-      operator-count d a (read_in y x6 b) w op,
+      operator-count d a (read_in y T1 b) w op,
     )
 
 pub applied-some : (y : Layout) (d a : Register) (w : Width) (op : BinaryOperator) (b : Operand) → 1 ≤ length (applied_to y d a w op b)
@@ -504,7 +505,7 @@ applied-some y d a w op (Temp t) = read-some y d a w op (Temp t)
 applied-some y d a w op (Constant c) = either (is_folded op c) refl
   where
     either : (b : Bool) → is_folded op c ≡ b →
-        1 ≤ length (if b then folded d a w op c else second_read y (Constant c) ++ code_of d a (read_in y x6 (Constant c)) w op)
+        1 ≤ length (if b then folded d a w op c else second_read y (Constant c) ++ code_of d a (read_in y T1 (Constant c)) w op)
     either true e = folded-some d a w op c e
     either false e = read-some y d a w op (Constant c)
 
@@ -513,7 +514,7 @@ pub applied-count : (y : Layout) (d a : Register) (w : Width) (op : BinaryOperat
 applied-count y d a w op (Temp t) = read-count y d a w op (Temp t)
 applied-count y d a w op (Constant c) = either (is_folded op c)
   where
-    either : (b : Bool) → length (if b then folded d a w op c else second_read y (Constant c) ++ code_of d a (read_in y x6 (Constant c)) w op)
+    either : (b : Bool) → length (if b then folded d a w op c else second_read y (Constant c) ++ code_of d a (read_in y T1 (Constant c)) w op)
         ≤ operand_words (Constant c) + operator_words op
     either true = omega (arith, (folded-few d a w op c).few)
     either false = read-count y d a w op (Constant c)

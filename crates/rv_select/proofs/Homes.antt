@@ -11,6 +11,7 @@ use Rattle.rv_isa.specs.declared.operation.ShiftOp.TheVariants.{Slli}
 use Rattle.rv_isa.specs.declared.operation.LoadOp.TheVariants.{Ld}
 use Rattle.rv_isa.specs.declared.operation.StoreOp.TheVariants.{Sd}
 use Rattle.rv_isa.specs.declared.operand.Register.{Register}
+use Rattle.rv_isa.specs.Registers.{ZERO, T0, T2}
 use Rattle.reg_alloc.specs.declared.assignment.Home.{Home}
 use Rattle.reg_alloc.specs.declared.assignment.Home.TheVariants as homes
 use Rattle.terra_memory.specs.Numbers.{low_bytes, number_of, overwritten}
@@ -22,13 +23,12 @@ use Rattle.tac_form.specs.declared.tac.Operand.TheVariants.{Temp, Constant}
 use Rattle.tac_form.specs.Flow.{Temps}
 use Rattle.tac_form.specs.Weights.{kept_bytes, most_moved, operand_words}
 use Rattle.rv_operators.specs.Claims.{acts, then_on}
-use Rattle.rv_operators.specs.Codes.{x0, x5}
 use Rattle.rv_operators.specs.Runs.{AreStraight}
 use Rattle.rv_operators.proofs.Runs.{straight-both}
 use Rattle.rv_select.specs.Places.{AreBytes, Layout, World, HasFrame, Holds, Housed, IsFirst, IsHeld, IsHome, IsRead, IsSlot, area_offset}
 use Rattle.rv_select.specs.Places.{HasHome, frame_bytes, home_of, in_five, in_register, is_given, is_in_register, or_first, private_word, slot_offset, value_in, word_at}
 use Rattle.rv_select.specs.Numbers.{constant, half, half_added, in_both, in_halves, is_twice, long_constant, lower_of, register_of}
-use Rattle.rv_select.specs.Numbers.{short_constant, upper_half, upper_number, upper_of, x7}
+use Rattle.rv_select.specs.Numbers.{short_constant, upper_half, upper_number, upper_of}
 use Rattle.rv_select.specs.Shapes.{brought, first_taken, is_held, moved, put_at, put_from, put_in, put_to, taken, taken_from}
 use Rattle.rv_select.proofs.Bytes.{other-than-word, private-place, stored-length, stored-word}
 use Rattle.rv_select.proofs.Numbers.{constant-count, constant-loads, register-is}
@@ -144,7 +144,7 @@ not-both false b e g = cc
 pub five-held : (y : Layout) (held : Option ℕ) (t : ℕ) → in_five y held t ≡ true → is_held held t ≡ true
 five-held y held t e = and-first (is_held held t) (not (in_register y t)) e
 
--- where x5 holds the operand, no code takes it
+-- where T0 holds the operand, no code takes it
 pub held-is : (y : Layout) (held : Option ℕ) (t : ℕ) (temps : Temps) (m : State) → IsHeld y held temps m → in_five y held t ≡ true →
     m.registers 5 ≡ temps t
 held-is y None t temps m f e = cc
@@ -162,7 +162,7 @@ register-given None e = cc
 pub in-register-home : (y : Layout) (t : ℕ) → in_register y t ≡ true → HasHome y t
 in-register-home y t e = register-given (slice_get y.homes t) e
 
--- what isn't in x5 has a home
+-- what isn't in T0 has a home
 pub home-unless : (y : Layout) (held : Option ℕ) (t : ℕ) → in_five y held t ≡ false → (is_held held t ≡ true) ⊎ HasHome y t → HasHome y t
 home-unless y held t e o =
     ⊎_elim (λ g. in-register-home y t (not-both (is_held held t) (in_register y t) e g)) (λ h. h) o
@@ -181,19 +181,19 @@ held-loads m v small e = record {
 
 pub take-first : (y : Layout) (held : Option ℕ) (Used : ℕ → Type 0) (w : World) (base : ℕ) (m : State) (a : Operand) → IsHeld y held w.temps m →
     Holds y Used w base m → Housed y Used → IsFirst y held Used a → Loads 5 (first_taken y held a) m (value_in w.temps a)
-take-first y held Used w base m (Constant k) f p h r = constant-loads x5 m k (λ e. omega (arith, e)) (λ e. omega (arith, e)) r
+take-first y held Used w base m (Constant k) f p h r = constant-loads T0 m k (λ e. omega (arith, e)) (λ e. omega (arith, e)) r
 take-first y held Used w base m (Temp t) f p h r = either (in_five y held t) refl
   where
-    either : (b : Bool) → in_five y held t ≡ b → Loads 5 (if b then [] else taken y x5 (Temp t)) m (w.temps t)
+    either : (b : Bool) → in_five y held t ≡ b → Loads 5 (if b then [] else taken y T0 (Temp t)) m (w.temps t)
     either true e = held-loads m (w.temps t) p.pc (held-is y held t w.temps m f e)
     either false e =
-        take-operand y x5 Used w base m (Temp t) (λ z. omega (arith, z)) (λ z. omega (arith, z)) p h (r.0, home-unless y held t e r.1)
+        take-operand y T0 Used w base m (Temp t) (λ z. omega (arith, z)) (λ z. omega (arith, z)) p h (r.0, home-unless y held t e r.1)
 
--- a word that x5 holds goes to another register
-pub from-five : (d : Register) (m : State) (v : ℕ) → d.number ≢ 0 → m.registers 5 ≡ v → v < 2 ^ 64 → Loads d.number (moved d x5 ∷ []) m v
+-- a word that T0 holds goes to another register
+pub from-five : (d : Register) (m : State) (v : ℕ) → d.number ≢ 0 → m.registers 5 ≡ v → v < 2 ^ 64 → Loads d.number (moved d T0 ∷ []) m v
 from-five d m v n e s =
     let z : v + 0 ≡ v = omega arith in
-    loads-one (moved d x5) m d.number v n refl
+    loads-one (moved d T0) m d.number v n refl
     (ap (λ w. GoesOn (at_with m (low (m.pc + 4)) d.number w)) (ap (λ w. low (w + 0)) e ∙ (ap low z ∙ low-small v s)))
 
 -- an operand that another register gets
@@ -203,7 +203,7 @@ pub brings : (y : Layout) (held : Option ℕ) (d : Register) (Used : ℕ → Typ
 brings y held d Used w base m (Constant k) n seven f p h r = constant-loads d m k n seven r
 brings y held d Used w base m (Temp t) n seven f p h r = either (in_five y held t) refl
   where
-    either : (b : Bool) → in_five y held t ≡ b → Loads d.number (if b then moved d x5 ∷ [] else taken y d (Temp t)) m (w.temps t)
+    either : (b : Bool) → in_five y held t ≡ b → Loads d.number (if b then moved d T0 ∷ [] else taken y d (Temp t)) m (w.temps t)
     either true e = from-five d m (w.temps t) n (held-is y held t w.temps m f e) (p.words t r.0)
     either false e = take-operand y d Used w base m (Temp t) n seven p h (r.0, home-unless y held t e r.1)
 
@@ -214,12 +214,12 @@ home-some d (homes.Slot k) = framed-some (λ r offset. Load Ld d r offset) (slot
 constant-some : (d : Register) (c : ℕ) → 1 ≤ length (constant d c)
 constant-some d c = either (nat_eq (extended_word c) c)
   where
-    short : (b : Bool) → 1 ≤ length (if b then Addiw d x0 (lower_of c) ∷ [] else Lui d (upper_of c) ∷ Addiw d d (lower_of c) ∷ [])
+    short : (b : Bool) → 1 ≤ length (if b then Addiw d ZERO (lower_of c) ∷ [] else Lui d (upper_of c) ∷ Addiw d d (lower_of c) ∷ [])
     short true = omega arith
     short false = omega arith
 
     long : (b : Bool) → 1 ≤ length (if b then in_both d c else in_halves d c)
-    long true = omega (arith, length-append (short_constant d c) (Shift Slli x7 d half ∷ RegisterRegister Add d d x7 ∷ []))
+    long true = omega (arith, length-append (short_constant d c) (Shift Slli T2 d half ∷ RegisterRegister Add d d T2 ∷ []))
     long false = omega (arith, length-append (short_constant d (upper_half c)) (Shift Slli d d half ∷ half_added d c))
 
     either : (b : Bool) → 1 ≤ length (if b then short_constant d c else long_constant d c)
@@ -230,7 +230,7 @@ pub brought-some : (y : Layout) (held : Option ℕ) (d : Register) (a : Operand)
 brought-some y held d (Constant c) = constant-some d c
 brought-some y held d (Temp t) = either (in_five y held t)
   where
-    either : (b : Bool) → 1 ≤ length (if b then moved d x5 ∷ [] else taken y d (Temp t))
+    either : (b : Bool) → 1 ≤ length (if b then moved d T0 ∷ [] else taken y d (Temp t))
     either true = omega arith
     either false = home-some d (home_of y t)
 
@@ -238,7 +238,7 @@ pub brought-few : (y : Layout) (held : Option ℕ) (d : Register) (a : Operand) 
 brought-few y held d (Constant k) = constant-count d k
 brought-few y held d (Temp t) = either (in_five y held t)
   where
-    either : (b : Bool) → length (if b then moved d x5 ∷ [] else taken y d (Temp t)) ≤ 8
+    either : (b : Bool) → length (if b then moved d T0 ∷ [] else taken y d (Temp t)) ≤ 8
     either true = omega arith
     either false = taken-count y d (Temp t)
 
@@ -246,27 +246,27 @@ pub brought-count : (y : Layout) (held : Option ℕ) (d : Register) (a : Operand
 brought-count y held d a = brought-few y held d a
 
 -- and else as much as for any operand
-first-least : (y : Layout) (held : Option ℕ) (a : Operand) → length (first_taken y held a) ≤ length (taken y x5 a)
+first-least : (y : Layout) (held : Option ℕ) (a : Operand) → length (first_taken y held a) ≤ length (taken y T0 a)
 first-least y held (Constant k) = omega arith
 first-least y held (Temp t) = either (in_five y held t)
   where
-    either : (b : Bool) → length (if b then [] else taken y x5 (Temp t)) ≤ length (taken y x5 (Temp t))
+    either : (b : Bool) → length (if b then [] else taken y T0 (Temp t)) ≤ length (taken y T0 (Temp t))
     either true = omega arith
     either false = omega arith
 
 pub first-count : (y : Layout) (held : Option ℕ) (a : Operand) → length (first_taken y held a) ≤ operand_words a
-first-count y held a = omega (arith, first-least y held a, operand-count y x5 a)
+first-count y held a = omega (arith, first-least y held a, operand-count y T0 a)
 
 -- a temporary's at most as much as its home
 pub first-temp : (y : Layout) (held : Option ℕ) (t : ℕ) → length (first_taken y held (Temp t)) ≤ 3
 first-temp y held t = either (in_five y held t)
   where
-    either : (b : Bool) → length (if b then [] else taken y x5 (Temp t)) ≤ 3
+    either : (b : Bool) → length (if b then [] else taken y T0 (Temp t)) ≤ 3
     either true = omega arith
-    either false = home-count x5 (home_of y t)
+    either false = home-count T0 (home_of y t)
 
 pub first-few : (y : Layout) (held : Option ℕ) (a : Operand) → length (first_taken y held a) ≤ 8
-first-few y held a = omega (arith, first-least y held a, taken-count y x5 a)
+first-few y held a = omega (arith, first-least y held a, taken-count y T0 a)
 
 pub put-count : (a : Register) (h : Home) → length (put_from a h) ≤ 3
 put-count a (homes.Register x) = omega arith
@@ -293,7 +293,7 @@ pub put-few : (y : Layout) (d : ℕ) → length (put_at y d) ≤ 3
 put-few y d = either (slice_get y.homes d)
   where
     either : (o : Option (Option Home)) → length (put_in o) ≤ 3
-    either (Some (Some h)) = put-count x5 h
+    either (Some (Some h)) = put-count T0 h
     either (Some None) = omega arith
     either None = omega arith
 

@@ -7,10 +7,10 @@ use Rattle.rv_isa.specs.declared.instr.Instr.{Instr}
 use Rattle.rv_isa.specs.declared.instr.Instr.TheVariants.{Auipc, Jal, Jalr}
 use Rattle.rv_isa.specs.declared.operation.BranchCondition.{BranchCondition}
 use Rattle.rv_isa.specs.declared.operand.Register.{Register}
+use Rattle.rv_isa.specs.Registers.{ZERO, T0}
 use Rattle.rv_machine.specs.Word.{low, word, extended_word}
 use Rattle.rv_machine.specs.Machine.{State, at_with, fetch}
 use Rattle.terra_words.specs.Words.{wrapped}
-use Rattle.rv_operators.specs.Codes.{x0, x5}
 use Rattle.rv_operators.specs.Runs.{Stands}
 use Rattle.rv_operators.proofs.Values.{width, wrapped-32}
 use Rattle.rv_select.specs.declared.settings.Follows.{Follows}
@@ -290,10 +290,10 @@ jumps-there program m true from to e h k even reach there =
     let r : (from ≤ to + 2 ^ 20) × (to ≤ from + 1048574) = reach refl in
     record {
       after = one;
-      way = step-way program (Jal x0 (jump_offset n)) m one here.0 refl;
+      way = step-way program (Jal ZERO (jump_offset n)) m one here.0 refl;
       near = record { keeps = λ r five six seven. refl; region = refl; private = refl };
       pc = ap (λ q. low (q + word (jump_offset n).bytes)) e
-          ∙ short-target from to h k (fetched-even program from (Jal x0 (jump_offset n)) there.0) even r.0 r.1;
+          ∙ short-target from to h k (fetched-even program from (Jal ZERO (jump_offset n)) there.0) even r.0 r.1;
     }
 jumps-there program m false from to e h k even reach there =
     let n : ℕ = distance from to in
@@ -305,7 +305,7 @@ jumps-there program m false from to e h k even reach there =
     let is : t ≡ to = ap (λ q. low (low (q + x) + word (lower_of n).value)) e ∙ target-is from to h k even in
     record {
       after = two;
-      way = way-both program 1 1 m one two (step-way program (Auipc x5 (upper_of n)) m one here.0 refl) (step-way program (Jalr x0 x5 (lower_of n)) one two here.1.0 refl);
+      way = way-both program 1 1 m one two (step-way program (Auipc T0 (upper_of n)) m one here.0 refl) (step-way program (Jalr ZERO T0 (lower_of n)) one two here.1.0 refl);
       near = record { keeps = λ r five six seven. written-elsewhere m.registers 5 (low (m.pc + x)) r five; region = refl; private = refl };
       pc = even-stays t to is even;
     }

@@ -9,6 +9,7 @@ use Rattle.rv_isa.specs.declared.operation.LoadOp.TheVariants.{Ld}
 use Rattle.rv_isa.specs.declared.operation.StoreOp.TheVariants.{Sd}
 use Rattle.rv_isa.specs.declared.operand.Register.{Register}
 use Rattle.rv_isa.specs.declared.operand.Immediate.{Immediate}
+use Rattle.rv_isa.specs.Registers.{SP}
 use Rattle.terra_memory.specs.Numbers.{low_bytes, number_of, overwritten}
 use Rattle.terra_memory.proofs.Bytes.{length-low_bytes, number_of-low_bytes}
 use Rattle.terra_memory.proofs.Overwriting.{part-overwritten}
@@ -20,7 +21,6 @@ use Rattle.rv_operators.specs.Runs.{AreStraight}
 use Rattle.rv_operators.proofs.Runs.{straight-both}
 use Rattle.rv_select.specs.Places.{AreBytes, Layout, private_word, uses}
 use Rattle.rv_select.specs.Numbers.{immediate_of, register_of}
-use Rattle.rv_select.specs.Shapes.{x2}
 use Rattle.rv_select.specs.Entering.{if_used, kept_offset, put_back, put_back_one, saved, saved_one}
 use Rattle.rv_select.proofs.Bytes.{other-than-word, private-place, stored-length}
 use Rattle.rv_select.proofs.Numbers.{immediate-is, register-is}
@@ -104,7 +104,7 @@ stored-one m a r far at v e g small room = record {
 
 -- the address of a word that is kept
 kept-address : (m : State) (base x : ℕ) → m.registers 2 ≡ 2 ^ 32 + base → 18 ≤ x → x ≤ 27 → base + 88 ≤ length m.private → length m.private ≤ 603979776 →
-    low (value_at m x2 + word (immediate_of (kept_offset x)).value) ≡ 2 ^ 32 + (base + kept_offset x)
+    low (value_at m SP + word (immediate_of (kept_offset x)).value) ≡ 2 ^ 32 + (base + kept_offset x)
 kept-address m base x e l u room most =
     ap (λ v. low (m.registers 2 + v)) (immediate-is (kept_offset x) (omega arith))
     ∙ frame-sum (m.registers 2) base (kept_offset x) (length m.private) e (omega arith) most
@@ -117,15 +117,15 @@ pub record Saved (y : Layout) (n x base : ℕ) (m : State) : Type 0 where
 
 save-one : (y : Layout) (x base : ℕ) (m : State) (used : Bool) → m.pc < 2 ^ 64 → m.registers 2 ≡ 2 ^ 32 + base → 18 ≤ x → x ≤ 27 → base + 88 ≤ length m.private →
     length m.private ≤ 603979776 → length m.region ≤ 67108864 →
-    (t : State) × Stored (if_used used (Store Sd x2 (register_of x) (immediate_of (kept_offset x)))) (base + kept_offset x) (base + kept_offset (x + 1)) m t
+    (t : State) × Stored (if_used used (Store Sd SP (register_of x) (immediate_of (kept_offset x)))) (base + kept_offset x) (base + kept_offset (x + 1)) m t
     × (used ≡ true → private_word t (base + kept_offset x) ≡ low (m.registers x))
 save-one y x base m false p e l u room most small = (m, stored-none (base + kept_offset x) (base + kept_offset (x + 1)) m p, λ z. cc)
 save-one y x base m true p e l u room most small =
     let value : value_at m (register_of x) ≡ m.registers x = register-value m (register_of x) x (register-is x (omega arith)) (λ z. omega (arith, z)) in
     let end : base + kept_offset x + 8 ≡ base + kept_offset (x + 1) = omega arith in (
       word_stored m (base + kept_offset x) (m.registers x),
-      subst (λ z. Stored (Store Sd x2 (register_of x) (immediate_of (kept_offset x)) ∷ []) (base + kept_offset x) z m (word_stored m (base + kept_offset x) (m.registers x))) end
-          (stored-one m x2 (register_of x) (immediate_of (kept_offset x)) (base + kept_offset x) (m.registers x) (kept-address m base x e l u room most) value small (omega arith)),
+      subst (λ z. Stored (Store Sd SP (register_of x) (immediate_of (kept_offset x)) ∷ []) (base + kept_offset x) z m (word_stored m (base + kept_offset x) (m.registers x))) end
+          (stored-one m SP (register_of x) (immediate_of (kept_offset x)) (base + kept_offset x) (m.registers x) (kept-address m base x e l u room most) value small (omega arith)),
       λ z. word-stored m.private (base + kept_offset x) (m.registers x) (omega arith),
     )
 
@@ -172,20 +172,20 @@ pub record PutBack (y : Layout) (n x base : ℕ) (m : State) : Type 0 where
 
 put-back-one : (y : Layout) (x base : ℕ) (m : State) (used : Bool) → uses y x ≡ used → m.pc < 2 ^ 64 → m.registers 2 ≡ 2 ^ 32 + base → 18 ≤ x → x ≤ 27 →
     base + 88 ≤ length m.private → length m.private ≤ 603979776 → length m.region ≤ 67108864 →
-    (t : State) × (acts (if_used used (Load Ld (register_of x) x2 (immediate_of (kept_offset x)))) m ≡ GoesOn t)
-    × (t.pc ≡ low (m.pc + 4 * length (if_used used (Load Ld (register_of x) x2 (immediate_of (kept_offset x))))))
+    (t : State) × (acts (if_used used (Load Ld (register_of x) SP (immediate_of (kept_offset x)))) m ≡ GoesOn t)
+    × (t.pc ≡ low (m.pc + 4 * length (if_used used (Load Ld (register_of x) SP (immediate_of (kept_offset x))))))
     × (used ≡ true → t.registers x ≡ private_word m (base + kept_offset x))
     × (used ≡ false → t.registers x ≡ m.registers x)
     × ((r : ℕ) → r ≢ x → t.registers r ≡ m.registers r)
     × (t.region ≡ m.region) × (t.private ≡ m.private)
-    × AreStraight (if_used used (Load Ld (register_of x) x2 (immediate_of (kept_offset x))))
+    × AreStraight (if_used used (Load Ld (register_of x) SP (immediate_of (kept_offset x))))
 put-back-one y x base m false is p e l u room most small = (m, refl, low-here m.pc p, λ z. cc, λ z. refl, λ r o. refl, refl, refl, refl)
 put-back-one y x base m true is p e l u room most small =
     let number : (register_of x).number ≡ x = register-is x (omega arith) in
     let v : ℕ = private_word m (base + kept_offset x) in (
       at_with m (low (m.pc + 4)) x v,
       ap (λ k. then_on k (λ t. GoesOn t))
-          (load-word m (register_of x) x2 (immediate_of (kept_offset x)) (base + kept_offset x) (kept-address m base x e l u room most) small (omega arith)
+          (load-word m (register_of x) SP (immediate_of (kept_offset x)) (base + kept_offset x) (kept-address m base x e l u room most) small (omega arith)
           ∙ ap (λ k. GoesOn (at_with m (low (m.pc + 4)) k v)) number),
       low-first m.pc,
       λ z. written-there m.registers x v (λ q. omega (arith, q)),

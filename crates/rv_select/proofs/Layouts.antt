@@ -3,6 +3,7 @@ use Rattle.std.proofs.Common.{◌≡◌, ℕ, ◌+◌, ◌*◌, Bool, List, [], 
 use Rattle.tl_base.specs.declared.ids.FnId.{FnId}
 use Rattle.reg_alloc.specs.declared.assignment.Home.{Home}
 use Rattle.rv_isa.specs.declared.instr.Instr.{Instr}
+use Rattle.rv_isa.specs.Registers.{T0, A1}
 use Rattle.tac_form.specs.declared.tac.Part.{Part}
 use Rattle.tac_form.specs.declared.tac.Part.TheVariants as parts
 use Rattle.tac_form.specs.declared.tac.Operand.TheVariants as operands
@@ -14,7 +15,6 @@ use Rattle.tac_form.specs.declared.tac.Instruction.TheVariants.{Store, TestDivis
 use Rattle.tac_form.specs.declared.tac.Exit.{Exit}
 use Rattle.tac_form.specs.declared.tac.Exit.TheVariants.{Branch, Fail, Jump, Return}
 use Rattle.tac_form.specs.declared.tac.Block.{Block}
-use Rattle.rv_operators.specs.Codes.{x5}
 use Rattle.rv_select.specs.Numbers.{constant}
 use Rattle.rv_select.specs.declared.pairs.Pair.{Pair}
 use Rattle.rv_select.specs.declared.pairs.Reads.{Reads}
@@ -23,7 +23,7 @@ use Rattle.rv_select.specs.declared.settings.Setting.{Setting}
 use Rattle.rv_select.specs.Settings.{setting_of}
 use Rattle.rv_select.specs.Pairs.{pair_of, plain_of}
 use Rattle.rv_select.specs.Places.{Layout}
-use Rattle.rv_select.specs.Shapes.{counted_if, held_after, place_number, x11}
+use Rattle.rv_select.specs.Shapes.{counted_if, held_after, place_number}
 use Rattle.rv_select.specs.Entering.{received, received_one, stored_below}
 use Rattle.rv_select.specs.Calls.{block_code, blocks_calls, blocks_code, call_ended, call_jump, depth_tested, end_code, exit_code}
 use Rattle.rv_select.specs.Calls.{held_behind, instruction_calls, instruction_code, instructions_calls, instructions_code, one_more}
@@ -47,18 +47,18 @@ passed-same : (h : List (Option Home)) (a p b q : ℕ) (r t : List Reads) (v o :
     (ps : List Part) → passed (laid h a p r v) held i ps ≡ passed (laid h b q t o) held i ps
 passed-same h a p b q r t v o held i [] = refl
 passed-same h a p b q r t v o held i (parts.Word (operands.Temp u) ∷ ps) =
-    ap (λ z. part_passed (laid h a p r v) held (parts.Word (operands.Temp u)) ++ (stored_below x5 (8 * (i + 1)) ++ z))
+    ap (λ z. part_passed (laid h a p r v) held (parts.Word (operands.Temp u)) ++ (stored_below T0 (8 * (i + 1)) ++ z))
     (passed-same h a p b q r t v o None (i + 1) ps)
 passed-same h a p b q r t v o held i (parts.Word (operands.Constant n) ∷ ps) =
-    ap (λ z. part_passed (laid h a p r v) held (parts.Word (operands.Constant n)) ++ (stored_below x5 (8 * (i + 1)) ++ z))
+    ap (λ z. part_passed (laid h a p r v) held (parts.Word (operands.Constant n)) ++ (stored_below T0 (8 * (i + 1)) ++ z))
     (passed-same h a p b q r t v o None (i + 1) ps)
 passed-same h a p b q r t v o held i (parts.Area n ∷ ps) =
-    ap (λ z. part_passed (laid h a p r v) held (parts.Area n) ++ (stored_below x5 (8 * (i + 1)) ++ z))
+    ap (λ z. part_passed (laid h a p r v) held (parts.Area n) ++ (stored_below T0 (8 * (i + 1)) ++ z))
     (passed-same h a p b q r t v o None (i + 1) ps)
 
 -- what comes before the jump of a call, by the words that pass its arguments
 abbrev begun-with : (counts : Bool) → ℕ → List Instr → List Instr
-begun-with counts place passes = constant x11 place ++ counted_if counts (depth_tested ++ (passes ++ one_more))
+begun-with counts place passes = constant A1 place ++ counted_if counts (depth_tested ++ (passes ++ one_more))
 
 instruction-same : (h : List (Option Home)) (a p b q : ℕ) (r t : List Reads) (v o : Extent) (sizes : List ℕ) (places : FnId → ℕ) (at : ℕ)
     (held : Option ℕ) (i : Instruction) → v.counts ≡ o.counts →

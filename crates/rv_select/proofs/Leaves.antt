@@ -9,6 +9,7 @@ use Rattle.tl_base.specs.declared.place.Place.{Place}
 use Rattle.rv_isa.specs.declared.instr.Instr.{Instr}
 use Rattle.rv_isa.specs.declared.operation.BranchCondition.TheVariants.{Ne}
 use Rattle.rv_isa.specs.declared.operand.Register.{Register}
+use Rattle.rv_isa.specs.Registers.{ZERO, T0}
 use Rattle.reg_alloc.specs.declared.assignment.Home.{Home}
 use Rattle.rv_machine.specs.Machine.{State}
 use Rattle.terra_words.specs.declared.words.FaultKind.{FaultKind}
@@ -27,7 +28,6 @@ use Rattle.tac_form.specs.Graph.{block_of, exit_next, exit_reads, graph_of, step
 use Rattle.tac_form.specs.Live.{InUse, IsLive, at_place, at_step, has, read_within}
 use Rattle.tac_form.specs.Fits.{edge_fits, operand_fits}
 use Rattle.tac_form.specs.Weights.{code_words}
-use Rattle.rv_operators.specs.Codes.{x0, x5}
 use Rattle.rv_operators.specs.Runs.{Stands}
 use Rattle.rv_select.specs.Places.{Housed, Keeps, Layout, is_near, is_short, layout_of, value_in}
 use Rattle.rv_select.specs.Settings.{falls, is_next}
@@ -281,7 +281,7 @@ carry-branch p code homes held a e f starts s program base m x =
     edge-reach code starts m.pc x.setting.short f x.short_is x.reach fit.1 in
     let near-e = edge-near code starts m.pc x.setting.near e x.near_is x.reach fit-a.1 in
     let near-f = edge-near code starts m.pc x.setting.near f x.near_is x.reach fit.1 in
-    let r : Register = read_in y x5 a in
+    let r : Register = read_in y T0 a in
     let l : FirstSide (first_read y held a) m r v =
     first-side y held used (world_of s) base m a x.five x.holds h
     (first-read code y held used a fit-a.0 (reads-here p code homes held (Branch a e f) starts s program base m x) x.asked) in
@@ -289,13 +289,13 @@ carry-branch p code homes held a e f starts s program base m x =
     let few : length C ≤ length C = at-most (length C) in
     let first : v ≢ 0 → EdgeWays y program (InUse (graph_of code) e.block 0) (world_of s) base (length C) (starts e.block) (x.setting.counts && e.counts) m =
     λ n. parted-ways y used (InUse (graph_of code) e.block 0) (world_of s) base (starts e.block) (starts f.block) (length C)
-    x.setting Ne r x0 e f true (first_read y held a) program m l.after l.scratch x.holds h
+    x.setting Ne r ZERO e f true (first_read y held a) program m l.after l.scratch x.holds h
     (next-here p code homes held (Branch a e f) starts s program base m x e.block (λ q g. or-left (q e.block) (q f.block || false) g)) few short
     x.near (x.blocks e.block) (x.blocks f.block) reach-e reach-f near-e near-f (λ q. x.next_there e.block q) (λ q. x.next_there f.block q) x.stands
     (ap (λ q. not (nat_eq q 0)) l.gives ∙ ap not (ne_eqb v 0 n)) in
     let second : v ≡ 0 → EdgeWays y program (InUse (graph_of code) f.block 0) (world_of s) base (length C) (starts f.block) (x.setting.counts && f.counts) m =
     λ z. parted-ways y used (InUse (graph_of code) f.block 0) (world_of s) base (starts e.block) (starts f.block) (length C)
-    x.setting Ne r x0 e f false (first_read y held a) program m l.after l.scratch x.holds h
+    x.setting Ne r ZERO e f false (first_read y held a) program m l.after l.scratch x.holds h
     (next-here p code homes held (Branch a e f) starts s program base m x f.block (λ q g. or-second (q e.block) (q f.block || false) (or-left (q f.block) false g))) few short
     x.near (x.blocks e.block) (x.blocks f.block) reach-e reach-f near-e near-f (λ q. x.next_there e.block q) (λ q. x.next_there f.block q) x.stands
     (ap (λ q. not (nat_eq q 0)) l.gives ∙ ap not (eq-eqb v 0 z)) in

@@ -13,7 +13,7 @@ use Rattle.rv_select.specs.declared.pairs.Pair.{Pair}
 use Rattle.rv_select.specs.declared.settings.Setting.{Setting}
 use Rattle.rv_select.specs.Settings.{setting_of}
 use Rattle.rv_isa.specs.declared.operation.BranchCondition.TheVariants.{Ne}
-use Rattle.rv_operators.specs.Codes.{x0, x5}
+use Rattle.rv_isa.specs.Registers.{ZERO, T0}
 use Rattle.rv_select.specs.Compared.{condition_of, first_register, left_of, operands_taken, right_of, second_register}
 use Rattle.rv_select.specs.Pairs.{pair_of, plain_of}
 use Rattle.rv_select.specs.Places.{Layout}
@@ -57,8 +57,8 @@ exit-length y setting held at other last final starts others (Jump e) =
     edge-shape-count setting e at (starts e.block) ∙ sym (edge-shape-count setting e other (others e.block))
 exit-length y setting held at other last final starts others (Branch a e f) =
     same-behind (first_read y held a) _ _
-    (parted-count setting Ne (read_in y x5 a) x0 (at + 4 * length (first_read y held a)) e f (starts e.block) (starts f.block)
-    ∙ sym (parted-count setting Ne (read_in y x5 a) x0 (other + 4 * length (first_read y held a)) e f (others e.block) (others f.block)))
+    (parted-count setting Ne (read_in y T0 a) ZERO (at + 4 * length (first_read y held a)) e f (starts e.block) (starts f.block)
+    ∙ sym (parted-count setting Ne (read_in y T0 a) ZERO (other + 4 * length (first_read y held a)) e f (others e.block) (others f.block)))
 exit-length y setting held at other last final starts others (Fail kind place) = refl
 
 pub end-length : (y : Layout) (setting : Setting) (held : Option ℕ) (at other last final : ℕ) (starts others : ℕ → ℕ) (o : Option Pair) (e : Exit) →

@@ -91,7 +91,7 @@ pub calls-end : (y : Layout) (sizes : List ℕ) (held : Option ℕ) (at i : ℕ)
     instructions_calls y sizes at held (drop i xs) ≡ []
 calls-end y sizes held at i xs h = ap (instructions_calls y sizes at held) (drop-end xs i h)
 
--- what x5 holds behind instructions
+-- what T0 holds behind instructions
 pub held-turn : (held next whole : Option ℕ) (i : ℕ) (xs : List Instruction) (x : Instruction) → x ≡ get_or xs i x → i < length xs →
     next ≡ held_after x → held_behind held (drop i xs) ≡ whole → held_behind next (drop (i + 1) xs) ≡ whole
 held-turn held next whole i xs x e h is before =

@@ -8,6 +8,7 @@ use Rattle.rv_isa.specs.declared.instr.Instr.{Instr}
 use Rattle.rv_isa.specs.declared.instr.Instr.TheVariants.{Store}
 use Rattle.rv_isa.specs.declared.operation.StoreOp.TheVariants.{Sd}
 use Rattle.rv_isa.specs.declared.operand.Register.{Register}
+use Rattle.rv_isa.specs.Registers.{T0}
 use Rattle.reg_alloc.specs.declared.assignment.Home.{Home}
 use Rattle.reg_alloc.specs.declared.assignment.Home.TheVariants as homes
 use Rattle.terra_memory.specs.Numbers.{number_of}
@@ -18,7 +19,7 @@ use Rattle.tac_form.specs.declared.tac.Size.TheVariants.{One, Two, Four, Eight}
 use Rattle.tac_form.specs.declared.tac.Operand.{Operand}
 use Rattle.tac_form.specs.declared.tac.Operand.TheVariants.{Temp, Constant}
 use Rattle.tac_form.specs.Flow.{Temps, put, bytes_of}
-use Rattle.rv_operators.specs.Codes.{x5, is_width}
+use Rattle.rv_operators.specs.Codes.{is_width}
 use Rattle.rv_operators.specs.Runs.{Stands}
 use Rattle.rv_select.specs.Places.{AreBytes, HasHome, Layout, World, Holds, Housed, IsFirst, IsHeld, IsHome, IsRead, Keeps, area_offset}
 use Rattle.rv_select.specs.Places.{frame_bytes, home_of, is_given, is_lasting, slot_offset, uses, value_in, word_at}
@@ -253,7 +254,7 @@ settled y program Next w base weight target m c = record {
   keeps = c.keeps;
 }
 
--- A way to a state near, and a put there, which leaves the word in x5. Where the temporary has no home, the put takes no step.
+-- A way to a state near, and a put there, which leaves the word in T0. Where the temporary has no home, the put takes no step.
 pub record PutsAway (y : Layout) (program : List (Option Instr)) (Next : ℕ → Type 0) (w : World) (base k weight target d : ℕ) (m : State) : Type 0 where
   pub settles : Settles y program Next w base weight target m
   pub five : settles.after.registers 5 ≡ w.temps d
@@ -280,8 +281,8 @@ put-away y Used Next w base d v k weight target program m n p h h' u follows way
     home has short stands to =
         let b : List Instr = put_to (home_of y d) in
         let r : Puts y base b n (home_of y d) v =
-        put-home y base v x5 n (home_of y d) small q.frame (region-small y Used w base n q) (h'.homes d u has) (λ t same. same ∙ e) l in
-        let least : 1 ≤ length b = some-put x5 (home_of y d) in
+        put-home y base v T0 n (home_of y d) small q.frame (region-small y Used w base n q) (h'.homes d u has) (λ t same. same ∙ e) l in
+        let least : 1 ≤ length b = some-put T0 (home_of y d) in
         let whole : Way program (k + length b) m r.after =
         way-both program k (length b) m n r.after way (straight-way program b n r.after stands r.straight r.goes) in
         record {
@@ -336,7 +337,7 @@ then-put y Used Next w base d v k weight target program m n p h h' u follows way
       five = λ none. r.five;
     }
 
--- straight code that leaves a word in x5, and a put
+-- straight code that leaves a word in T0, and a put
 pub straight-put : (y : Layout) (Used Next : ℕ → Type 0) (w : World) (base d v weight : ℕ) (a : List Instr) (program : List (Option Instr)) (m n : State) →
     Holds y Used w base m → Housed y Used → Housed y Next → Next d → Follows Used Next d → Scratch a m n → n.registers 5 ≡ v → v < 2 ^ 64 →
     length (a ++ put_at y d) ≤ weight → (1 ≤ length a) ⊎ HasHome y d → Stands program m.pc (a ++ put_at y d) →
@@ -368,7 +369,7 @@ wide-size Two = refl
 wide-size Four = refl
 wide-size Eight = refl
 
--- what is held stays where x5 does
+-- what is held stays where T0 does
 pub held-kept : (y : Layout) (held : Option ℕ) (temps : Temps) (m n : State) → n.registers 5 ≡ m.registers 5 → IsHeld y held temps m →
     IsHeld y held temps n
 held-kept y None temps m n e f = tt

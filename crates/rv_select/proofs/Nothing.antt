@@ -1,9 +1,9 @@
 -- The instruction that does nothing.
 use Rattle.std.proofs.Common.{ℕ, ◌+◌, ◌≤◌, List, [], ◌∷◌, Option, refl, arith}
 use Rattle.rv_isa.specs.declared.instr.Instr.{Instr}
+use Rattle.rv_isa.specs.Registers.{ZERO}
 use Rattle.rv_machine.specs.Word.{low}
 use Rattle.rv_machine.specs.Machine.{State, at_with}
-use Rattle.rv_operators.specs.Codes.{x0}
 use Rattle.rv_operators.specs.Runs.{Stands}
 use Rattle.rv_select.specs.Places.{Layout, World, Holds, Housed}
 use Rattle.rv_select.specs.Shapes.{moved}
@@ -13,7 +13,7 @@ use Rattle.rv_select.proofs.Straight.{Scratch, low-first}
 use Rattle.rv_select.proofs.Ways.{Way, scratch-near, straight-way}
 
 -- a step that does nothing
-pub nothing-done : (m : State) → Scratch (moved x0 x0 ∷ []) m (at_with m (low (m.pc + 4)) 0 (low (0 + 0)))
+pub nothing-done : (m : State) → Scratch (moved ZERO ZERO ∷ []) m (at_with m (low (m.pc + 4)) 0 (low (0 + 0)))
 nothing-done m = record {
   goes = refl;
   behind = low-first m.pc;
@@ -23,10 +23,10 @@ nothing-done m = record {
   straight = refl;
 }
 
-pub nothing-happens : (y : Layout) (Used Next : ℕ → Type 0) (w : World) (base weight : ℕ) (program : List (Option Instr)) (m : State) → Stands program m.pc (moved x0 x0 ∷ []) → 1 ≤ weight →
-    Holds y Used w base m → Housed y Used → AreFewer Used Next → Comes y program Next w base weight (behind m (moved x0 x0 ∷ [])) [] m
+pub nothing-happens : (y : Layout) (Used Next : ℕ → Type 0) (w : World) (base weight : ℕ) (program : List (Option Instr)) (m : State) → Stands program m.pc (moved ZERO ZERO ∷ []) → 1 ≤ weight →
+    Holds y Used w base m → Housed y Used → AreFewer Used Next → Comes y program Next w base weight (behind m (moved ZERO ZERO ∷ [])) [] m
 nothing-happens y Used Next w base weight program m there some p h f =
-    let A : List Instr = moved x0 x0 ∷ [] in
+    let A : List Instr = moved ZERO ZERO ∷ [] in
     let z : State = at_with m (low (m.pc + 4)) 0 (low (0 + 0)) in
     let s : Scratch A m z = nothing-done m in
     let way : Way program 1 m z = straight-way program A m z there s.straight s.goes in

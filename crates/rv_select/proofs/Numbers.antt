@@ -11,15 +11,15 @@ use Rattle.rv_isa.specs.declared.operation.ImmediateOp.TheVariants.{Addi}
 use Rattle.rv_isa.specs.declared.operation.RegisterOp.TheVariants.{Add}
 use Rattle.rv_isa.specs.declared.operation.ShiftOp.TheVariants.{Slli}
 use Rattle.rv_isa.specs.declared.operand.Register.{Register}
+use Rattle.rv_isa.specs.Registers.{ZERO, T2}
 use Rattle.rv_machine.specs.Word.{low, word, extended_word}
 use Rattle.rv_machine.specs.Machine.{State, GoesOn, at_with, value_at}
 use Rattle.rv_machine.specs.Arithmetic.{shifted_left}
 use Rattle.terra_words.specs.Words.{wrapped}
-use Rattle.rv_operators.specs.Codes.{x0}
 use Rattle.rv_operators.proofs.Values.{width, wrapped-32}
 use Rattle.rv_select.specs.Numbers.{register_if, register_of, immediate_if, immediate_of, below_zero_if, below_zero, lower_of, upper_number}
 use Rattle.rv_select.specs.Numbers.{upper_if, upper_of}
-use Rattle.rv_select.specs.Numbers.{short_constant, half, half_added, in_both, in_halves, is_twice, long_constant, upper_half, x7, constant}
+use Rattle.rv_select.specs.Numbers.{short_constant, half, half_added, in_both, in_halves, is_twice, long_constant, upper_half, constant}
 use Rattle.rv_select.proofs.Straight.{Loads, loads-one, loads-both, loads-past, loads-as, loaded-value}
 
 register-if : (n : ℕ) (b : Bool) (e : nat_le n 31 ≡ b) → b ≡ true → (register_if n b e).number ≡ n
@@ -103,11 +103,11 @@ pub extended-small : (x : ℕ) → x < 2 ^ 31 → extended_word x ≡ x
 extended-small x h = wrapped-32 x ∙ wrapped-little x h
 
 -- 32 bits
-one-part : (d : Register) (m : State) (n : ℕ) → d.number ≢ 0 → upper_number n ≡ 0 → Loads d.number (Addiw d x0 (lower_of n) ∷ []) m (extended_word n)
+one-part : (d : Register) (m : State) (n : ℕ) → d.number ≢ 0 → upper_number n ≡ 0 → Loads d.number (Addiw d ZERO (lower_of n) ∷ []) m (extended_word n)
 one-part d m n o z =
     let p : Parts n (word (lower_of n).value) = parts n in
     let e : (0 + word (lower_of n).value) % 2 ^ 32 ≡ n % 2 ^ 32 = omega (arith, z, p.sum) in
-    loads-one (Addiw d x0 (lower_of n)) m d.number (extended_word n) o refl
+    loads-one (Addiw d ZERO (lower_of n)) m d.number (extended_word n) o refl
     (ap (λ v. GoesOn (at_with m (low (m.pc + 4)) d.number v)) (extended-same (0 + word (lower_of n).value) n e))
 
 two-parts : (d : Register) (m : State) (n : ℕ) → d.number ≢ 0 → Loads d.number (Lui d (upper_of n) ∷ Addiw d d (lower_of n) ∷ []) m (extended_word n)
@@ -126,9 +126,9 @@ two-parts d m n o =
 pub short-loads : (d : Register) (m : State) (n : ℕ) → d.number ≢ 0 → Loads d.number (short_constant d n) m (extended_word n)
 short-loads d m n o =
     ⊎_elim
-    (λ e. subst (λ b. Loads d.number (if b then Addiw d x0 (lower_of n) ∷ [] else Lui d (upper_of n) ∷ Addiw d d (lower_of n) ∷ []) m (extended_word n)) (sym e)
+    (λ e. subst (λ b. Loads d.number (if b then Addiw d ZERO (lower_of n) ∷ [] else Lui d (upper_of n) ∷ Addiw d d (lower_of n) ∷ []) m (extended_word n)) (sym e)
     (one-part d m n o (eqb-true (upper_number n) 0 e)))
-    (λ e. subst (λ b. Loads d.number (if b then Addiw d x0 (lower_of n) ∷ [] else Lui d (upper_of n) ∷ Addiw d d (lower_of n) ∷ []) m (extended_word n)) (sym e)
+    (λ e. subst (λ b. Loads d.number (if b then Addiw d ZERO (lower_of n) ∷ [] else Lui d (upper_of n) ∷ Addiw d d (lower_of n) ∷ []) m (extended_word n)) (sym e)
     (two-parts d m n o))
     (cases_Bool (nat_eq (upper_number n) 0))
 
@@ -140,11 +140,11 @@ moved-up d v m o e to n =
     loads-one (Shift Slli to d half) m to.number (low (v * 2 ^ 32)) n refl
     (ap (λ x. GoesOn (at_with m (low (m.pc + 4)) to.number (low (x * 2 ^ 32)))) (loaded-value m d o ∙ e))
 
--- the sum of a register and x7
+-- the sum of a register and T2
 seven-added : (d : Register) (a b : ℕ) (m : State) → d.number ≢ 0 → m.registers d.number ≡ a → m.registers 7 ≡ b →
-    Loads d.number (RegisterRegister Add d d x7 ∷ []) m (low (a + b))
+    Loads d.number (RegisterRegister Add d d T2 ∷ []) m (low (a + b))
 seven-added d a b m o e f =
-    loads-one (RegisterRegister Add d d x7) m d.number (low (a + b)) o refl
+    loads-one (RegisterRegister Add d d T2) m d.number (low (a + b)) o refl
     (ap (λ x. GoesOn (at_with m (low (m.pc + 4)) d.number (low (x + m.registers 7)))) (loaded-value m d o ∙ e)
     ∙ ap (λ x. GoesOn (at_with m (low (m.pc + 4)) d.number (low (a + x)))) f)
 
@@ -156,10 +156,10 @@ alone-added d n s m o e =
     (ap (λ x. GoesOn (at_with m (low (m.pc + 4)) d.number (low (x + word (lower_of n).value)))) (loaded-value m d o ∙ e))
 
 far-added : (d : Register) (n s : ℕ) (m : State) → d.number ≢ 0 → d.number ≢ 7 → m.registers d.number ≡ s →
-    Loads d.number (short_constant x7 n ++ RegisterRegister Add d d x7 ∷ []) m (low (s + extended_word n))
+    Loads d.number (short_constant T2 n ++ RegisterRegister Add d d T2 ∷ []) m (low (s + extended_word n))
 far-added d n s m o seven e =
-    let l : Loads 7 (short_constant x7 n) m (extended_word n) = short-loads x7 m n (λ z. omega (arith, z)) in
-    loads-past d.number (extended_word n) (low (s + extended_word n)) (short_constant x7 n) (RegisterRegister Add d d x7 ∷ []) m l
+    let l : Loads 7 (short_constant T2 n) m (extended_word n) = short-loads T2 m n (λ z. omega (arith, z)) in
+    loads-past d.number (extended_word n) (low (s + extended_word n)) (short_constant T2 n) (RegisterRegister Add d d T2 ∷ []) m l
     (seven-added d s (extended_word n) l.after o (l.keeps d.number seven seven ∙ e) l.gives)
 
 up-half : (v h e : ℕ) → v % 2 ^ 32 ≡ h % 2 ^ 32 → low (low (v * 2 ^ 32) + e) ≡ (h * 2 ^ 32 + e) % 2 ^ 64
@@ -183,7 +183,7 @@ half-sum n h = ap (λ v. (upper_half n * 2 ^ 32 + v) % 2 ^ 64) (wrapped-32 n) �
 
 abbrev added_if : Register → ℕ → Bool → List Instr
 added_if d n alone =
-    if alone then RegisterImmediate Addi d d (lower_of n) ∷ [] else short_constant x7 n ++ RegisterRegister Add d d x7 ∷ []
+    if alone then RegisterImmediate Addi d d (lower_of n) ∷ [] else short_constant T2 n ++ RegisterRegister Add d d T2 ∷ []
 
 half-loads : (d : Register) (n v : ℕ) (m : State) → d.number ≢ 0 → d.number ≢ 7 → n < 2 ^ 64 → v % 2 ^ 32 ≡ upper_half n % 2 ^ 32 →
     m.registers d.number ≡ low (v * 2 ^ 32) → Loads d.number (half_added d n) m n
@@ -199,9 +199,9 @@ half-loads d n v m o seven h q e =
         loads-as d.number (low (low (v * 2 ^ 32) + word (lower_of n).value)) n (RegisterImmediate Addi d d (lower_of n) ∷ []) m
         (up-half v (upper_half n) (word (lower_of n).value) q ∙ p.alone h z) (alone-added d n (low (v * 2 ^ 32)) m o e)
 
-    far : Loads d.number (short_constant x7 n ++ RegisterRegister Add d d x7 ∷ []) m n
+    far : Loads d.number (short_constant T2 n ++ RegisterRegister Add d d T2 ∷ []) m n
     far =
-        loads-as d.number (low (low (v * 2 ^ 32) + extended_word n)) n (short_constant x7 n ++ RegisterRegister Add d d x7 ∷ []) m
+        loads-as d.number (low (low (v * 2 ^ 32) + extended_word n)) n (short_constant T2 n ++ RegisterRegister Add d d T2 ∷ []) m
         (up-half v (upper_half n) (extended_word n) q ∙ half-sum n h) (far-added d n (low (v * 2 ^ 32)) m o seven e)
 
 halves-load : (d : Register) (m : State) (n : ℕ) → d.number ≢ 0 → d.number ≢ 7 → n < 2 ^ 64 → Loads d.number (in_halves d n) m n
@@ -228,11 +228,11 @@ both-load d m n o seven t =
     let k : ℕ = n % 2 ^ 31 in
     let s : ℕ = low (k * 2 ^ 32) in
     let a : List Instr = short_constant d n in
-    let b : List Instr = Shift Slli x7 d half ∷ [] in
-    let c : List Instr = RegisterRegister Add d d x7 ∷ [] in
+    let b : List Instr = Shift Slli T2 d half ∷ [] in
+    let c : List Instr = RegisterRegister Add d d T2 ∷ [] in
     let e : extended_word n ≡ k = extended-same n k (twice-low n t) ∙ extended-small k (omega arith) in
     let la : Loads d.number a m k = loads-as d.number (extended_word n) k a m e (short-loads d m n o) in
-    let lb : Loads 7 b la.after s = moved-up d k la.after o la.gives x7 (λ z. omega (arith, z)) in
+    let lb : Loads 7 b la.after s = moved-up d k la.after o la.gives T2 (λ z. omega (arith, z)) in
     let lc : Loads d.number c lb.after n =
     loads-as d.number (low (k + s)) n c lb.after (twice-sum n k t (omega arith))
     (seven-added d k s lb.after o (lb.keeps d.number seven seven ∙ la.gives) lb.gives) in
@@ -258,7 +258,7 @@ constant-loads d m n o seven h =
 pub short-count : (d : Register) (n : ℕ) → length (short_constant d n) ≤ 2
 short-count d n = either (nat_eq (upper_number n) 0)
   where
-    either : (b : Bool) → length (if b then Addiw d x0 (lower_of n) ∷ [] else Lui d (upper_of n) ∷ Addiw d d (lower_of n) ∷ []) ≤ 2
+    either : (b : Bool) → length (if b then Addiw d ZERO (lower_of n) ∷ [] else Lui d (upper_of n) ∷ Addiw d d (lower_of n) ∷ []) ≤ 2
     either true = omega arith
     either false = omega arith
 
@@ -267,7 +267,7 @@ half-count d n = either (nat_eq (upper_number n) 0)
   where
     either : (b : Bool) → length (added_if d n b) ≤ 3
     either true = omega arith
-    either false = omega (arith, length-append (short_constant x7 n) (RegisterRegister Add d d x7 ∷ []), short-count x7 n)
+    either false = omega (arith, length-append (short_constant T2 n) (RegisterRegister Add d d T2 ∷ []), short-count T2 n)
 
 long-count : (d : Register) (n : ℕ) → length (long_constant d n) ≤ 6
 long-count d n = either (is_twice n)
@@ -275,8 +275,8 @@ long-count d n = either (is_twice n)
     halves : (a b : List Instr) → length a ≤ 2 → length b ≤ 3 → length (a ++ (Shift Slli d d half ∷ b)) ≤ 6
     halves a b h k = omega (arith, length-append a (Shift Slli d d half ∷ b))
 
-    both : (a : List Instr) → length a ≤ 2 → length (a ++ (Shift Slli x7 d half ∷ RegisterRegister Add d d x7 ∷ [])) ≤ 6
-    both a h = omega (arith, length-append a (Shift Slli x7 d half ∷ RegisterRegister Add d d x7 ∷ []))
+    both : (a : List Instr) → length a ≤ 2 → length (a ++ (Shift Slli T2 d half ∷ RegisterRegister Add d d T2 ∷ [])) ≤ 6
+    both a h = omega (arith, length-append a (Shift Slli T2 d half ∷ RegisterRegister Add d d T2 ∷ []))
 
     either : (b : Bool) → length (if b then in_both d n else in_halves d n) ≤ 6
     either true = both (short_constant d n) (short-count d n)
@@ -331,7 +331,7 @@ pub one-count : (d : Register) (n : ℕ) → n < 2048 → length (constant d n) 
 one-count d n h =
     let zero : upper_number n ≡ 0 = omega (arith, h) in
     subst (λ b. length (if b then short_constant d n else long_constant d n) ≤ 1) (sym (eq-eqb (extended_word n) n (extended-small n (omega (arith, h)))))
-    (subst (λ b. length (if b then Addiw d x0 (lower_of n) ∷ [] else Lui d (upper_of n) ∷ Addiw d d (lower_of n) ∷ []) ≤ 1) (sym (eq-eqb (upper_number n) 0 zero)) (omega arith))
+    (subst (λ b. length (if b then Addiw d ZERO (lower_of n) ∷ [] else Lui d (upper_of n) ∷ Addiw d d (lower_of n) ∷ []) ≤ 1) (sym (eq-eqb (upper_number n) 0 zero)) (omega arith))
 
 -- how many words were added
 pub pushed_words : (old : List ℕ) (code : List Instr) → length (old ++ map word_of code) ≡ length old + length code

@@ -8,6 +8,7 @@ use Rattle.std.proofs.lemmas.Nat.{and_comm, or_comm, xor_comm}
 use Rattle.std.proofs.Math.Nat.{mul_comm}
 use Rattle.rv_isa.specs.declared.instr.Instr.{Instr}
 use Rattle.rv_isa.specs.declared.operand.Register.{Register}
+use Rattle.rv_isa.specs.Registers.{ZERO, T0, T1}
 use Rattle.reg_alloc.specs.declared.assignment.Home.{Home}
 use Rattle.reg_alloc.specs.declared.assignment.Home.TheVariants as homes
 use Rattle.terra_memory.specs.Numbers.{number_of}
@@ -22,7 +23,7 @@ use Rattle.tac_form.specs.declared.tac.Operand.{Operand}
 use Rattle.tac_form.specs.declared.tac.Operand.TheVariants.{Temp, Constant}
 use Rattle.tac_form.specs.Flow.{width_of}
 use Rattle.rv_operators.specs.Claims.{acts, Leads}
-use Rattle.rv_operators.specs.Codes.{x0, x5, x6, code_of, is_width}
+use Rattle.rv_operators.specs.Codes.{code_of, is_width}
 use Rattle.rv_operators.proofs.Runs.{straight-both}
 use Rattle.rv_operators.proofs.Sequences.{read-elsewhere}
 use Rattle.rv_operators.specs.Runs.{AreStraight, Stands}
@@ -96,7 +97,7 @@ then-computed d a b m n v s o = record {
   straight = straight-both a b s.straight o.straight;
 }
 
--- in x5, and in a home
+-- in T0, and in a home
 five-scratch : (code : List Instr) (m : State) (v : ℕ) (o : Computed 5 code m v) → Scratch code m o.after
 five-scratch code m v o = record {
   goes = o.goes;
@@ -133,7 +134,7 @@ register-sets y base x code m v o = record {
 pub result-number : (y : Layout) (Next : ℕ → Type 0) (d : ℕ) → Housed y Next → Next d → (result_in y d).number ≢ 0
 result-number y Next d h u = either (slice_get y.homes d) refl
   where
-    either : (o : Option (Option Home)) → slice_get y.homes d ≡ o → (register_or x5 o).number ≢ 0
+    either : (o : Option (Option Home)) → slice_get y.homes d ≡ o → (register_or T0 o).number ≢ 0
     either (Some (Some (homes.Register x))) e =
         let i : IsHome y (homes.Register x) = subst (IsHome y) (ap or_first e) (h.homes d u (ap is_given e)) in
         let n : (register_of x).number ≡ x = register-is x (omega (arith, i.1)) in
@@ -147,7 +148,7 @@ result-home : (y : Layout) (Next : ℕ → Type 0) (d : ℕ) → Housed y Next �
 result-home y Next d h u e = either (slice_get y.homes d) refl e
   where
     either : (o : Option (Option Home)) → slice_get y.homes d ≡ o → is_in_register o ≡ true →
-        or_first o ≡ homes.Register (register_or x5 o).number
+        or_first o ≡ homes.Register (register_or T0 o).number
     either (Some (Some (homes.Register x))) s e =
         let i : IsHome y (homes.Register x) = subst (IsHome y) (ap or_first s) (h.homes d u (ap is_given s)) in
         ap homes.Register (sym (register-is x (omega (arith, i.1))))
@@ -155,7 +156,7 @@ result-home y Next d h u e = either (slice_get y.homes d) refl e
     either (Some None) s e = cc
     either None s e = cc
 
-result-five : (o : Option (Option Home)) → is_in_register o ≡ false → register_or x5 o ≡ x5
+result-five : (o : Option (Option Home)) → is_in_register o ≡ false → register_or T0 o ≡ T0
 result-five (Some (Some (homes.Register x))) e = cc
 result-five (Some (Some (homes.Slot k))) e = refl
 result-five (Some None) e = refl
@@ -226,7 +227,7 @@ gives-later y program Next w base k weight whole target there d m n way near g f
       five = g.five;
     }
 
--- a copy by x5, one to the register that is a home, and one of x0
+-- a copy by T0, one to the register that is a home, and one of ZERO
 copied-by-five : (y : Layout) (held : Option ℕ) (d : ℕ) (a : Operand) (Used Next : ℕ → Type 0) (w : World) (base : ℕ)
     (program : List (Option Instr)) (m : State) → Stands program m.pc (first_taken y held a ++ put_at y d) → IsHeld y held w.temps m →
     Holds y Used w base m → Housed y Used → Housed y Next → IsFirst y held Used a → Next d → HasHome y d → Follows Used Next d →
@@ -254,17 +255,17 @@ copied-home y held d a Used Next w base program m e stands f p h h' r u follows 
     (first-small held Used y w base m a p r) (at-most (length A)) (brought-some y held (result_in y d) a) stands
 
 zero-put : (y : Layout) (d weight : ℕ) (Used Next : ℕ → Type 0) (w : World) (base : ℕ) (program : List (Option Instr)) (m : State) →
-    Stands program m.pc (put_from x0 (home_of y d)) → Holds y Used w base m → Housed y Next → Next d → HasHome y d → Follows Used Next d →
-    length (put_from x0 (home_of y d)) ≤ weight → Comes y program Next (with_temp w d 0) base weight (behind m (put_from x0 (home_of y d))) [] m
+    Stands program m.pc (put_from ZERO (home_of y d)) → Holds y Used w base m → Housed y Next → Next d → HasHome y d → Follows Used Next d →
+    length (put_from ZERO (home_of y d)) ≤ weight → Comes y program Next (with_temp w d 0) base weight (behind m (put_from ZERO (home_of y d))) [] m
 zero-put y d weight Used Next w base program m stands p h u has follows few =
-    let b : List Instr = put_from x0 (home_of y d) in
+    let b : List Instr = put_from ZERO (home_of y d) in
     let r : Puts y base b m (home_of y d) 0 =
-    put-home y base 0 x0 m (home_of y d) p.pc p.frame (region-small y Used w base m p) (h.homes d u has) (λ n same. refl) (omega arith) in
+    put-home y base 0 ZERO m (home_of y d) p.pc p.frame (region-small y Used w base m p) (h.homes d u has) (λ n same. refl) (omega arith) in
     let way : Way program (length b) m r.after = straight-way program b m r.after stands r.straight r.goes in
     record {
       steps = length b;
       after = r.after;
-      some = some-put x0 (home_of y d);
+      some = some-put ZERO (home_of y d);
       few = few;
       runs = way.runs;
       at = r.behind;
@@ -295,7 +296,7 @@ copies y held d (Constant c) Used Next w base program m stands f p h h' r u has 
   where
     code : Bool → List Instr
     code b =
-        if b then put_from x0 (home_of y d)
+        if b then put_from ZERO (home_of y d)
         else if in_register y d then brought y held (result_in y d) (Constant c) else first_taken y held (Constant c) ++ put_at y d
 
     either : (b : Bool) → nat_eq c 0 ≡ b → Stands program m.pc (code b) →
@@ -304,10 +305,10 @@ copies y held d (Constant c) Used Next w base program m stands f p h h' r u has 
     either false e there =
         let g = copied-word y held d (Constant c) Used Next w base program m there f p h h' r u has follows in (g.comes, g.five)
     either true e there = (
-      subst (λ v. Comes y program Next (with_temp w d v) base (length (put_from x0 (home_of y d))) (behind m (put_from x0 (home_of y d))) [] m)
+      subst (λ v. Comes y program Next (with_temp w d v) base (length (put_from ZERO (home_of y d))) (behind m (put_from ZERO (home_of y d))) [] m)
           (sym (eqb-true c 0 e))
-          (zero-put y d (length (put_from x0 (home_of y d))) Used Next w base program m there p h' u has follows
-          (at-most (length (put_from x0 (home_of y d))))),
+          (zero-put y d (length (put_from ZERO (home_of y d))) Used Next w base program m there p h' u has follows
+          (at-most (length (put_from ZERO (home_of y d))))),
       tt,
     )
 
@@ -329,10 +330,10 @@ sides-compute op wide d a b B m va vb some six is divisor sa sb k =
 read-compute : (y : Layout) (Used : ℕ → Type 0) (w : World) (base : ℕ) (op : BinaryOperator) (wide : Width) (d a : Register) (b : Operand)
     (m : State) (va : ℕ) → d.number ≢ 0 → (a.number ≢ 6) × (a.number ≢ 7) → is_width wide.bits ≡ true →
     (divides op ≡ true → value_in w.temps b ≢ 0) → value_at m a ≡ va → va < 2 ^ 64 → Holds y Used w base m → Housed y Used → IsRead y Used b →
-    Computed d.number (second_read y b ++ code_of d a (read_in y x6 b) wide op) m (applied wide op va (value_in w.temps b))
+    Computed d.number (second_read y b ++ code_of d a (read_in y T1 b) wide op) m (applied wide op va (value_in w.temps b))
 read-compute y Used w base op wide d a b m va some apart is divisor e sa p h r =
-    let k : SecondSide (second_read y b) m (read_in y x6 b) (value_in w.temps b) = second-side y Used w base m b p h r in
-    sides-compute op wide d a (read_in y x6 b) (second_read y b) m va (value_in w.temps b) some apart.0 is divisor sa
+    let k : SecondSide (second_read y b) m (read_in y T1 b) (value_in w.temps b) = second-side y Used w base m b p h r in
+    sides-compute op wide d a (read_in y T1 b) (second_read y b) m va (value_in w.temps b) some apart.0 is divisor sa
     (value-small Used y w base m b p r)
     (record {
       after = k.after;
@@ -366,7 +367,7 @@ applies y Used w base op wide d a (Constant c) m va some apart is divisor e sa p
     (cases_Bool (is_folded op c))
   where
     rest : List Instr
-    rest = second_read y (Constant c) ++ code_of d a (read_in y x6 (Constant c)) wide op
+    rest = second_read y (Constant c) ++ code_of d a (read_in y T1 (Constant c)) wide op
 
 -- operands in the order in which they are taken
 abbrev OperandsAreCarried : Type 1
@@ -384,7 +385,7 @@ in-order y held d op form a b Used Next w base program m stands f divisor p h h'
     let va = value_in w.temps a in
     let vb = value_in w.temps b in
     let dd : Register = result_in y d in
-    let aa : Register = read_in y x5 a in
+    let aa : Register = read_in y T0 a in
     let A : List Instr = first_read y held a in
     let S : List Instr = applied_to y dd aa wide op b in
     let sa : va < 2 ^ 64 = first-small held Used y w base m a p ra in
@@ -400,27 +401,27 @@ in-order y held d op form a b Used Next w base program m stands f divisor p h h'
     (applied-small wide op va vb (wide-size form.size)) some
     (subst (λ x. Stands program m.pc x) (sym (append_assoc A S (put_behind y d))) stands))
 
--- where x5 holds the second operand
+-- where T0 holds the second operand
 second-sides : (y : Layout) (held : Option ℕ) (a : Operand) (t : ℕ) (Used : ℕ → Type 0) (w : World) (base : ℕ) (m : State) →
     IsHeld y held w.temps m → in_five y held t ≡ true → Holds y Used w base m → Housed y Used → IsFirst y held Used a → Used t →
-    Sides (both_moved y held a) m (read_in y x5 a) (five_or_six y a) (value_in w.temps a) (w.temps t)
+    Sides (both_moved y held a) m (read_in y T0 a) (five_or_six y a) (value_in w.temps a) (w.temps t)
 second-sides y held a t Used w base m f e p h ra used = either (is_there y a) refl
   where
     five : m.registers 5 ≡ w.temps t
     five = held-is y held t w.temps m f e
 
-    either : (b : Bool) → is_there y a ≡ b → Sides (if b then [] else moved x6 x5 ∷ first_taken y held a) m (read_in y x5 a)
-        (if b then x5 else x6) (value_in w.temps a) (w.temps t)
+    either : (b : Bool) → is_there y a ≡ b → Sides (if b then [] else moved T1 T0 ∷ first_taken y held a) m (read_in y T0 a)
+        (if b then T0 else T1) (value_in w.temps a) (w.temps t)
     either true there = record {
       after = m;
       scratch = scratch-none m p.pc;
-      first = there-value y held Used w base m x5 a p h ra there;
+      first = there-value y held Used w base m T0 a p h ra there;
       second = five;
     }
     either false there =
-        let M : List Instr = moved x6 x5 ∷ [] in
+        let M : List Instr = moved T1 T0 ∷ [] in
         let A : List Instr = first_taken y held a in
-        let k : Loads 6 M m (w.temps t) = from-five x6 m (w.temps t) (λ z. omega (arith, z)) five (p.words t used) in
+        let k : Loads 6 M m (w.temps t) = from-five T1 m (w.temps t) (λ z. omega (arith, z)) five (p.words t used) in
         let n : State = k.after in
         let q : Holds y Used w base n = scratch-holds y Used w base M m n p h (loads-six M m (w.temps t) k) in
         let kept : n.registers 5 ≡ m.registers 5 = k.keeps 5 (λ z. omega (arith, z)) (λ z. omega (arith, z)) in
@@ -428,7 +429,7 @@ second-sides y held a t Used w base m f e p h ra used = either (is_there y a) re
         record {
           after = l.after;
           scratch = scratch-both M A m n l.after (loads-six M m (w.temps t) k) (loads-five A n (value_in w.temps a) l);
-          first = ap (value_at l.after) (read-other y x5 a there) ∙ l.gives;
+          first = ap (value_at l.after) (read-other y T0 a there) ∙ l.gives;
           second = l.keeps 6 (λ z. omega (arith, z)) (λ z. omega (arith, z)) ∙ k.gives;
         }
 
@@ -444,7 +445,7 @@ second-held y held d op form a t Used Next w base program m stands f e divisor p
     let va = value_in w.temps a in
     let vb = w.temps t in
     let dd : Register = result_in y d in
-    let aa : Register = read_in y x5 a in
+    let aa : Register = read_in y T0 a in
     let A : List Instr = both_moved y held a in
     let S : List Instr = code_of dd aa (five_or_six y a) wide op in
     let o : Computed dd.number (A ++ S) m (applied wide op va vb) =

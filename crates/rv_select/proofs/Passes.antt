@@ -10,6 +10,7 @@ use Rattle.rv_isa.specs.declared.operation.ImmediateOp.TheVariants.{Addi}
 use Rattle.rv_isa.specs.declared.operation.RegisterOp.TheVariants.{Add}
 use Rattle.rv_isa.specs.declared.operation.StoreOp.TheVariants.{Sd}
 use Rattle.rv_isa.specs.declared.operand.Register.{Register}
+use Rattle.rv_isa.specs.Registers.{SP, T0, T2, A0}
 use Rattle.reg_alloc.specs.declared.assignment.Home.{Home}
 use Rattle.reg_alloc.specs.declared.assignment.Home.TheVariants as homes
 use Rattle.terra_memory.specs.Numbers.{low_bytes, number_of, overwritten}
@@ -19,13 +20,12 @@ use Rattle.tac_form.specs.declared.tac.Part.TheVariants as parts
 use Rattle.rv_machine.specs.Word.{low, word, extended_word}
 use Rattle.rv_machine.specs.Machine.{State, GoesOn, at_with, value_at}
 use Rattle.rv_operators.specs.Claims.{then_on}
-use Rattle.rv_operators.specs.Codes.{x5}
 use Rattle.rv_operators.specs.Runs.{Stands}
 use Rattle.rv_operators.proofs.Runs.{straight-both}
 use Rattle.rv_select.specs.Numbers.{below_zero, lower_of, upper_of}
 use Rattle.rv_select.specs.Places.{AreBytes, Holds, Housed, IsFirst, IsHeld, IsHome, Layout, World, area_offset, frame_bytes, home_of}
 use Rattle.rv_select.specs.Places.{private_word, slot_offset, value_in, word_at}
-use Rattle.rv_select.specs.Shapes.{far_part, x2, x7, x10}
+use Rattle.rv_select.specs.Shapes.{far_part}
 use Rattle.rv_select.specs.Entering.{stored_below}
 use Rattle.rv_select.specs.Calls.{part_given, part_taken, passed, word_given, part_passed}
 pub use Rattle.rv_select.specs.Frames.{ArePassed, IsPartFirst, IsPartRead, part_value}
@@ -58,23 +58,23 @@ pub below-saves : (r : Register) (n base v : ℕ) (m : State) → r.number ≢ 0
 below-saves r n base v m some other is p e least room small within region =
     ⊎_elim
     (λ h.
-    subst (λ b. Saves (if b then Store Sd x2 r (below_zero (n - 1)) ∷ [] else far_part (2 ^ 32 - n) ++ Store Sd x7 r (lower_of (2 ^ 32 - n)) ∷ []) m (base - n) (low_bytes 8 v)) (sym (le-leb n 2048 (omega arith)))
+    subst (λ b. Saves (if b then Store Sd SP r (below_zero (n - 1)) ∷ [] else far_part (2 ^ 32 - n) ++ Store Sd T2 r (lower_of (2 ^ 32 - n)) ∷ []) m (base - n) (low_bytes 8 v)) (sym (le-leb n 2048 (omega arith)))
     (near h))
     (λ h.
-    subst (λ b. Saves (if b then Store Sd x2 r (below_zero (n - 1)) ∷ [] else far_part (2 ^ 32 - n) ++ Store Sd x7 r (lower_of (2 ^ 32 - n)) ∷ []) m (base - n) (low_bytes 8 v)) (sym (lt-leb n 2048 (omega arith)))
+    subst (λ b. Saves (if b then Store Sd SP r (below_zero (n - 1)) ∷ [] else far_part (2 ^ 32 - n) ++ Store Sd T2 r (lower_of (2 ^ 32 - n)) ∷ []) m (base - n) (low_bytes 8 v)) (sym (lt-leb n 2048 (omega arith)))
     (far h))
     (cases_lt n 2049)
   where
     value : (t : State) → t.registers r.number ≡ v → value_at t r ≡ v
     value t g = register-value t r r.number refl some ∙ g
 
-    near : n < 2049 → Saves (Store Sd x2 r (below_zero (n - 1)) ∷ []) m (base - n) (low_bytes 8 v)
+    near : n < 2049 → Saves (Store Sd SP r (below_zero (n - 1)) ∷ []) m (base - n) (low_bytes 8 v)
     near h =
-        let address : low (value_at m x2 + word (below_zero (n - 1)).value) ≡ 2 ^ 32 + (base - n) =
+        let address : low (value_at m SP + word (below_zero (n - 1)).value) ≡ 2 ^ 32 + (base - n) =
         ap (λ z. low (m.registers 2 + z)) (below-is (n - 1) (omega (arith, h))) ∙ near-sum (m.registers 2) base n e (omega (arith, least)) (omega (arith, h)) room (omega (arith, small)) in
         record {
           after = word_stored m (base - n) v;
-          goes = ap (λ x. then_on x (λ t. GoesOn t)) (store-word m x2 r (below_zero (n - 1)) (base - n) v address (value m is) region (omega (arith, least, room, within)));
+          goes = ap (λ x. then_on x (λ t. GoesOn t)) (store-word m SP r (below_zero (n - 1)) (base - n) v address (value m is) region (omega (arith, least, room, within)));
           behind = low-first m.pc;
           keeps = λ x five six seven. refl;
           region = refl;
@@ -82,34 +82,34 @@ below-saves r n base v m some other is p e least room small within region =
           straight = refl;
         }
 
-    far : 2049 ≤ n → Saves (far_part (2 ^ 32 - n) ++ Store Sd x7 r (lower_of (2 ^ 32 - n)) ∷ []) m (base - n) (low_bytes 8 v)
+    far : 2049 ≤ n → Saves (far_part (2 ^ 32 - n) ++ Store Sd T2 r (lower_of (2 ^ 32 - n)) ∷ []) m (base - n) (low_bytes 8 v)
     far h =
         let f : ℕ = 2 ^ 32 - n in
         let u : ℕ = extended_word ((upper_of f).value * 2 ^ 12) in
-        let l : Loads 7 (Lui x7 (upper_of f) ∷ []) m u = loads-one (Lui x7 (upper_of f)) m 7 u (λ z. omega (arith, z)) refl refl in
+        let l : Loads 7 (Lui T2 (upper_of f) ∷ []) m u = loads-one (Lui T2 (upper_of f)) m 7 u (λ z. omega (arith, z)) refl refl in
         let s : ℕ = low (u + m.registers 2) in
-        let k : Loads 7 (RegisterRegister Add x7 x7 x2 ∷ []) l.after s =
-        loads-one (RegisterRegister Add x7 x7 x2) l.after 7 s (λ z. omega (arith, z)) refl
+        let k : Loads 7 (RegisterRegister Add T2 T2 SP ∷ []) l.after s =
+        loads-one (RegisterRegister Add T2 T2 SP) l.after 7 s (λ z. omega (arith, z)) refl
         (ap (λ a. GoesOn (at_with l.after (low (l.after.pc + 4)) 7 (low (a + l.after.registers 2)))) l.gives
         ∙ ap (λ a. GoesOn (at_with l.after (low (l.after.pc + 4)) 7 (low (u + a)))) (l.keeps 2 (λ z. omega (arith, z)) (λ z. omega (arith, z)))) in
-        let b : Loads 7 (far_part f) m s = loads-both 7 u s (Lui x7 (upper_of f) ∷ []) (RegisterRegister Add x7 x7 x2 ∷ []) m l k in
+        let b : Loads 7 (far_part f) m s = loads-both 7 u s (Lui T2 (upper_of f) ∷ []) (RegisterRegister Add T2 T2 SP ∷ []) m l k in
         let t : State = b.after in
         let sum : (u + word (lower_of f).value) % 2 ^ 64 ≡ f + (2 ^ 64 - 2 ^ 32) = (sum-of f).back (omega (arith, room, small)) (omega (arith, least)) in
-        let address : low (value_at t x7 + word (lower_of f).value) ≡ 2 ^ 32 + (base - n) =
+        let address : low (value_at t T2 + word (lower_of f).value) ≡ 2 ^ 32 + (base - n) =
         ap (λ z. low (z + word (lower_of f).value)) b.gives ∙ far-sum u (word (lower_of f).value) (m.registers 2) base n sum e room small in
         record {
           after = word_stored t (base - n) v;
-          goes = goes-both (far_part f) (Store Sd x7 r (lower_of f) ∷ []) m t (word_stored t (base - n) v) b.goes
-              (ap (λ x. then_on x (λ q. GoesOn q)) (store-word t x7 r (lower_of f) (base - n) v address (value t (b.keeps r.number other other ∙ is))
+          goes = goes-both (far_part f) (Store Sd T2 r (lower_of f) ∷ []) m t (word_stored t (base - n) v) b.goes
+              (ap (λ x. then_on x (λ q. GoesOn q)) (store-word t T2 r (lower_of f) (base - n) v address (value t (b.keeps r.number other other ∙ is))
               (subst (λ z. length z ≤ 67108864) (sym b.region) region) (subst (λ z. base - n + 8 ≤ length z) (sym b.private) (omega (arith, least, room, within)))));
-          behind = behind-both (far_part f) (Store Sd x7 r (lower_of f) ∷ []) m.pc t.pc (low (t.pc + 4)) b.behind (low-first t.pc);
+          behind = behind-both (far_part f) (Store Sd T2 r (lower_of f) ∷ []) m.pc t.pc (low (t.pc + 4)) b.behind (low-first t.pc);
           keeps = λ x five six seven. b.keeps x seven seven;
           region = b.region;
           private = ap (λ z. overwritten z (base - n) (low_bytes 8 v)) b.private;
-          straight = straight-both (far_part f) (Store Sd x7 r (lower_of f) ∷ []) b.straight refl;
+          straight = straight-both (far_part f) (Store Sd T2 r (lower_of f) ∷ []) b.straight refl;
         }
 
--- Two states differ in x5 to x7, and in private memory from one offset to another.
+-- Two states differ in T0 to T2, and in private memory from one offset to another.
 pub record Beneath (from below : ℕ) (m n : State) : Type 0 where
   pub keeps : (r : ℕ) → r ≢ 5 → r ≢ 6 → r ≢ 7 → n.registers r ≡ m.registers r
   pub region : n.region ≡ m.region
@@ -191,40 +191,40 @@ pub part-count : (y : Layout) (d : Register) (p : Part) → length (part_taken y
 part-count y d (parts.Word a) = taken-count y d a
 part-count y d (parts.Area n) = omega (arith, framed-count (λ r far. RegisterImmediate Addi d r far) (area_offset y n + 0))
 
--- What is given back goes to x10, and x5 may hold its word.
+-- What is given back goes to A0, and T0 may hold its word.
 word-goes : (y : Layout) (held : Option ℕ) (Used : ℕ → Type 0) (w : World) (base : ℕ) (m : State) (a : Operand) → IsHeld y held w.temps m →
     Holds y Used w base m → Housed y Used → IsFirst y held Used a → Loads 10 (word_given y held a) m (value_in w.temps a)
-word-goes y held Used w base m a f p h r = brings y held x10 Used w base m a (λ z. omega (arith, z)) (λ z. omega (arith, z)) f p h r
+word-goes y held Used w base m a f p h r = brings y held A0 Used w base m a (λ z. omega (arith, z)) (λ z. omega (arith, z)) f p h r
 
 pub give-part : (y : Layout) (held : Option ℕ) (Used : ℕ → Type 0) (w : World) (base : ℕ) (m : State) (p : Part) → IsHeld y held w.temps m →
     Holds y Used w base m → Housed y Used → IsPartFirst y held Used p → Loads 10 (part_given y held p) m (part_value y base w p)
 give-part y held Used w base m (parts.Word a) f p h r = word-goes y held Used w base m a f p h r
 give-part y held Used w base m (parts.Area k) f p h r =
-    take-part y x10 Used w base m (parts.Area k) (λ z. omega (arith, z)) (λ z. omega (arith, z)) p h r
+    take-part y A0 Used w base m (parts.Area k) (λ z. omega (arith, z)) (λ z. omega (arith, z)) p h r
 
 word-count : (y : Layout) (held : Option ℕ) (a : Operand) → length (word_given y held a) ≤ 8
-word-count y held a = brought-few y held x10 a
+word-count y held a = brought-few y held A0 a
 
 pub given-count : (y : Layout) (held : Option ℕ) (p : Part) → length (part_given y held p) ≤ 8
 given-count y held (parts.Word a) = word-count y held a
-given-count y held (parts.Area n) = part-count y x10 (parts.Area n)
+given-count y held (parts.Area n) = part-count y A0 (parts.Area n)
 
--- what is passed, where x5 may hold it
+-- what is passed, where T0 may hold it
 pub take-first-part : (y : Layout) (held : Option ℕ) (Used : ℕ → Type 0) (w : World) (base : ℕ) (m : State) (p : Part) →
     IsHeld y held w.temps m → Holds y Used w base m → Housed y Used → IsPartFirst y held Used p →
     Loads 5 (part_passed y held p) m (part_value y base w p)
 take-first-part y held Used w base m (parts.Word a) f p h r = take-first y held Used w base m a f p h r
 take-first-part y held Used w base m (parts.Area k) f p h r =
-    take-part y x5 Used w base m (parts.Area k) (λ z. omega (arith, z)) (λ z. omega (arith, z)) p h r
+    take-part y T0 Used w base m (parts.Area k) (λ z. omega (arith, z)) (λ z. omega (arith, z)) p h r
 
 pub first-part-count : (y : Layout) (held : Option ℕ) (p : Part) → length (part_passed y held p) ≤ 8
 first-part-count y held (parts.Word a) = first-few y held a
-first-part-count y held (parts.Area n) = part-count y x5 (parts.Area n)
+first-part-count y held (parts.Area n) = part-count y T0 (parts.Area n)
 
 pub below-count : (r : Register) (n : ℕ) → length (stored_below r n) ≤ 3
 below-count r n = either (nat_le n 2048)
   where
-    either : (b : Bool) → length (if b then Store Sd x2 r (below_zero (n - 1)) ∷ [] else far_part (2 ^ 32 - n) ++ Store Sd x7 r (lower_of (2 ^ 32 - n)) ∷ []) ≤ 3
+    either : (b : Bool) → length (if b then Store Sd SP r (below_zero (n - 1)) ∷ [] else far_part (2 ^ 32 - n) ++ Store Sd T2 r (lower_of (2 ^ 32 - n)) ∷ []) ≤ 3
     either true = omega arith
     either false = omega arith
 
@@ -287,7 +287,7 @@ passes y held Used w base program i [] rest m there f p h reads room = record {
 }
 passes y held Used w base program i (q ∷ ps) rest m there f p h reads room =
     let A : List Instr = part_passed y held q in
-    let B : List Instr = stored_below x5 (8 * (i + 1)) in
+    let B : List Instr = stored_below T0 (8 * (i + 1)) in
     let C : List Instr = passed y None (i + 1) ps in
     let v : ℕ = part_value y base w q in
     let r : IsPartFirst y held Used q = reads.0 in
@@ -301,7 +301,7 @@ passes y held Used w base program i (q ∷ ps) rest m there f p h reads room =
     let within : base ≤ length t.private = omega (arith, ht.frame.within) in
     let inside : at + 8 ≤ length t.private = omega (arith, within) in
     let s : Saves B t at (low_bytes 8 v) =
-    below-saves x5 (8 * (i + 1)) base v t (λ z. omega (arith, z)) (λ z. omega (arith, z)) l.gives pc-t ht.frame.pointer (omega arith) (omega arith)
+    below-saves T0 (8 * (i + 1)) base v t (λ z. omega (arith, z)) (λ z. omega (arith, z)) l.gives pc-t ht.frame.pointer (omega arith) (omega arith)
     (omega (arith, ht.frame.within, ht.frame.private)) within (region-small y Used w base t ht) in
     let u : State = s.after in
     let pc-u : u.pc < 2 ^ 64 = subst (λ z. z < 2 ^ 64) (sym s.behind) (low-below (t.pc + 4 * length B)) in

@@ -7,6 +7,7 @@ use Rattle.rv_isa.specs.declared.instr.Instr.TheVariants.{Ecall, Load, RegisterI
 use Rattle.rv_isa.specs.declared.operation.ImmediateOp.TheVariants.{Addi}
 use Rattle.rv_isa.specs.declared.operation.LoadOp.TheVariants.{Ld}
 use Rattle.rv_isa.specs.declared.operation.StoreOp.TheVariants.{Sb, Sd}
+use Rattle.rv_isa.specs.Registers.{ZERO, SP, T0, T1, A0, A1, A2, A7}
 use Rattle.terra_memory.specs.Numbers.{low_bytes, number_of, overwritten, part}
 use Rattle.terra_memory.proofs.Overwriting.{length-overwritten, part-overwritten}
 use Rattle.tac_form.specs.declared.tac.Operand.{Operand}
@@ -14,11 +15,11 @@ use Rattle.tac_form.specs.declared.tac.Operand.TheVariants.{Temp, Constant}
 use Rattle.rv_machine.specs.declared.memory.Place.TheVariants as places
 use Rattle.rv_machine.specs.Word.{low}
 use Rattle.rv_machine.specs.Machine.{GoesOn, State, Writes, act, at_with, loads, loads_from, returned, stores, stores_to}
-use Rattle.rv_operators.specs.Codes.{x0, x5, x6, zero_immediate}
+use Rattle.rv_operators.specs.Codes.{zero_immediate}
 use Rattle.rv_operators.specs.Runs.{Stands}
 use Rattle.rv_select.specs.Numbers.{constant, immediate_of}
 use Rattle.rv_select.specs.Places.{AreBytes, Holds, Housed, IsFirst, IsHeld, Layout, World, value_in}
-use Rattle.rv_select.specs.Shapes.{byte_put, byte_taken, byte_written, moved, x2, x10, x11, x12, x17}
+use Rattle.rv_select.specs.Shapes.{byte_put, byte_taken, byte_written, moved}
 use Rattle.rv_select.specs.Steps.{AreFewer, Comes, behind}
 use Rattle.rv_select.proofs.Bytes.{private-part}
 use Rattle.rv_select.proofs.Parts.{rewritten, same-written}
@@ -43,7 +44,7 @@ pc-eight : (p : ℕ) → low (low (low (low (low (low (low (low (p + 4) + 4) + 4
 unfolding low
 pc-eight p = omega arith
 
--- One byte is written, once it stands in x5.
+-- One byte is written, once it stands in T0.
 module _ (program : List (Option Instr)) (t : State) (base v : ℕ) (five : t.registers 5 ≡ v) (two : t.registers 2 ≡ 2 ^ 32 + base) (room : base + 8 ≤ length t.private)
     (most : length t.private ≤ 603979776) (region : length t.region ≤ 67108864) (are : AreBytes t.private)
     (there : Stands program t.pc byte_written) where
@@ -86,16 +87,16 @@ module _ (program : List (Option Instr)) (t : State) (base v : ℕ) (five : t.re
   changed-long : length changed ≡ length t.private
   changed-long = length-overwritten t.private byte base (omega (arith, room))
 
-  to-1 : act (Load Ld x6 x2 zero_immediate) t ≡ GoesOn s1
-  to-1 = ap (λ x. loads t Ld x6 x) address ∙ ap (λ x. loads_from t Ld x6 x) (private-part (length t.region) (length t.private) base 8 region room)
+  to-1 : act (Load Ld T1 SP zero_immediate) t ≡ GoesOn s1
+  to-1 = ap (λ x. loads t Ld T1 x) address ∙ ap (λ x. loads_from t Ld T1 x) (private-part (length t.region) (length t.private) base 8 region room)
 
-  to-2 : act (Store Sb x2 x5 zero_immediate) s1 ≡ GoesOn s2
+  to-2 : act (Store Sb SP T0 zero_immediate) s1 ≡ GoesOn s2
   to-2 =
       ap (λ x. stores s1 Sb x (t.registers 5)) address
       ∙ (ap (λ x. stores_to s1 (low_bytes 1 (t.registers 5)) x) (private-part (length t.region) (length t.private) base 1 region (omega (arith, room)))
       ∙ (ap (λ x. GoesOn (saved s1 (overwritten t.private base (low_bytes 1 x)))) five ∙ ap (λ x. GoesOn (saved s1 (overwritten t.private base x))) (one-byte v)))
 
-  to-3 : act (moved x11 x2) s2 ≡ GoesOn s3
+  to-3 : act (moved A1 SP) s2 ≡ GoesOn s3
   to-3 = ap (λ x. GoesOn (at_with s2 (low (s2.pc + 4)) 11 x)) address
 
   to-6 : Way program 6 t s6
@@ -103,11 +104,11 @@ module _ (program : List (Option Instr)) (t : State) (base v : ℕ) (five : t.re
       way-both program 5 1 t s5 s6
       (way-both program 4 1 t s4 s5
       (way-both program 3 1 t s3 s4
-      (way-both program 2 1 t s2 s3 (way-both program 1 1 t s1 s2 (step-way program (Load Ld x6 x2 zero_immediate) t s1 there.0 to-1) (step-way program (Store Sb x2 x5 zero_immediate) s1 s2 there.1.0 to-2))
-      (step-way program (moved x11 x2) s2 s3 there.1.1.0 to-3))
-      (step-way program (RegisterImmediate Addi x12 x0 (immediate_of 1)) s3 s4 there.1.1.1.0 (small-load x12 1 s3 (λ e. omega (arith, e)) (omega arith))))
-      (step-way program (RegisterImmediate Addi x10 x0 (immediate_of 1)) s4 s5 there.1.1.1.1.0 (small-load x10 1 s4 (λ e. omega (arith, e)) (omega arith))))
-      (step-way program (RegisterImmediate Addi x17 x0 (immediate_of 64)) s5 s6 there.1.1.1.1.1.0 (small-load x17 64 s5 (λ e. omega (arith, e)) (omega arith)))
+      (way-both program 2 1 t s2 s3 (way-both program 1 1 t s1 s2 (step-way program (Load Ld T1 SP zero_immediate) t s1 there.0 to-1) (step-way program (Store Sb SP T0 zero_immediate) s1 s2 there.1.0 to-2))
+      (step-way program (moved A1 SP) s2 s3 there.1.1.0 to-3))
+      (step-way program (RegisterImmediate Addi A2 ZERO (immediate_of 1)) s3 s4 there.1.1.1.0 (small-load A2 1 s3 (λ e. omega (arith, e)) (omega arith))))
+      (step-way program (RegisterImmediate Addi A0 ZERO (immediate_of 1)) s4 s5 there.1.1.1.1.0 (small-load A0 1 s4 (λ e. omega (arith, e)) (omega arith))))
+      (step-way program (RegisterImmediate Addi A7 ZERO (immediate_of 64)) s5 s6 there.1.1.1.1.1.0 (small-load A7 64 s5 (λ e. omega (arith, e)) (omega arith)))
 
   byte-there : part changed base 1 ≡ byte
   byte-there = part-overwritten t.private byte base (omega (arith, room))
@@ -125,14 +126,14 @@ module _ (program : List (Option Instr)) (t : State) (base v : ℕ) (five : t.re
       ap (λ x. overwritten changed base x) same
       ∙ (rewritten t.private byte kept base (omega (arith, room)) (omega (arith, count)) ∙ same-written t.private base 8 room)
 
-  to-8 : act (Store Sd x2 x6 zero_immediate) s7 ≡ GoesOn s8
+  to-8 : act (Store Sd SP T1 zero_immediate) s7 ≡ GoesOn s8
   to-8 =
       ap (λ x. stores s7 Sd x (number_of kept)) address
       ∙ (ap (λ x. stores_to s7 (low_bytes 8 (number_of kept)) x) (private-part (length t.region) (length changed) base 8 region (subst (λ x. base + 8 ≤ x) (sym changed-long) room))
       ∙ ap (λ x. GoesOn (saved s7 x)) back-again)
 
   byte-out : Wrote program 8 byte t s8
-  byte-out = wrote program 6 1 byte t s6 s7 s8 to-6 there.1.1.1.1.1.1.0 to-7 (step-way program (Store Sd x2 x6 zero_immediate) s7 s8 there.1.1.1.1.1.1.1.0 to-8)
+  byte-out = wrote program 6 1 byte t s6 s7 s8 to-6 there.1.1.1.1.1.1.0 to-7 (step-way program (Store Sd SP T1 zero_immediate) s7 s8 there.1.1.1.1.1.1.1.0 to-8)
 
   byte-calm : Calm t s8
   byte-calm = record {
@@ -149,16 +150,16 @@ module _ (program : List (Option Instr)) (t : State) (base v : ℕ) (five : t.re
   pub byte-goes : (z : State) × Wrote program 8 byte t z × Calm t z × (z.pc ≡ low (t.pc + 4 * 8))
   byte-goes = (s8, byte-out, byte-calm, pc-eight t.pc)
 
--- an operand's byte goes to x5
+-- an operand's byte goes to T0
 byte-loads : (y : Layout) (held : Option ℕ) (Used : ℕ → Type 0) (w : World) (base : ℕ) (m : State) (a : Operand) → IsHeld y held w.temps m →
     Holds y Used w base m → Housed y Used → IsFirst y held Used a → (v : ℕ) × Loads 5 (byte_taken y held a) m v × (v % 256 ≡ value_in w.temps a % 256)
 byte-loads y held Used w base m (Temp t) f p h r = (w.temps t, take-first y held Used w base m (Temp t) f p h r, refl)
 byte-loads y held Used w base m (Constant c) f p h r =
-    (c % 256, constant-loads x5 m (c % 256) (λ e. omega (arith, e)) (λ e. omega (arith, e)) (omega arith), omega arith)
+    (c % 256, constant-loads T0 m (c % 256) (λ e. omega (arith, e)) (λ e. omega (arith, e)) (omega arith), omega arith)
 
 pub byte-count : (y : Layout) (held : Option ℕ) (a : Operand) → length (byte_taken y held a) ≤ 3
 byte-count y held (Temp t) = first-temp y held t
-byte-count y held (Constant c) = let few : length (constant x5 (c % 256)) ≤ 2 = small-count x5 (c % 256) (omega arith) in omega (arith, few)
+byte-count y held (Constant c) = let few : length (constant T0 (c % 256)) ≤ 2 = small-count T0 (c % 256) (omega arith) in omega (arith, few)
 
 -- the state after a byte, and a way before it
 byte-ends : (y : Layout) (Used Next : ℕ → Type 0) (w : World) (base v x : ℕ) (A : List Instr) (program : List (Option Instr)) (m t z : State) →

@@ -10,12 +10,12 @@ use Rattle.rv_isa.specs.declared.operation.RegisterOp.TheVariants.{Add, Sub}
 use Rattle.rv_isa.specs.declared.operand.Register.{Register}
 use Rattle.rv_isa.proofs.Operands.{register_same}
 use Rattle.rv_isa.specs.Table.{word_of}
-use Rattle.rv_operators.specs.Codes.{x5}
+use Rattle.rv_isa.specs.Registers.{T0, S0, A1}
 use Rattle.rv_select.specs.Places.{Layout}
 use Rattle.rv_select.specs.Entering.{arguments_stored, place_given, put_back, put_back_one, region_given, region_taken, saved, saved_one}
 use Rattle.rv_select.specs.Entering.{stack_tested, stored_below}
 use Rattle.rv_select.specs.Numbers.{constant, register_of}
-use Rattle.rv_select.specs.Shapes.{place_number, x8, x11}
+use Rattle.rv_select.specs.Shapes.{place_number}
 use Rattle.rv_select.proofs.Numbers.{pushed_words}
 
 -- two parts, where the second depends on where it stands
@@ -55,15 +55,15 @@ pub saved-more : (y : Layout) (n x : ℕ) → n ≢ 0 → saved y n x ≡ saved_
 saved-more y zero x h = absurd (h refl)
 saved-more y (suc n) x h = let e : n ≡ suc n - 1 = omega arith in ap (λ k. saved_one y x ++ saved y k (x + 1)) e
 
-pub region-taken-more : (n : ℕ) → n ≢ 0 → region_taken n ≡ stack_tested n ++ RegisterRegister Sub x8 x8 x5 ∷ []
+pub region-taken-more : (n : ℕ) → n ≢ 0 → region_taken n ≡ stack_tested n ++ RegisterRegister Sub S0 S0 T0 ∷ []
 region-taken-more zero h = absurd (h refl)
 region-taken-more (suc n) h = refl
 
-pub place-given-more : (n : ℕ) (at : Place) → n ≢ 0 → place_given n at ≡ constant x11 (place_number at)
+pub place-given-more : (n : ℕ) (at : Place) → n ≢ 0 → place_given n at ≡ constant A1 (place_number at)
 place-given-more zero at h = absurd (h refl)
 place-given-more (suc n) at h = refl
 
-pub region-given-more : (n : ℕ) → n ≢ 0 → region_given n ≡ constant x5 n ++ RegisterRegister Add x8 x8 x5 ∷ []
+pub region-given-more : (n : ℕ) → n ≢ 0 → region_given n ≡ constant T0 n ++ RegisterRegister Add S0 S0 T0 ∷ []
 region-given-more zero h = absurd (h refl)
 region-given-more (suc n) h = refl
 

@@ -7,15 +7,15 @@ use Rattle.rv_isa.specs.declared.instr.Instr.{Instr}
 use Rattle.rv_isa.specs.declared.instr.Instr.TheVariants.{Jalr, Load, RegisterRegister}
 use Rattle.rv_isa.specs.declared.operation.LoadOp.TheVariants.{Ld}
 use Rattle.rv_isa.specs.declared.operation.RegisterOp.TheVariants.{Add}
+use Rattle.rv_isa.specs.Registers.{ZERO, RA, SP, T0, S0}
 use Rattle.terra_memory.specs.Numbers.{number_of}
 use Rattle.rv_machine.specs.Word.{low}
 use Rattle.rv_machine.specs.Machine.{State, GoesOn, act, at_with}
-use Rattle.rv_operators.specs.Codes.{x0, x5, zero_immediate}
+use Rattle.rv_operators.specs.Codes.{zero_immediate}
 use Rattle.rv_operators.specs.Runs.{Stands}
 use Rattle.rv_select.specs.Numbers.{constant, immediate_of, register_of}
 use Rattle.rv_select.specs.Places.{Layout, link_in, private_word, uses}
-use Rattle.rv_select.specs.Shapes.{x2, x8}
-use Rattle.rv_select.specs.Entering.{if_used, kept_offset, left, link_put_back, pointer_up, put_back, region_given, x1}
+use Rattle.rv_select.specs.Entering.{if_used, kept_offset, left, link_put_back, pointer_up, put_back, region_given}
 use Rattle.rv_select.proofs.Enters.{Placed, pc-one, placed-still, used-count, zero-sum}
 use Rattle.rv_select.proofs.Kept.{PutBack, load-word, puts-back}
 use Rattle.rv_select.proofs.Numbers.{constant-loads}
@@ -42,7 +42,7 @@ pub record Quit (program : List (Option Instr)) (y : Layout) (bytes base over li
 
 pub put-back-count : (y : Layout) (n x : ℕ) → length (put_back y n x) ≤ n
 put-back-count y zero x = omega arith
-put-back-count y (suc n) x = used-count (uses y x) (Load Ld (register_of x) x2 (immediate_of (kept_offset x))) (put_back y n (x + 1)) n (put-back-count y n (x + 1))
+put-back-count y (suc n) x = used-count (uses y x) (Load Ld (register_of x) SP (immediate_of (kept_offset x))) (put_back y n (x + 1)) n (put-back-count y n (x + 1))
 
 even-target : (x link : ℕ) → x ≡ link → link % 2 ≡ 0 → link < 2 ^ 64 → low (x + 0) - low (x + 0) % 2 ≡ link
 unfolding low
@@ -55,14 +55,14 @@ gives-region program zero under rest m p eight small there =
     let same : under ≡ under + 0 = omega arith in
     placed-still program rest (under + 0) m p (eight ∙ same) there
 gives-region program (suc n) under rest m p eight small there =
-    let B : List Instr = constant x5 (suc n) in
-    let S : List Instr = RegisterRegister Add x8 x8 x5 ∷ [] in
+    let B : List Instr = constant T0 (suc n) in
+    let S : List Instr = RegisterRegister Add S0 S0 T0 ∷ [] in
     let all : Stands program m.pc (B ++ (S ++ rest)) = subst (λ z. Stands program m.pc z) (append_assoc B S rest) there in
-    let l : Loads 5 B m (suc n) = constant-loads x5 m (suc n) (λ z. omega (arith, z)) (λ z. omega (arith, z)) (omega (arith, small)) in
+    let l : Loads 5 B m (suc n) = constant-loads T0 m (suc n) (λ z. omega (arith, z)) (λ z. omega (arith, z)) (omega (arith, small)) in
     let t : State = l.after in
     let eight-t : t.registers 8 ≡ under = l.keeps 8 (λ z. omega (arith, z)) (λ z. omega (arith, z)) ∙ eight in
     let b : State = at_with t (low (t.pc + 4)) 8 (under + suc n) in
-    let to-b : act (RegisterRegister Add x8 x8 x5) t ≡ GoesOn b =
+    let to-b : act (RegisterRegister Add S0 S0 T0) t ≡ GoesOn b =
     ap (λ v. GoesOn (at_with t (low (t.pc + 4)) 8 (low (v + t.registers 5)))) eight-t
     ∙ (ap (λ v. GoesOn (at_with t (low (t.pc + 4)) 8 (low (under + v)))) l.gives
     ∙ ap (λ v. GoesOn (at_with t (low (t.pc + 4)) 8 v)) (low-small (under + suc n) (omega (arith, small)))) in
@@ -72,7 +72,7 @@ gives-region program (suc n) under rest m p eight small there =
       after = b;
       steps = length B + 1;
       way = way-both program (length B) 1 m t b (straight-way program B m t (stands-front program m.pc B (S ++ rest) all) l.straight l.goes)
-          (step-way program (RegisterRegister Add x8 x8 x5) t b behind.0 to-b);
+          (step-way program (RegisterRegister Add S0 S0 T0) t b behind.0 to-b);
       few = omega (arith, count);
       eight = written-there t.registers 8 (under + suc n) (λ z. omega (arith, z));
       keeps = λ r five six seven eight'. written-elsewhere t.registers 8 (under + suc n) r eight' ∙ l.keeps r five seven;
@@ -82,14 +82,14 @@ gives-region program (suc n) under rest m p eight small there =
       there = behind.1;
     }
 
--- The return address is in x1, where it is put back if the function makes calls.
+-- The return address is in RA, where it is put back if the function makes calls.
 loads-link : (calls : Bool) (base link : ℕ) (m : State) → m.pc < 2 ^ 64 → m.registers 2 ≡ 2 ^ 32 + base → base < 2 ^ 63 → base + 8 ≤ length m.private →
     length m.region ≤ 67108864 → (if calls then private_word m base else m.registers 1) ≡ link →
-    Loads 1 (if_used calls (Load Ld x1 x2 zero_immediate)) m link
+    Loads 1 (if_used calls (Load Ld RA SP zero_immediate)) m link
 loads-link true base link m p two small room region is =
-    loads-as 1 (private_word m base) link (Load Ld x1 x2 zero_immediate ∷ []) m is
-    (loads-one (Load Ld x1 x2 zero_immediate) m 1 (private_word m base) (λ z. omega (arith, z)) refl
-    (load-word m x1 x2 zero_immediate base (zero-sum (m.registers 2) base two small) region room))
+    loads-as 1 (private_word m base) link (Load Ld RA SP zero_immediate ∷ []) m is
+    (loads-one (Load Ld RA SP zero_immediate) m 1 (private_word m base) (λ z. omega (arith, z)) refl
+    (load-word m RA SP zero_immediate base (zero-sum (m.registers 2) base two small) region room))
 loads-link false base link m p two small room region is = record {
   after = m;
   goes = refl;
@@ -119,7 +119,7 @@ quits program y bytes base under frame link m p two-is eight-is small least with
     let A : List Instr = put_back y 10 18 in
     let B : List Instr = region_given frame in
     let C : List Instr = pointer_up bytes in
-    let F : List Instr = Jalr x0 x1 zero_immediate ∷ [] in
+    let F : List Instr = Jalr ZERO RA zero_immediate ∷ [] in
     let E : List Instr = C ++ F in
     let L : List Instr = link_put_back y in
     let lk : Loads 1 L m link = loads-link y.extent.calls base link m p two-is (omega arith) (omega arith) region link-is in
@@ -160,7 +160,7 @@ quits program y bytes base under frame link m p two-is eight-is small least with
     way-both program (length L + length A + l.steps) (length C) m t3 t6 way-3
     (straight-way program C t3 t6 (stands-front program t3.pc C F l.there) k.straight k.goes) in
     let way-7 : Way program (length L + length A + l.steps + length C + 1) m t7 =
-    way-both program (length L + length A + l.steps + length C) 1 m t6 t7 way-6 (step-way program (Jalr x0 x1 zero_immediate) t6 t7 after-6.0 refl) in
+    way-both program (length L + length A + l.steps + length C) 1 m t6 t7 way-6 (step-way program (Jalr ZERO RA zero_immediate) t6 t7 after-6.0 refl) in
     let other : (r : ℕ) → r ≢ 2 → r ≢ 5 → r ≢ 6 → r ≢ 7 → r ≢ 8 → t6.registers r ≡ t2.registers r =
     λ r two five six seven eight. k.keeps r two seven ∙ l.keeps r five six seven eight in
     record {

@@ -10,6 +10,7 @@ use Rattle.rv_isa.specs.declared.instr.Instr.TheVariants.{Branch, Lui, RegisterI
 use Rattle.rv_isa.specs.declared.operation.BranchCondition.TheVariants.{Eq, Geu, Ltu}
 use Rattle.rv_isa.specs.declared.operation.ImmediateOp.TheVariants.{Addi}
 use Rattle.rv_isa.specs.declared.operation.RegisterOp.TheVariants.{Sub}
+use Rattle.rv_isa.specs.Registers.{ZERO, TP, T2, A0, A1, A2, A7}
 use Rattle.terra_memory.specs.Numbers.{part}
 use Rattle.terra_memory.specs.Region.{Contents, end_address, first_address, is_inside, range_of}
 use Rattle.terra_words.specs.declared.words.FaultKind.TheVariants.{BadAddress}
@@ -18,11 +19,10 @@ use Rattle.rv_machine.specs.declared.memory.Place.TheVariants as places
 use Rattle.rv_machine.specs.Word.{low, difference}
 use Rattle.rv_machine.specs.Memory.{place_of}
 use Rattle.rv_machine.specs.Machine.{GoesOn, State, Writes, at_with, returned}
-use Rattle.rv_operators.specs.Codes.{x0}
 use Rattle.rv_operators.specs.Runs.{Stands}
 use Rattle.rv_select.specs.Numbers.{immediate_of, upper_of}
 use Rattle.rv_select.specs.Places.{Holds, Housed, IsRead, Layout, World, value_in}
-use Rattle.rv_select.specs.Shapes.{failed, offset_of, over, range_tested, range_written, taken, write_call, x4, x7, x10, x11, x12, x17}
+use Rattle.rv_select.specs.Shapes.{failed, offset_of, over, range_tested, range_written, taken, write_call}
 use Rattle.rv_select.specs.Steps.{AreFewer, Comes, Ends, IsPlace, behind}
 use Rattle.rv_select.proofs.Straight.{Loads, behind-both, low-below, written-elsewhere}
 use Rattle.rv_select.proofs.Ways.{Way, at_pc, near-pc, stands-back, stands-front, step-way, straight-way, way-both, way-none}
@@ -64,8 +64,8 @@ pc-call p n = omega arith
 module _ (program : List (Option Instr)) (t : State) (at : Place) (F : List Instr) (va vb end : ℕ) (first : t.registers 11 ≡ va) (second : t.registers 12 ≡ vb) (four : t.registers 4 ≡ end)
     (small : end < 2 ^ 62) (some : vb ≢ 0) (short : length F ≤ 11)
     (there : Stands program t.pc
-    (Branch Eq x12 x0 (over ((Lui x7 (upper_of 0x40000000) ∷ Branch Ltu x11 x7 (offset_of 16) ∷ Branch Ltu x4 x11 (offset_of 12) ∷ RegisterRegister Sub x7 x4 x11 ∷ Branch Geu x7 x12 (over F) ∷ F) ++ write_call))
-    ∷ ((Lui x7 (upper_of 0x40000000) ∷ Branch Ltu x11 x7 (offset_of 16) ∷ Branch Ltu x4 x11 (offset_of 12) ∷ RegisterRegister Sub x7 x4 x11 ∷ Branch Geu x7 x12 (over F) ∷ F) ++ write_call))) where
+    (Branch Eq A2 ZERO (over ((Lui T2 (upper_of 0x40000000) ∷ Branch Ltu A1 T2 (offset_of 16) ∷ Branch Ltu TP A1 (offset_of 12) ∷ RegisterRegister Sub T2 TP A1 ∷ Branch Geu T2 A2 (over F) ∷ F) ++ write_call))
+    ∷ ((Lui T2 (upper_of 0x40000000) ∷ Branch Ltu A1 T2 (offset_of 16) ∷ Branch Ltu TP A1 (offset_of 12) ∷ RegisterRegister Sub T2 TP A1 ∷ Branch Geu T2 A2 (over F) ∷ F) ++ write_call))) where
   abbrev s1 : State
   s1 = at_pc t (low (t.pc + 4))
 
@@ -103,34 +103,34 @@ module _ (program : List (Option Instr)) (t : State) (at : Place) (F : List Inst
   s8 = returned s7
 
   abbrev code : List Instr
-  code = (Lui x7 (upper_of 0x40000000) ∷ Branch Ltu x11 x7 (offset_of 16) ∷ Branch Ltu x4 x11 (offset_of 12) ∷ RegisterRegister Sub x7 x4 x11 ∷ Branch Geu x7 x12 (over F) ∷ F) ++ write_call
+  code = (Lui T2 (upper_of 0x40000000) ∷ Branch Ltu A1 T2 (offset_of 16) ∷ Branch Ltu TP A1 (offset_of 12) ∷ RegisterRegister Sub T2 TP A1 ∷ Branch Geu T2 A2 (over F) ∷ F) ++ write_call
 
   count : length code ≡ suc (suc (suc (suc (suc (length F + 3)))))
   count = ap (λ n. suc (suc (suc (suc (suc n))))) (length-append F write_call)
 
   to-1 : Way program 1 t s1
-  to-1 = branch-way program Eq x12 x0 (4 * (length code + 1)) t false (omega (arith, count)) (omega arith) there.0 (ap (λ x. nat_eq x 0) second ∙ ne_eqb vb 0 some)
+  to-1 = branch-way program Eq A2 ZERO (4 * (length code + 1)) t false (omega (arith, count)) (omega arith) there.0 (ap (λ x. nat_eq x 0) second ∙ ne_eqb vb 0 some)
 
   to-2 : Way program 2 t s2
-  to-2 = way-both program 1 1 t s1 s2 to-1 (step-way program (Lui x7 (upper_of 0x40000000)) s1 s2 there.1.0 refl)
+  to-2 = way-both program 1 1 t s1 s2 to-1 (step-way program (Lui T2 (upper_of 0x40000000)) s1 s2 there.1.0 refl)
 
   to-low : va < 2 ^ 30 → Way program 3 t low_fails
-  to-low h = way-both program 2 1 t s2 low_fails to-2 (branch-way program Ltu x11 x7 16 s2 true (omega arith) (omega arith) there.1.1.0 (ap (λ x. nat_lt x (2 ^ 30)) first ∙ lt-ltb va (2 ^ 30) h))
+  to-low h = way-both program 2 1 t s2 low_fails to-2 (branch-way program Ltu A1 T2 16 s2 true (omega arith) (omega arith) there.1.1.0 (ap (λ x. nat_lt x (2 ^ 30)) first ∙ lt-ltb va (2 ^ 30) h))
 
   to-3 : 2 ^ 30 ≤ va → Way program 3 t s3
-  to-3 h = way-both program 2 1 t s2 s3 to-2 (branch-way program Ltu x11 x7 16 s2 false (omega arith) (omega arith) there.1.1.0 (ap (λ x. nat_lt x (2 ^ 30)) first ∙ le-ltb va (2 ^ 30) h))
+  to-3 h = way-both program 2 1 t s2 s3 to-2 (branch-way program Ltu A1 T2 16 s2 false (omega arith) (omega arith) there.1.1.0 (ap (λ x. nat_lt x (2 ^ 30)) first ∙ le-ltb va (2 ^ 30) h))
 
   to-far : 2 ^ 30 ≤ va → end < va → Way program 4 t far_fails
   to-far h k =
       way-both program 3 1 t s3 far_fails (to-3 h)
-      (branch-way program Ltu x4 x11 12 s3 true (omega arith) (omega arith) there.1.1.1.0 (ap (λ x. nat_lt x (t.registers 11)) four ∙ (ap (λ x. nat_lt end x) first ∙ lt-ltb end va k)))
+      (branch-way program Ltu TP A1 12 s3 true (omega arith) (omega arith) there.1.1.1.0 (ap (λ x. nat_lt x (t.registers 11)) four ∙ (ap (λ x. nat_lt end x) first ∙ lt-ltb end va k)))
 
   to-5 : 2 ^ 30 ≤ va → va ≤ end → Way program 5 t s5
   to-5 h k =
       way-both program 4 1 t s4 s5
       (way-both program 3 1 t s3 s4 (to-3 h)
-      (branch-way program Ltu x4 x11 12 s3 false (omega arith) (omega arith) there.1.1.1.0 (ap (λ x. nat_lt x (t.registers 11)) four ∙ (ap (λ x. nat_lt end x) first ∙ le-ltb end va k))))
-      (step-way program (RegisterRegister Sub x7 x4 x11) s4 s5 there.1.1.1.1.0
+      (branch-way program Ltu TP A1 12 s3 false (omega arith) (omega arith) there.1.1.1.0 (ap (λ x. nat_lt x (t.registers 11)) four ∙ (ap (λ x. nat_lt end x) first ∙ le-ltb end va k))))
+      (step-way program (RegisterRegister Sub T2 TP A1) s4 s5 there.1.1.1.1.0
       (ap (λ x. GoesOn (at_with s4 (low (s4.pc + 4)) 7 (difference x (t.registers 11)))) four ∙ ap (λ x. GoesOn (at_with s4 (low (s4.pc + 4)) 7 (difference end x))) first))
 
   room-is : va ≤ end → difference end va ≡ end - va
@@ -139,13 +139,13 @@ module _ (program : List (Option Instr)) (t : State) (at : Place) (F : List Inst
   to-past : 2 ^ 30 ≤ va → va + vb ≤ end → Way program 6 t past
   to-past h k =
       way-both program 5 1 t s5 past (to-5 h (omega arith))
-      (branch-way program Geu x7 x12 (4 * (length F + 1)) s5 true (omega arith) (omega arith) there.1.1.1.1.1.0
+      (branch-way program Geu T2 A2 (4 * (length F + 1)) s5 true (omega arith) (omega arith) there.1.1.1.1.1.0
       (ap (λ x. not (nat_lt x (t.registers 12))) (room-is (omega arith)) ∙ (ap (λ x. not (nat_lt (end - va) x)) second ∙ ap not (le-ltb (end - va) vb (omega arith)))))
 
   to-high : 2 ^ 30 ≤ va → va ≤ end → end < va + vb → Way program 6 t high_fails
   to-high h k l =
       way-both program 5 1 t s5 high_fails (to-5 h k)
-      (branch-way program Geu x7 x12 (4 * (length F + 1)) s5 false (omega arith) (omega arith) there.1.1.1.1.1.0
+      (branch-way program Geu T2 A2 (4 * (length F + 1)) s5 false (omega arith) (omega arith) there.1.1.1.1.1.0
       (ap (λ x. not (nat_lt x (t.registers 12))) (room-is k) ∙ (ap (λ x. not (nat_lt (end - va) x)) second ∙ ap not (lt-ltb (end - va) vb (omega arith)))))
 
   fault-there : Stands program (low (s5.pc + 4)) F
@@ -181,8 +181,8 @@ module _ (program : List (Option Instr)) (t : State) (at : Place) (F : List Inst
     s8,
     wrote program 8 0 (part bytes (va - 2 ^ 30) vb) t s7 s8 s8
         (way-both program 7 1 t s6 s7
-        (way-both program 6 1 t past s6 (to-past h k) (step-way program (RegisterImmediate Addi x10 x0 (immediate_of 1)) past s6 call-there.0 (small-load x10 1 past (λ q. omega (arith, q)) (omega arith))))
-        (step-way program (RegisterImmediate Addi x17 x0 (immediate_of 64)) s6 s7 call-there.1.0 (small-load x17 64 s6 (λ q. omega (arith, q)) (omega arith))))
+        (way-both program 6 1 t past s6 (to-past h k) (step-way program (RegisterImmediate Addi A0 ZERO (immediate_of 1)) past s6 call-there.0 (small-load A0 1 past (λ q. omega (arith, q)) (omega arith))))
+        (step-way program (RegisterImmediate Addi A7 ZERO (immediate_of 64)) s6 s7 call-there.1.0 (small-load A7 64 s6 (λ q. omega (arith, q)) (omega arith))))
         call-there.1.1.0
         (write-act s7 (places.Region (va - 2 ^ 30)) vb refl refl second some
         (ap (λ x. place_of (length t.region) (length t.private) x vb) first
@@ -217,7 +217,7 @@ range-some r a (suc n) h = refl
 
 -- the tail of the code
 abbrev tail : Place → List Instr
-tail at = Branch Eq x12 x0 (over (range_tested at ++ write_call)) ∷ (range_tested at ++ write_call)
+tail at = Branch Eq A2 ZERO (over (range_tested at ++ write_call)) ∷ (range_tested at ++ write_call)
 
 tail-count : (at : Place) → length (tail at) ≡ suc (suc (suc (suc (suc (suc (length (failed BadAddress at) + 3))))))
 tail-count at = ap (λ n. suc (suc (suc (suc (suc (suc n)))))) (length-append (failed BadAddress at) write_call)
@@ -246,7 +246,7 @@ range-ends y Used Next w base va vb at A program m t p h f place first calm to s
           calm-comes y Used Next w base (length A + 1) (length (A ++ tail at)) (behind m (A ++ tail at)) [] program m z p h f
           (way-wrote program (length A + 1) m z
           (way-both program (length A) 1 m t z first
-          (branch-way program Eq x12 x0 (4 * (n + 1)) t true (omega (arith, count)) (omega arith) there.0 (ap (λ x. nat_eq x 0) twelve ∙ eq-eqb vb 0 none))))
+          (branch-way program Eq A2 ZERO (4 * (n + 1)) t true (omega (arith, count)) (omega arith) there.0 (ap (λ x. nat_eq x 0) twelve ∙ eq-eqb vb 0 none))))
           (calm-both m t z calm (near-calm t z (near-pc t (low (t.pc + 4 * (n + 1)))))) (low-below (t.pc + 4 * (n + 1))) (omega arith) (omega (arith, whole))
           (over-pc t.pc n ∙ behind-both A (tail at) m.pc t.pc (low (t.pc + 4 * suc n)) to refl);
       inside = λ many i j.
@@ -265,15 +265,15 @@ pub ranges : (y : Layout) (at : Place) (a b : Operand) (Used Next : ℕ → Type
     Stands program m.pc (range_written y at a b) → IsPlace at → IsRead y Used a → IsRead y Used b → Holds y Used w base m → Housed y Used → AreFewer Used Next →
     RangeWritten y program Next w base (length (range_written y at a b)) (value_in w.temps a) (value_in w.temps b) (behind m (range_written y at a b)) at m
 ranges y at a b Used Next w base program m stands place ra rb p h f =
-    let A : List Instr = taken y x11 a in
-    let B : List Instr = taken y x12 b in
+    let A : List Instr = taken y A1 a in
+    let B : List Instr = taken y A2 b in
     let va : ℕ = value_in w.temps a in
     let vb : ℕ = value_in w.temps b in
-    let l : Loads 11 A m va = take-operand y x11 Used w base m a (λ e. omega (arith, e)) (λ e. omega (arith, e)) p h ra in
+    let l : Loads 11 A m va = take-operand y A1 Used w base m a (λ e. omega (arith, e)) (λ e. omega (arith, e)) p h ra in
     let pc-l : l.after.pc < 2 ^ 64 = subst (λ q. q < 2 ^ 64) (sym l.behind) (low-below (m.pc + 4 * length A)) in
     let calm-l : Calm m l.after = calm-loads 11 m l.after refl l.keeps l.region l.private in
     let q : Holds y Used w base l.after = calm-holds y Used w base m l.after p h calm-l pc-l in
-    let k : Loads 12 B l.after vb = take-operand y x12 Used w base l.after b (λ e. omega (arith, e)) (λ e. omega (arith, e)) q h rb in
+    let k : Loads 12 B l.after vb = take-operand y A2 Used w base l.after b (λ e. omega (arith, e)) (λ e. omega (arith, e)) q h rb in
     let pc-k : k.after.pc < 2 ^ 64 = subst (λ q. q < 2 ^ 64) (sym k.behind) (low-below (l.after.pc + 4 * length B)) in
     let calm-k : Calm l.after k.after = calm-loads 12 l.after k.after refl k.keeps k.region k.private in
     let rest : Stands program l.after.pc (B ++ tail at) = subst (λ z. Stands program z (B ++ tail at)) (sym l.behind) (stands-back program m.pc A (B ++ tail at) p.pc stands) in

@@ -8,6 +8,7 @@ use Rattle.std.proofs.lemmas.List.{append-nil, length-append}
 use Rattle.rv_isa.specs.declared.instr.Instr.{Instr}
 use Rattle.rv_isa.specs.declared.instr.Instr.TheVariants.{Load}
 use Rattle.rv_isa.specs.declared.operation.LoadOp.TheVariants.{Ld}
+use Rattle.rv_isa.specs.Registers.{T0}
 use Rattle.terra_memory.specs.Numbers.{number_of}
 use Rattle.terra_memory.specs.Region.{Contents}
 use Rattle.terra_words.specs.Runs.{Value, word, bytes}
@@ -19,7 +20,6 @@ use Rattle.tac_form.specs.Fits.{Fits, area_fits, block_fits, destination_fits, g
 use Rattle.rv_machine.specs.Word.{low}
 use Rattle.rv_machine.specs.Memory.{place_of}
 use Rattle.rv_machine.specs.Machine.{State, GoesOn, at_with, loads, loads_from}
-use Rattle.rv_operators.specs.Codes.{x5}
 use Rattle.rv_operators.specs.Runs.{Stands}
 use Rattle.rv_select.specs.declared.pairs.Reads.{Reads}
 use Rattle.rv_select.specs.Asked.{asked_homes, first_word}
@@ -53,14 +53,14 @@ use Rattle.rv_select.proofs.Ways.{Way, near-same, scratch-near, stands-back, sta
 
 -- a word of private memory at an offset of the frame
 pub word-loads : (base offset : ℕ) (m : State) → m.pc < 2 ^ 64 → m.registers 2 ≡ 2 ^ 32 + base → base + offset + 8 ≤ length m.private → length m.private ≤ 603979776 → length m.region ≤ 67108864 →
-    Loads 5 (framed (λ r far. Load Ld x5 r far) offset) m (private_word m (base + offset))
+    Loads 5 (framed (λ r far. Load Ld T0 r far) offset) m (private_word m (base + offset))
 word-loads base offset m p two room most g =
-    framed-loads (λ r far. Load Ld x5 r far) 5 (private_word m (base + offset)) offset m (λ z. omega (arith, z)) p (omega (arith, room, most)) (λ r far. refl)
+    framed-loads (λ r far. Load Ld T0 r far) 5 (private_word m (base + offset)) offset m (λ z. omega (arith, z)) p (omega (arith, room, most)) (λ r far. refl)
     (λ r far s a e q.
-    ap (λ x. loads s Ld x5 x) (a ∙ frame-sum (m.registers 2) base offset (length m.private) two room most)
-    ∙ (ap (λ x. loads_from s Ld x5 (place_of (length x) (length s.private) (2 ^ 32 + (base + offset)) 8)) e
-    ∙ (ap (λ x. loads_from s Ld x5 (place_of (length m.region) (length x) (2 ^ 32 + (base + offset)) 8)) q
-    ∙ (ap (λ x. loads_from s Ld x5 x) (private-place (length m.region) (length m.private) (base + offset) g room)
+    ap (λ x. loads s Ld T0 x) (a ∙ frame-sum (m.registers 2) base offset (length m.private) two room most)
+    ∙ (ap (λ x. loads_from s Ld T0 (place_of (length x) (length s.private) (2 ^ 32 + (base + offset)) 8)) e
+    ∙ (ap (λ x. loads_from s Ld T0 (place_of (length m.region) (length x) (2 ^ 32 + (base + offset)) 8)) q
+    ∙ (ap (λ x. loads_from s Ld T0 x) (private-place (length m.region) (length m.private) (base + offset) g room)
     ∙ ap (λ x. GoesOn (at_with s (low (s.pc + 4)) 5 (number_of (take 8 (drop (base + offset) x))))) q))))
 
 -- what a word points to is the same, above a frame that has other words
@@ -198,7 +198,7 @@ area-taken : (program : List (Option Instr)) (y : Layout) (sizes : List ℕ) (Us
     Comes y program Used (with_area w n bs) base
     (length (received_one y sizes last (Area n) at)) (low (m.pc + 4 * length (received_one y sizes last (Area n) at))) [] m
 area-taken program y sizes Used w base last at n bs m there p h area small count lies within room =
-    let A : List Instr = framed (λ r far. Load Ld x5 r far) at in
+    let A : List Instr = framed (λ r far. Load Ld T0 r far) at in
     let B : List Instr = to_area y n 0 (size_in sizes n) in
     let l : Loads 5 A m (private_word m (base + at)) =
     word-loads base at m p.pc p.frame.pointer room p.frame.private (region-small y Used w base m p) in
@@ -277,7 +277,7 @@ receives program y code U Used Fin base last first depth region (Temp d ∷ ds) 
 receives program y code U Used Fin base last first depth region (Temp d ∷ ds) (word x ∷ vs) a rest m there p h sub in-r own begin goes fin whole small are accepts words within room =
     ⊎_elim
     (λ r.
-    let A : List Instr = framed (λ r far. Load Ld x5 r far) at in
+    let A : List Instr = framed (λ r far. Load Ld T0 r far) at in
     let B : List Instr = put_at y d in
     let one-is : received_one y code.areas last (Temp d) at ≡ A ++ B = ap (λ b. if b then A ++ B else []) r in
     let Next : ℕ → Type 0 = λ t. (t ≡ d) ⊎ Used t in
@@ -290,7 +290,7 @@ receives program y code U Used Fin base last first depth region (Temp d ∷ ds) 
     let one : Comes y program Next (with_temp w d x) base (length (A ++ B)) (low (m.pc + 4 * length (A ++ B))) [] m =
     (straight-put y Used Next w base d x (length (A ++ B)) A program m l.after p (housed-fewer y U Used sub h) (housed-fewer y U Next in-u h) (inl refl) (λ t u. u)
     (loads-five A m (private_word m (base + at)) l) (l.gives ∙ words.0.0) words.0.1 (at-most (length (A ++ B)))
-    (inl (framed-some (λ r far. Load Ld x5 r far) at)) (stands-front program m.pc (A ++ B) (C ++ rest) all)).comes in
+    (inl (framed-some (λ r far. Load Ld T0 r far) at)) (stands-front program m.pc (A ++ B) (C ++ rest) all)).comes in
     let t : State = one.after in
     let after-t : Stands program t.pc (C ++ rest) = subst (λ q. Stands program q (C ++ rest)) (sym one.at) (stands-back program m.pc (A ++ B) (C ++ rest) p.pc all) in
     let more : GotAll program y Fin (seen (takes_all ds vs b) region depth) base C rest t =
@@ -309,7 +309,7 @@ receives program y code U Used Fin base last first depth region (Temp d ∷ ds) 
     } in
     subst (λ z. GotAll program y Fin (seen (takes_all ds vs b) region depth) base (z ++ C) rest m) (sym one-is) got)
     (λ out.
-    let A : List Instr = framed (λ r far. Load Ld x5 r far) at ++ put_at y d in
+    let A : List Instr = framed (λ r far. Load Ld T0 r far) at ++ put_at y d in
     let one-is : received_one y code.areas last (Temp d) at ≡ [] = ap (λ b. if b then A else []) out in
     let all : Stands program m.pc (C ++ rest) = subst (λ z. Stands program m.pc ((z ++ C) ++ rest)) one-is there in
     let q : Holds y Used (with_temp w d x) base m =

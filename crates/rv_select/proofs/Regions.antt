@@ -11,6 +11,7 @@ use Rattle.rv_isa.specs.declared.operation.ImmediateOp.TheVariants.{Addi}
 use Rattle.rv_isa.specs.declared.operation.BranchCondition.TheVariants.{Geu, Ltu}
 use Rattle.rv_machine.specs.declared.memory.Place.TheVariants.{Region}
 use Rattle.rv_isa.specs.declared.operand.Register.{Register}
+use Rattle.rv_isa.specs.Registers.{TP, T0, T1}
 use Rattle.rv_machine.specs.Word.{low}
 use Rattle.rv_machine.specs.Memory.{load_value, load_width, offset_in, place_in, place_of}
 use Rattle.rv_machine.specs.Machine.{State, GoesOn, act, at_with, loads, loads_from, value_at}
@@ -21,13 +22,13 @@ use Rattle.terra_words.specs.Words.{wrapped}
 use Rattle.tac_form.specs.declared.tac.Number.{Number}
 use Rattle.tac_form.specs.declared.tac.Address.TheVariants.{Word, Frame}
 use Rattle.tac_form.specs.Flow.{bytes_of, width_of}
-use Rattle.rv_operators.specs.Codes.{x5, x6, zero_immediate}
+use Rattle.rv_operators.specs.Codes.{zero_immediate}
 use Rattle.rv_operators.specs.Runs.{Stands}
 use Rattle.rv_operators.proofs.Sequences.{read-elsewhere}
 use Rattle.rv_select.specs.Places.{AreBytes, World, Holds, Housed, Layout, value_in}
 use Rattle.rv_select.specs.Numbers.{below_zero}
 use Rattle.rv_select.specs.Shapes as shapes
-use Rattle.rv_select.specs.Shapes.{bounds_tested, failed, first_read, load_of, located, offset_of, over, put_behind, read_in, result_in, x4}
+use Rattle.rv_select.specs.Shapes.{bounds_tested, failed, first_read, load_of, located, offset_of, over, put_behind, read_in, result_in}
 use Rattle.rv_select.specs.Steps.{Ends, Follows, IsPlace, behind, with_temp}
 use Rattle.rv_select.proofs.Straight.{Loads, behind-both, loads-five, loads-one, low-below, low-small, written-elsewhere}
 use Rattle.rv_select.proofs.Numbers.{below-is}
@@ -71,7 +72,7 @@ pc-all p n = omega arith
 -- The states of the test, with the code behind it.
 module _ (program : List (Option Instr)) (m : State) (at : Place) (F : List Instr) (a : Register) (apart : (a.number ≢ 6) × (a.number ≢ 7)) (v end size : ℕ) (here : value_at m a ≡ v) (four : m.registers 4 ≡ end)
     (small : end < 2 ^ 64) (some : 1 ≤ size) (few : size ≤ 128) (room : size ≤ end) (short : length F ≤ 11)
-    (there : Stands program m.pc (shapes.first_address ∷ Branch Ltu a x6 (offset_of 12) ∷ RegisterImmediate Addi x6 x4 (below_zero (size - 1)) ∷ Branch Geu x6 a (over F) ∷ F)) where
+    (there : Stands program m.pc (shapes.first_address ∷ Branch Ltu a T1 (offset_of 12) ∷ RegisterImmediate Addi T1 TP (below_zero (size - 1)) ∷ Branch Geu T1 a (over F) ∷ F)) where
   abbrev one : State
   one = at_with m (low (m.pc + 4)) 6 (2 ^ 30)
 
@@ -102,17 +103,17 @@ module _ (program : List (Option Instr)) (m : State) (at : Place) (F : List Inst
   to-low : v < 2 ^ 30 → Way program 2 m low_fails
   to-low h =
       way-both program 1 1 m one low_fails to-one
-      (branch-way program Ltu a x6 12 one true (omega arith) (omega arith) there.1.0 (ap (λ x. nat_lt x (2 ^ 30)) here-one ∙ lt-ltb v (2 ^ 30) h))
+      (branch-way program Ltu a T1 12 one true (omega arith) (omega arith) there.1.0 (ap (λ x. nat_lt x (2 ^ 30)) here-one ∙ lt-ltb v (2 ^ 30) h))
 
   to-two : 2 ^ 30 ≤ v → Way program 2 m two
   to-two h =
       way-both program 1 1 m one two to-one
-      (branch-way program Ltu a x6 12 one false (omega arith) (omega arith) there.1.0 (ap (λ x. nat_lt x (2 ^ 30)) here-one ∙ le-ltb v (2 ^ 30) h))
+      (branch-way program Ltu a T1 12 one false (omega arith) (omega arith) there.1.0 (ap (λ x. nat_lt x (2 ^ 30)) here-one ∙ le-ltb v (2 ^ 30) h))
 
   to-three : 2 ^ 30 ≤ v → Way program 3 m three
   to-three h =
       way-both program 2 1 m two three (to-two h)
-      (step-way program (RegisterImmediate Addi x6 x4 (below_zero (size - 1))) two three there.1.1.0
+      (step-way program (RegisterImmediate Addi T1 TP (below_zero (size - 1))) two three there.1.1.0
       (ap (λ x. GoesOn (at_with two (low (two.pc + 4)) 6 (low (m.registers 4 + x)))) (below-is (size - 1) (omega arith))
       ∙ (ap (λ x. GoesOn (at_with two (low (two.pc + 4)) 6 (low (x + (2 ^ 64 - suc (size - 1)))))) four
       ∙ ap (λ x. GoesOn (at_with two (low (two.pc + 4)) 6 x)) (less-size end size some room small))))
@@ -120,13 +121,13 @@ module _ (program : List (Option Instr)) (m : State) (at : Place) (F : List Inst
   to-past : 2 ^ 30 ≤ v → v + size ≤ end → Way program 4 m past
   to-past h k =
       way-both program 3 1 m three past (to-three h)
-      (branch-way program Geu x6 a (4 * (length F + 1)) three true (omega arith) (omega arith) there.1.1.1.0
+      (branch-way program Geu T1 a (4 * (length F + 1)) three true (omega arith) (omega arith) there.1.1.1.0
       (ap (λ x. not (nat_lt (end - size) x)) here-three ∙ ap not (le-ltb (end - size) v (omega arith))))
 
   to-high : 2 ^ 30 ≤ v → end < v + size → Way program 4 m high_fails
   to-high h k =
       way-both program 3 1 m three high_fails (to-three h)
-      (branch-way program Geu x6 a (4 * (length F + 1)) three false (omega arith) (omega arith) there.1.1.1.0
+      (branch-way program Geu T1 a (4 * (length F + 1)) three false (omega arith) (omega arith) there.1.1.1.0
       (ap (λ x. not (nat_lt (end - size) x)) here-three ∙ ap not (lt-ltb (end - size) v (omega arith))))
 
   past-near : Near m past
@@ -136,7 +137,7 @@ module _ (program : List (Option Instr)) (m : State) (at : Place) (F : List Inst
       (near-pc three (low (three.pc + 4 * (length F + 1))))
 
   passes : 2 ^ 30 ≤ v → v + size ≤ end →
-      Reached program a (shapes.first_address ∷ Branch Ltu a x6 (offset_of 12) ∷ RegisterImmediate Addi x6 x4 (below_zero (size - 1)) ∷ Branch Geu x6 a (over F) ∷ F) m v
+      Reached program a (shapes.first_address ∷ Branch Ltu a T1 (offset_of 12) ∷ RegisterImmediate Addi T1 TP (below_zero (size - 1)) ∷ Branch Geu T1 a (over F) ∷ F) m v
   passes h k = record {
     steps = 4;
     after = past;
@@ -213,7 +214,7 @@ module _ (y : Layout) (Used : ℕ → Type 0) (w : World) (base : ℕ) (program 
 
 -- an address of the frame
 pub frame-reached : (y : Layout) (Used : ℕ → Type 0) (w : World) (base : ℕ) (program : List (Option Instr)) (m : State) (offset : ℕ) → Holds y Used w base m → w.placed + offset < 2 ^ 64 →
-    Stands program m.pc (located offset) → Reached program x5 (located offset) m (w.placed + offset)
+    Stands program m.pc (located offset) → Reached program T0 (located offset) m (w.placed + offset)
 frame-reached y Used w base program m offset p small there =
     let l : Loads 5 (located offset) m (w.placed + offset) = located-loads m w.placed offset p.placed small in
     record {
@@ -350,7 +351,7 @@ low-enough y Used w base offset m p = let h : first_address ≤ w.placed = omega
 pub region-loads : RegionLoadsAreCarried
 region-loads y held d form at (Word a) Used Next w base program m there five place r p h h' u follows =
     let A : List Instr = first_read y held a in
-    let q : Register = read_in y x5 a in
+    let q : Register = read_in y T0 a in
     let code : List Instr = A ++ bounds_tested q at (bytes_of form.size) in
     let rest : List Instr = Load (load_of form.signed form.size) (result_in y d) q zero_immediate ∷ put_behind y d in
     let v : ℕ = value_in w.temps a in
@@ -368,13 +369,13 @@ region-loads y held d form at (Word a) Used Next w base program m there five pla
     (word-outside y Used w base program m at A q v (bytes_of form.size) l p some (omega arith) front place o))
 region-loads y held d form at (Frame offset) Used Next w base program m there five place r p h h' u follows =
     let code : List Instr = located offset in
-    let rest : List Instr = Load (load_of form.signed form.size) (result_in y d) x5 zero_immediate ∷ put_behind y d in
+    let rest : List Instr = Load (load_of form.signed form.size) (result_in y d) T0 zero_immediate ∷ put_behind y d in
     let a : ℕ = w.placed + offset in
     let e = end-small y Used w base m p in
     let small : a < 2 ^ 64 = omega (arith, r, e.0) in
     load-cases y d form at Next w base (length (code ++ rest)) (behind m (code ++ rest)) a program m
     (λ i.
-    load-ends y d form Used Next w base a x5 code program m
+    load-ends y d form Used Next w base a T0 code program m
     (frame-reached y Used w base program m offset p small (stands-front program m.pc code rest there))
     p h h' u follows small i.0 i.1 (wrapped-small (width_of form) _ (wide-size form.size)) there)
     (λ o.

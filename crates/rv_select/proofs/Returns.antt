@@ -6,6 +6,7 @@ use Rattle.std.proofs.lemmas.List.{length-append}
 use Rattle.rv_isa.specs.declared.instr.Instr.{Instr}
 use Rattle.rv_isa.specs.declared.instr.Instr.TheVariants.{RegisterImmediate}
 use Rattle.rv_isa.specs.declared.operation.ImmediateOp.TheVariants.{Addi}
+use Rattle.rv_isa.specs.Registers.{T0, A0, T3}
 use Rattle.tac_form.specs.declared.tac.Part.{Part}
 use Rattle.tac_form.specs.declared.tac.Destination.{Destination}
 use Rattle.tac_form.specs.Flow.{Caller, Program}
@@ -15,13 +16,12 @@ use Rattle.terra_memory.specs.Numbers.{number_of}
 use Rattle.terra_memory.specs.Region.{IsLawful, end_address, heap_limit}
 use Rattle.rv_machine.specs.Word.{low}
 use Rattle.rv_machine.specs.Machine.{State, GoesOn, act, at_with}
-use Rattle.rv_operators.specs.Codes.{x5}
 use Rattle.rv_operators.specs.Runs.{Stands}
 use Rattle.rv_select.specs.Numbers.{below_zero}
 use Rattle.rv_select.specs.Places.{AreBytes, Holds, Housed, IsHeld, Layout, World, area_offset, frame_bytes, home_of, layout_of, link_in}
 use Rattle.rv_select.specs.Places.{private_word, uses}
-use Rattle.rv_select.specs.Shapes.{moved, x10}
-use Rattle.rv_select.specs.Entering.{kept_offset, left, x28}
+use Rattle.rv_select.specs.Shapes.{moved}
+use Rattle.rv_select.specs.Entering.{kept_offset, left}
 use Rattle.rv_select.specs.declared.settings.Setting.{Setting}
 use Rattle.rv_select.specs.Calls.{jump_unless_last, part_given, returned}
 use Rattle.rv_select.specs.Waiting.{Image, IsLinked, Waiting, restored}
@@ -35,7 +35,7 @@ use Rattle.rv_select.proofs.Straight.{Loads, low-small, written-elsewhere, writt
 use Rattle.rv_select.proofs.Waits.{SameAbove, link-same, same-home}
 use Rattle.rv_select.proofs.Ways.{Way, near-same, stands-back, stands-front, step-way, straight-way, way-both, way-none}
 
--- The result is in x10, and the machine goes on where the return address says, with the caller's frames and registers.
+-- The result is in A0, and the machine goes on where the return address says, with the caller's frames and registers.
 pub record BackIn (program : List (Option Instr)) (y : Layout) (bytes base over link v most : ℕ) (m : State) : Type 0 where
   pub after : State
   pub steps : ℕ
@@ -175,7 +175,7 @@ pc-eight : (p : ℕ) → low (low (p + 4) + 4) ≡ low (p + 4 * 2)
 unfolding low
 pc-eight p = omega arith
 
--- The caller holds all but the result, which is in x5.
+-- The caller holds all but the result, which is in T0.
 pub record Resumes (program : List (Option Instr)) (y : Layout) (Used : ℕ → Type 0) (w : World) (base v : ℕ) (rest : List Instr)
     (m : State) : Type 0 where
   pub after : State
@@ -190,23 +190,23 @@ pub record Resumes (program : List (Option Instr)) (y : Layout) (Used : ℕ → 
 
 pub resumes : (program : List (Option Instr)) (y : Layout) (Used : ℕ → Type 0) (w : World) (base v : ℕ) (rest : List Instr) (m : State) →
     m.registers 10 ≡ v → v < 2 ^ 64 → m.registers 28 ≡ suc w.depth → w.depth < 2 ^ 63 →
-    Stands program m.pc (RegisterImmediate Addi x28 x28 (below_zero 0) ∷ moved x5 x10 ∷ rest) → Resumes program y Used w base v rest m
+    Stands program m.pc (RegisterImmediate Addi T3 T3 (below_zero 0) ∷ moved T0 A0 ∷ rest) → Resumes program y Used w base v rest m
 resumes program y Used w base v rest m ten small waiting shallow there =
     let t1 : State = at_with m (low (m.pc + 4)) 28 w.depth in
-    let to-1 : act (RegisterImmediate Addi x28 x28 (below_zero 0)) m ≡ GoesOn t1 =
+    let to-1 : act (RegisterImmediate Addi T3 T3 (below_zero 0)) m ≡ GoesOn t1 =
     ap (λ z. GoesOn (at_with m (low (m.pc + 4)) 28 (low (m.registers 28 + z)))) (below-is 0 (omega arith))
     ∙ (ap (λ z. GoesOn (at_with m (low (m.pc + 4)) 28 (low (z + (2 ^ 64 - 1))))) waiting ∙ ap
     (λ z. GoesOn (at_with m (low (m.pc + 4)) 28 z)) (decrement w.depth shallow)) in
     let t2 : State = at_with t1 (low (t1.pc + 4)) 5 v in
     let none : v + 0 ≡ v = omega arith in
-    let to-2 : act (moved x5 x10) t1 ≡ GoesOn t2 =
+    let to-2 : act (moved T0 A0) t1 ≡ GoesOn t2 =
     ap (λ z. GoesOn (at_with t1 (low (t1.pc + 4)) 5 (low (z + 0))))
     (written-elsewhere m.registers 28 w.depth 10 (λ z. omega (arith, z)) ∙ ten)
     ∙ ap (λ z. GoesOn (at_with t1 (low (t1.pc + 4)) 5 z)) (ap low none ∙ low-small v small) in
     record {
       after = t2;
-      way = way-both program 1 1 m t1 t2 (step-way program (RegisterImmediate Addi x28 x28 (below_zero 0)) m t1 there.0 to-1)
-          (step-way program (moved x5 x10) t1 t2 there.1.0 to-2);
+      way = way-both program 1 1 m t1 t2 (step-way program (RegisterImmediate Addi T3 T3 (below_zero 0)) m t1 there.0 to-1)
+          (step-way program (moved T0 A0) t1 t2 there.1.0 to-2);
       five = written-there t1.registers 5 v (λ z. omega (arith, z));
       pc = pc-eight m.pc;
       same = λ r five more. written-elsewhere t1.registers 5 v r five ∙ written-elsewhere m.registers 28 w.depth r more;

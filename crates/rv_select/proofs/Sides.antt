@@ -6,13 +6,13 @@ use Rattle.std.proofs.lemmas.Bool.{eqb-true}
 use Rattle.std.proofs.lemmas.List.{length-append}
 use Rattle.rv_isa.specs.declared.instr.Instr.{Instr}
 use Rattle.rv_isa.specs.declared.operand.Register.{Register}
+use Rattle.rv_isa.specs.Registers.{ZERO, T0, T1}
 use Rattle.reg_alloc.specs.declared.assignment.Home.{Home}
 use Rattle.reg_alloc.specs.declared.assignment.Home.TheVariants as homes
 use Rattle.rv_machine.specs.Machine.{State, value_at}
 use Rattle.tac_form.specs.declared.tac.Operand.{Operand}
 use Rattle.tac_form.specs.declared.tac.Operand.TheVariants.{Temp, Constant}
 use Rattle.tac_form.specs.Weights as weights
-use Rattle.rv_operators.specs.Codes.{x0, x5, x6}
 use Rattle.rv_operators.proofs.Sequences.{read-elsewhere}
 use Rattle.rv_select.specs.Numbers.{register_of}
 use Rattle.rv_select.specs.Places.{HasHome, Holds, Housed, IsFirst, IsHeld, IsHome, IsRead, Layout, World, home_of, in_register, is_given}
@@ -31,7 +31,7 @@ pub record Sides (code : List Instr) (m : State) (a b : Register) (x y : ℕ) : 
   pub first : value_at after a ≡ x
   pub second : value_at after b ≡ y
 
--- one of them, where x5 may get it, and one where only x6 and x7 change
+-- one of them, where T0 may get it, and one where only T1 and T2 change
 pub record FirstSide (code : List Instr) (m : State) (a : Register) (x : ℕ) : Type 0 where
   pub after : State
   pub scratch : Scratch code m after
@@ -65,7 +65,7 @@ home-read y Used w base m t d p h u e = either (slice_get y.homes t) refl e
 pub there-value : (y : Layout) (held : Option ℕ) (Used : ℕ → Type 0) (w : World) (base : ℕ) (m : State) (d : Register) (a : Operand) →
     Holds y Used w base m → Housed y Used → IsFirst y held Used a → is_there y a ≡ true → value_at m (read_in y d a) ≡ value_in w.temps a
 there-value y held Used w base m d (Temp t) p h r e = home-read y Used w base m t d p h r.0 e
-there-value y held Used w base m d (Constant c) p h r e = ap (λ b. value_at m (if b then x0 else d)) e ∙ sym (eqb-true c 0 e)
+there-value y held Used w base m d (Constant c) p h r e = ap (λ b. value_at m (if b then ZERO else d)) e ∙ sym (eqb-true c 0 e)
 
 register-other : (d : Register) (o : Option (Option Home)) → is_in_register o ≡ false → register_or d o ≡ d
 register-other d (Some (Some (homes.Register x))) e = cc
@@ -75,11 +75,11 @@ register-other d None e = refl
 
 pub read-other : (y : Layout) (d : Register) (a : Operand) → is_there y a ≡ false → read_in y d a ≡ d
 read-other y d (Temp t) e = register-other d (slice_get y.homes t) e
-read-other y d (Constant c) e = ap (λ b. if b then x0 else d) e
+read-other y d (Constant c) e = ap (λ b. if b then ZERO else d) e
 
--- where the first operand is read, neither x6 nor x7 is
+-- where the first operand is read, neither T1 nor T2 is
 register-apart : (y : Layout) (Used : ℕ → Type 0) (t : ℕ) → Housed y Used → Used t → (o : Option (Option Home)) → slice_get y.homes t ≡ o →
-    ((register_or x5 o).number ≢ 6) × ((register_or x5 o).number ≢ 7)
+    ((register_or T0 o).number ≢ 6) × ((register_or T0 o).number ≢ 7)
 register-apart y Used t h u (Some (Some (homes.Register x))) s =
     let i : IsHome y (homes.Register x) = subst (IsHome y) (ap or_first s) (h.homes t u (ap is_given s)) in
     let n : (register_of x).number ≡ x = register-is x (omega (arith, i.1)) in
@@ -89,15 +89,15 @@ register-apart y Used t h u (Some None) s = (λ z. omega (arith, z), λ z. omega
 register-apart y Used t h u None s = (λ z. omega (arith, z), λ z. omega (arith, z))
 
 pub first-apart : (y : Layout) (held : Option ℕ) (Used : ℕ → Type 0) (a : Operand) → Housed y Used → IsFirst y held Used a →
-    ((read_in y x5 a).number ≢ 6) × ((read_in y x5 a).number ≢ 7)
+    ((read_in y T0 a).number ≢ 6) × ((read_in y T0 a).number ≢ 7)
 first-apart y held Used (Temp t) h r = register-apart y Used t h r.0 (slice_get y.homes t) refl
 first-apart y held Used (Constant c) h r = either (nat_eq c 0)
   where
-    either : (b : Bool) → ((if b then x0 else x5).number ≢ 6) × ((if b then x0 else x5).number ≢ 7)
+    either : (b : Bool) → ((if b then ZERO else T0).number ≢ 6) × ((if b then ZERO else T0).number ≢ 7)
     either true = (λ z. omega (arith, z), λ z. omega (arith, z))
     either false = (λ z. omega (arith, z), λ z. omega (arith, z))
 
-pub first-loaded : (code : List Instr) (m : State) (v : ℕ) → Loads 5 code m v → FirstSide code m x5 v
+pub first-loaded : (code : List Instr) (m : State) (v : ℕ) → Loads 5 code m v → FirstSide code m T0 v
 first-loaded code m v l = record {
   after = l.after;
   scratch = loads-five code m v l;
@@ -106,14 +106,14 @@ first-loaded code m v l = record {
 }
 
 pub first-side : (y : Layout) (held : Option ℕ) (Used : ℕ → Type 0) (w : World) (base : ℕ) (m : State) (a : Operand) → IsHeld y held w.temps m →
-    Holds y Used w base m → Housed y Used → IsFirst y held Used a → FirstSide (first_read y held a) m (read_in y x5 a) (value_in w.temps a)
+    Holds y Used w base m → Housed y Used → IsFirst y held Used a → FirstSide (first_read y held a) m (read_in y T0 a) (value_in w.temps a)
 first-side y held Used w base m a f p h r = either (is_there y a) refl
   where
-    either : (b : Bool) → is_there y a ≡ b → FirstSide (if b then [] else first_taken y held a) m (read_in y x5 a) (value_in w.temps a)
+    either : (b : Bool) → is_there y a ≡ b → FirstSide (if b then [] else first_taken y held a) m (read_in y T0 a) (value_in w.temps a)
     either true e = record {
       after = m;
       scratch = scratch-none m p.pc;
-      gives = there-value y held Used w base m x5 a p h r e;
+      gives = there-value y held Used w base m T0 a p h r e;
       apart = first-apart y held Used a h r;
     }
     either false e =
@@ -121,7 +121,7 @@ first-side y held Used w base m a f p h r = either (is_there y a) refl
         record {
           after = l.after;
           scratch = loads-five (first_taken y held a) m (value_in w.temps a) l;
-          gives = ap (value_at l.after) (read-other y x5 a e) ∙ l.gives;
+          gives = ap (value_at l.after) (read-other y T0 a e) ∙ l.gives;
           apart = first-apart y held Used a h r;
         }
 
@@ -130,9 +130,9 @@ pub read-first : (y : Layout) (Used : ℕ → Type 0) (b : Operand) → IsRead y
 read-first y Used (Temp t) r = (r.0, inr r.1)
 read-first y Used (Constant c) r = r
 
--- where the second operand is read, x7 is not
+-- where the second operand is read, T2 is not
 register-other-than : (y : Layout) (Used : ℕ → Type 0) (t : ℕ) → Housed y Used → Used t → (o : Option (Option Home)) → slice_get y.homes t ≡ o →
-    (register_or x6 o).number ≢ 7
+    (register_or T1 o).number ≢ 7
 register-other-than y Used t h u (Some (Some (homes.Register x))) s =
     let i : IsHome y (homes.Register x) = subst (IsHome y) (ap or_first s) (h.homes t u (ap is_given s)) in
     let n : (register_of x).number ≡ x = register-is x (omega (arith, i.1)) in
@@ -141,55 +141,55 @@ register-other-than y Used t h u (Some (Some (homes.Slot k))) s = λ z. omega (a
 register-other-than y Used t h u (Some None) s = λ z. omega (arith, z)
 register-other-than y Used t h u None s = λ z. omega (arith, z)
 
-second-apart : (y : Layout) (Used : ℕ → Type 0) (b : Operand) → Housed y Used → IsRead y Used b → (read_in y x6 b).number ≢ 7
+second-apart : (y : Layout) (Used : ℕ → Type 0) (b : Operand) → Housed y Used → IsRead y Used b → (read_in y T1 b).number ≢ 7
 second-apart y Used (Temp t) h r = register-other-than y Used t h r.0 (slice_get y.homes t) refl
 second-apart y Used (Constant c) h r = either (nat_eq c 0)
   where
-    either : (k : Bool) → (if k then x0 else x6).number ≢ 7
+    either : (k : Bool) → (if k then ZERO else T1).number ≢ 7
     either true = λ z. omega (arith, z)
     either false = λ z. omega (arith, z)
 
 pub second-side : (y : Layout) (Used : ℕ → Type 0) (w : World) (base : ℕ) (m : State) (b : Operand) → Holds y Used w base m → Housed y Used →
-    IsRead y Used b → SecondSide (second_read y b) m (read_in y x6 b) (value_in w.temps b)
+    IsRead y Used b → SecondSide (second_read y b) m (read_in y T1 b) (value_in w.temps b)
 second-side y Used w base m b p h r = either (is_there y b) refl
   where
-    either : (c : Bool) → is_there y b ≡ c → SecondSide (if c then [] else taken y x6 b) m (read_in y x6 b) (value_in w.temps b)
+    either : (c : Bool) → is_there y b ≡ c → SecondSide (if c then [] else taken y T1 b) m (read_in y T1 b) (value_in w.temps b)
     either true e = record {
       after = m;
       scratch = scratch-none m p.pc;
-      gives = there-value y None Used w base m x6 b p h (read-first y Used b r) e;
+      gives = there-value y None Used w base m T1 b p h (read-first y Used b r) e;
       keeps = λ x six seven. refl;
       apart = second-apart y Used b h r;
     }
     either false e =
-        let l : Loads 6 (taken y x6 b) m (value_in w.temps b) =
-        take-operand y x6 Used w base m b (λ z. omega (arith, z)) (λ z. omega (arith, z)) p h r in
+        let l : Loads 6 (taken y T1 b) m (value_in w.temps b) =
+        take-operand y T1 Used w base m b (λ z. omega (arith, z)) (λ z. omega (arith, z)) p h r in
         record {
           after = l.after;
-          scratch = loads-six (taken y x6 b) m (value_in w.temps b) l;
-          gives = ap (value_at l.after) (read-other y x6 b e) ∙ l.gives;
+          scratch = loads-six (taken y T1 b) m (value_in w.temps b) l;
+          gives = ap (value_at l.after) (read-other y T1 b e) ∙ l.gives;
           keeps = l.keeps;
           apart = second-apart y Used b h r;
         }
 
 both-sides : (y : Layout) (held : Option ℕ) (Used : ℕ → Type 0) (w : World) (base : ℕ) (m : State) (a b : Operand) → IsHeld y held w.temps m →
     Holds y Used w base m → Housed y Used → IsFirst y held Used a → IsRead y Used b →
-    Sides (both_taken y held a b) m (read_in y x5 a) (read_in y x6 b) (value_in w.temps a) (value_in w.temps b)
+    Sides (both_taken y held a b) m (read_in y T0 a) (read_in y T1 b) (value_in w.temps a) (value_in w.temps b)
 both-sides y held Used w base m a b f p h ra rb =
     let A : List Instr = first_read y held a in
     let B : List Instr = second_read y b in
-    let l : FirstSide A m (read_in y x5 a) (value_in w.temps a) = first-side y held Used w base m a f p h ra in
+    let l : FirstSide A m (read_in y T0 a) (value_in w.temps a) = first-side y held Used w base m a f p h ra in
     let q : Holds y Used w base l.after = scratch-holds y Used w base A m l.after p h l.scratch in
-    let k : SecondSide B l.after (read_in y x6 b) (value_in w.temps b) = second-side y Used w base l.after b q h rb in
+    let k : SecondSide B l.after (read_in y T1 b) (value_in w.temps b) = second-side y Used w base l.after b q h rb in
     record {
       after = k.after;
       scratch = scratch-both A B m l.after k.after l.scratch k.scratch;
       first =
-          read-elsewhere l.after k.after (read_in y x5 a) (k.keeps (read_in y x5 a).number l.apart.0 l.apart.1) ∙ l.gives;
+          read-elsewhere l.after k.after (read_in y T0 a) (k.keeps (read_in y T0 a).number l.apart.0 l.apart.1) ∙ l.gives;
       second = k.gives;
     }
 
--- where x5 may hold the second
+-- where T0 may hold the second
 pub sides-taken : (y : Layout) (held : Option ℕ) (Used : ℕ → Type 0) (w : World) (base : ℕ) (m : State) (a b : Operand) → IsHeld y held w.temps m →
     Holds y Used w base m → Housed y Used → (is_second held b ≡ false → IsFirst y held Used a × IsRead y Used b) →
     (is_second held b ≡ true → IsFirst y held Used b × IsRead y Used a) →
@@ -197,8 +197,8 @@ pub sides-taken : (y : Layout) (held : Option ℕ) (Used : ℕ → Type 0) (w : 
 sides-taken y held Used w base m a b f p h plain turn = either (is_second held b) refl
   where
     either : (c : Bool) → is_second held b ≡ c →
-        Sides (if c then both_taken y held b a else both_taken y held a b) m (if c then read_in y x6 a else read_in y x5 a)
-        (if c then read_in y x5 b else read_in y x6 b) (value_in w.temps a) (value_in w.temps b)
+        Sides (if c then both_taken y held b a else both_taken y held a b) m (if c then read_in y T1 a else read_in y T0 a)
+        (if c then read_in y T0 b else read_in y T1 b) (value_in w.temps a) (value_in w.temps b)
     either false e = let r = plain e in both-sides y held Used w base m a b f p h r.0 r.1
     either true e =
         let r = turn e in
@@ -220,18 +220,18 @@ pub read-few : (y : Layout) (held : Option ℕ) (a : Operand) → length (first_
 read-few y held a = omega (arith, side-least y a (first_taken y held a), first-few y held a)
 
 sides-least : (y : Layout) (held : Option ℕ) (a b : Operand) →
-    length (both_taken y held a b) ≤ length (first_taken y held a) + length (taken y x6 b)
+    length (both_taken y held a b) ≤ length (first_taken y held a) + length (taken y T1 b)
 sides-least y held a b =
     omega (
       arith,
       length-append (first_read y held a) (second_read y b),
       side-least y a (first_taken y held a),
-      side-least y b (taken y x6 b),
+      side-least y b (taken y T1 b),
     )
 
 both-count : (y : Layout) (held : Option ℕ) (a b : Operand) →
     length (both_taken y held a b) ≤ weights.operand_words a + weights.operand_words b
-both-count y held a b = omega (arith, sides-least y held a b, first-count y held a, operand-count y x6 b)
+both-count y held a b = omega (arith, sides-least y held a b, first-count y held a, operand-count y T1 b)
 
 pub sides-count : (y : Layout) (held : Option ℕ) (a b : Operand) →
     length (operands_taken y held a b) ≤ weights.operand_words a + weights.operand_words b
@@ -243,7 +243,7 @@ sides-count y held a b = either (is_second held b)
     either true = omega (arith, both-count y held b a)
 
 both-few : (y : Layout) (held : Option ℕ) (a b : Operand) → length (both_taken y held a b) ≤ 16
-both-few y held a b = omega (arith, sides-least y held a b, first-few y held a, taken-count y x6 b)
+both-few y held a b = omega (arith, sides-least y held a b, first-few y held a, taken-count y T1 b)
 
 pub sides-few : (y : Layout) (held : Option ℕ) (a b : Operand) → length (operands_taken y held a b) ≤ 16
 sides-few y held a b = either (is_second held b)

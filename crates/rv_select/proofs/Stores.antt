@@ -19,7 +19,7 @@ use Rattle.tac_form.specs.declared.tac.Size.{Size}
 use Rattle.tac_form.specs.declared.tac.Operand.{Operand}
 use Rattle.tac_form.specs.declared.tac.Address.TheVariants.{Word, Frame}
 use Rattle.tac_form.specs.Flow.{bytes_of}
-use Rattle.rv_operators.specs.Codes.{x5, x6, zero_immediate}
+use Rattle.rv_operators.specs.Codes.{zero_immediate}
 use Rattle.rv_operators.specs.Runs.{Stands}
 use Rattle.reg_alloc.specs.declared.assignment.Home.{Home}
 use Rattle.reg_alloc.specs.declared.assignment.Home.TheVariants as homes
@@ -31,6 +31,7 @@ use Rattle.rv_select.proofs.Ways.{Near, Way, near-both, scratch-near, stands-bac
 use Rattle.rv_select.proofs.Sides.{FirstSide, SecondSide, first-side, second-side}
 use Rattle.rv_operators.proofs.Sequences.{read-elsewhere}
 use Rattle.rv_isa.specs.declared.operand.Register.{Register}
+use Rattle.rv_isa.specs.Registers.{T0, T1}
 use Rattle.rv_select.proofs.Words.{low-are-bytes, overwritten-bytes, size-range, store-bytes}
 use Rattle.rv_select.proofs.Claims.{RegionStoresAreCarried, with_region}
 use Rattle.rv_select.proofs.Moves.{first-small, near-holds, near-keeps}
@@ -82,7 +83,7 @@ region-holds y Used Next w base t bytes r p f c e g are = record {
     same (homes.Register x) q = q
     same (homes.Slot k) q = q
 
--- the store, once the address stands in x5 and the word in x6
+-- the store, once the address stands in T0 and the word in T1
 store-act : (t : State) (q b : Register) (r : Contents) (size : Size) (a v : ℕ) → t.region ≡ r.bytes → value_at t q ≡ a → value_at t b ≡ v → a < 2 ^ 64 → first_address ≤ a →
     a + bytes_of size ≤ end_address r →
     act (Store (store_of size) q b zero_immediate) t ≡ GoesOn (with-bytes-there t (overwritten r.bytes (a - 2 ^ 30) (low_bytes (bytes_of size) v)))
@@ -105,12 +106,12 @@ pc-more p n = omega arith
 store-ends : (y : Layout) (size : Size) (b : Operand) (Used Next : ℕ → Type 0) (w : World) (base a : ℕ) (q : Register) (code : List Instr) (program : List (Option Instr)) (m : State) →
     Reached program q code m a → Holds y Used w base m → Housed y Used → AreFewer Used Next → IsRead y Used b →
     a < 2 ^ 64 → first_address ≤ a → a + bytes_of size ≤ end_address w.region →
-    Stands program m.pc (code ++ (second_read y b ++ Store (store_of size) q (read_in y x6 b) zero_immediate ∷ [])) →
+    Stands program m.pc (code ++ (second_read y b ++ Store (store_of size) q (read_in y T1 b) zero_immediate ∷ [])) →
     Comes y program Next (with_region w (stored-region w.region a (low_bytes (bytes_of size) (value_in w.temps b)))) base
-    (length (code ++ (second_read y b ++ Store (store_of size) q (read_in y x6 b) zero_immediate ∷ [])))
-    (behind m (code ++ (second_read y b ++ Store (store_of size) q (read_in y x6 b) zero_immediate ∷ []))) [] m
+    (length (code ++ (second_read y b ++ Store (store_of size) q (read_in y T1 b) zero_immediate ∷ [])))
+    (behind m (code ++ (second_read y b ++ Store (store_of size) q (read_in y T1 b) zero_immediate ∷ []))) [] m
 store-ends y size b Used Next w base a q code program m r p h f rb small low-end high-end there =
-    let bb : Register = read_in y x6 b in
+    let bb : Register = read_in y T1 b in
     let i : Instr = Store (store_of size) q bb zero_immediate in
     let B : List Instr = second_read y b in
     let v : ℕ = value_in w.temps b in
@@ -186,9 +187,9 @@ store-cases y size at Next w base weight target a v program m f g =
 pub region-stores : RegionStoresAreCarried
 region-stores y held size at (Word a) b Used Next w base program m there five place r rb p h f =
     let A : List Instr = first_read y held a in
-    let q : Register = read_in y x5 a in
+    let q : Register = read_in y T0 a in
     let code : List Instr = A ++ bounds_tested q at (bytes_of size) in
-    let rest : List Instr = second_read y b ++ Store (store_of size) q (read_in y x6 b) zero_immediate ∷ [] in
+    let rest : List Instr = second_read y b ++ Store (store_of size) q (read_in y T1 b) zero_immediate ∷ [] in
     let v : ℕ = value_in w.temps a in
     let some : 1 ≤ bytes_of size = (size-range size).0 in
     let few : bytes_of size ≤ 8 = (size-range size).1 in
@@ -203,13 +204,13 @@ region-stores y held size at (Word a) b Used Next w base program m there five pl
     weaker-ends program at (length code) (length (code ++ rest)) m (omega (arith, length-append code rest)) (word-outside y Used w base program m at A q v (bytes_of size) l p some (omega arith) front place o))
 region-stores y held size at (Frame offset) b Used Next w base program m there five place r rb p h f =
     let code : List Instr = located offset in
-    let rest : List Instr = second_read y b ++ Store (store_of size) x5 (read_in y x6 b) zero_immediate ∷ [] in
+    let rest : List Instr = second_read y b ++ Store (store_of size) T0 (read_in y T1 b) zero_immediate ∷ [] in
     let a : ℕ = w.placed + offset in
     let e = end-small y Used w base m p in
     let small : a < 2 ^ 64 = omega (arith, r, e.0) in
     store-cases y size at Next w base (length (code ++ rest)) (behind m (code ++ rest)) a (value_in w.temps b) program m
     (λ i.
-    store-ends y size b Used Next w base a x5 code program m
+    store-ends y size b Used Next w base a T0 code program m
     (frame-reached y Used w base program m offset p small (stands-front program m.pc code rest there))
     p h f rb small i.0 i.1 there)
     (λ o.

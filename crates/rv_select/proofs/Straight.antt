@@ -13,7 +13,7 @@ use Rattle.rv_operators.specs.Runs.{AreStraight}
 use Rattle.rv_operators.proofs.Runs.{straight-both}
 use Rattle.rv_operators.proofs.Sequences.{acts-both}
 
--- Straight code that changes x5 to x7 alone.
+-- Straight code that changes T0 to T2 alone.
 pub record Scratch (code : List Instr) (m after : State) : Type 0 where
   pub goes : acts code m ≡ GoesOn after
   pub behind : after.pc ≡ low (m.pc + 4 * length code)
@@ -22,7 +22,7 @@ pub record Scratch (code : List Instr) (m after : State) : Type 0 where
   pub private : after.private ≡ m.private
   pub straight : AreStraight code
 
--- Code that puts a word into a register and changes no other but x7.
+-- Code that puts a word into a register and changes no other but T2.
 pub record Loads (d : ℕ) (code : List Instr) (m : State) (v : ℕ) : Type 0 where
   pub after : State
   pub goes : acts code m ≡ GoesOn after
@@ -142,7 +142,7 @@ loads-both d v w a b m l k = record {
   straight = straight-both a b l.straight k.straight;
 }
 
--- a load after one of x7
+-- a load after one of T2
 pub loads-past : (d v w : ℕ) (a b : List Instr) (m : State) (l : Loads 7 a m v) → Loads d b l.after w → Loads d (a ++ b) m w
 loads-past d v w a b m l k = record {
   after = k.after;

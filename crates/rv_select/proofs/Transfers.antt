@@ -1,4 +1,4 @@
--- Bytes that go from one place of memory to another, through x7.
+-- Bytes that go from one place of memory to another, through T2.
 use Rattle.std.proofs.Common.{◌≡◌, ◌≢◌, ℕ, zero, suc, ◌+◌, ◌-◌, ◌*◌, ◌/◌, ◌%◌, ◌^◌, ◌<◌, ◌≤◌, false, List, [], ◌∷◌, ◌++◌, length, map, take}
 use Rattle.std.proofs.Common.{drop, Some, refl, sym, ap, ◌∙◌, subst, ⊎_elim, inl, inr, arith}
 use Rattle.std.specs.Prelude.{if◌then◌else◌, ◌⊎◌, nat_eq, OnOk, Result, Ok, Err}
@@ -14,6 +14,7 @@ use Rattle.rv_isa.specs.declared.operation.StoreOp.TheVariants.{Sb, Sd, Sh, Sw}
 use Rattle.rv_isa.specs.declared.operand.Register.{Register}
 use Rattle.rv_isa.specs.Table.{word_of}
 use Rattle.rv_isa.proofs.Operands.{register_same}
+use Rattle.rv_isa.specs.Registers.{T2}
 use Rattle.terra_memory.specs.Numbers.{low_bytes, number_of, overwritten, part}
 use Rattle.terra_memory.proofs.Overwriting.{length-overwritten}
 use Rattle.tac_form.specs.declared.tac.Size.{Size}
@@ -29,7 +30,7 @@ use Rattle.rv_operators.specs.Runs.{AreStraight}
 use Rattle.rv_operators.proofs.Runs.{straight-both}
 use Rattle.rv_select.specs.Numbers.{immediate_of}
 use Rattle.rv_select.specs.Places.{AreBytes}
-use Rattle.rv_select.specs.Shapes.{all_carried, carried, carried_eights, carried_if, load_of, store_of, x7}
+use Rattle.rv_select.specs.Shapes.{all_carried, carried, carried_eights, carried_if, load_of, store_of}
 use Rattle.rv_select.proofs.Bytes.{other-part, private-part}
 use Rattle.rv_select.proofs.Numbers.{immediate-is}
 use Rattle.rv_select.proofs.Parts.{none-written, part-within, written-twice}
@@ -68,7 +69,7 @@ Within m s n = FitsIn (length m.region) (length m.private) n s
 abbrev pub Reads : Place → List ℕ → State → Type 0
 Reads s xs m = bytes_at m.region m.private s (length xs) ≡ xs
 
--- Straight code that puts bytes at a place, and changes x7 alone besides.
+-- Straight code that puts bytes at a place, and changes T2 alone besides.
 pub record Transfer (code : List Instr) (m : State) (d : Place) (bs : List ℕ) : Type 0 where
   pub after : State
   pub goes : acts code m ≡ GoesOn after
@@ -256,12 +257,12 @@ module _ (from to : Register) (s d : Place) (xs : List ℕ) (m : State) (p : Mov
   target-there : Within m d (at + bytes_of z)
   target-there = within-less d m (length xs) (at + bytes_of z) h p.room
 
-  load-acts : act (Load (load_of false z) x7 from (immediate_of at)) m ≡ GoesOn taken
+  load-acts : act (Load (load_of false z) T2 from (immediate_of at)) m ≡ GoesOn taken
   load-acts =
-      ap (λ k. loads m (load_of false z) x7 (low (value_at m from + k))) (immediate-is at near)
-      ∙ (ap (λ k. loads m (load_of false z) x7 k) (address-beyond s m (value_at m from) at (bytes_of z) p.source p.region p.private source-there)
-      ∙ (ap (λ k. loads_from m (load_of false z) x7 (place_of (length m.region) (length m.private) (address (beyond s at)) k)) (load-bytes false z)
-      ∙ (ap (λ k. loads_from m (load_of false z) x7 k) (place-there (beyond s at) m (bytes_of z) p.region (within-beyond s m at (bytes_of z) source-there))
+      ap (λ k. loads m (load_of false z) T2 (low (value_at m from + k))) (immediate-is at near)
+      ∙ (ap (λ k. loads m (load_of false z) T2 k) (address-beyond s m (value_at m from) at (bytes_of z) p.source p.region p.private source-there)
+      ∙ (ap (λ k. loads_from m (load_of false z) T2 (place_of (length m.region) (length m.private) (address (beyond s at)) k)) (load-bytes false z)
+      ∙ (ap (λ k. loads_from m (load_of false z) T2 k) (place-there (beyond s at) m (bytes_of z) p.region (within-beyond s m at (bytes_of z) source-there))
       ∙ (ap (λ k. GoesOn (at_with m (low (m.pc + 4)) 7 (load_value (load_of false z) (bytes_at m.region m.private (beyond s at) k)))) (load-bytes false z)
       ∙ (ap (λ k. GoesOn (at_with m (low (m.pc + 4)) 7 (load_value (load_of false z) k))) (reads-part s xs m at (bytes_of z) p.reads h)
       ∙ ap (λ k. GoesOn (at_with m (low (m.pc + 4)) 7 k)) (plain-value z bs))))))
@@ -272,7 +273,7 @@ module _ (from to : Register) (s d : Place) (xs : List ℕ) (m : State) (p : Mov
   bytes-again : low_bytes (bytes_of z) (number_of bs) ≡ bs
   bytes-again = ap (λ n. low_bytes n (number_of bs)) (sym (part-count xs at (bytes_of z) h)) ∙ number-bytes bs (take-bytes (bytes_of z) (drop at xs) (drop-bytes at xs p.bytes))
 
-  store-acts : act (Store (store_of z) to x7 (immediate_of at)) taken ≡ GoesOn (put-at taken (beyond d at) bs)
+  store-acts : act (Store (store_of z) to T2 (immediate_of at)) taken ≡ GoesOn (put-at taken (beyond d at) bs)
   store-acts =
       ap (λ k. stores taken (store_of z) (low (value_at taken to + k)) (number_of bs)) (immediate-is at near)
       ∙ (ap (λ k. stores taken (store_of z) k (number_of bs)) (address-beyond d m (value_at taken to) at (bytes_of z) (value-taken ∙ p.target) p.region p.private target-there)
@@ -282,8 +283,8 @@ module _ (from to : Register) (s d : Place) (xs : List ℕ) (m : State) (p : Mov
 
   pub number-moved : Transfer (carried from to (load_of false z) (store_of z) at) m (beyond d at) (part xs at (bytes_of z))
   number-moved =
-      let i : Instr = Load (load_of false z) x7 from (immediate_of at) in
-      let j : Instr = Store (store_of z) to x7 (immediate_of at) in
+      let i : Instr = Load (load_of false z) T2 from (immediate_of at) in
+      let j : Instr = Store (store_of z) to T2 (immediate_of at) in
       let after : State = put-at taken (beyond d at) bs in
       record {
         after = after;

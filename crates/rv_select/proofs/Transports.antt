@@ -13,6 +13,7 @@ use Rattle.rv_isa.specs.declared.operation.LoadOp.TheVariants.{Lbu, Lhu, Lwu}
 use Rattle.rv_isa.specs.declared.operation.StoreOp.{StoreOp}
 use Rattle.rv_isa.specs.declared.operation.StoreOp.TheVariants.{Sb, Sh, Sw}
 use Rattle.rv_isa.specs.declared.operand.Register.{Register}
+use Rattle.rv_isa.specs.Registers.{ZERO, T0, T1}
 use Rattle.rv_machine.specs.declared.memory.Place.TheVariants.{Region, Private}
 use Rattle.rv_machine.specs.Word.{low}
 use Rattle.rv_machine.specs.Machine.{State, at_with, run_of}
@@ -24,7 +25,6 @@ use Rattle.tac_form.specs.declared.tac.Address.{Address}
 use Rattle.tac_form.specs.declared.tac.Address.TheVariants.{Word, Frame}
 use Rattle.tac_form.specs.declared.tac.Spot.{Spot}
 use Rattle.tac_form.specs.declared.tac.Spot.TheVariants as spots
-use Rattle.rv_operators.specs.Codes.{x0, x5, x6}
 use Rattle.rv_operators.specs.Runs.{Stands}
 use Rattle.rv_operators.proofs.Runs.{straight-both}
 use Rattle.rv_select.specs.Places.{AreBytes, Layout, World, Holds, Housed, IsHeld, area_offset, frame_bytes, home_of, value_in}
@@ -130,22 +130,22 @@ pub area-moves : (y : Layout) (held : Option ℕ) (n offset k other size : ℕ) 
     Comes y program Next (with_area w n (overwritten (w.areas n) offset (part (w.areas k) other size))) base
     (length (some_moved y held (spots.Area n offset) (spots.Area k other) size)) (behind m (some_moved y held (spots.Area n offset) (spots.Area k other) size)) [] m
 area-moves y held n offset k other size Used Next w base program m stands there from-there differ within most source p h f =
-    let A : List Instr = area_reached y x5 n offset in
-    let B : List Instr = area_reached y x6 k other in
-    let C : List Instr = all_carried x6 x5 size in
+    let A : List Instr = area_reached y T0 n offset in
+    let B : List Instr = area_reached y T1 k other in
+    let C : List Instr = all_carried T1 T0 size in
     let X : List ℕ = part (w.areas k) other size in
     let d : ℕ = base + (area_offset y n + offset) in
     let s : ℕ = base + (area_offset y k + other) in
     let short : length (w.areas k) ≤ 128 = p.short k from-there in
     let count : length X ≡ size = part-length (w.areas k) other size source in
-    let l : Loads 5 A m (2 ^ 32 + d) = area-address y Used w base n offset x5 m (λ e. omega (arith, e)) p there (omega arith) in
+    let l : Loads 5 A m (2 ^ 32 + d) = area-address y Used w base n offset T0 m (λ e. omega (arith, e)) p there (omega arith) in
     let q : Holds y Used w base l.after = scratch-holds y Used w base A m l.after p h (loads-five A m (2 ^ 32 + d) l) in
-    let g : Loads 6 B l.after (2 ^ 32 + s) = area-address y Used w base k other x6 l.after (λ e. omega (arith, e)) q from-there (omega arith) in
+    let g : Loads 6 B l.after (2 ^ 32 + s) = area-address y Used w base k other T1 l.after (λ e. omega (arith, e)) q from-there (omega arith) in
     let t : Holds y Used w base g.after = scratch-holds y Used w base B l.after g.after q h (loads-six B l.after (2 ^ 32 + s) g) in
     let inside : s + size ≤ length g.after.private = area-inside y Used w base k other size g.after t from-there (omega arith) in
     let room : d + size ≤ length g.after.private = area-inside y Used w base n offset size g.after t there most in
     let apart : (s + size ≤ d) ⊎ (d + size ≤ s) = areas-apart y base k other n offset size (λ e. differ (sym e)) (omega arith) most in
-    let move : Moving x6 x5 (Private s) (Private d) X g.after = record {
+    let move : Moving T1 T0 (Private s) (Private d) X g.after = record {
       pc = t.pc;
       source = g.gives;
       target = g.keeps 5 (λ e. omega (arith, e)) (λ e. omega (arith, e)) ∙ l.gives;
@@ -162,9 +162,9 @@ area-moves y held n offset k other size Used Next w base program m stands there 
     } in
     let r : Saves (A ++ (B ++ C)) m d X =
     then-saves A (B ++ C) m l.after d X (loads-five A m (2 ^ 32 + d) l)
-    (then-saves B C l.after g.after d X (loads-six B l.after (2 ^ 32 + s) g) (transfer-saves C g.after d X (all-moved x6 x5 (Private s) (Private d) X size g.after move count))) in
+    (then-saves B C l.after g.after d X (loads-six B l.after (2 ^ 32 + s) g) (transfer-saves C g.after d X (all-moved T1 T0 (Private s) (Private d) X size g.after move count))) in
     let all : length (A ++ (B ++ C)) ≡ length A + (length B + length C) = length-append A (B ++ C) ∙ ap (λ i. length A + i) (length-append B C) in
-    let some-a : 1 ≤ length A = area-some y x5 n offset in
+    let some-a : 1 ≤ length A = area-some y T0 n offset in
     area-comes y Used Next w base n (length (A ++ (B ++ C))) (length (A ++ (B ++ C))) (behind m (A ++ (B ++ C))) (overwritten (w.areas n) offset X) program m r.after
     (straight-way program (A ++ (B ++ C)) m r.after stands r.straight r.goes) r.behind (small-after (A ++ (B ++ C)) m r.after r.behind)
     (area-written y Used w base n offset X (A ++ (B ++ C)) m r p there within (omega (arith, count)) (part-bytes (w.areas k) other size (p.area_bytes k from-there)))
@@ -184,27 +184,27 @@ later-comes y program Next w base k most more target m n way near few c = record
   keeps = keeps-both y base m n c.after (near-keeps y base m n near) c.keeps;
 }
 
--- from the region to an area, once the address stands in x5
+-- from the region to an area, once the address stands in T0
 to-area : (y : Layout) (n offset size : ℕ) (Used Next : ℕ → Type 0) (w : World) (base a : ℕ) (F : List Instr) (program : List (Option Instr)) (m : State) →
-    Reached program x5 F m a → Stands program m.pc (F ++ to_area y n offset size) → n < y.areas → offset ≤ length (w.areas n) → offset + size ≤ 128 →
+    Reached program T0 F m a → Stands program m.pc (F ++ to_area y n offset size) → n < y.areas → offset ≤ length (w.areas n) → offset + size ≤ 128 →
     first_address ≤ a → a + size ≤ end_address w.region → Holds y Used w base m → Housed y Used → AreFewer Used Next →
     Comes y program Next (with_area w n (overwritten (w.areas n) offset (part w.region.bytes (a - first_address) size))) base
     (length (F ++ to_area y n offset size)) (behind m (F ++ to_area y n offset size)) [] m
 to-area y n offset size Used Next w base a F program m r stands there within short low-end high-end p h f =
-    let B : List Instr = area_reached y x6 n offset in
-    let C : List Instr = all_carried x5 x6 size in
+    let B : List Instr = area_reached y T1 n offset in
+    let C : List Instr = all_carried T0 T1 size in
     let z : State = r.after in
     let X : List ℕ = part w.region.bytes (a - first_address) size in
     let d : ℕ = base + (area_offset y n + offset) in
     let count : length X ≡ size = part-length w.region.bytes (a - first_address) size (omega arith) in
     let small : z.pc < 2 ^ 64 = small-after F m z r.pc in
     let q : Holds y Used w base z = near-holds y Used w base m z p h r.near small in
-    let l : Loads 6 B z (2 ^ 32 + d) = area-address y Used w base n offset x6 z (λ e. omega (arith, e)) q there (omega arith) in
+    let l : Loads 6 B z (2 ^ 32 + d) = area-address y Used w base n offset T1 z (λ e. omega (arith, e)) q there (omega arith) in
     let t : Holds y Used w base l.after = scratch-holds y Used w base B z l.after q h (loads-six B z (2 ^ 32 + d) l) in
     let room : d + size ≤ length l.after.private = area-inside y Used w base n offset size l.after t there short in
     let sum : 2 ^ 30 + (a - 2 ^ 30) ≡ a = omega arith in
     let inside : a - 2 ^ 30 + size ≤ length w.region.bytes = omega arith in
-    let move : Moving x5 x6 (Region (a - 2 ^ 30)) (Private d) X l.after = record {
+    let move : Moving T0 T1 (Region (a - 2 ^ 30)) (Private d) X l.after = record {
       pc = t.pc;
       source = l.keeps 5 (λ e. omega (arith, e)) (λ e. omega (arith, e)) ∙ (r.gives ∙ sym sum);
       target = l.gives;
@@ -220,10 +220,10 @@ to-area y n offset size Used Next w base a F program m r stands there within sho
       keeps_to = λ e. omega (arith, e);
     } in
     let s : Saves (B ++ C) z d X =
-    then-saves B C z l.after d X (loads-six B z (2 ^ 32 + d) l) (transfer-saves C l.after d X (all-moved x5 x6 (Region (a - 2 ^ 30)) (Private d) X size l.after move count)) in
+    then-saves B C z l.after d X (loads-six B z (2 ^ 32 + d) l) (transfer-saves C l.after d X (all-moved T0 T1 (Region (a - 2 ^ 30)) (Private d) X size l.after move count)) in
     let rest : Stands program z.pc (B ++ C) = subst (λ i. Stands program i (B ++ C)) (sym r.pc) (stands-back program m.pc F (B ++ C) p.pc stands) in
     let all : length (B ++ C) ≡ length B + length C = length-append B C in
-    let some-b : 1 ≤ length B = area-some y x6 n offset in
+    let some-b : 1 ≤ length B = area-some y T1 n offset in
     later-comes y program Next (with_area w n (overwritten (w.areas n) offset X)) base r.steps (length (B ++ C)) (length (F ++ (B ++ C)))
     (behind m (F ++ (B ++ C))) m z r.way r.near (omega (arith, r.few, length-append F (B ++ C)))
     (area-comes y Used Next w base n (length (B ++ C)) (length (B ++ C)) (behind m (F ++ (B ++ C))) (overwritten (w.areas n) offset X) program z s.after
@@ -259,15 +259,15 @@ written-holds y Used Next w base m z r p h f keeps private region long heap are 
   depth = keeps 28 (λ e. omega (arith, e)) (λ e. omega (arith, e)) (λ e. omega (arith, e)) ∙ p.depth;
 }
 
--- from an area to the region, once the address stands in x5
+-- from an area to the region, once the address stands in T0
 from-area : (y : Layout) (n offset size : ℕ) (Used Next : ℕ → Type 0) (w : World) (base a : ℕ) (F : List Instr) (program : List (Option Instr)) (m : State) →
-    Reached program x5 F m a → Stands program m.pc (F ++ from_area y n offset size) → n < y.areas → offset + size ≤ length (w.areas n) →
+    Reached program T0 F m a → Stands program m.pc (F ++ from_area y n offset size) → n < y.areas → offset + size ≤ length (w.areas n) →
     first_address ≤ a → a + size ≤ end_address w.region → Holds y Used w base m → Housed y Used → AreFewer Used Next →
     Comes y program Next (with_region w (stored-region w.region a (part (w.areas n) offset size))) base
     (length (F ++ from_area y n offset size)) (behind m (F ++ from_area y n offset size)) [] m
 from-area y n offset size Used Next w base a F program m r stands there source low-end high-end p h f =
-    let B : List Instr = area_reached y x6 n offset in
-    let C : List Instr = all_carried x6 x5 size in
+    let B : List Instr = area_reached y T1 n offset in
+    let C : List Instr = all_carried T1 T0 size in
     let z : State = r.after in
     let X : List ℕ = part (w.areas n) offset size in
     let s : ℕ = base + (area_offset y n + offset) in
@@ -276,12 +276,12 @@ from-area y n offset size Used Next w base a F program m r stands there source l
     let are : AreBytes X = part-bytes (w.areas n) offset size (p.area_bytes n there) in
     let small : z.pc < 2 ^ 64 = small-after F m z r.pc in
     let q : Holds y Used w base z = near-holds y Used w base m z p h r.near small in
-    let l : Loads 6 B z (2 ^ 32 + s) = area-address y Used w base n offset x6 z (λ e. omega (arith, e)) q there (omega arith) in
+    let l : Loads 6 B z (2 ^ 32 + s) = area-address y Used w base n offset T1 z (λ e. omega (arith, e)) q there (omega arith) in
     let t : Holds y Used w base l.after = scratch-holds y Used w base B z l.after q h (loads-six B z (2 ^ 32 + s) l) in
     let inside : s + size ≤ length l.after.private = area-inside y Used w base n offset size l.after t there (omega arith) in
     let sum : 2 ^ 30 + (a - 2 ^ 30) ≡ a = omega arith in
     let room : a - 2 ^ 30 + size ≤ length w.region.bytes = omega arith in
-    let move : Moving x6 x5 (Private s) (Region (a - 2 ^ 30)) X l.after = record {
+    let move : Moving T1 T0 (Private s) (Region (a - 2 ^ 30)) X l.after = record {
       pc = t.pc;
       source = l.gives;
       target = l.keeps 5 (λ e. omega (arith, e)) (λ e. omega (arith, e)) ∙ (r.gives ∙ sym sum);
@@ -296,7 +296,7 @@ from-area y n offset size Used Next w base a F program m r stands there source l
       keeps_from = λ e. omega (arith, e);
       keeps_to = λ e. omega (arith, e);
     } in
-    let c : Transfer C l.after (Region (a - 2 ^ 30)) X = all-moved x6 x5 (Private s) (Region (a - 2 ^ 30)) X size l.after move count in
+    let c : Transfer C l.after (Region (a - 2 ^ 30)) X = all-moved T1 T0 (Private s) (Region (a - 2 ^ 30)) X size l.after move count in
     let e : State = c.after in
     let new : Contents = stored-region w.region a X in
     let keeps : (x : ℕ) → x ≢ 5 → x ≢ 6 → x ≢ 7 → e.registers x ≡ m.registers x =
@@ -309,7 +309,7 @@ from-area y n offset size Used Next w base a F program m r stands there source l
     way-both program r.steps (length (B ++ C)) m z e r.way
     (straight-way program (B ++ C) z e rest (straight-both B C l.straight c.straight) (goes-both B C z l.after e l.goes c.goes)) in
     let all : length (B ++ C) ≡ length B + length C = length-append B C in
-    let some-b : 1 ≤ length B = area-some y x6 n offset in
+    let some-b : 1 ≤ length B = area-some y T1 n offset in
     record {
       steps = r.steps + length (B ++ C);
       after = e;
@@ -377,16 +377,16 @@ pub region-moves : (y : Layout) (held : Option ℕ) (n offset : ℕ) (at : Place
     × (range_of w.region (address_in w a) size ≡ None → Ends program BadAddress at (length (some_moved y held (spots.Area n offset) (spots.Region at a) size)) m)
 region-moves y held n offset at (Word a) size Used Next w base program m there five place r some area few p h f =
     let A : List Instr = first_taken y held a in
-    let F : List Instr = A ++ bounds_tested x5 at size in
+    let F : List Instr = A ++ bounds_tested T0 at size in
     let T : List Instr = to_area y n offset size in
     let v : ℕ = value_in w.temps a in
     let front : Stands program m.pc F = stands-front program m.pc F T there in
-    let l : FirstSide A m x5 v = first-loaded A m v (take-first y held Used w base m a five p h r) in
+    let l : FirstSide A m T0 v = first-loaded A m v (take-first y held Used w base m a five p h r) in
     range-cases w.region v size (λ bs. offset ≤ length (w.areas n) → Comes y program Next (with_area w n (overwritten (w.areas n) offset bs)) base (length (F ++ T)) (behind m (F ++ T)) [] m)
     (Ends program BadAddress at (length (F ++ T)) m) some
     (λ i within.
-    to-area y n offset size Used Next w base v F program m (word-inside y Used w base program m at A x5 v size l p some (omega arith) front i.0 i.1) there area within few i.0 i.1 p h f)
-    (λ o. weaker-ends program at (length F) (length (F ++ T)) m (omega (arith, length-append F T)) (word-outside y Used w base program m at A x5 v size l p some (omega arith) front place o))
+    to-area y n offset size Used Next w base v F program m (word-inside y Used w base program m at A T0 v size l p some (omega arith) front i.0 i.1) there area within few i.0 i.1 p h f)
+    (λ o. weaker-ends program at (length F) (length (F ++ T)) m (omega (arith, length-append F T)) (word-outside y Used w base program m at A T0 v size l p some (omega arith) front place o))
 region-moves y held n offset at (Frame far) size Used Next w base program m there five place r some area few p h f =
     let F : List Instr = located far in
     let T : List Instr = to_area y n offset size in
@@ -408,18 +408,18 @@ pub stores-moved : (y : Layout) (held : Option ℕ) (at : Place) (a : Address) (
     × (put_bytes w.region (address_in w a) (part (w.areas n) offset size) ≡ None → Ends program BadAddress at (length (some_moved y held (spots.Region at a) (spots.Area n offset) size)) m)
 stores-moved y held at (Word a) n offset size Used Next w base program m there five place r some area source p h f =
     let A : List Instr = first_taken y held a in
-    let F : List Instr = A ++ bounds_tested x5 at size in
+    let F : List Instr = A ++ bounds_tested T0 at size in
     let T : List Instr = from_area y n offset size in
     let v : ℕ = value_in w.temps a in
     let X : List ℕ = part (w.areas n) offset size in
     let short : length (w.areas n) ≤ 128 = p.short n area in
     let front : Stands program m.pc F = stands-front program m.pc F T there in
-    let l : FirstSide A m x5 v = first-loaded A m v (take-first y held Used w base m a five p h r) in
+    let l : FirstSide A m T0 v = first-loaded A m v (take-first y held Used w base m a five p h r) in
     put-cases w.region v size X (λ c. Comes y program Next (with_region w c) base (length (F ++ T)) (behind m (F ++ T)) [] m)
     (Ends program BadAddress at (length (F ++ T)) m) some (part-length (w.areas n) offset size source)
     (λ i.
-    from-area y n offset size Used Next w base v F program m (word-inside y Used w base program m at A x5 v size l p some (omega arith) front i.0 i.1) there area source i.0 i.1 p h f)
-    (λ o. weaker-ends program at (length F) (length (F ++ T)) m (omega (arith, length-append F T)) (word-outside y Used w base program m at A x5 v size l p some (omega arith) front place o))
+    from-area y n offset size Used Next w base v F program m (word-inside y Used w base program m at A T0 v size l p some (omega arith) front i.0 i.1) there area source i.0 i.1 p h f)
+    (λ o. weaker-ends program at (length F) (length (F ++ T)) m (omega (arith, length-append F T)) (word-outside y Used w base program m at A T0 v size l p some (omega arith) front place o))
 stores-moved y held at (Frame far) n offset size Used Next w base program m there five place r some area source p h f =
     let F : List Instr = located far in
     let T : List Instr = from_area y n offset size in
@@ -434,21 +434,21 @@ stores-moved y held at (Frame far) n offset size Used Next w base program m ther
 
 -- the code of a move, by whether there are bytes
 pub some-is : (y : Layout) (held : Option ℕ) (to from : Spot) (size : ℕ) → size ≢ 0 → bytes_moved y held to from size ≡ some_moved y held to from size
-some-is y held to from size h = ap (λ b. if b then moved x0 x0 ∷ [] else some_moved y held to from size) (ne_eqb size 0 h)
+some-is y held to from size h = ap (λ b. if b then moved ZERO ZERO ∷ [] else some_moved y held to from size) (ne_eqb size 0 h)
 
 pub moved-count : (y : Layout) (held : Option ℕ) (to from : Spot) (size k : ℕ) → length (some_moved y held to from size) ≤ k → 1 ≤ k → length (bytes_moved y held to from size) ≤ k
 moved-count y held to from size k h one = either (nat_eq size 0)
   where
-    either : (b : Bool) → length (if b then moved x0 x0 ∷ [] else some_moved y held to from size) ≤ k
+    either : (b : Bool) → length (if b then moved ZERO ZERO ∷ [] else some_moved y held to from size) ≤ k
     either true = one
     either false = h
 
 -- no bytes go to an area
-pub nothing-comes : (y : Layout) (Used Next : ℕ → Type 0) (w : World) (base n offset weight : ℕ) (program : List (Option Instr)) (m : State) → Stands program m.pc (moved x0 x0 ∷ []) → 1 ≤ weight →
+pub nothing-comes : (y : Layout) (Used Next : ℕ → Type 0) (w : World) (base n offset weight : ℕ) (program : List (Option Instr)) (m : State) → Stands program m.pc (moved ZERO ZERO ∷ []) → 1 ≤ weight →
     n < y.areas → Holds y Used w base m → Housed y Used → AreFewer Used Next →
-    Comes y program Next (with_area w n (overwritten (w.areas n) offset [])) base weight (behind m (moved x0 x0 ∷ [])) [] m
+    Comes y program Next (with_area w n (overwritten (w.areas n) offset [])) base weight (behind m (moved ZERO ZERO ∷ [])) [] m
 nothing-comes y Used Next w base n offset weight program m there some area p h f =
-    let A : List Instr = moved x0 x0 ∷ [] in
+    let A : List Instr = moved ZERO ZERO ∷ [] in
     let z : State = at_with m (low (m.pc + 4)) 0 (low (0 + 0)) in
     let s : Scratch A m z = nothing-done m in
     let q : Holds y Used w base z = scratch-holds y Used w base A m z p h s in

@@ -17,7 +17,7 @@ use Rattle.rv_select.proofs.Straight.{Scratch}
 pub record Way (program : List (Option Instr)) (steps : ℕ) (m n : State) : Type 0 where
   pub runs : (more : ℕ) → run_of program m (steps + more) ≡ run_of program n more
 
--- Two states differ in pc and in x5 to x7 alone.
+-- Two states differ in pc and in T0 to T2 alone.
 pub record Near (m n : State) : Type 0 where
   pub keeps : (r : ℕ) → r ≢ 5 → r ≢ 6 → r ≢ 7 → n.registers r ≡ m.registers r
   pub region : n.region ≡ m.region

@@ -12,6 +12,7 @@ use Rattle.rv_isa.specs.declared.operation.ImmediateOp.TheVariants.{Addi}
 use Rattle.terra_words.specs.declared.words.FaultKind.TheVariants.{BadAddress, DivZero}
 use Rattle.terra_words.specs.declared.words.BinaryOperator.{BinaryOperator}
 use Rattle.rv_isa.specs.declared.operand.Register.{Register}
+use Rattle.rv_isa.specs.Registers.{ZERO, T0, T1, A1, A2}
 use Rattle.tac_form.specs.declared.tac.Number.{Number}
 use Rattle.tac_form.specs.declared.tac.Operand.{Operand}
 use Rattle.tac_form.specs.declared.tac.Address.TheVariants.{Word, Frame}
@@ -22,13 +23,13 @@ use Rattle.tac_form.specs.declared.tac.Exit.TheVariants.{Branch, Fail, Jump, Ret
 use Rattle.tac_form.specs.declared.tac.Edge.{Edge}
 use Rattle.tac_form.specs.Flow.{bytes_of, width_of}
 use Rattle.tac_form.specs.Weights.{operand_words, operator_words, words_of}
-use Rattle.rv_operators.specs.Codes.{code_of, x0, x5, x6, zero_immediate}
+use Rattle.rv_operators.specs.Codes.{code_of, zero_immediate}
 use Rattle.rv_select.specs.Places.{Layout, area_offset, home_of, in_register}
 use Rattle.rv_select.specs.Shapes.{address_read, all_carried, applied_to, area_reached, both_moved, bounds_tested, branched_over, brought, byte_taken, bytes_given, parted}
 use Rattle.rv_select.specs.Shapes.{exit_shape, failed, first_taken, framed, from_area, heap_aligned, is_never_zero, is_turned}
 use Rattle.rv_select.specs.Shapes.{first_read, five_or_six, is_five, is_there, is_zero, limit_found, put_behind, read_in, result_in, second_read}
 use Rattle.rv_select.specs.Shapes.{load_of, located, moved, operated, operated_second, over, put_at, put_from, range_tested, reached}
-use Rattle.rv_select.specs.Shapes.{store_of, taken, to_area, write_call, x11, x12, zeros}
+use Rattle.rv_select.specs.Shapes.{store_of, taken, to_area, write_call, zeros}
 use Rattle.rv_select.specs.Steps.{ExitsKeepWithin, ShapesKeepWithin}
 use Rattle.rv_select.proofs.Frames.{framed-count}
 use Rattle.rv_select.proofs.Homes.{brought-count, first-count, operand-count, put-count, put-few}
@@ -57,11 +58,11 @@ tested : (r : Register) (at : Place) (size : ℕ) → length (bounds_tested r at
 tested r at size = let h : length (failed BadAddress at) ≤ 11 = failed-count BadAddress at in omega arith
 
 word-reached : (y : Layout) (held : Option ℕ) (at : Place) (a : Operand) (size : ℕ) → length (reached y held at (Word a) size) ≤ operand_words a + 15
-word-reached y held at a size = both (first_taken y held a) (bounds_tested x5 at size) (operand_words a) 15 (first-count y held a) (tested x5 at size)
+word-reached y held at a size = both (first_taken y held a) (bounds_tested T0 at size) (operand_words a) 15 (first-count y held a) (tested T0 at size)
 
 word-read : (y : Layout) (held : Option ℕ) (at : Place) (a : Operand) (size : ℕ) → length (address_read y held at (Word a) size) ≤ operand_words a + 15
 word-read y held at a size =
-    both (first_read y held a) (bounds_tested (read_in y x5 a) at size) (operand_words a) 15 (read-count y held a) (tested (read_in y x5 a) at size)
+    both (first_read y held a) (bounds_tested (read_in y T0 a) at size) (operand_words a) 15 (read-count y held a) (tested (read_in y T0 a) at size)
 
 store-part : (y : Layout) (i : Instr) (b : Operand) → length (second_read y b ++ i ∷ []) ≤ operand_words b + 1
 store-part y i b = both (second_read y b) (i ∷ []) (operand_words b) 1 (second-least y b) (omega arith)
@@ -77,37 +78,37 @@ range-count : (at : Place) → length (range_tested at) ≤ 16
 range-count at = let h : length (failed BadAddress at) ≤ 11 = failed-count BadAddress at in omega arith
 
 pub to-count : (y : Layout) (n offset size : ℕ) → size ≤ 128 → length (to_area y n offset size) ≤ 39
-to-count y n offset size h = both (area_reached y x6 n offset) (all_carried x5 x6 size) 3 36 (area-count y x6 n offset) (carried-count x5 x6 size h)
+to-count y n offset size h = both (area_reached y T1 n offset) (all_carried T0 T1 size) 3 36 (area-count y T1 n offset) (carried-count T0 T1 size h)
 
 from-count : (y : Layout) (n offset size : ℕ) → size ≤ 128 → length (from_area y n offset size) ≤ 39
-from-count y n offset size h = both (area_reached y x6 n offset) (all_carried x6 x5 size) 3 36 (area-count y x6 n offset) (carried-count x6 x5 size h)
+from-count y n offset size h = both (area_reached y T1 n offset) (all_carried T1 T0 size) 3 36 (area-count y T1 n offset) (carried-count T1 T0 size h)
 
 copy-count : (y : Layout) (held : Option ℕ) (d : ℕ) (a : Operand) (zero home : Bool) →
-    length (if zero then put_from x0 (home_of y d) else if home then brought y held (result_in y d) a else first_taken y held a ++ put_at y d)
+    length (if zero then put_from ZERO (home_of y d) else if home then brought y held (result_in y d) a else first_taken y held a ++ put_at y d)
     ≤ operand_words a + 3
-copy-count y held d a true home = let h : length (put_from x0 (home_of y d)) ≤ 3 = put-count x0 (home_of y d) in omega arith
+copy-count y held d a true home = let h : length (put_from ZERO (home_of y d)) ≤ 3 = put-count ZERO (home_of y d) in omega arith
 copy-count y held d a false true = omega (arith, brought-count y held (result_in y d) a)
 copy-count y held d a false false = both (first_taken y held a) (put_at y d) (operand_words a) 3 (first-count y held a) (put-few y d)
 
 test-count : (y : Layout) (held : Option ℕ) (at : Place) (a : Operand) (never : Bool) →
-    length (if never then moved x0 x0 ∷ [] else first_read y held a ++ branched_over Ne (read_in y x5 a) x0 DivZero at) ≤ words_of (TestDivisor at a)
+    length (if never then moved ZERO ZERO ∷ [] else first_read y held a ++ branched_over Ne (read_in y T0 a) ZERO DivZero at) ≤ words_of (TestDivisor at a)
 test-count y held at a true = omega arith
 test-count y held at a false =
     more (operand_words a + 12) (words_of (TestDivisor at a)) _ (omega arith)
-    (both (first_read y held a) (branched_over Ne (read_in y x5 a) x0 DivZero at) (operand_words a) 12 (read-count y held a)
-    (one-more (instrs.Branch Ne (read_in y x5 a) x0 (over (failed DivZero at))) (failed DivZero at) 11 (failed-count DivZero at)))
+    (both (first_read y held a) (branched_over Ne (read_in y T0 a) ZERO DivZero at) (operand_words a) 12 (read-count y held a)
+    (one-more (instrs.Branch Ne (read_in y T0 a) ZERO (over (failed DivZero at))) (failed DivZero at) 11 (failed-count DivZero at)))
 
 operated-count : (y : Layout) (held : Option ℕ) (d : ℕ) (op : BinaryOperator) (form : Number) (a b : Operand) →
     length (operated y held d op (width_of form) a b) ≤ operand_words a + (operand_words b + operator_words op + 3)
 operated-count y held d op form a b =
     both (first_read y held a) _ (operand_words a) (operand_words b + operator_words op + 3) (read-count y held a)
-    (both (applied_to y (result_in y d) (read_in y x5 a) (width_of form) op b) (put_behind y d) (operand_words b + operator_words op) 3
-    (applied-count y (result_in y d) (read_in y x5 a) (width_of form) op b) (behind-few y d))
+    (both (applied_to y (result_in y d) (read_in y T0 a) (width_of form) op b) (put_behind y d) (operand_words b + operator_words op) 3
+    (applied-count y (result_in y d) (read_in y T0 a) (width_of form) op b) (behind-few y d))
 
 six-count : (y : Layout) (held : Option ℕ) (a : Operand) → length (both_moved y held a) ≤ 1 + operand_words a
 six-count y held a = either (is_there y a)
   where
-    either : (b : Bool) → length (if b then [] else moved x6 x5 ∷ first_taken y held a) ≤ 1 + operand_words a
+    either : (b : Bool) → length (if b then [] else moved T1 T0 ∷ first_taken y held a) ≤ 1 + operand_words a
     either true = omega arith
     either false = omega (arith, first-count y held a)
 
@@ -115,8 +116,8 @@ second-count : (y : Layout) (held : Option ℕ) (d : ℕ) (op : BinaryOperator) 
     length (operated_second y held d op (width_of form) a) ≤ 1 + operand_words a + (operator_words op + 3)
 second-count y held d op form a =
     both (both_moved y held a) _ (1 + operand_words a) (operator_words op + 3) (six-count y held a)
-    (both (code_of (result_in y d) (read_in y x5 a) (five_or_six y a) (width_of form) op) (put_behind y d) (operator_words op) 3
-    (operator-count (result_in y d) (read_in y x5 a) (five_or_six y a) (width_of form) op) (behind-few y d))
+    (both (code_of (result_in y d) (read_in y T0 a) (five_or_six y a) (width_of form) op) (put_behind y d) (operator_words op) 3
+    (operator-count (result_in y d) (read_in y T0 a) (five_or_six y a) (width_of form) op) (behind-few y d))
 
 pub within : ShapesKeepWithin
 within y held (Compute d op form a b) h =
@@ -140,31 +141,31 @@ within y held (Copy d a) h = copy-count y held d a (is_zero a) (in_register y d)
 within y held (Locate d offset) h = both (located offset) (put_at y d) 9 3 (located-count offset) (put-few y d)
 within y held (Load d form (spots.Region at (Word a))) h =
     more (operand_words a + 15 + 4) (words_of (Load d form (spots.Region at (Word a)))) _ (omega arith)
-    (both (address_read y held at (Word a) (bytes_of form.size)) (instrs.Load (load_of form.signed form.size) (result_in y d) (read_in y x5 a) zero_immediate ∷ put_behind y d) (operand_words a + 15) 4
-    (word-read y held at a (bytes_of form.size)) (one-more (instrs.Load (load_of form.signed form.size) (result_in y d) (read_in y x5 a) zero_immediate) (put_behind y d) 3 (behind-few y d)))
+    (both (address_read y held at (Word a) (bytes_of form.size)) (instrs.Load (load_of form.signed form.size) (result_in y d) (read_in y T0 a) zero_immediate ∷ put_behind y d) (operand_words a + 15) 4
+    (word-read y held at a (bytes_of form.size)) (one-more (instrs.Load (load_of form.signed form.size) (result_in y d) (read_in y T0 a) zero_immediate) (put_behind y d) 3 (behind-few y d)))
 within y held (Load d form (spots.Region at (Frame offset))) h =
     more 13 14 _ (omega arith)
-    (both (located offset) (instrs.Load (load_of form.signed form.size) (result_in y d) x5 zero_immediate ∷ put_behind y d) 9 4
-    (located-count offset) (one-more (instrs.Load (load_of form.signed form.size) (result_in y d) x5 zero_immediate) (put_behind y d) 3 (behind-few y d)))
+    (both (located offset) (instrs.Load (load_of form.signed form.size) (result_in y d) T0 zero_immediate ∷ put_behind y d) 9 4
+    (located-count offset) (one-more (instrs.Load (load_of form.signed form.size) (result_in y d) T0 zero_immediate) (put_behind y d) 3 (behind-few y d)))
 within y held (Load d form (spots.Area n offset)) h =
     more 6 8 _ (omega arith)
     (both (framed (λ r far. instrs.Load (load_of form.signed form.size) (result_in y d) r far) (area_offset y n + offset)) (put_behind y d) 3 3
     (framed-count (λ r far. instrs.Load (load_of form.signed form.size) (result_in y d) r far) (area_offset y n + offset)) (behind-few y d))
 within y held (Store (spots.Region at (Word a)) size b) h =
     more (operand_words a + 15 + (operand_words b + 1)) (words_of (Store (spots.Region at (Word a)) size b)) _ (omega arith)
-    (both (address_read y held at (Word a) (bytes_of size)) (second_read y b ++ instrs.Store (store_of size) (read_in y x5 a) (read_in y x6 b) zero_immediate ∷ []) (operand_words a + 15) (operand_words b + 1)
-    (word-read y held at a (bytes_of size)) (store-part y (instrs.Store (store_of size) (read_in y x5 a) (read_in y x6 b) zero_immediate) b))
+    (both (address_read y held at (Word a) (bytes_of size)) (second_read y b ++ instrs.Store (store_of size) (read_in y T0 a) (read_in y T1 b) zero_immediate ∷ []) (operand_words a + 15) (operand_words b + 1)
+    (word-read y held at a (bytes_of size)) (store-part y (instrs.Store (store_of size) (read_in y T0 a) (read_in y T1 b) zero_immediate) b))
 within y held (Store (spots.Region at (Frame offset)) size b) h =
     more (9 + (operand_words b + 1)) (words_of (Store (spots.Region at (Frame offset)) size b)) _ (omega arith)
-    (both (located offset) (second_read y b ++ instrs.Store (store_of size) x5 (read_in y x6 b) zero_immediate ∷ []) 9 (operand_words b + 1)
-    (located-count offset) (store-part y (instrs.Store (store_of size) x5 (read_in y x6 b) zero_immediate) b))
+    (both (located offset) (second_read y b ++ instrs.Store (store_of size) T0 (read_in y T1 b) zero_immediate ∷ []) 9 (operand_words b + 1)
+    (located-count offset) (store-part y (instrs.Store (store_of size) T0 (read_in y T1 b) zero_immediate) b))
 within y held (Store (spots.Area n offset) size b) h =
     more (operand_words b + 3) (words_of (Store (spots.Area n offset) size b)) _ (omega arith)
-    (both (second_read y b) (framed (λ r far. instrs.Store (store_of size) r (read_in y x6 b) far) (area_offset y n + offset)) (operand_words b) 3 (second-least y b)
-    (framed-count (λ r far. instrs.Store (store_of size) r (read_in y x6 b) far) (area_offset y n + offset)))
+    (both (second_read y b) (framed (λ r far. instrs.Store (store_of size) r (read_in y T1 b) far) (area_offset y n + offset)) (operand_words b) 3 (second-least y b)
+    (framed-count (λ r far. instrs.Store (store_of size) r (read_in y T1 b) far) (area_offset y n + offset)))
 within y held (Move (spots.Area n offset) (spots.Area k other) size) h =
     moved-count y held (spots.Area n offset) (spots.Area k other) size 42
-    (both (area_reached y x5 n offset) (from_area y k other size) 3 39 (area-count y x5 n offset) (from-count y k other size (leb-true size 128 h))) (omega arith)
+    (both (area_reached y T0 n offset) (from_area y k other size) 3 39 (area-count y T0 n offset) (from-count y k other size (leb-true size 128 h))) (omega arith)
 within y held (Move (spots.Area n offset) (spots.Region at (Word a)) size) h =
     moved-count y held (spots.Area n offset) (spots.Region at (Word a)) size (words_of (Move (spots.Area n offset) (spots.Region at (Word a)) size))
     (more (operand_words a + 15 + 39) (words_of (Move (spots.Area n offset) (spots.Region at (Word a)) size)) _ (omega arith)
@@ -183,16 +184,16 @@ within y held (Move (spots.Region at a) (spots.Region other b) size) h =
     moved-count y held (spots.Region at a) (spots.Region other b) size (words_of (Move (spots.Region at a) (spots.Region other b) size)) (omega arith) (omega arith)
 within y held (Clear n size) h =
     let most : size ≤ 128 = leb-true size 128 h in
-    both (area_reached y x5 n 0) (zeros ((size + 7) / 8) 0) 3 16 (framed-count (λ r far. instrs.RegisterImmediate Addi x5 r far) (area_offset y n + 0))
+    both (area_reached y T0 n 0) (zeros ((size + 7) / 8) 0) 3 16 (framed-count (λ r far. instrs.RegisterImmediate Addi T0 r far) (area_offset y n + 0))
     (omega (arith, zeros-count ((size + 7) / 8) 0))
 within y held (Call to at f arguments) h = cc
 within y held (CallValue to at sig a arguments) h = cc
 within y held (PutByte a) h = both (byte_taken y held a) _ 3 8 (byte-count y held a) (omega arith)
 within y held (Write at a b) h =
     more (operand_words a + (operand_words b + 20)) (words_of (Write at a b)) _ (omega arith)
-    (both (taken y x11 a) _ (operand_words a) (operand_words b + 20) (operand-count y x11 a)
-    (both (taken y x12 b) (instrs.Branch Eq x12 x0 (over (range_tested at ++ write_call)) ∷ (range_tested at ++ write_call)) (operand_words b) 20 (operand-count y x12 b)
-    (one-more (instrs.Branch Eq x12 x0 (over (range_tested at ++ write_call))) (range_tested at ++ write_call) 19
+    (both (taken y A1 a) _ (operand_words a) (operand_words b + 20) (operand-count y A1 a)
+    (both (taken y A2 b) (instrs.Branch Eq A2 ZERO (over (range_tested at ++ write_call)) ∷ (range_tested at ++ write_call)) (operand_words b) 20 (operand-count y A2 b)
+    (one-more (instrs.Branch Eq A2 ZERO (over (range_tested at ++ write_call))) (range_tested at ++ write_call) 19
     (both (range_tested at) write_call 16 3 (range-count at) (omega arith)))))
 within y held (Alloc d a) h =
     more (operand_words a + 16) (words_of (Alloc d a)) _ (omega arith)
@@ -200,11 +201,11 @@ within y held (Alloc d a) h =
 
 -- exits
 branch-count : (y : Layout) (setting : Setting) (held : Option ℕ) (a : Operand) (at : ℕ) (e f : Edge) (first second : ℕ) →
-    length (first_read y held a ++ parted setting Ne (read_in y x5 a) x0 at e f first second)
+    length (first_read y held a ++ parted setting Ne (read_in y T0 a) ZERO at e f first second)
     ≡ length (first_read y held a) + parted_words setting e f
 branch-count y setting held a at e f first second =
-    length-append (first_read y held a) (parted setting Ne (read_in y x5 a) x0 at e f first second)
-    ∙ ap (λ n. length (first_read y held a) + n) (parted-count setting Ne (read_in y x5 a) x0 at e f first second)
+    length-append (first_read y held a) (parted setting Ne (read_in y T0 a) ZERO at e f first second)
+    ∙ ap (λ n. length (first_read y held a) + n) (parted-count setting Ne (read_in y T0 a) ZERO at e f first second)
 
 pub exits-within : ExitsKeepWithin
 exits-within y setting held (Jump e) at other starts others h =

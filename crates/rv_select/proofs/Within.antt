@@ -9,6 +9,7 @@ use Rattle.rv_isa.specs.declared.instr.Instr.TheVariants.{Jalr, Load, RegisterRe
 use Rattle.rv_isa.specs.declared.operation.LoadOp.TheVariants.{Ld}
 use Rattle.rv_isa.specs.declared.operation.RegisterOp.TheVariants.{Add, Sub}
 use Rattle.rv_isa.specs.declared.operation.StoreOp.TheVariants.{Sd}
+use Rattle.rv_isa.specs.Registers.{ZERO, RA, SP, T0, T2, S0, A1}
 use Rattle.tl_base.specs.declared.ids.FnId.{FnId}
 use Rattle.tl_base.specs.declared.place.Place.{Place}
 use Rattle.tac_form.specs.declared.tac.Destination.{Destination}
@@ -17,12 +18,12 @@ use Rattle.tac_form.specs.declared.tac.Instruction.TheVariants.{Call}
 use Rattle.tac_form.specs.Fits.{area_fits}
 use Rattle.tac_form.specs.Weights.{words_of}
 use Rattle.tac_form.specs.declared.tac.Part.{Part}
-use Rattle.rv_operators.specs.Codes.{x0, x5, zero_immediate}
+use Rattle.rv_operators.specs.Codes.{zero_immediate}
 use Rattle.rv_select.specs.Numbers.{below_zero, constant, lower_of, register_of}
 use Rattle.rv_select.specs.Places.{Layout}
-use Rattle.rv_select.specs.Shapes.{counted_if, far_part, framed, limit_found, place_number, x2, x7, x8, x11}
+use Rattle.rv_select.specs.Shapes.{counted_if, far_part, framed, limit_found, place_number}
 use Rattle.rv_select.specs.Entering.{arguments_stored, entered, frame_taken, frames_given, left, link_put_back, link_saved, region_given}
-use Rattle.rv_select.specs.Entering.{region_taken, stack_tested, x1, most_arguments, place_given, pointer_down, pointer_up, put_back}
+use Rattle.rv_select.specs.Entering.{region_taken, stack_tested, most_arguments, place_given, pointer_down, pointer_up, put_back}
 use Rattle.rv_select.specs.Entering.{parameter_words, received, received_one, is_received, receiving, result_put, result_words, saved, size_in}
 use Rattle.rv_select.specs.Entering.{stack_branch, stored_below}
 use Rattle.rv_select.specs.Calls.{call_begun, call_ended, called, call_jump, depth_tested, jump_unless_last, one_more, part_given}
@@ -45,10 +46,10 @@ passed-count : (y : Layout) (held : Option ℕ) (i : ℕ) (ps : List Part) → l
 passed-count y held i [] = omega arith
 passed-count y held i (p ∷ ps) =
     let A = part_passed y held p in
-    let B = stored_below x5 (8 * (i + 1)) in
+    let B = stored_below T0 (8 * (i + 1)) in
     let C = passed y None (i + 1) ps in
     let a : length A ≤ 8 = first-part-count y held p in
-    let b : length B ≤ 3 = below-count x5 (8 * (i + 1)) in
+    let b : length B ≤ 3 = below-count T0 (8 * (i + 1)) in
     let c : length C ≤ 11 * length ps = passed-count y None (i + 1) ps in
     let one : length (A ++ (B ++ C)) ≤ 8 + (3 + 11 * length ps) = both A (B ++ C) 8 (3 + 11 * length ps) a (both B C 3 (11 * length ps) b c) in
     omega (arith, one)
@@ -57,7 +58,7 @@ passed-count y held i (p ∷ ps) =
 near-one : (x : ℕ) (n : ℕ) → n ≤ 2048 → length (stored_below (register_of x) n) ≤ 1
 near-one x n h =
     subst
-    (λ b. length (if b then Store Sd x2 (register_of x) (below_zero (n - 1)) ∷ [] else far_part (2 ^ 32 - n) ++ Store Sd x7 (register_of x) (lower_of (2 ^ 32 - n)) ∷ []) ≤ 1)
+    (λ b. length (if b then Store Sd SP (register_of x) (below_zero (n - 1)) ∷ [] else far_part (2 ^ 32 - n) ++ Store Sd T2 (register_of x) (lower_of (2 ^ 32 - n)) ∷ []) ≤ 1)
     (sym (le-leb n 2048 h)) (omega arith)
 
 pub arguments-count : (n i : ℕ) → n + i ≤ 8 → length (arguments_stored n i) ≤ n
@@ -77,17 +78,17 @@ most-eight n = either (nat_le n 8) refl
 region-taken-count : (n : ℕ) → length (region_taken n) ≤ 18
 region-taken-count zero = omega arith
 region-taken-count (suc n) =
-    let five : length (constant x5 (suc n)) ≤ 8 = constant-count x5 (suc n) in
-    both (stack_tested (suc n)) (RegisterRegister Sub x8 x8 x5 ∷ []) 17 1
-    (both (constant x5 (suc n)) (limit_found ++ stack_branch) 8 9 five (omega arith)) (omega arith)
+    let five : length (constant T0 (suc n)) ≤ 8 = constant-count T0 (suc n) in
+    both (stack_tested (suc n)) (RegisterRegister Sub S0 S0 T0 ∷ []) 17 1
+    (both (constant T0 (suc n)) (limit_found ++ stack_branch) 8 9 five (omega arith)) (omega arith)
 
 region-given-count : (n : ℕ) → length (region_given n) ≤ 9
 region-given-count zero = omega arith
-region-given-count (suc n) = both (constant x5 (suc n)) (RegisterRegister Add x8 x8 x5 ∷ []) 8 1 (constant-count x5 (suc n)) (omega arith)
+region-given-count (suc n) = both (constant T0 (suc n)) (RegisterRegister Add S0 S0 T0 ∷ []) 8 1 (constant-count T0 (suc n)) (omega arith)
 
 pub place-count : (frame : ℕ) (at : Place) → length (place_given frame at) ≤ 8
 place-count zero at = omega arith
-place-count (suc n) at = constant-count x11 (place_number at)
+place-count (suc n) at = constant-count A1 (place_number at)
 
 pub frames-within : FramesKeepWithin
 frames-within code y setting held bytes at last v =
@@ -101,13 +102,13 @@ frames-within code y setting held bytes at last v =
     let enters : length (entered y bytes code.frame) ≤ 18 + (3 + 11) =
     both (region_taken code.frame) (frame_taken y bytes) 18 (3 + 11) (region-taken-count code.frame)
     (both (pointer_down bytes) (link_saved y ++ saved y 10 18) 3 11 (down-count bytes)
-    (both (link_saved y) (saved y 10 18) 1 10 (one-if y.extent.calls (Store Sd x2 x1 zero_immediate)) keeps)) in
+    (both (link_saved y) (saved y 10 18) 1 10 (one-if y.extent.calls (Store Sd SP RA zero_immediate)) keeps)) in
     let backs : length (put_back y 10 18) ≤ 10 = put-back-count y 10 18 in
     let gives : length (frames_given bytes code.frame) ≤ 9 + (3 + 1) =
-    both (region_given code.frame) (pointer_up bytes ++ Jalr x0 x1 zero_immediate ∷ []) 9 (3 + 1) (region-given-count code.frame)
-    (both (pointer_up bytes) (Jalr x0 x1 zero_immediate ∷ []) 3 1 (up-count bytes) (omega arith)) in
+    both (region_given code.frame) (pointer_up bytes ++ Jalr ZERO RA zero_immediate ∷ []) 9 (3 + 1) (region-given-count code.frame)
+    (both (pointer_up bytes) (Jalr ZERO RA zero_immediate ∷ []) 3 1 (up-count bytes) (omega arith)) in
     let leaves : length (left y bytes code.frame) ≤ 1 + (10 + 13) =
-    both (link_put_back y) (put_back y 10 18 ++ frames_given bytes code.frame) 1 (10 + 13) (one-if y.extent.calls (Load Ld x1 x2 zero_immediate))
+    both (link_put_back y) (put_back y 10 18 ++ frames_given bytes code.frame) 1 (10 + 13) (one-if y.extent.calls (Load Ld RA SP zero_immediate))
     (both (put_back y 10 18) (frames_given bytes code.frame) 10 13 backs gives) in (
       omega (arith, begins, enters, leaves),
       both (part_given y held v) (jump_unless_last setting.short setting.next (at + 4 * length (part_given y held v)) last) 8 2 (given-count y held v)
@@ -132,10 +133,10 @@ received-count : (y : Layout) (sizes : List ℕ) (last : ℕ) (d : Destination) 
 received-count y sizes last d at h = some d
   where
     A : List Instr
-    A = framed (λ r far. Load Ld x5 r far) at
+    A = framed (λ r far. Load Ld T0 r far) at
 
     either : (b : Bool) (e : Destination) → length (if b then A ++ result_put y sizes e else []) ≤ 3 + result_words e
-    either true e = both A (result_put y sizes e) 3 (result_words e) (framed-count (λ r far. Load Ld x5 r far) at) (result-count y sizes e h)
+    either true e = both A (result_put y sizes e) 3 (result_words e) (framed-count (λ r far. Load Ld T0 r far) at) (result-count y sizes e h)
     either false e = omega arith
 
     some : (e : Destination) → length (received_one y sizes last e at) ≤ parameter_words e
@@ -151,9 +152,9 @@ parameters-within y sizes last (d ∷ ds) h =
 
 pub calls-within : CallsKeepWithin
 calls-within y sizes places at held to place f arguments small =
-    let A = constant x11 (place_number place) in
+    let A = constant A1 (place_number place) in
     let P = passed y held 0 arguments in
-    let first : length A ≤ 8 = constant-count x11 (place_number place) in
+    let first : length A ≤ 8 = constant-count A1 (place_number place) in
     let parts : length P ≤ 11 * length arguments = passed-count y held 0 arguments in
     let tail : length (P ++ one_more) ≤ 11 * length arguments + 1 = both P one_more (11 * length arguments) 1 parts (omega arith) in
     let deep : length (depth_tested ++ (P ++ one_more)) ≤ 5 + (11 * length arguments + 1) = both depth_tested (P ++ one_more) 5 (11 * length arguments + 1) (omega arith) tail in

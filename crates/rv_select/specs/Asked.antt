@@ -1,4 +1,4 @@
--- Which temporaries the code of a function takes from their homes. The others have none: their words are only ever taken from x5, directly
+-- Which temporaries the code of a function takes from their homes. The others have none: their words are only ever taken from T0, directly
 -- behind the instructions that leave them there.
 use Rattle.std.specs.Prelude.{ℕ, ◌+◌, ◌*◌, Bool, true, false, ◌&&◌, if◌then◌else◌, nat_eq, nat_le, List, [], ◌∷◌, ◌++◌, length, replicate}
 use Rattle.std.specs.Prelude.{Option, Some, None, slice_get, slice_set}
@@ -31,12 +31,12 @@ use Rattle.rv_select.specs.declared.pairs.Reads.{Reads}
 use Rattle.rv_select.specs.declared.pairs.Pair.{Pair}
 use Rattle.rv_select.specs.Pairs.{pair_of, plain_of, reads_of}
 
--- a zero, which x0 holds
+-- a zero, which ZERO holds
 abbrev pub is_zero : Operand → Bool
 is_zero (Temp t) = false
 is_zero (Constant c) = nat_eq c 0
 
--- The temporary whose word an instruction leaves in x5: the one that it writes last, as a call does with its result. A copy of a zero
+-- The temporary whose word an instruction leaves in T0: the one that it writes last, as a call does with its result. A copy of a zero
 -- leaves none there.
 abbrev pub held_after : Instruction → Option ℕ
 held_after (instructions.Compute d op form a b) = Some d
@@ -47,7 +47,7 @@ held_after (instructions.Alloc d a) = Some d
 held_after (instructions.Call to at f arguments) = destination_write to
 held_after _ = None
 
--- what x5 holds behind instructions; nothing is known of it where a block begins
+-- what T0 holds behind instructions; nothing is known of it where a block begins
 abbrev pub held_behind : (held : Option ℕ) → List Instruction → Option ℕ
 held_behind held [] = held
 held_behind held (i ∷ is) = held_behind (held_after i) is
@@ -56,7 +56,7 @@ abbrev pub is_held : (held : Option ℕ) → ℕ → Bool
 is_held None t = false
 is_held (Some u) t = nat_eq u t
 
--- the operators whose operands may change places, and do where x5 holds the second
+-- the operators whose operands may change places, and do where T0 holds the second
 abbrev pub is_symmetric : BinaryOperator → Bool
 is_symmetric operators.Add = true
 is_symmetric operators.Multiply = true
@@ -71,12 +71,12 @@ abbrev pub is_turned : (held : Option ℕ) → BinaryOperator → Operand → Bo
 is_turned held op (Temp t) = is_symmetric op && is_held held t
 is_turned held op (Constant c) = false
 
--- an operand that x5 holds. As the second of any other operator it goes to x6, and as that of a comparison with its branch it stays
+-- an operand that T0 holds. As the second of any other operator it goes to T1, and as that of a comparison with its branch it stays
 abbrev pub is_second : (held : Option ℕ) → Operand → Bool
 is_second held (Temp t) = is_held held t
 is_second held (Constant c) = false
 
--- an operand that x5 takes is asked for unless x5 holds it
+-- an operand that T0 takes is asked for unless T0 holds it
 abbrev pub first_asks : (held : Option ℕ) → Operand → List ℕ
 first_asks held (Temp t) = if is_held held t then [] else t ∷ []
 first_asks held (Constant c) = []
@@ -99,7 +99,7 @@ computed_asks held op a b =
 abbrev pub compared_asks : (held : Option ℕ) → (a b : Operand) → List ℕ
 compared_asks held a b = if is_second held b then both_ask held b a else both_ask held a b
 
--- of the parts that a call passes x5 may hold the first
+-- of the parts that a call passes T0 may hold the first
 abbrev pub part_asks : (held : Option ℕ) → Part → List ℕ
 part_asks held (parts.Word a) = first_asks held a
 part_asks held (parts.Area n) = []
@@ -125,7 +125,7 @@ abbrev pub all_ask : (held : Option ℕ) → List Instruction → List ℕ
 all_ask held [] = []
 all_ask held (i ∷ is) = asks held i ++ all_ask (held_after i) is
 
--- what is given back, which x10 takes from x5 where x5 holds it
+-- what is given back, which A0 takes from T0 where T0 holds it
 abbrev pub given_asks : (held : Option ℕ) → Part → List ℕ
 given_asks held (parts.Word a) = first_asks held a
 given_asks held (parts.Area n) = []

@@ -10,6 +10,7 @@ use Rattle.rv_isa.specs.declared.operation.BranchCondition.TheVariants.{Ltu}
 use Rattle.rv_isa.specs.declared.operation.ImmediateOp.TheVariants.{Addi}
 use Rattle.rv_isa.specs.declared.operand.Register.{Register}
 use Rattle.rv_isa.specs.Table.{word_of}
+use Rattle.rv_isa.specs.Registers.{RA, T0, T1, A0, A1, T3}
 use Rattle.reg_alloc.specs.declared.assignment.Home.{Home}
 use Rattle.terra_words.specs.declared.words.FaultKind.TheVariants.{CallDepth}
 use Rattle.tac_form.specs.declared.tac.Operand.{Operand}
@@ -24,7 +25,6 @@ use Rattle.tac_form.specs.declared.tac.Block.{Block}
 use Rattle.tac_form.specs.declared.tac.Tac.{Tac}
 use Rattle.tac_form.specs.Fits.{area_fits}
 use Rattle.tac_form.specs.Weights.{code_words, private_bytes}
-use Rattle.rv_operators.specs.Codes.{x5, x6}
 use Rattle.rv_select.specs.declared.selected.Code.{Code}
 use Rattle.rv_select.specs.declared.selected.Call.{Call as Site}
 use Rattle.rv_select.specs.declared.pairs.Pair.{Pair}
@@ -36,45 +36,45 @@ use Rattle.rv_select.specs.Pairs.{pair_of, plain_of}
 use Rattle.rv_select.specs.Numbers.{below_zero, constant, immediate_of, lower_of, upper_of}
 use Rattle.rv_select.specs.Places.{Layout, frame_bytes, layout_of}
 use Rattle.rv_select.specs.Shapes.{area_reached, counted_if, distance, exit_shape, fault_call, has_exit_shape, has_shape, held_after, jump}
-use Rattle.rv_select.specs.Shapes.{brought, moved, over, place_number, shape_of, small, start_of, taken, x10, x11, first_taken}
-use Rattle.rv_select.specs.Entering.{begun, entered, left, received, result_put, stored_below, words_offset, x1, x28}
+use Rattle.rv_select.specs.Shapes.{brought, moved, over, place_number, shape_of, small, start_of, taken, first_taken}
+use Rattle.rv_select.specs.Entering.{begun, entered, left, received, result_put, stored_below, words_offset}
 
--- The run fails at the place in x11 where 511 calls wait already. What x5 holds stays.
+-- The run fails at the place in A1 where 511 calls wait already. What T0 holds stays.
 abbrev pub depth_tested : List Instr
-depth_tested = small x6 511 ++ (Branch Ltu x28 x6 (over (fault_call CallDepth)) ∷ fault_call CallDepth)
+depth_tested = small T1 511 ++ (Branch Ltu T3 T1 (over (fault_call CallDepth)) ∷ fault_call CallDepth)
 
 -- what is passed: a word, or the address of an area
 abbrev pub part_taken : Layout → Register → Part → List Instr
 part_taken y d (parts.Word a) = taken y d a
 part_taken y d (parts.Area n) = area_reached y d n 0
 
--- it goes to x5, unless that holds it
+-- it goes to T0, unless that holds it
 abbrev pub part_passed : Layout → (held : Option ℕ) → Part → List Instr
 part_passed y held (parts.Word a) = first_taken y held a
-part_passed y held (parts.Area n) = area_reached y x5 n 0
+part_passed y held (parts.Area n) = area_reached y T0 n 0
 
--- the words of the parts from one on go below the frame, where x5 may hold the first of them
+-- the words of the parts from one on go below the frame, where T0 may hold the first of them
 abbrev pub passed : Layout → (held : Option ℕ) → (i : ℕ) → List Part → List Instr
 passed y held i [] = []
-passed y held i (p ∷ ps) = part_passed y held p ++ (stored_below x5 (8 * (i + 1)) ++ passed y None (i + 1) ps)
+passed y held i (p ∷ ps) = part_passed y held p ++ (stored_below T0 (8 * (i + 1)) ++ passed y None (i + 1) ps)
 
 abbrev pub one_more : List Instr
-one_more = RegisterImmediate Addi x28 x28 (immediate_of 1) ∷ []
+one_more = RegisterImmediate Addi T3 T3 (immediate_of 1) ∷ []
 
--- what comes before the jump of a call: its place is in x11, a count is taken, and one more call waits
+-- what comes before the jump of a call: its place is in A1, a count is taken, and one more call waits
 abbrev pub call_begun : Layout → (held : Option ℕ) → Place → List Part → List Instr
 call_begun y held at arguments =
-    constant x11 (place_number at)
+    constant A1 (place_number at)
     ++ counted_if y.extent.counts (depth_tested ++ (passed y held 0 arguments ++ one_more))
 
--- a jump from an address to a function, with the return address in x1
+-- a jump from an address to a function, with the return address in RA
 abbrev pub call_jump : (from to : ℕ) → List Instr
-call_jump from to = Auipc x5 (upper_of (distance from to)) ∷ Jalr x1 x5 (lower_of (distance from to)) ∷ []
+call_jump from to = Auipc T0 (upper_of (distance from to)) ∷ Jalr RA T0 (lower_of (distance from to)) ∷ []
 
--- what follows the jump: one call fewer waits, and the result, which is in x10, goes where it is taken
+-- what follows the jump: one call fewer waits, and the result, which is in A0, goes where it is taken
 abbrev pub call_ended : Layout → (sizes : List ℕ) → Destination → List Instr
 call_ended y sizes to =
-    RegisterImmediate Addi x28 x28 (below_zero 0) ∷ moved x5 x10 ∷ result_put y sizes to
+    RegisterImmediate Addi T3 T3 (below_zero 0) ∷ moved T0 A0 ∷ result_put y sizes to
 
 -- a call that stands at an address, by the addresses of functions
 abbrev pub called : Layout → (sizes : List ℕ) → (places : FnId → ℕ) → (at : ℕ) → (held : Option ℕ) → Destination → Place → FnId →
@@ -83,18 +83,18 @@ called y sizes places at held to place f arguments =
     call_begun y held place arguments
     ++ (call_jump (at + 4 * length (call_begun y held place arguments)) (places f) ++ call_ended y sizes to)
 
--- the code of an instruction that stands at an address, where x5 may hold the word of a temporary
+-- the code of an instruction that stands at an address, where T0 may hold the word of a temporary
 abbrev pub instruction_code : Layout → (sizes : List ℕ) → (places : FnId → ℕ) → (at : ℕ) → (held : Option ℕ) → Instruction → List Instr
 instruction_code y sizes places at held (Call to place f arguments) = called y sizes places at held to place f arguments
 instruction_code y sizes places at held i = shape_of y held i
 
--- x10 gets what is given back: a word, from x5 where x5 holds it, or the address of an area
+-- A0 gets what is given back: a word, from T0 where T0 holds it, or the address of an area
 abbrev pub word_given : Layout → (held : Option ℕ) → Operand → List Instr
-word_given y held a = brought y held x10 a
+word_given y held a = brought y held A0 a
 
 abbrev pub part_given : Layout → (held : Option ℕ) → Part → List Instr
 part_given y held (parts.Word a) = word_given y held a
-part_given y held (parts.Area n) = area_reached y x10 n 0
+part_given y held (parts.Area n) = area_reached y A0 n 0
 
 -- That of an exit, by the addresses of blocks and of the code that leaves the function: it gives back a part. Behind the last block that
 -- code needs no jump.

@@ -5,6 +5,7 @@ use Rattle.rv_isa.specs.declared.instr.Instr.{Instr}
 use Rattle.rv_isa.specs.declared.operation.BranchCondition.{BranchCondition}
 use Rattle.rv_isa.specs.declared.operation.BranchCondition.TheVariants.{Eq, Ne, Lt, Ltu, Ge, Geu}
 use Rattle.rv_isa.specs.declared.operand.Register.{Register}
+use Rattle.rv_isa.specs.Registers.{T0, T1}
 use Rattle.reg_alloc.specs.declared.assignment.Home.{Home}
 use Rattle.reg_alloc.specs.Right.{IsRight}
 use Rattle.rv_machine.specs.Machine.{State}
@@ -24,7 +25,7 @@ use Rattle.tac_form.specs.Fits.{exit_fits, instruction_fits}
 use Rattle.tac_form.specs.Graph.{graph_of}
 use Rattle.tac_form.specs.Live.{InUse, IsLive}
 use Rattle.tac_form.specs.Weights.{exit_words, words_of}
-use Rattle.rv_operators.specs.Codes.{is_comparison, x5, x6}
+use Rattle.rv_operators.specs.Codes.{is_comparison}
 use Rattle.rv_operators.specs.Runs.{Stands}
 use Rattle.rv_select.specs.declared.settings.Setting.{Setting}
 use Rattle.rv_select.specs.Asked.{compared_asks}
@@ -69,15 +70,15 @@ compared setting signed op a b at e f first second =
 abbrev pub both_taken : Layout → (held : Option ℕ) → (a b : Operand) → List Instr
 both_taken y held a b = first_read y held a ++ second_read y b
 
--- the same where x5 may hold the second of them, which stays there then
+-- the same where T0 may hold the second of them, which stays there then
 abbrev pub operands_taken : Layout → (held : Option ℕ) → (a b : Operand) → List Instr
 operands_taken y held a b = if is_second held b then both_taken y held b a else both_taken y held a b
 
 abbrev pub first_register : Layout → (held : Option ℕ) → (a b : Operand) → Register
-first_register y held a b = if is_second held b then read_in y x6 a else read_in y x5 a
+first_register y held a b = if is_second held b then read_in y T1 a else read_in y T0 a
 
 abbrev pub second_register : Layout → (held : Option ℕ) → (a b : Operand) → Register
-second_register y held a b = if is_second held b then read_in y x5 b else read_in y x6 b
+second_register y held a b = if is_second held b then read_in y T0 b else read_in y T1 b
 
 abbrev pub compared_shape : Layout → Setting → (held : Option ℕ) → (at : ℕ) → (starts : ℕ → ℕ) → BinaryOperator → Number →
     (a b : Operand) → (e f : Edge) → List Instr

@@ -11,6 +11,7 @@ use Rattle.rv_isa.specs.declared.operation.RegisterOp.TheVariants.{Add, Sub}
 use Rattle.rv_isa.specs.declared.operation.LoadOp.TheVariants.{Ld}
 use Rattle.rv_isa.specs.declared.operation.StoreOp.TheVariants.{Sd}
 use Rattle.rv_isa.specs.declared.operand.Register.{Register}
+use Rattle.rv_isa.specs.Registers.{ZERO, RA, SP, TP, T0, T2, S0, A1}
 use Rattle.terra_words.specs.declared.words.FaultKind.TheVariants.{StackFull}
 use Rattle.reg_alloc.specs.declared.assignment.Home.{Home}
 use Rattle.reg_alloc.specs.declared.assignment.Home.TheVariants as homes
@@ -18,20 +19,14 @@ use Rattle.tac_form.specs.declared.tac.Destination.{Destination}
 use Rattle.tac_form.specs.declared.tac.Destination.TheVariants.{Temp, Area, Nothing}
 use Rattle.tac_form.specs.declared.tac.Tac.{Tac}
 use Rattle.tac_form.specs.Weights.{kept_bytes, most_moved}
-use Rattle.rv_operators.specs.Codes.{x0, x5, zero_immediate}
+use Rattle.rv_operators.specs.Codes.{zero_immediate}
 use Rattle.rv_select.specs.Numbers.{below_zero, constant, immediate_of, lower_of, register_of, short_constant}
 use Rattle.rv_select.specs.Places.{Layout, slot_offset, uses}
-use Rattle.rv_select.specs.Shapes.{far_part, fault_call, framed, limit_found, moved, over, place_number, put_at, to_area, x2, x4, x7, x8}
-use Rattle.rv_select.specs.Shapes.{x11}
+use Rattle.rv_select.specs.Shapes.{far_part, fault_call, framed, limit_found, moved, over, place_number, put_at, to_area}
 
--- the return address, and the number of calls that wait
-abbrev pub x1 : Register
-x1 = record { number = 1; in_range = lit≤ tt }
+-- RA has the return address, and T3 the number of calls that wait.
 
-abbrev pub x28 : Register
-x28 = record { number = 28; in_range = lit≤ tt }
-
--- where the caller's word of a register from x18 on is kept in the frame
+-- where the caller's word of a register from S2 on is kept in the frame
 abbrev pub kept_offset : ℕ → ℕ
 kept_offset x = 8 * (x - 17)
 
@@ -41,49 +36,49 @@ if_used false i = []
 
 -- so many registers from one on are kept in the frame where the function uses them, and put back
 abbrev pub saved_one : Layout → ℕ → List Instr
-saved_one y x = if_used (uses y x) (Store Sd x2 (register_of x) (immediate_of (kept_offset x)))
+saved_one y x = if_used (uses y x) (Store Sd SP (register_of x) (immediate_of (kept_offset x)))
 
 abbrev pub saved : Layout → (count x : ℕ) → List Instr
 saved y zero x = []
 saved y (suc n) x = saved_one y x ++ saved y n (x + 1)
 
 abbrev pub put_back_one : Layout → ℕ → List Instr
-put_back_one y x = if_used (uses y x) (Load Ld (register_of x) x2 (immediate_of (kept_offset x)))
+put_back_one y x = if_used (uses y x) (Load Ld (register_of x) SP (immediate_of (kept_offset x)))
 
 abbrev pub put_back : Layout → (count x : ℕ) → List Instr
 put_back y zero x = []
 put_back y (suc n) x = put_back_one y x ++ put_back y n (x + 1)
 
--- The run fails at the place in x11 unless the data stack has room for a frame of so many bytes, which x5 gets.
+-- The run fails at the place in A1 unless the data stack has room for a frame of so many bytes, which T0 gets.
 abbrev pub stack_branch : List Instr
 stack_branch =
-    RegisterRegister Add x7 x7 x5 ∷ Branch Geu x8 x7 (over (fault_call StackFull)) ∷ fault_call StackFull
+    RegisterRegister Add T2 T2 T0 ∷ Branch Geu S0 T2 (over (fault_call StackFull)) ∷ fault_call StackFull
 
 abbrev pub stack_tested : ℕ → List Instr
-stack_tested frame = constant x5 frame ++ (limit_found ++ stack_branch)
+stack_tested frame = constant T0 frame ++ (limit_found ++ stack_branch)
 
--- The frame in the region goes down, if there is room. An empty one needs no test, and x8 stays.
+-- The frame in the region goes down, if there is room. An empty one needs no test, and S0 stays.
 abbrev pub region_taken : (frame : ℕ) → List Instr
 region_taken zero = []
-region_taken (suc n) = stack_tested (suc n) ++ RegisterRegister Sub x8 x8 x5 ∷ []
+region_taken (suc n) = stack_tested (suc n) ++ RegisterRegister Sub S0 S0 T0 ∷ []
 
 -- The pointer of the frame in private memory goes down or up by the bytes of a frame, in one word where an immediate holds them.
 abbrev pub pointer_down : (bytes : ℕ) → List Instr
 pointer_down bytes =
-    if nat_le bytes 2048 then RegisterImmediate Addi x2 x2 (below_zero (bytes - 1)) ∷ []
-    else short_constant x7 bytes ++ RegisterRegister Sub x2 x2 x7 ∷ []
+    if nat_le bytes 2048 then RegisterImmediate Addi SP SP (below_zero (bytes - 1)) ∷ []
+    else short_constant T2 bytes ++ RegisterRegister Sub SP SP T2 ∷ []
 
 abbrev pub pointer_up : (bytes : ℕ) → List Instr
 pointer_up bytes =
-    if nat_le bytes 2047 then RegisterImmediate Addi x2 x2 (immediate_of bytes) ∷ []
-    else short_constant x7 bytes ++ RegisterRegister Add x2 x2 x7 ∷ []
+    if nat_le bytes 2047 then RegisterImmediate Addi SP SP (immediate_of bytes) ∷ []
+    else short_constant T2 bytes ++ RegisterRegister Add SP SP T2 ∷ []
 
 -- the return address is kept in the frame and put back, where the function makes calls
 abbrev pub link_saved : Layout → List Instr
-link_saved y = if_used y.extent.calls (Store Sd x2 x1 zero_immediate)
+link_saved y = if_used y.extent.calls (Store Sd SP RA zero_immediate)
 
 abbrev pub link_put_back : Layout → List Instr
-link_put_back y = if_used y.extent.calls (Load Ld x1 x2 zero_immediate)
+link_put_back y = if_used y.extent.calls (Load Ld RA SP zero_immediate)
 
 -- the frame in private memory goes down, and what is kept for the caller is stored
 abbrev pub frame_taken : Layout → (bytes : ℕ) → List Instr
@@ -97,7 +92,7 @@ entered y bytes frame = region_taken frame ++ frame_taken y bytes
 abbrev pub words_offset : Layout → ℕ
 words_offset y = kept_bytes + 8 * length y.homes + most_moved * y.areas
 
--- a word in x5, or the bytes that lie at the address in x5, where a parameter or a result is taken, or nothing
+-- a word in T0, or the bytes that lie at the address in T0, where a parameter or a result is taken, or nothing
 abbrev pub size_in : List ℕ → ℕ → ℕ
 size_in sizes n = unwrap_or (slice_get sizes n) 0
 
@@ -137,20 +132,20 @@ is_received y last Nothing = false
 -- a parameter from its word, which lies at an offset of the frame: that of an area is an address
 abbrev pub received_one : Layout → (sizes : List ℕ) → (last : ℕ) → Destination → (at : ℕ) → List Instr
 received_one y sizes last d at =
-    if is_received y last d then framed (λ r far. Load Ld x5 r far) at ++ result_put y sizes d else []
+    if is_received y last d then framed (λ r far. Load Ld T0 r far) at ++ result_put y sizes d else []
 
 abbrev pub received : Layout → (sizes : List ℕ) → (last : ℕ) → List Destination → List Instr
 received y sizes last [] = []
 received y sizes last (d ∷ ds) = received_one y sizes last d (last + 8 * length ds) ++ received y sizes last ds
 
--- the frame in the region goes up again, and an empty one leaves x8
+-- the frame in the region goes up again, and an empty one leaves S0
 abbrev pub region_given : (frame : ℕ) → List Instr
 region_given zero = []
-region_given (suc n) = constant x5 (suc n) ++ RegisterRegister Add x8 x8 x5 ∷ []
+region_given (suc n) = constant T0 (suc n) ++ RegisterRegister Add S0 S0 T0 ∷ []
 
--- back to the caller, with the result in x10
+-- back to the caller, with the result in A0
 abbrev pub frames_given : (bytes frame : ℕ) → List Instr
-frames_given bytes frame = region_given frame ++ (pointer_up bytes ++ Jalr x0 x1 zero_immediate ∷ [])
+frames_given bytes frame = region_given frame ++ (pointer_up bytes ++ Jalr ZERO RA zero_immediate ∷ [])
 
 abbrev pub left : Layout → (bytes frame : ℕ) → List Instr
 left y bytes frame = link_put_back y ++ (put_back y 10 18 ++ frames_given bytes frame)
@@ -158,10 +153,10 @@ left y bytes frame = link_put_back y ++ (put_back y 10 18 ++ frames_given bytes 
 -- a register is stored so many bytes below the frame
 abbrev pub stored_below : Register → ℕ → List Instr
 stored_below r n =
-    if nat_le n 2048 then Store Sd x2 r (below_zero (n - 1)) ∷ []
-    else far_part (2 ^ 32 - n) ++ Store Sd x7 r (lower_of (2 ^ 32 - n)) ∷ []
+    if nat_le n 2048 then Store Sd SP r (below_zero (n - 1)) ∷ []
+    else far_part (2 ^ 32 - n) ++ Store Sd T2 r (lower_of (2 ^ 32 - n)) ∷ []
 
--- The machine's arguments, which stand in the registers from x10 on, as parameters' words. There are at most eight of them.
+-- The machine's arguments, which stand in the registers from A0 on, as parameters' words. There are at most eight of them.
 abbrev pub arguments_stored : (count i : ℕ) → List Instr
 arguments_stored zero i = []
 arguments_stored (suc n) i = stored_below (register_of (10 + i)) (8 * (i + 1)) ++ arguments_stored n (i + 1)
@@ -169,12 +164,12 @@ arguments_stored (suc n) i = stored_below (register_of (10 + i)) (8 * (i + 1)) +
 abbrev pub most_arguments : ℕ → ℕ
 most_arguments n = if nat_le n 8 then n else 0
 
--- x11 gets the place at which the run fails where the data stack has no room for a frame. An empty one always has.
+-- A1 gets the place at which the run fails where the data stack has no room for a frame. An empty one always has.
 abbrev pub place_given : (frame : ℕ) → Place → List Instr
 place_given zero at = []
-place_given (suc n) at = constant x11 (place_number at)
+place_given (suc n) at = constant A1 (place_number at)
 
 -- A function as the entry: its frame in the region lies below the region's end, and no call waits. The code that enters it by a
 -- call follows.
 abbrev pub begun : Tac → List Instr
-begun code = moved x8 x4 ∷ (arguments_stored (most_arguments (length code.parameters)) 0 ++ place_given code.frame code.place)
+begun code = moved S0 TP ∷ (arguments_stored (most_arguments (length code.parameters)) 0 ++ place_given code.frame code.place)

@@ -14,11 +14,12 @@ use Rattle.rv_isa.specs.declared.operation.ShiftOp.TheVariants.{Slli, Srli, Srai
 use Rattle.rv_isa.specs.declared.operand.Register.{Register}
 use Rattle.rv_isa.specs.declared.operand.ShiftCount.{ShiftCount}
 use Rattle.rv_isa.specs.declared.operand.WordShiftCount.{WordShiftCount}
+use Rattle.rv_isa.specs.Registers.{ZERO}
 use Rattle.terra_words.specs.declared.words.Width.{Width}
 use Rattle.terra_words.specs.declared.words.BinaryOperator.{BinaryOperator}
 use Rattle.terra_words.specs.declared.words.BinaryOperator.TheVariants.{Add, Subtract, Multiply, Xor, And, Or, ShiftLeft, ShiftRight, Equal}
 use Rattle.terra_words.specs.declared.words.BinaryOperator.TheVariants.{NotEqual, Less, LessEqual, Greater, GreaterEqual}
-use Rattle.rv_operators.specs.Codes.{cut, one_immediate, x0}
+use Rattle.rv_operators.specs.Codes.{cut, one_immediate}
 use Rattle.rv_select.specs.Numbers.{lower_of}
 
 -- a number that twelve bits with a sign hold: below 2,048, or one of the last 2,048 below 2 ^ 64, for those below zero
@@ -112,7 +113,7 @@ folded d a w Or c = by_number d a Ori c ∷ cut d w
 folded d a w ShiftLeft c = shifted_up d a w (c % w.bits)
 folded d a w ShiftRight c = Shift (shift_down w.signed) d a (count_of (c % w.bits)) ∷ cut d w
 folded d a w Equal c = differing d a c (λ r. RegisterImmediate Sltiu d r one_immediate)
-folded d a w NotEqual c = differing d a c (λ r. RegisterRegister Sltu d x0 r)
+folded d a w NotEqual c = differing d a c (λ r. RegisterRegister Sltu d ZERO r)
 folded d a w Less c = by_number d a (test_of w.signed) c ∷ []
 folded d a w GreaterEqual c = by_number d a (test_of w.signed) c ∷ turned_round d
 folded d a w LessEqual c = by_number d a (test_of w.signed) (c + 1) ∷ []

@@ -43,12 +43,12 @@ abbrev pub IsPartRead : Layout → (ℕ → Type 0) → Part → Type 0
 IsPartRead y Used (parts.Word a) = IsRead y Used a
 IsPartRead y Used (parts.Area n) = n < y.areas
 
--- the first part that a call passes, and what is given back: a word that x5 holds needs no home
+-- the first part that a call passes, and what is given back: a word that T0 holds needs no home
 abbrev pub IsPartFirst : Layout → (held : Option ℕ) → (ℕ → Type 0) → Part → Type 0
 IsPartFirst y held Used (parts.Word a) = IsFirst y held Used a
 IsPartFirst y held Used (parts.Area n) = n < y.areas
 
--- the parts that a call passes, of which x5 may hold the first
+-- the parts that a call passes, of which T0 may hold the first
 abbrev pub ArePassed : Layout → (held : Option ℕ) → (ℕ → Type 0) → List Part → Type 0
 ArePassed y held Used [] = Unit {0}
 ArePassed y held Used (p ∷ ps) = IsPartFirst y held Used p × ArePassed y None Used ps
@@ -75,8 +75,8 @@ pub record Enters (program : List (Option Instr)) (y : Layout) (base under most 
   pub link : y.extent.calls ≡ true → private_word after base ≡ low (m.registers 1)
   pub kept : (r : ℕ) → 18 ≤ r → r < 28 → uses y r ≡ true → private_word after (base + kept_offset r) ≡ low (m.registers r)
 
--- Where the code of entering a function stands: x2 is the end of the caller's frame, x4 that of the region, x8 the caller's frame
--- in the region, which lies in the data stack's quarter, and x11 the place of the call, where the frame isn't empty.
+-- Where the code of entering a function stands: SP is the end of the caller's frame, TP that of the region, S0 the caller's frame
+-- in the region, which lies in the data stack's quarter, and A1 the place of the call, where the frame isn't empty.
 pub record BeforeEntering (program : List (Option Instr)) (y : Layout) (bytes frame top placed size : ℕ) (at : Place)
     (m : State) : Type 0 where
   pub stands : Stands program m.pc (entered y bytes frame)
@@ -106,7 +106,7 @@ FunctionsAreEntered =
     Enters program y (top - bytes) (placed - frame) (length (entered y bytes frame)) (low (m.pc + 4 * length (entered y bytes frame))) m)
 
 -- A call has come to its jump: the words of all that it passes lie below the frame, the first uppermost, one more call waits, and
--- x11 is the place of the call. Where code counts x9 has so many counts that are left. The caller's frame and all above it are as they
+-- A1 is the place of the call. Where code counts S1 has so many counts that are left. The caller's frame and all above it are as they
 -- were, and so is all below these words.
 pub record Calls (program : List (Option Instr)) (y : Layout) (held : Option ℕ) (base : ℕ) (w : World) (at : Place) (ps : List Part)
     (left : ℕ) (m : State) : Type 0 where
@@ -141,7 +141,7 @@ CallsAreBegun =
     (511 ≤ w.depth → EndsLeft code.counts program CallDepth at (length (call_begun y held at ps)) left m) ×
     (w.depth < 511 → ArePassed y held Used ps → 8 * length ps ≤ base → Calls program y held base w at ps left m))
 
--- A function is left: x10 has its result, and the machine goes on at the return address, with the caller's frames, and its
+-- A function is left: A0 has its result, and the machine goes on at the return address, with the caller's frames, and its
 -- registers as the function found them.
 pub record Returns (program : List (Option Instr)) (y : Layout) (base over link v most : ℕ) (m : State) : Type 0 where
   pub steps : ℕ

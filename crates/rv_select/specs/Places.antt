@@ -1,13 +1,13 @@
 -- Where the words of an activation stand in the machine.
 --
--- x2 has the address of the activation's frame in private memory. x3 is the end of the heap, x4 that of the region, x8 the
--- address of the frame in the region, and x28 the number of calls that wait. x18 to x27 hold temporaries, and x1 the return address of a
--- function that makes no calls. x5 to x7 and x10 to x17 are scratch: between two instructions of three-address code they hold nothing,
--- but for x5, which behind an instruction of a block may hold the word that this one wrote, unless its home is a register. A temporary whose word is only ever taken from
--- x5 has no home. In code that counts x9 holds the counts that are left, and in any other it is as it was at the start.
+-- SP has the address of the activation's frame in private memory. GP is the end of the heap, TP that of the region, S0 the
+-- address of the frame in the region, and T3 the number of calls that wait. S2 to S11 hold temporaries, and RA the return address of a
+-- function that makes no calls. T0 to T2 and A0 to A7 are scratch: between two instructions of three-address code they hold nothing,
+-- but for T0, which behind an instruction of a block may hold the word that this one wrote, unless its home is a register. A temporary whose word is only ever taken from
+-- T0 has no home. In code that counts S1 holds the counts that are left, and in any other it is as it was at the start.
 --
--- The private frame has, from x2 upwards, a word for the return address, in which a function that makes calls keeps it, and a word for
--- each of x18 to x27, in which a function that uses one keeps its caller's word; then the slots, a word each; then 128 bytes for each
+-- The private frame has, from SP upwards, a word for the return address, in which a function that makes calls keeps it, and a word for
+-- each of S2 to S11, in which a function that uses one keeps its caller's word; then the slots, a word each; then 128 bytes for each
 -- area; and at its end the words of the parameters, which the caller stores below its own frame, the first uppermost. These are
 -- slots too, of the temporaries that take them.
 use Rattle.std.specs.Prelude.{◌≡◌, ℕ, ◌+◌, ◌*◌, ◌^◌, ◌<◌, ◌≤◌, Bool, true, false, ◌&&◌, ◌||◌, not, nat_eq, nat_le, nat_lt, List, take, drop}
@@ -181,7 +181,7 @@ abbrev pub AreBytes : List ℕ → Type 0
 AreBytes [] = Unit {0}
 AreBytes (b ∷ bs) = (b < 256) × AreBytes bs
 
--- The frame lies in private memory, and x2 is its address. Private memory is of a size that an image may ask for.
+-- The frame lies in private memory, and SP is its address. Private memory is of a size that an image may ask for.
 pub record HasFrame (y : Layout) (base : ℕ) (m : State) : Type 0 where
   pub pointer : m.registers 2 ≡ PRIVATE_ADDRESS + base
   pub within : base + frame_bytes y ≤ length m.private
@@ -198,7 +198,7 @@ pub record World : Type 0 where
   pub depth : ℕ
 
 -- The machine holds what three-address code sees. Each temporary in use that has a home stands there, and the bytes of each area in the
--- frame; the region is the same; and x3, x4, x8 and x28 are what they are said to be above.
+-- frame; the region is the same; and GP, TP, S0 and T3 are what they are said to be above.
 pub record Holds (y : Layout) (Used : ℕ → Type 0) (w : World) (base : ℕ) (m : State) : Type 0 where
   pub frame : HasFrame y base m
   pub pc : m.pc < 2 ^ 64
@@ -224,7 +224,7 @@ pub record Housed (y : Layout) (Used : ℕ → Type 0) : Type 0 where
   pub apart : (t u : ℕ) → Used t → Used u → HasHome y t → HasHome y u → home_of y t ≡ home_of y u → t ≡ u
 
 -- What callers rest on. The registers that no instruction uses as scratch are the same, those apart that the function keeps for
--- its caller; and so are x1, the count in x9, the words that it keeps, and all that lies behind or below its frame.
+-- its caller; and so are RA, the count in S1, the words that it keeps, and all that lies behind or below its frame.
 abbrev pub is_lasting : ℕ → Bool
 is_lasting r = nat_eq r 2 || nat_le 18 r && nat_le r 27
 
@@ -236,16 +236,16 @@ pub record Keeps (y : Layout) (base : ℕ) (m after : State) : Type 0 where
   pub outside : (at n : ℕ) → (at + n ≤ base + kept_bytes) ⊎ (base + frame_bytes y ≤ at) →
       take n (drop at after.private) ≡ take n (drop at m.private)
 
--- The last instruction's word is held: its temporary's home is a register, or x5 has the word.
+-- The last instruction's word is held: its temporary's home is a register, or T0 has the word.
 abbrev pub IsHeld : Layout → (held : Option ℕ) → Temps → State → Type 0
 IsHeld y None temps m = Unit {0}
 IsHeld y (Some t) temps m = in_register y t ≡ false → m.registers 5 ≡ temps t
 
--- whether x5 has the word of a temporary that is held
+-- whether T0 has the word of a temporary that is held
 abbrev pub in_five : Layout → (held : Option ℕ) → ℕ → Bool
 in_five y held t = is_held held t && not (in_register y t)
 
--- an operand's word, and what is in use where it is read: a temporary with a home, or, where x5 takes the operand, one that x5 holds
+-- an operand's word, and what is in use where it is read: a temporary with a home, or, where T0 takes the operand, one that T0 holds
 abbrev pub value_in : Temps → Operand → ℕ
 value_in temps (Temp t) = temps t
 value_in temps (Constant c) = c

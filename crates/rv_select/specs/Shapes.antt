@@ -22,6 +22,7 @@ use Rattle.rv_isa.specs.declared.operand.Immediate.{Immediate}
 use Rattle.rv_isa.specs.declared.operand.BranchOffset.{BranchOffset}
 use Rattle.rv_isa.specs.declared.operand.JumpOffset.{JumpOffset}
 use Rattle.rv_isa.specs.declared.operand.ShiftCount.{ShiftCount}
+use Rattle.rv_isa.specs.Registers.{ZERO, SP, GP, TP, T0, T1, T2, S0, S1, A0, A1, A2, A7}
 use Rattle.reg_alloc.specs.declared.assignment.Home.{Home}
 use Rattle.reg_alloc.specs.declared.assignment.Home.TheVariants as homes
 use Rattle.terra_words.specs.declared.words.Width.{Width}
@@ -45,55 +46,29 @@ use Rattle.tac_form.specs.declared.tac.Instruction.{Instruction}
 use Rattle.tac_form.specs.declared.tac.Instruction.TheVariants as instructions
 use Rattle.tac_form.specs.Flow.{bytes_of, width_of}
 use Rattle.tac_form.specs.Weights.{most_moved}
-use Rattle.rv_operators.specs.Codes.{x0, x5, x6, code_of, zero_immediate}
+use Rattle.rv_operators.specs.Codes.{code_of, zero_immediate}
 use Rattle.rv_select.specs.declared.settings.Follows.{Follows}
 use Rattle.rv_select.specs.declared.settings.Follows.TheVariants.{Neither, First, Second}
 use Rattle.rv_select.specs.declared.settings.Setting.{Setting}
 use Rattle.rv_select.specs.Settings.{falls, follower}
 pub use Rattle.rv_select.specs.Asked.{held_after, is_held, is_second, is_symmetric, is_turned, is_zero}
 use Rattle.rv_select.specs.Folded.{folded, is_folded}
-pub use Rattle.rv_select.specs.Numbers.{x7}
 use Rattle.rv_select.specs.Numbers.{constant, immediate_of, below_zero, lower_of, register_of, upper_of}
 use Rattle.rv_select.specs.Places.{Layout, area_offset, home_of, in_five, in_register, slot_offset}
 
--- the frame, the end of the heap, the end of the region, the frame in the region, the counts that are left, and the registers in
--- which the machine takes the parts of a call
-abbrev pub x2 : Register
-x2 = record { number = 2; in_range = lit≤ tt }
+-- What registers hold: SP the address of the frame, GP the end of the heap, TP the end of the region, S0 the address of the frame in the
+-- region, and S1 the counts that are left. T0 has the first operand and the result, T1 the second operand, and T2 upper parts of offsets.
+-- In A0, A1, A2 and A7 the machine takes the parts of a call.
 
-abbrev pub x3 : Register
-x3 = record { number = 3; in_range = lit≤ tt }
-
-abbrev pub x4 : Register
-x4 = record { number = 4; in_range = lit≤ tt }
-
-abbrev pub x8 : Register
-x8 = record { number = 8; in_range = lit≤ tt }
-
-abbrev pub x9 : Register
-x9 = record { number = 9; in_range = lit≤ tt }
-
-abbrev pub x10 : Register
-x10 = record { number = 10; in_range = lit≤ tt }
-
-abbrev pub x11 : Register
-x11 = record { number = 11; in_range = lit≤ tt }
-
-abbrev pub x12 : Register
-x12 = record { number = 12; in_range = lit≤ tt }
-
-abbrev pub x17 : Register
-x17 = record { number = 17; in_range = lit≤ tt }
-
--- x7 gets the address of an offset of the frame, but for its lower part
+-- T2 gets the address of an offset of the frame, but for its lower part
 abbrev pub far_part : ℕ → List Instr
-far_part offset = Lui x7 (upper_of offset) ∷ RegisterRegister Add x7 x7 x2 ∷ []
+far_part offset = Lui T2 (upper_of offset) ∷ RegisterRegister Add T2 T2 SP ∷ []
 
--- an instruction at an offset of the frame, where x7 takes the upper part of an offset that is too far for one instruction
+-- an instruction at an offset of the frame, where T2 takes the upper part of an offset that is too far for one instruction
 abbrev pub framed : (Register → Immediate → Instr) → ℕ → List Instr
 framed f offset =
-    if nat_le offset 2047 then f x2 (immediate_of offset) ∷ []
-    else Lui x7 (upper_of offset) ∷ RegisterRegister Add x7 x7 x2 ∷ f x7 (lower_of offset) ∷ []
+    if nat_le offset 2047 then f SP (immediate_of offset) ∷ []
+    else Lui T2 (upper_of offset) ∷ RegisterRegister Add T2 T2 SP ∷ f T2 (lower_of offset) ∷ []
 
 -- a word of one register to another
 abbrev pub moved : (to from : Register) → Instr
@@ -108,24 +83,24 @@ abbrev pub taken : Layout → Register → Operand → List Instr
 taken y d (Temp t) = taken_from d (home_of y t)
 taken y d (Constant c) = constant d c
 
--- x5 gets an operand, unless it holds it: where an instruction leaves a temporary's word in x5, the next one knows
+-- T0 gets an operand, unless it holds it: where an instruction leaves a temporary's word in T0, the next one knows
 abbrev pub first_taken : Layout → (held : Option ℕ) → Operand → List Instr
-first_taken y held (Temp t) = if in_five y held t then [] else taken y x5 (Temp t)
-first_taken y held (Constant c) = constant x5 c
+first_taken y held (Temp t) = if in_five y held t then [] else taken y T0 (Temp t)
+first_taken y held (Constant c) = constant T0 c
 
--- another register gets an operand, from x5 where that holds it
+-- another register gets an operand, from T0 where that holds it
 abbrev pub brought : Layout → (held : Option ℕ) → Register → Operand → List Instr
-brought y held d (Temp t) = if in_five y held t then moved d x5 ∷ [] else taken y d (Temp t)
+brought y held d (Temp t) = if in_five y held t then moved d T0 ∷ [] else taken y d (Temp t)
 brought y held d (Constant c) = constant d c
 
--- Where an operand is read: in its home, if that is a register; a zero in x0; and any other in a register that takes it.
+-- Where an operand is read: in its home, if that is a register; a zero in ZERO; and any other in a register that takes it.
 abbrev pub register_or : Register → Option (Option Home) → Register
 register_or r (Some (Some (homes.Register x))) = register_of x
 register_or r _ = r
 
 abbrev pub read_in : Layout → Register → Operand → Register
 read_in y r (Temp t) = register_or r (slice_get y.homes t)
-read_in y r (Constant c) = if nat_eq c 0 then x0 else r
+read_in y r (Constant c) = if nat_eq c 0 then ZERO else r
 
 abbrev pub is_there : Layout → Operand → Bool
 is_there y (Temp t) = in_register y t
@@ -138,15 +113,15 @@ abbrev pub first_read : Layout → (held : Option ℕ) → Operand → List Inst
 first_read y held a = unless_there y a (first_taken y held a)
 
 abbrev pub second_read : Layout → Operand → List Instr
-second_read y b = unless_there y b (taken y x6 b)
+second_read y b = unless_there y b (taken y T1 b)
 
--- a home gets the word in a register, and that in x5
+-- a home gets the word in a register, and that in T0
 abbrev pub put_from : Register → Home → List Instr
 put_from a (homes.Register x) = moved (register_of x) a ∷ []
 put_from a (homes.Slot k) = framed (λ r offset. Store Sd r a offset) (slot_offset k)
 
 abbrev pub put_to : Home → List Instr
-put_to h = put_from x5 h
+put_to h = put_from T0 h
 
 -- a temporary's home gets it, where it has one
 abbrev pub put_in : Option (Option Home) → List Instr
@@ -156,9 +131,9 @@ put_in _ = []
 abbrev pub put_at : Layout → ℕ → List Instr
 put_at y d = put_in (slice_get y.homes d)
 
--- Where a temporary's word is computed: in its home, if that is a register, and else in x5, from where it is put to the home.
+-- Where a temporary's word is computed: in its home, if that is a register, and else in T0, from where it is put to the home.
 abbrev pub result_in : Layout → ℕ → Register
-result_in y d = register_or x5 (slice_get y.homes d)
+result_in y d = register_or T0 (slice_get y.homes d)
 
 abbrev pub put_behind : Layout → ℕ → List Instr
 put_behind y d = if in_register y d then [] else put_at y d
@@ -187,50 +162,50 @@ place_number at = at.line * 2 ^ 32 + at.word
 
 -- a number up to 2,047 to a register
 abbrev pub small : Register → ℕ → List Instr
-small d n = RegisterImmediate Addi d x0 (immediate_of n) ∷ []
+small d n = RegisterImmediate Addi d ZERO (immediate_of n) ∷ []
 
--- the run ends by a fault of a kind at the place in x11, and at a place
+-- the run ends by a fault of a kind at the place in A1, and at a place
 abbrev pub fault_call : FaultKind → List Instr
 fault_call kind =
-    RegisterImmediate Addi x10 x0 (immediate_of (fault_number kind))
-    ∷ RegisterImmediate Addi x17 x0 (immediate_of 1024)
+    RegisterImmediate Addi A0 ZERO (immediate_of (fault_number kind))
+    ∷ RegisterImmediate Addi A7 ZERO (immediate_of 1024)
     ∷ Ecall
     ∷ []
 
 abbrev pub failed : FaultKind → Place → List Instr
-failed kind at = constant x11 (place_number at) ++ fault_call kind
+failed kind at = constant A1 (place_number at) ++ fault_call kind
 
 -- a branch over the code by which the run ends
 abbrev pub branched_over : BranchCondition → Register → Register → FaultKind → Place → List Instr
 branched_over condition a b kind at = Branch condition a b (over (failed kind at)) ∷ failed kind at
 
--- a copy, and an operator. A zero needs no register but x0
+-- a copy, and an operator. A zero needs no register but ZERO
 abbrev pub copied : Layout → (held : Option ℕ) → ℕ → Operand → List Instr
 copied y held d a =
-    if is_zero a then put_from x0 (home_of y d)
+    if is_zero a then put_from ZERO (home_of y d)
     else if in_register y d then brought y held (result_in y d) a
     else first_taken y held a ++ put_at y d
 
 -- d gets what an operator gives of a and an operand, which instructions hold where they can
 abbrev pub applied_to : Layout → (d a : Register) → Width → BinaryOperator → Operand → List Instr
-applied_to y d a w op (Temp t) = second_read y (Temp t) ++ code_of d a (read_in y x6 (Temp t)) w op
+applied_to y d a w op (Temp t) = second_read y (Temp t) ++ code_of d a (read_in y T1 (Temp t)) w op
 applied_to y d a w op (Constant c) =
     if is_folded op c then folded d a w op c
-    else second_read y (Constant c) ++ code_of d a (read_in y x6 (Constant c)) w op
+    else second_read y (Constant c) ++ code_of d a (read_in y T1 (Constant c)) w op
 
 abbrev pub operated : Layout → (held : Option ℕ) → ℕ → BinaryOperator → Width → Operand → Operand → List Instr
-operated y held d op w a b = first_read y held a ++ (applied_to y (result_in y d) (read_in y x5 a) w op b ++ put_behind y d)
+operated y held d op w a b = first_read y held a ++ (applied_to y (result_in y d) (read_in y T0 a) w op b ++ put_behind y d)
 
--- x5 holds the second operand, which goes to x6 if x5 has to get the first
+-- T0 holds the second operand, which goes to T1 if T0 has to get the first
 abbrev pub both_moved : Layout → (held : Option ℕ) → Operand → List Instr
-both_moved y held a = unless_there y a (moved x6 x5 ∷ first_taken y held a)
+both_moved y held a = unless_there y a (moved T1 T0 ∷ first_taken y held a)
 
 abbrev pub five_or_six : Layout → Operand → Register
-five_or_six y a = if is_there y a then x5 else x6
+five_or_six y a = if is_there y a then T0 else T1
 
 abbrev pub operated_second : Layout → (held : Option ℕ) → ℕ → BinaryOperator → Width → Operand → List Instr
 operated_second y held d op w a =
-    both_moved y held a ++ (code_of (result_in y d) (read_in y x5 a) (five_or_six y a) w op ++ put_behind y d)
+    both_moved y held a ++ (code_of (result_in y d) (read_in y T0 a) (five_or_six y a) w op ++ put_behind y d)
 
 abbrev pub is_five : Layout → (held : Option ℕ) → Operand → Bool
 is_five y held (Temp t) = in_five y held t
@@ -250,41 +225,41 @@ is_never_zero (Constant c) = nat_lt 0 c
 
 abbrev pub divisor_tested : Layout → (held : Option ℕ) → Place → Operand → List Instr
 divisor_tested y held at a =
-    if is_never_zero a then moved x0 x0 ∷ []
-    else first_read y held a ++ branched_over Ne (read_in y x5 a) x0 DivZero at
+    if is_never_zero a then moved ZERO ZERO ∷ []
+    else first_read y held a ++ branched_over Ne (read_in y T0 a) ZERO DivZero at
 
--- x5 gets the address of an offset of the frame in the region
+-- T0 gets the address of an offset of the frame in the region
 abbrev pub located : ℕ → List Instr
 located offset =
-    if nat_le offset 2047 then RegisterImmediate Addi x5 x8 (immediate_of offset) ∷ []
-    else constant x5 offset ++ RegisterRegister Add x5 x5 x8 ∷ []
+    if nat_le offset 2047 then RegisterImmediate Addi T0 S0 (immediate_of offset) ∷ []
+    else constant T0 offset ++ RegisterRegister Add T0 T0 S0 ∷ []
 
 -- The run fails unless so many bytes, at most 128, from the address in a register on lie in the region: it begins at 0x40000000, and
--- x4 has its end. A branch passes the second test where the address is too low already.
+-- TP has its end. A branch passes the second test where the address is too low already.
 abbrev pub first_address : Instr
-first_address = Lui x6 (upper_of REGION_ADDRESS)
+first_address = Lui T1 (upper_of REGION_ADDRESS)
 
 abbrev pub bounds_tested : Register → Place → ℕ → List Instr
 bounds_tested a at size =
     first_address
-    ∷ Branch Ltu a x6 (offset_of 12)
-    ∷ RegisterImmediate Addi x6 x4 (below_zero (size - 1))
-    ∷ Branch Geu x6 a (over (failed BadAddress at))
+    ∷ Branch Ltu a T1 (offset_of 12)
+    ∷ RegisterImmediate Addi T1 TP (below_zero (size - 1))
+    ∷ Branch Geu T1 a (over (failed BadAddress at))
     ∷ failed BadAddress at
 
--- x5 gets the address of bytes in the region, tested where it isn't one of the frame's
+-- T0 gets the address of bytes in the region, tested where it isn't one of the frame's
 abbrev pub reached : Layout → (held : Option ℕ) → Place → Address → ℕ → List Instr
-reached y held at (Word a) size = first_taken y held a ++ bounds_tested x5 at size
+reached y held at (Word a) size = first_taken y held a ++ bounds_tested T0 at size
 reached y held at (Frame offset) size = located offset
 
 -- the same of an address that is read where it is, and its register
 abbrev pub address_read : Layout → (held : Option ℕ) → Place → Address → ℕ → List Instr
-address_read y held at (Word a) size = first_read y held a ++ bounds_tested (read_in y x5 a) at size
+address_read y held at (Word a) size = first_read y held a ++ bounds_tested (read_in y T0 a) at size
 address_read y held at (Frame offset) size = located offset
 
 abbrev pub address_register : Layout → Address → Register
-address_register y (Word a) = read_in y x5 a
-address_register y (Frame offset) = x5
+address_register y (Word a) = read_in y T0 a
+address_register y (Frame offset) = T0
 
 -- how numbers of a size are loaded and stored
 abbrev pub load_of : Bool → Size → LoadOp
@@ -313,13 +288,13 @@ loaded y held d form (spots.Area n offset) =
 abbrev pub stored : Layout → (held : Option ℕ) → Spot → Size → Operand → List Instr
 stored y held (spots.Region at a) size b =
     address_read y held at a (bytes_of size)
-    ++ (second_read y b ++ Store (store_of size) (address_register y a) (read_in y x6 b) zero_immediate ∷ [])
+    ++ (second_read y b ++ Store (store_of size) (address_register y a) (read_in y T1 b) zero_immediate ∷ [])
 stored y held (spots.Area n offset) size b =
-    second_read y b ++ framed (λ r far. Store (store_of size) r (read_in y x6 b) far) (area_offset y n + offset)
+    second_read y b ++ framed (λ r far. Store (store_of size) r (read_in y T1 b) far) (area_offset y n + offset)
 
--- bytes go from where one register points to where another does, through x7: eight at a time, then four, two and one
+-- bytes go from where one register points to where another does, through T2: eight at a time, then four, two and one
 abbrev pub carried : (from to : Register) → LoadOp → StoreOp → ℕ → List Instr
-carried from to load store at = Load load x7 from (immediate_of at) ∷ Store store to x7 (immediate_of at) ∷ []
+carried from to load store at = Load load T2 from (immediate_of at) ∷ Store store to T2 (immediate_of at) ∷ []
 
 abbrev pub carried_eights : (from to : Register) → ℕ → (at : ℕ) → List Instr
 carried_eights from to zero at = []
@@ -341,55 +316,55 @@ all_carried from to size = carried_eights from to (size / 8) 0 ++ carried_rest f
 abbrev pub area_reached : Layout → Register → ℕ → ℕ → List Instr
 area_reached y d n offset = framed (λ r far. RegisterImmediate Addi d r far) (area_offset y n + offset)
 
--- bytes of an area go where x5 points, and bytes from where x5 points go to an area
+-- bytes of an area go where T0 points, and bytes from where T0 points go to an area
 abbrev pub from_area : Layout → ℕ → (offset size : ℕ) → List Instr
-from_area y n offset size = area_reached y x6 n offset ++ all_carried x6 x5 size
+from_area y n offset size = area_reached y T1 n offset ++ all_carried T1 T0 size
 
 abbrev pub to_area : Layout → ℕ → (offset size : ℕ) → List Instr
-to_area y n offset size = area_reached y x6 n offset ++ all_carried x5 x6 size
+to_area y n offset size = area_reached y T1 n offset ++ all_carried T0 T1 size
 
--- Bytes from one spot to another, of which at most one is in the region, and x5 reaches that one.
+-- Bytes from one spot to another, of which at most one is in the region, and T0 reaches that one.
 abbrev pub some_moved : Layout → (held : Option ℕ) → (to from : Spot) → ℕ → List Instr
 some_moved y held (spots.Region at a) (spots.Area n offset) size = reached y held at a size ++ from_area y n offset size
 some_moved y held (spots.Area n offset) (spots.Region at a) size = reached y held at a size ++ to_area y n offset size
-some_moved y held (spots.Area n offset) (spots.Area m other) size = area_reached y x5 n offset ++ from_area y m other size
+some_moved y held (spots.Area n offset) (spots.Area m other) size = area_reached y T0 n offset ++ from_area y m other size
 some_moved y held (spots.Region at a) (spots.Region other b) size = []
 
 -- No bytes lie nowhere, so a move of none only takes a step.
 abbrev pub bytes_moved : Layout → (held : Option ℕ) → (to from : Spot) → ℕ → List Instr
-bytes_moved y held to from size = if nat_eq size 0 then moved x0 x0 ∷ [] else some_moved y held to from size
+bytes_moved y held to from size = if nat_eq size 0 then moved ZERO ZERO ∷ [] else some_moved y held to from size
 
--- zeros, eight at a time, from where x5 points. The bytes of an area behind those that it holds may be any
+-- zeros, eight at a time, from where T0 points. The bytes of an area behind those that it holds may be any
 abbrev pub zero_put : ℕ → Instr
-zero_put at = Store Sd x5 x0 (immediate_of at)
+zero_put at = Store Sd T0 ZERO (immediate_of at)
 
 abbrev pub zeros : ℕ → (at : ℕ) → List Instr
 zeros zero at = []
 zeros (suc n) at = zero_put at ∷ zeros n (at + 8)
 
 abbrev pub cleared : Layout → ℕ → ℕ → List Instr
-cleared y n size = area_reached y x5 n 0 ++ zeros ((size + 7) / 8) 0
+cleared y n size = area_reached y T0 n 0 ++ zeros ((size + 7) / 8) 0
 
--- the call that writes x12 bytes from x11 on
+-- the call that writes A2 bytes from A1 on
 abbrev pub write_call : List Instr
 write_call =
-    RegisterImmediate Addi x10 x0 (immediate_of 1) ∷ RegisterImmediate Addi x17 x0 (immediate_of 64) ∷ Ecall ∷ []
+    RegisterImmediate Addi A0 ZERO (immediate_of 1) ∷ RegisterImmediate Addi A7 ZERO (immediate_of 64) ∷ Ecall ∷ []
 
--- x5 gets an operand whose low byte alone matters
+-- T0 gets an operand whose low byte alone matters
 abbrev pub byte_taken : Layout → (held : Option ℕ) → Operand → List Instr
 byte_taken y held (Temp t) = first_taken y held (Temp t)
-byte_taken y held (Constant c) = constant x5 (c % 256)
+byte_taken y held (Constant c) = constant T0 (c % 256)
 
--- One byte is written from the frame's first word, which x6 keeps meanwhile.
+-- One byte is written from the frame's first word, which T1 keeps meanwhile.
 abbrev pub byte_stored : List Instr
-byte_stored = Load Ld x6 x2 zero_immediate ∷ Store Sb x2 x5 zero_immediate ∷ []
+byte_stored = Load Ld T1 SP zero_immediate ∷ Store Sb SP T0 zero_immediate ∷ []
 
 abbrev pub byte_written : List Instr
 byte_written =
     byte_stored
-    ++ (moved x11 x2
-    ∷ RegisterImmediate Addi x12 x0 (immediate_of 1)
-    ∷ (write_call ++ Store Sd x2 x6 zero_immediate ∷ []))
+    ++ (moved A1 SP
+    ∷ RegisterImmediate Addi A2 ZERO (immediate_of 1)
+    ∷ (write_call ++ Store Sd SP T1 zero_immediate ∷ []))
 
 abbrev pub byte_put : Layout → (held : Option ℕ) → Operand → List Instr
 byte_put y held a = byte_taken y held a ++ byte_written
@@ -397,47 +372,47 @@ byte_put y held a = byte_taken y held a ++ byte_written
 -- Bytes of the region are written. No bytes lie anywhere, and a count below zero is larger than every region.
 abbrev pub range_tested : Place → List Instr
 range_tested at =
-    Lui x7 (upper_of REGION_ADDRESS)
-    ∷ Branch Ltu x11 x7 (offset_of 16)
-    ∷ Branch Ltu x4 x11 (offset_of 12)
-    ∷ RegisterRegister Sub x7 x4 x11
-    ∷ Branch Geu x7 x12 (over (failed BadAddress at))
+    Lui T2 (upper_of REGION_ADDRESS)
+    ∷ Branch Ltu A1 T2 (offset_of 16)
+    ∷ Branch Ltu TP A1 (offset_of 12)
+    ∷ RegisterRegister Sub T2 TP A1
+    ∷ Branch Geu T2 A2 (over (failed BadAddress at))
     ∷ failed BadAddress at
 
 abbrev pub range_call : Place → List Instr
-range_call at = Branch Eq x12 x0 (over (range_tested at ++ write_call)) ∷ (range_tested at ++ write_call)
+range_call at = Branch Eq A2 ZERO (over (range_tested at ++ write_call)) ∷ (range_tested at ++ write_call)
 
 abbrev pub range_written : Layout → Place → Operand → Operand → List Instr
-range_written y at a b = taken y x11 a ++ (taken y x12 b ++ range_call at)
+range_written y at a b = taken y A1 a ++ (taken y A2 b ++ range_call at)
 
--- x6 gets the next multiple of 16 from the end of the heap on
+-- T1 gets the next multiple of 16 from the end of the heap on
 abbrev pub four : ShiftCount
 four = record { count = 4; in_range = lit≤ tt }
 
 abbrev pub heap_aligned : List Instr
-heap_aligned = RegisterImmediate Addi x6 x3 (immediate_of 15) ∷ Shift Srli x6 x6 four ∷ Shift Slli x6 x6 four ∷ []
+heap_aligned = RegisterImmediate Addi T1 GP (immediate_of 15) ∷ Shift Srli T1 T1 four ∷ Shift Slli T1 T1 four ∷ []
 
--- x7 gets the address at which the last quarter of the region begins
+-- T2 gets the address at which the last quarter of the region begins
 abbrev pub two : ShiftCount
 two = record { count = 2; in_range = lit≤ tt }
 
 abbrev pub limit_found : List Instr
 limit_found =
-    Lui x7 (upper_of REGION_ADDRESS)
-    ∷ RegisterRegister Sub x7 x4 x7
-    ∷ Shift Srli x7 x7 two
-    ∷ RegisterRegister Sub x7 x4 x7
+    Lui T2 (upper_of REGION_ADDRESS)
+    ∷ RegisterRegister Sub T2 TP T2
+    ∷ Shift Srli T2 T2 two
+    ∷ RegisterRegister Sub T2 TP T2
     ∷ []
 
--- x5 gets the address in x6 if the bytes from there to x7 are as many as x5 says, and x3 what is behind them; and else zero
+-- T0 gets the address in T1 if the bytes from there to T2 are as many as T0 says, and GP what is behind them; and else zero
 abbrev pub bytes_given : List Instr
 bytes_given =
-    RegisterRegister Sub x7 x7 x6
-    ∷ Branch Ltu x7 x5 (offset_of 16)
-    ∷ RegisterRegister Add x3 x6 x5
-    ∷ moved x5 x6
-    ∷ Branch Eq x0 x0 (offset_of 8)
-    ∷ moved x5 x0
+    RegisterRegister Sub T2 T2 T1
+    ∷ Branch Ltu T2 T0 (offset_of 16)
+    ∷ RegisterRegister Add GP T1 T0
+    ∷ moved T0 T1
+    ∷ Branch Eq ZERO ZERO (offset_of 8)
+    ∷ moved T0 ZERO
     ∷ []
 
 -- Bytes of the heap: from the next multiple of 16 on, if as many are left there. A count below zero is larger than what is left.
@@ -446,7 +421,7 @@ allocated y held d a =
     first_taken y held a
     ++ (heap_aligned ++ (limit_found ++ (bytes_given ++ put_at y d)))
 
--- the code of an instruction, where x5 may hold the word of a temporary, and which have one so far
+-- the code of an instruction, where T0 may hold the word of a temporary, and which have one so far
 abbrev pub shape_of : Layout → (held : Option ℕ) → Instruction → List Instr
 shape_of y held (instructions.Compute d op form a b) = computed y held d op (width_of form) a b
 shape_of y held (instructions.TestDivisor at a) = divisor_tested y held at a
@@ -513,8 +488,8 @@ jump_offset n = if nat_le n 1048574 then ahead n else back (2 ^ 32 - 1 - n)
 
 -- A jump within a function, of one word where the function is short.
 abbrev pub jump : (short : Bool) → (from to : ℕ) → List Instr
-jump true from to = Jal x0 (jump_offset (distance from to)) ∷ []
-jump false from to = Auipc x5 (upper_of (distance from to)) ∷ Jalr x0 x5 (lower_of (distance from to)) ∷ []
+jump true from to = Jal ZERO (jump_offset (distance from to)) ∷ []
+jump false from to = Auipc T0 (upper_of (distance from to)) ∷ Jalr ZERO T0 (lower_of (distance from to)) ∷ []
 
 -- how many bytes a branch has with the jump that it passes
 abbrev pub branch_bytes : (short : Bool) → ℕ
@@ -563,9 +538,9 @@ chosen near short Neither condition a b at first second =
 chosen near short First condition a b at first second = branched near short (negated condition) a b at second
 chosen near short Second condition a b at first second = branched near short condition a b at first
 
--- Code that counts takes one of the counts in x9 before each, and breaks the run off where none is left.
+-- Code that counts takes one of the counts in S1 before each, and breaks the run off where none is left.
 abbrev pub take_count : List Instr
-take_count = Branch Ne x9 x0 (offset_of 8) ∷ Ebreak ∷ RegisterImmediate Addi x9 x9 (below_zero 0) ∷ []
+take_count = Branch Ne S1 ZERO (offset_of 8) ∷ Ebreak ∷ RegisterImmediate Addi S1 S1 (below_zero 0) ∷ []
 
 abbrev pub counted_if : (counts : Bool) → List Instr → List Instr
 counted_if true code = take_count ++ code
@@ -580,9 +555,9 @@ counted_jump false short at to = jump short at to
 abbrev pub edge_shape : Setting → Edge → (at to : ℕ) → List Instr
 edge_shape setting e at to = if falls setting.next e then [] else counted_jump (setting.counts && e.counts) setting.short at to
 
--- The words behind all functions by which one that counts is entered as the entry: they put counts into x9, and jump to where it begins.
+-- The words behind all functions by which one that counts is entered as the entry: they put counts into S1, and jump to where it begins.
 abbrev pub units_given : (units at to : ℕ) → List Instr
-units_given units at to = constant x9 units ++ jump false (at + 4 * length (constant x9 units)) to
+units_given units at to = constant S1 units ++ jump false (at + 4 * length (constant S1 units)) to
 
 -- A branch to two blocks in code that counts, where a way to one of them takes a count: over the first way to the second.
 abbrev pub counting : Setting → BranchCondition → (a b : Register) → (at : ℕ) → (e f : Edge) → (first second : ℕ) → List Instr
@@ -605,7 +580,7 @@ abbrev pub exit_shape : Layout → Setting → (held : Option ℕ) → (at : ℕ
 exit_shape y setting held at starts (exits.Jump e) = edge_shape setting e at (starts e.block)
 exit_shape y setting held at starts (exits.Branch a e f) =
     first_read y held a
-    ++ parted setting Ne (read_in y x5 a) x0 (at + 4 * length (first_read y held a)) e f (starts e.block) (starts f.block)
+    ++ parted setting Ne (read_in y T0 a) ZERO (at + 4 * length (first_read y held a)) e f (starts e.block) (starts f.block)
 exit_shape y setting held at starts (exits.Return v) = []
 exit_shape y setting held at starts (exits.Fail kind at_place) = failed kind at_place
 

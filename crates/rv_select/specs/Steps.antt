@@ -57,7 +57,7 @@ pub record Comes (y : Layout) (program : List (Option Instr)) (Next : ℕ → Ty
   pub holds : Holds y Next w base after
   pub keeps : Keeps y base m after
 
--- The machine writes nothing, and ends the run in at most so many steps by a fault. Then x9 is as it was.
+-- The machine writes nothing, and ends the run in at most so many steps by a fault. Then S1 is as it was.
 pub record Ends (program : List (Option Instr)) (kind : FaultKind) (at : Place) (most : ℕ) (m : State) : Type 0 where
   pub steps : ℕ
   pub last : State
@@ -72,7 +72,7 @@ pub record Breaks (program : List (Option Instr)) (most : ℕ) (m : State) : Typ
   pub few : steps ≤ most
   pub runs : (more : ℕ) → run_of program m (steps + more) ≡ stands (MachineFault Break last.pc) last
 
--- In code that counts x9 holds so many counts that are left.
+-- In code that counts S1 holds so many counts that are left.
 abbrev pub CountsLeft : (counts : Bool) → (left : ℕ) → State → Type 0
 CountsLeft true left m = (m.registers 9 ≡ left) × (left < 2 ^ 64)
 CountsLeft false left m = Unit {0}
@@ -115,7 +115,7 @@ world_of s = record {
 
 -- The machine does from a state what three-address code does in a step from another, on the code of one instruction, in at most as many
 -- steps as this code has words. Where the step goes on, it comes behind this code to a state that holds what three-address code sees then,
--- in x5 too, and writes what it writes; where the step ends the run by a fault, it ends the run by the same. Of code that is stuck nothing
+-- in T0 too, and writes what it writes; where the step ends the run by a fault, it ends the run by the same. Of code that is stuck nothing
 -- is promised.
 abbrev pub Carried : Layout → List FlowBlock → List (Option Instr) → (base : ℕ) → (held : Option ℕ) → List Instr → tac.State →
     State → tac.Moved → Type 0
@@ -130,7 +130,7 @@ Carried y graph program base held code s m (Stops (More out)) = ⊥
 
 -- Where a function's code stands at one of its instructions: its three-address code is right for machine code, its temporaries have
 -- right homes, those have one that the instruction's code asks for, and the machine stands before this code and holds what three-address
--- code sees, in x5 too.
+-- code sees, in T0 too.
 pub record StandsBefore (p : Program) (code : Tac) (homes : List (Option Home)) (held : Option ℕ) (i : Instruction) (s : tac.State)
     (program : List (Option Instr)) (base : ℕ) (m : State) : Type 0 where
   pub block : Block
@@ -177,7 +177,7 @@ pub record LeadsTo (y : Layout) (program : List (Option Instr)) (Next : ℕ → 
   pub keeps : Keeps y base before after
 
 -- The machine does from a state what an exit does that stays in its function, in at most so many steps: it comes to the address of the
--- block at which three-address code stands then, and what callers rest on is as it was, but for x9, which has the counts that are left
+-- block at which three-address code stands then, and what callers rest on is as it was, but for S1, which has the counts that are left
 -- then, where code counts; or it stands there already, where that takes no count.
 abbrev pub Left : Layout → List FlowBlock → List (Option Instr) → (base most : ℕ) → (starts : ℕ → ℕ) → tac.State → State → tac.Moved →
     Type 0

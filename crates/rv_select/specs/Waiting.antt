@@ -79,7 +79,7 @@ abbrev pub IsLinked : Program → Image → List (Option Instr) → (most : ℕ)
 IsLinked p image program most =
     (f : FnId) (code : Tac) → p.code f ≡ Some code → IsPlaced p image program most code (image f)
 
--- where an instruction stands, by where the first does, and what x5 holds there
+-- where an instruction stands, by where the first does, and what T0 holds there
 abbrev pub instruction_at : Layout → (sizes : List ℕ) → (places : FnId → ℕ) → (at : ℕ) → (held : Option ℕ) → List Instruction → ℕ → ℕ
 instruction_at y sizes places at held is zero = at
 instruction_at y sizes places at held [] (suc k) = at
@@ -155,8 +155,8 @@ Waits p image most size (c ∷ cs) link base placed m =
     (restored (layout_of w.code (image c.waits.function).homes) base m)
 
 -- The machine stands where three-address code does in a state: before the code of the next instruction, or of what ends the block. Between
--- a comparison and its branch, where both have one code, it never stands. It holds what three-address code sees, in x5 what the
--- instruction before left there, and in x9 the counts that are left, where code counts, and all callers wait; and below the frame there
+-- a comparison and its branch, where both have one code, it never stands. It holds what three-address code sees, in T0 what the
+-- instruction before left there, and in S1 the counts that are left, where code counts, and all callers wait; and below the frame there
 -- is room for each call that may still be made.
 pub record StandsIn (p : Program) (image : Image) (program : List (Option Instr)) (most size : ℕ) (s : tac.State) (base : ℕ) (m : State) :
     Type 0 where

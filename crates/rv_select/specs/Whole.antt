@@ -148,8 +148,8 @@ RunsAreCarried =
     bytes_left p image words s ≤ 4 * top → steps p k (Goes s) ≡ Stops r →
     Ended (counts_in (p.code s.here.function)) program top (left_in p k s) s m r
 
--- The machine at its start: before the code of a function, whose arguments stand in the registers from x10 on, with all of private memory
--- below x2, and a region.
+-- The machine at its start: before the code of a function, whose arguments stand in the registers from A0 on, with all of private memory
+-- below SP, and a region.
 pub record Starts (at : ℕ) (region : Contents) (arguments : List ℕ) (m : State) : Type 0 where
   pub pc : m.pc ≡ at
   pub link : m.registers 1 ≡ 0
@@ -174,7 +174,7 @@ before_entry f region n = record {
   out = [];
 }
 
--- A function begins as the entry, with at most eight words as arguments, and with a number of counts in x9 if it counts: the machine comes
+-- A function begins as the entry, with at most eight words as arguments, and with a number of counts in S1 if it counts: the machine comes
 -- to where its first block begins, in at most as many steps as the code before that has words; or the run ends, where the data stack has
 -- no room for its frame.
 abbrev pub EntriesAreCarried : Type 0

@@ -2,15 +2,15 @@
 
 ghost use Rattle.std.specs.Prelude.{◌≡◌, ◌*◌, ◌+◌, ◌≤◌, [], ◌∷◌, ◌++◌, map, OnOk};
 ghost use Rattle.rv_isa.specs.Table.{word_of};
-ghost use Rattle.rv_operators.specs.Codes.{x5, zero_immediate};
+ghost use Rattle.rv_operators.specs.Codes.{zero_immediate};
 ghost use Rattle.rv_select.specs.Places.{with_homes};
 ghost use Rattle.rv_select.specs.Shapes.{address_read, address_register, area_reached, bounds_tested, cleared, read_in, load_of, loaded, located, reached, store_of, stored, zero_put, zeros};
 ghost use Rattle.rv_isa.specs.declared.instr.Instr.TheVariants as instrs;
+ghost use Rattle.rv_isa.specs.Registers.{T0};
 
 use crate::computing::bytes_of;
 use crate::emit::{
-    X0, X4, X5, X6, X8, area_offset, push_constant, push_frame_address, push_frame_load,
-    push_frame_store, put,
+    area_offset, push_constant, push_frame_address, push_frame_load, push_frame_store, put,
 };
 use crate::failing::push_branch_over;
 use crate::operands::{below_zero, immediate, offset, upper};
@@ -26,7 +26,7 @@ use terra_words::FaultKind;
 use tl_base::limits::{MAX_VALUE_BYTES, REGION_ADDRESS};
 use tl_base::{NoMemory, Place};
 
-/// x5 gets the address of an offset of the frame in the region.
+/// T0 gets the address of an offset of the frame in the region.
 pub(crate) fn push_located(code: &mut Vec<u32>, offset: u64) -> Result<(), NoMemory>
     ensures { OnOk result (code.new.items ≡ code.old.items ++ map word_of (located offset)) }
 {
@@ -35,20 +35,20 @@ pub(crate) fn push_located(code: &mut Vec<u32>, offset: u64) -> Result<(), NoMem
             code,
             Instr::RegisterImmediate {
                 op: ImmediateOp::Addi,
-                rd: X5,
-                rs1: X8,
+                rd: Register::T0,
+                rs1: Register::S0,
                 imm: immediate(offset),
             },
         );
     }
-    push_constant(code, X5, offset)?;
+    push_constant(code, Register::T0, offset)?;
     put(
         code,
         Instr::RegisterRegister {
             op: RegisterOp::Add,
-            rd: X5,
-            rs1: X5,
-            rs2: X8,
+            rd: Register::T0,
+            rs1: Register::T0,
+            rs2: Register::S0,
         },
     )
 }
@@ -62,7 +62,7 @@ fn push_bounds_test(code: &mut Vec<u32>, a: Register, at: Place, size: u64) -> R
     put(
         code,
         Instr::Lui {
-            rd: X6,
+            rd: Register::T1,
             imm: upper(REGION_ADDRESS),
         },
     )?;
@@ -71,7 +71,7 @@ fn push_bounds_test(code: &mut Vec<u32>, a: Register, at: Place, size: u64) -> R
         Instr::Branch {
             condition: BranchCondition::Ltu,
             rs1: a,
-            rs2: X6,
+            rs2: Register::T1,
             offset: offset(12),
         },
     )?;
@@ -79,15 +79,22 @@ fn push_bounds_test(code: &mut Vec<u32>, a: Register, at: Place, size: u64) -> R
         code,
         Instr::RegisterImmediate {
             op: ImmediateOp::Addi,
-            rd: X6,
-            rs1: X4,
+            rd: Register::T1,
+            rs1: Register::TP,
             imm: below_zero(size - 1),
         },
     )?;
-    push_branch_over(code, BranchCondition::Geu, X6, a, FaultKind::BadAddress, at)
+    push_branch_over(
+        code,
+        BranchCondition::Geu,
+        Register::T1,
+        a,
+        FaultKind::BadAddress,
+        at,
+    )
 }
 
-/// x5 gets the address of bytes in the region.
+/// T0 gets the address of bytes in the region.
 pub(crate) fn push_reached(
     code: &mut Vec<u32>,
     homes: &[Option<Home>],
@@ -103,7 +110,7 @@ pub(crate) fn push_reached(
     match address {
         Address::Word(a) => {
             push_first(code, homes, held, a)?;
-            push_bounds_test(code, X5, at, size)
+            push_bounds_test(code, Register::T0, at, size)
         }
         Address::Frame(offset) => push_located(code, offset),
     }
@@ -141,9 +148,9 @@ fn push_read_test(
 ) -> Result<(), NoMemory>
     requires some { 1 ≤ size }
     requires few { size ≤ MAX_VALUE_BYTES }
-    ensures { OnOk result (code.new.items ≡ code.old.items ++ map word_of (bounds_tested (read_in (with_homes homes.now) x5 a) at size)) }
+    ensures { OnOk result (code.new.items ≡ code.old.items ++ map word_of (bounds_tested (read_in (with_homes homes.now) T0 a) at size)) }
 {
-    let ra = read_in(homes, X5, a);
+    let ra = read_in(homes, Register::T0, a);
     push_bounds_test(code, ra, at, size)
 }
 
@@ -152,8 +159,8 @@ fn address_register(homes: &[Option<Home>], address: Address) -> Register
     ensures { result ≡ address_register (with_homes homes.now) address }
 {
     match address {
-        Address::Word(a) => read_in(homes, X5, a),
-        Address::Frame(_) => X5,
+        Address::Word(a) => read_in(homes, Register::T0, a),
+        Address::Frame(_) => Register::T0,
     }
 }
 
@@ -246,14 +253,14 @@ pub(crate) fn push_stored(
             push_store(
                 code,
                 address_register(homes, address),
-                read_in(homes, X6, b),
+                read_in(homes, Register::T1, b),
                 size,
             )
         }
         Spot::Area(area, offset) => {
             let at = area_offset(homes, area, offset)?;
             push_second_read(code, homes, b)?;
-            push_frame_store(code, store_of(size), read_in(homes, X6, b), at)
+            push_frame_store(code, store_of(size), read_in(homes, Register::T1, b), at)
         }
     }
 }
@@ -283,7 +290,7 @@ pub(crate) fn push_cleared(
     requires { size ≤ MAX_VALUE_BYTES }
     ensures { OnOk result (code.new.items ≡ code.old.items ++ map word_of (cleared (with_homes homes.now) area size)) }
 {
-    push_area_address(code, homes, X5, area, 0)?;
+    push_area_address(code, homes, Register::T0, area, 0)?;
     push_zeros(code, size.div_ceil(8), 0)
 }
 
@@ -300,7 +307,7 @@ pub(crate) fn push_area_address(
     push_frame_address(code, rd, area_offset(homes, area, offset)?)
 }
 
-/// So many words of zeros at an offset from where x5 points.
+/// So many words of zeros at an offset from where T0 points.
 fn push_zeros(code: &mut Vec<u32>, words: u64, at: u64) -> Result<(), NoMemory>
     requires { at + 8 * words ≤ MAX_VALUE_BYTES }
     ensures { OnOk result (code.new.items ≡ code.old.items ++ map word_of (zeros words at)) }
@@ -312,7 +319,7 @@ fn push_zeros(code: &mut Vec<u32>, words: u64, at: u64) -> Result<(), NoMemory>
     push_zeros(code, words - 1, at + 8)
 }
 
-/// A word of zeros at an offset from where x5 points.
+/// A word of zeros at an offset from where T0 points.
 fn push_zero(code: &mut Vec<u32>, at: u64) -> Result<(), NoMemory>
     requires { at ≤ 2047 }
     ensures { OnOk result (code.new.items ≡ code.old.items ++ word_of (zero_put at) ∷ []) }
@@ -321,8 +328,8 @@ fn push_zero(code: &mut Vec<u32>, at: u64) -> Result<(), NoMemory>
         code,
         Instr::Store {
             op: StoreOp::Sd,
-            rs1: X5,
-            rs2: X0,
+            rs1: Register::T0,
+            rs2: Register::ZERO,
             offset: immediate(at),
         },
     )

@@ -165,7 +165,7 @@ fn ask_block(asked: &mut Vec<u64>, reads: &[Reads], block: &Block) -> Result<(),
     ask_end(asked, held, pair, block.exit)
 }
 
-/// What the code of instructions asks for. The answer is the temporary whose word x5 holds behind them, if any.
+/// What the code of instructions asks for. The answer is the temporary whose word T0 holds behind them, if any.
 fn ask_all(asked: &mut Vec<u64>, instructions: &[Instruction]) -> Result<Option<u64>, NoMemory>
     ensures asked { OnOk result (asked.new.items ≡ asked.old.items ++ all_ask None instructions.now) }
     ensures held { IfOk result (λ held. held ≡ held_behind None instructions.now) }
@@ -216,7 +216,7 @@ fn ask(asked: &mut Vec<u64>, held: Option<u64>, instruction: &Instruction) -> Re
     }
 }
 
-/// Two operands, which change places where x5 holds the second.
+/// Two operands, which change places where T0 holds the second.
 fn ask_computed(
     asked: &mut Vec<u64>,
     held: Option<u64>,
@@ -235,7 +235,7 @@ fn ask_computed(
     }
 }
 
-/// Those of a comparison with its branch, where the second may stay in x5.
+/// Those of a comparison with its branch, where the second may stay in T0.
 fn ask_compared(
     asked: &mut Vec<u64>,
     held: Option<u64>,
@@ -251,7 +251,7 @@ fn ask_compared(
     }
 }
 
-/// Two operands, of which x5 takes the first.
+/// Two operands, of which T0 takes the first.
 fn ask_both(asked: &mut Vec<u64>, held: Option<u64>, a: Operand, b: Operand) -> Result<(), NoMemory>
     ensures { OnOk result (asked.new.items ≡ asked.old.items ++ both_ask held a b) }
 {
@@ -259,7 +259,7 @@ fn ask_both(asked: &mut Vec<u64>, held: Option<u64>, a: Operand, b: Operand) -> 
     ask_operand(asked, b)
 }
 
-/// An operand that x5 takes, unless it holds it.
+/// An operand that T0 takes, unless it holds it.
 fn ask_first(asked: &mut Vec<u64>, held: Option<u64>, a: Operand) -> Result<(), NoMemory>
     ensures { OnOk result (asked.new.items ≡ asked.old.items ++ first_asks held a) }
 {
@@ -293,7 +293,7 @@ fn ask_spot(asked: &mut Vec<u64>, held: Option<u64>, spot: Spot) -> Result<(), N
     }
 }
 
-/// The parts that a call passes, of which x5 may hold the first.
+/// The parts that a call passes, of which T0 may hold the first.
 fn ask_passed(asked: &mut Vec<u64>, held: Option<u64>, parts: &[Part]) -> Result<(), NoMemory>
     ensures { OnOk result (asked.new.items ≡ asked.old.items ++ passed_asks held parts.now) }
 {
@@ -304,7 +304,7 @@ fn ask_passed(asked: &mut Vec<u64>, held: Option<u64>, parts: &[Part]) -> Result
     Ok(())
 }
 
-/// A part that x5 takes, unless it holds it.
+/// A part that T0 takes, unless it holds it.
 fn ask_first_part(asked: &mut Vec<u64>, held: Option<u64>, part: Part) -> Result<(), NoMemory>
     ensures { OnOk result (asked.new.items ≡ asked.old.items ++ part_asks held part) }
 {
@@ -357,7 +357,7 @@ fn ask_exit(asked: &mut Vec<u64>, held: Option<u64>, exit: Exit) -> Result<(), N
     }
 }
 
-/// What is given back, which x10 takes from x5 where x5 holds it.
+/// What is given back, which A0 takes from T0 where T0 holds it.
 fn ask_given(asked: &mut Vec<u64>, held: Option<u64>, part: Part) -> Result<(), NoMemory>
     ensures { OnOk result (asked.new.items ≡ asked.old.items ++ given_asks held part) }
 {

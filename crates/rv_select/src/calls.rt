@@ -3,18 +3,18 @@
 ghost use Rattle.std.specs.Prelude.{◌≡◌, ◌*◌, ◌+◌, ◌^◌, ◌<◌, ◌≤◌, [], ◌∷◌, ◌++◌, map, length, IfOk, OnOk};
 ghost use Rattle.std.specs.List.{list_any};
 ghost use Rattle.rv_isa.specs.Table.{word_of};
+ghost use Rattle.rv_isa.specs.Registers.{T0, S1};
 ghost use Rattle.tac_form.specs.declared.tac.Operand.TheVariants as operands;
-ghost use Rattle.rv_operators.specs.Codes.{x5};
 ghost use Rattle.rv_select.specs.Calls.{call_begun, call_ended, call_jump, called, depth_tested, one_more, part_given, part_taken, passed};
 ghost use Rattle.rv_select.specs.Calls.{word_given, part_passed};
 ghost use Rattle.rv_select.specs.Entering.{result_put};
 ghost use Rattle.rv_select.specs.Numbers.{constant};
 ghost use Rattle.rv_select.specs.Places.{has_call, is_call, makes_calls, with_counting, with_homes};
-ghost use Rattle.rv_select.specs.Shapes.{jump, area_reached, counted_if, units_given, x9, x10};
+ghost use Rattle.rv_select.specs.Shapes.{jump, area_reached, counted_if, units_given};
 
 use crate::accessing::push_area_address;
-use crate::emit::{X5, X6, X9, X10, X11, push_constant, push_moved, push_taken, put};
-use crate::entries::{X1, X28, push_result_put, push_stored_below};
+use crate::emit::{push_constant, push_moved, push_taken, put};
+use crate::entries::{push_result_put, push_stored_below};
 use crate::exits::{distance, push_jump, push_take_count};
 use crate::failing::{place_number, push_fault_call, push_small};
 use crate::operands::{below_zero, immediate, lower, offset, upper};
@@ -47,7 +47,7 @@ fn has_call(block: &Block) -> bool
     have_call(block.instructions.as_slice())
 }
 
-/// Whether a function makes calls. One that makes none leaves its return address in x1.
+/// Whether a function makes calls. One that makes none leaves its return address in RA.
 #[tactic(auto, unfolding(crate::specs::Places::makes_calls))]
 pub(crate) fn makes_calls(tac: &Tac) -> bool
     ensures { result ≡ makes_calls tac.now }
@@ -58,17 +58,17 @@ pub(crate) fn makes_calls(tac: &Tac) -> bool
 /// How many calls may wait besides the one that is made.
 const MOST_WAITING: u64 = 511;
 
-/// The run fails at the place in x11 where 511 calls wait already. What x5 holds stays.
+/// The run fails at the place in A1 where 511 calls wait already. What T0 holds stays.
 fn push_depth_test(code: &mut Vec<u32>) -> Result<(), NoMemory>
     ensures { OnOk result (code.new.items ≡ code.old.items ++ map word_of depth_tested) }
 {
-    push_small(code, X6, MOST_WAITING)?;
+    push_small(code, Register::T1, MOST_WAITING)?;
     put(
         code,
         Instr::Branch {
             condition: BranchCondition::Ltu,
-            rs1: X28,
-            rs2: X6,
+            rs1: Register::T3,
+            rs2: Register::T1,
             offset: offset(16),
         },
     )?;
@@ -90,7 +90,7 @@ fn push_part(
     }
 }
 
-/// x5 gets what is passed, unless it holds it.
+/// T0 gets what is passed, unless it holds it.
 fn push_first_part(
     code: &mut Vec<u32>,
     homes: &[Option<Home>],
@@ -105,14 +105,14 @@ fn push_first_part(
     }
 }
 
-/// x5 gets the address of an area.
+/// T0 gets the address of an area.
 fn push_first_area(code: &mut Vec<u32>, homes: &[Option<Home>], area: u64) -> Result<(), NoMemory>
-    ensures { OnOk result (code.new.items ≡ code.old.items ++ map word_of (area_reached (with_homes homes.now) x5 area 0)) }
+    ensures { OnOk result (code.new.items ≡ code.old.items ++ map word_of (area_reached (with_homes homes.now) T0 area 0)) }
 {
-    push_area_address(code, homes, X5, area, 0)
+    push_area_address(code, homes, Register::T0, area, 0)
 }
 
-/// x10 gets what is given back: a word, from x5 where x5 holds it, or the address of an area.
+/// A0 gets what is given back: a word, from T0 where T0 holds it, or the address of an area.
 pub(crate) fn push_given(
     code: &mut Vec<u32>,
     homes: &[Option<Home>],
@@ -123,7 +123,7 @@ pub(crate) fn push_given(
 {
     match part {
         Part::Word(a) => push_word_given(code, homes, held, a),
-        Part::Area(area) => push_area_address(code, homes, X10, area, 0),
+        Part::Area(area) => push_area_address(code, homes, Register::A0, area, 0),
     }
 }
 
@@ -135,10 +135,10 @@ fn push_word_given(
 ) -> Result<(), NoMemory>
     ensures { OnOk result (code.new.items ≡ code.old.items ++ map word_of (word_given (with_homes homes.now) held a)) }
 {
-    push_brought(code, homes, held, X10, a)
+    push_brought(code, homes, held, Register::A0, a)
 }
 
-/// The words of parts from one on go below the frame, where x5 may hold the first of them.
+/// The words of parts from one on go below the frame, where T0 may hold the first of them.
 fn push_passed(
     code: &mut Vec<u32>,
     homes: &[Option<Home>],
@@ -153,7 +153,7 @@ fn push_passed(
             return Err(NoMemory);
         }
         push_first_part(code, homes, held, *part)?;
-        push_stored_below(code, X5, 8 * (first + 1))?;
+        push_stored_below(code, Register::T0, 8 * (first + 1))?;
         push_passed(code, homes, None, first + 1, rest)?;
     }
     Ok(())
@@ -167,8 +167,8 @@ fn push_one_more(code: &mut Vec<u32>) -> Result<(), NoMemory>
         code,
         Instr::RegisterImmediate {
             op: ImmediateOp::Addi,
-            rd: X28,
-            rs1: X28,
+            rd: Register::T3,
+            rs1: Register::T3,
             imm: immediate(1),
         },
     )
@@ -188,7 +188,7 @@ fn push_all_passed(
     push_one_more(code)
 }
 
-/// What comes before the jump of a call, where x5 may hold the word of a temporary.
+/// What comes before the jump of a call, where T0 may hold the word of a temporary.
 pub(crate) fn push_call_begun(
     code: &mut Vec<u32>,
     homes: &[Option<Home>],
@@ -200,7 +200,7 @@ pub(crate) fn push_call_begun(
     ensures { OnOk result (code.new.items ≡ code.old.items
         ++ map word_of (call_begun (with_counting homes.now counts) held at arguments.now)) }
 {
-    push_constant(code, X11, place_number(at))?;
+    push_constant(code, Register::A1, place_number(at))?;
     push_counted_test(code, counts)?;
     push_all_passed(code, homes, held, arguments)
 }
@@ -215,7 +215,7 @@ fn push_counted_test(code: &mut Vec<u32>, counts: bool) -> Result<(), NoMemory>
     push_depth_test(code)
 }
 
-/// A jump from an address to a function, with the return address in x1.
+/// A jump from an address to a function, with the return address in RA.
 pub fn push_call_jump(code: &mut Vec<u32>, from: u64, to: u64) -> Result<(), NoMemory>
     requires { from ≤ 2 ^ 32 }
     ensures { OnOk result (code.new.items ≡ code.old.items ++ map word_of (call_jump from to)) }
@@ -224,33 +224,33 @@ pub fn push_call_jump(code: &mut Vec<u32>, from: u64, to: u64) -> Result<(), NoM
     put(
         code,
         Instr::Auipc {
-            rd: X5,
+            rd: Register::T0,
             imm: upper(bytes),
         },
     )?;
     put(
         code,
         Instr::Jalr {
-            rd: X1,
-            rs1: X5,
+            rd: Register::RA,
+            rs1: Register::T0,
             offset: lower(bytes),
         },
     )
 }
 
-/// Counts to x9. The answer is how many words that takes.
+/// Counts to S1. The answer is how many words that takes.
 #[tactic(auto, using(crate::proofs::Numbers::pushed_words, crate::proofs::Numbers::constant_count))]
 fn push_counts(code: &mut Vec<u32>, units: u64) -> Result<u64, NoMemory>
-    ensures code { OnOk result (code.new.items ≡ code.old.items ++ map word_of (constant x9 units)) }
-    ensures words { IfOk result (λ words. words ≡ length (constant x9 units)) }
+    ensures code { OnOk result (code.new.items ≡ code.old.items ++ map word_of (constant S1 units)) }
+    ensures words { IfOk result (λ words. words ≡ length (constant S1 units)) }
     ensures few { IfOk result (λ words. words ≤ 8) }
 {
     let before = code.len();
-    push_constant(code, X9, units)?;
+    push_constant(code, Register::S1, units)?;
     Ok((code.len() - before) as u64)
 }
 
-/// The words, at an address, by which a function that counts is entered as the entry with so many counts: they put these into x9 and jump
+/// The words, at an address, by which a function that counts is entered as the entry with so many counts: they put these into S1 and jump
 /// to where it begins.
 pub fn push_units(code: &mut Vec<u32>, units: u64, at: u64, to: u64) -> Result<(), NoMemory>
     requires { at ≤ 2 ^ 31 }
@@ -273,11 +273,11 @@ pub(crate) fn push_call_ended(
         code,
         Instr::RegisterImmediate {
             op: ImmediateOp::Addi,
-            rd: X28,
-            rs1: X28,
+            rd: Register::T3,
+            rs1: Register::T3,
             imm: below_zero(0),
         },
     )?;
-    push_moved(code, X5, X10)?;
+    push_moved(code, Register::T0, Register::A0)?;
     push_result_put(code, homes, sizes, to)
 }

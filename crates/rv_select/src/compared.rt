@@ -8,7 +8,6 @@ ghost use Rattle.rv_select.specs.Compared.{least_condition, left_of};
 ghost use Rattle.rv_select.specs.Compared.{operands_taken, right_of, second_register};
 ghost use Rattle.rv_select.specs.Shapes.{start_of};
 
-use crate::emit::{X5, X6};
 use crate::exits::{push_parted, start_of};
 use crate::reading::{is_second, push_first_read, push_second_read, read_in};
 use crate::settings::Setting;
@@ -18,7 +17,7 @@ use tac_form::{Edge, Number, Operand};
 use terra_words::BinaryOperator;
 use tl_base::NoMemory;
 
-/// The words of a block's last instruction, a comparison, and of its exit, a branch on the comparison's result, where x5 may hold the
+/// The words of a block's last instruction, a comparison, and of its exit, a branch on the comparison's result, where T0 may hold the
 /// word of a temporary, by the setting in which they stand, their address and those at which the blocks begin. They serve where the
 /// result is read by that branch alone: where its temporary is live at the begin of neither block. No home gets the result then.
 ///
@@ -152,9 +151,9 @@ fn first_register(homes: &[Option<Home>], held: Option<u64>, a: Operand, b: Oper
     ensures { result ≡ first_register (with_homes homes.now) held a b }
 {
     if is_second(held, b) {
-        read_in(homes, X6, a)
+        read_in(homes, Register::T1, a)
     } else {
-        read_in(homes, X5, a)
+        read_in(homes, Register::T0, a)
     }
 }
 
@@ -162,9 +161,9 @@ fn second_register(homes: &[Option<Home>], held: Option<u64>, a: Operand, b: Ope
     ensures { result ≡ second_register (with_homes homes.now) held a b }
 {
     if is_second(held, b) {
-        read_in(homes, X5, b)
+        read_in(homes, Register::T0, b)
     } else {
-        read_in(homes, X6, b)
+        read_in(homes, Register::T1, b)
     }
 }
 

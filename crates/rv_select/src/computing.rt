@@ -2,13 +2,14 @@
 
 ghost use Rattle.std.specs.Prelude.{◌≡◌, ◌≤◌, ◌++◌, map, OnOk};
 ghost use Rattle.rv_isa.specs.Table.{word_of};
+ghost use Rattle.rv_isa.specs.Registers.{T0, T1};
 ghost use Rattle.tac_form.specs.Flow.{bytes_of, width_of};
-ghost use Rattle.rv_operators.specs.Codes.{code_of, x5, x6};
+ghost use Rattle.rv_operators.specs.Codes.{code_of};
 ghost use Rattle.rv_select.specs.Places.{with_homes};
 ghost use Rattle.rv_select.specs.Shapes.{applied_to, both_moved, computed, five_or_six, is_five, read_in, result_in, second_read, is_symmetric, is_turned, operated, operated_second};
 ghost use Rattle.tac_form.specs.declared.tac.Operand.TheVariants as operands;
 
-use crate::emit::{X5, X6, push_moved};
+use crate::emit::push_moved;
 use crate::folded::{is_folded, push_folded};
 use crate::reading::{
     in_five, is_held, is_there, push_first, push_first_read, push_put_behind, push_second_read,
@@ -43,7 +44,7 @@ pub(crate) fn push_computed(
     }
 }
 
-/// x5 holds the second operand, which goes to x6 if x5 has to get the first.
+/// T0 holds the second operand, which goes to T1 if T0 has to get the first.
 fn push_operated_second(
     code: &mut Vec<u32>,
     homes: &[Option<Home>],
@@ -71,11 +72,11 @@ fn push_moved_operation(
     a: Operand,
 ) -> Result<(), NoMemory>
     ensures { OnOk result (code.new.items ≡ code.old.items
-        ++ map word_of (code_of (result_in (with_homes homes.now) temp) (read_in (with_homes homes.now) x5 a)
+        ++ map word_of (code_of (result_in (with_homes homes.now) temp) (read_in (with_homes homes.now) T0 a)
         (five_or_six (with_homes homes.now) a) (width_of form) operator)) }
 {
     let rd = result_in(homes, temp);
-    let ra = read_in(homes, X5, a);
+    let ra = read_in(homes, Register::T0, a);
     let rb = five_or_six(homes, a);
     push_operation(code, rd, ra, rb, operator, form)
 }
@@ -91,14 +92,18 @@ fn push_both_moved(
     if is_there(homes, a) {
         return Ok(());
     }
-    push_moved(code, X6, X5)?;
+    push_moved(code, Register::T1, Register::T0)?;
     push_first(code, homes, held, a)
 }
 
 fn five_or_six(homes: &[Option<Home>], a: Operand) -> Register
     ensures { result ≡ five_or_six (with_homes homes.now) a }
 {
-    if is_there(homes, a) { X5 } else { X6 }
+    if is_there(homes, a) {
+        Register::T0
+    } else {
+        Register::T1
+    }
 }
 
 /// The same with the operands in this order.
@@ -131,15 +136,15 @@ fn push_applied_to(
     b: Operand,
 ) -> Result<(), NoMemory>
     ensures { OnOk result (code.new.items ≡ code.old.items
-        ++ map word_of (applied_to (with_homes homes.now) (result_in (with_homes homes.now) temp) (read_in (with_homes homes.now) x5 a)
+        ++ map word_of (applied_to (with_homes homes.now) (result_in (with_homes homes.now) temp) (read_in (with_homes homes.now) T0 a)
         (width_of form) operator b)) }
 {
     let rd = result_in(homes, temp);
-    let ra = read_in(homes, X5, a);
+    let ra = read_in(homes, Register::T0, a);
     push_applied(code, homes, rd, ra, operator, form, b)
 }
 
-/// Whether x5 has an operand's word.
+/// Whether T0 has an operand's word.
 fn is_five(homes: &[Option<Home>], held: Option<u64>, b: Operand) -> bool
     ensures { result ≡ is_five (with_homes homes.now) held b }
 {
@@ -235,7 +240,7 @@ fn push_read_operation(
 ) -> Result<(), NoMemory>
     ensures { OnOk result (code.new.items ≡ code.old.items
         ++ map word_of (second_read (with_homes homes.now) b
-        ++ code_of rd ra (read_in (with_homes homes.now) x6 b) (width_of form) operator)) }
+        ++ code_of rd ra (read_in (with_homes homes.now) T1 b) (width_of form) operator)) }
 {
     push_second_read(code, homes, b)?;
     push_operation_of(code, homes, rd, ra, operator, form, b)
@@ -252,9 +257,9 @@ fn push_operation_of(
     b: Operand,
 ) -> Result<(), NoMemory>
     ensures { OnOk result (code.new.items ≡ code.old.items
-        ++ map word_of (code_of rd ra (read_in (with_homes homes.now) x6 b) (width_of form) operator)) }
+        ++ map word_of (code_of rd ra (read_in (with_homes homes.now) T1 b) (width_of form) operator)) }
 {
-    let rb = read_in(homes, X6, b);
+    let rb = read_in(homes, Register::T1, b);
     push_operation(code, rd, ra, rb, operator, form)
 }
 

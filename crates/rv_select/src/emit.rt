@@ -6,12 +6,12 @@ ghost use Rattle.rv_isa.specs.declared.operation.ImmediateOp.TheVariants as imme
 ghost use Rattle.rv_isa.specs.declared.operation.RegisterOp.TheVariants as ops;
 ghost use Rattle.rv_isa.specs.declared.operation.ShiftOp.TheVariants as shifts;
 ghost use Rattle.rv_isa.specs.Table.{word_of};
-ghost use Rattle.rv_operators.specs.Codes.{x0};
+ghost use Rattle.rv_isa.specs.Registers.{ZERO, T2, A1};
 ghost use Rattle.rv_select.specs.Numbers.{constant, half, half_added, in_both, in_halves, is_twice, long_constant, short_constant};
-ghost use Rattle.rv_select.specs.Numbers.{upper_half, x7};
+ghost use Rattle.rv_select.specs.Numbers.{upper_half};
 ghost use Rattle.rv_machine.specs.Word.{extended_word};
 ghost use Rattle.rv_select.specs.Places.{area_offset, home_of, in_register, slot_offset, with_homes};
-ghost use Rattle.rv_select.specs.Shapes.{far_part, framed, moved, put_at, put_from, register_or, taken, taken_from, x11};
+ghost use Rattle.rv_select.specs.Shapes.{far_part, framed, moved, put_at, put_from, register_or, taken, taken_from};
 
 use crate::operands::{immediate, lower, register, upper};
 use reg_alloc::Home;
@@ -23,27 +23,15 @@ use tac_form::Operand;
 use tl_base::NoMemory;
 use tl_base::limits::MAX_VALUE_BYTES;
 
-pub(crate) const X0: Register = Register { number: 0 };
-/// The address of the frame.
-pub(crate) const X2: Register = Register { number: 2 };
-/// The end of the region.
-pub(crate) const X4: Register = Register { number: 4 };
-/// The first operand and the result.
-pub(crate) const X5: Register = Register { number: 5 };
-/// The second operand.
-pub(crate) const X6: Register = Register { number: 6 };
-/// Upper parts of offsets.
-pub(crate) const X7: Register = Register { number: 7 };
-/// The address of the frame in the region.
-pub(crate) const X8: Register = Register { number: 8 };
-/// The counts that are left.
-pub(crate) const X9: Register = Register { number: 9 };
-/// What calls of the machine and of functions take and give.
-pub(crate) const X10: Register = Register { number: 10 };
-
-pub(crate) const X11: Register = Register { number: 11 };
-
-pub(crate) const X17: Register = Register { number: 17 };
+// What registers hold:
+//
+// - ZERO reads as zero;
+// - RA has the return address, and T3 the number of calls that wait;
+// - SP has the address of the frame, and S0 that of the frame in the region;
+// - GP has the end of the heap, and TP that of the region;
+// - T0 has the first operand and the result, T1 the second operand, and T2 upper parts of offsets;
+// - S1 has the counts that are left;
+// - A0, A1, A2 and A7 have what calls of the machine and of functions take and give.
 
 /// One instruction.
 pub(crate) fn put(code: &mut Vec<u32>, instruction: Instr) -> Result<(), NoMemory>
@@ -68,7 +56,7 @@ pub(crate) fn push_short_constant(
             code,
             Instr::Addiw {
                 rd,
-                rs1: X0,
+                rs1: Register::ZERO,
                 imm: low,
             },
         );
@@ -101,7 +89,7 @@ fn push_moved_up(code: &mut Vec<u32>, rd: Register, rs1: Register) -> Result<(),
 
 /// A register gets the sum of its word and x7's.
 fn push_seven_added(code: &mut Vec<u32>, rd: Register) -> Result<(), NoMemory>
-    ensures { OnOk result (code.new.items ≡ code.old.items ++ word_of (instrs.RegisterRegister ops.Add rd rd x7) ∷ []) }
+    ensures { OnOk result (code.new.items ≡ code.old.items ++ word_of (instrs.RegisterRegister ops.Add rd rd T2) ∷ []) }
 {
     put(
         code,
@@ -109,7 +97,7 @@ fn push_seven_added(code: &mut Vec<u32>, rd: Register) -> Result<(), NoMemory>
             op: RegisterOp::Add,
             rd,
             rs1: rd,
-            rs2: X7,
+            rs2: Register::T2,
         },
     )
 }
@@ -129,7 +117,7 @@ fn push_half_added(code: &mut Vec<u32>, rd: Register, number: u64) -> Result<(),
             },
         );
     }
-    push_short_constant(code, X7, number)?;
+    push_short_constant(code, Register::T2, number)?;
     push_seven_added(code, rd)
 }
 
@@ -159,7 +147,7 @@ fn push_in_both(code: &mut Vec<u32>, rd: Register, number: u64) -> Result<(), No
     ensures { OnOk result (code.new.items ≡ code.old.items ++ map word_of (in_both rd number)) }
 {
     push_short_constant(code, rd, number)?;
-    push_moved_up(code, X7, rd)?;
+    push_moved_up(code, Register::T2, rd)?;
     push_seven_added(code, rd)
 }
 
@@ -192,14 +180,14 @@ pub(crate) fn push_constant(code: &mut Vec<u32>, rd: Register, number: u64) -> R
     }
 }
 
-/// x7 gets the address of an offset of the frame, but for its lower part.
+/// T2 gets the address of an offset of the frame, but for its lower part.
 pub(crate) fn push_far(code: &mut Vec<u32>, offset: u64) -> Result<(), NoMemory>
     ensures { OnOk result (code.new.items ≡ code.old.items ++ map word_of (far_part offset)) }
 {
     put(
         code,
         Instr::Lui {
-            rd: X7,
+            rd: Register::T2,
             imm: upper(offset),
         },
     )?;
@@ -207,9 +195,9 @@ pub(crate) fn push_far(code: &mut Vec<u32>, offset: u64) -> Result<(), NoMemory>
         code,
         Instr::RegisterRegister {
             op: RegisterOp::Add,
-            rd: X7,
-            rs1: X7,
-            rs2: X2,
+            rd: Register::T2,
+            rs1: Register::T2,
+            rs2: Register::SP,
         },
     )
 }
@@ -229,7 +217,7 @@ pub(crate) fn push_frame_load(
             Instr::Load {
                 op,
                 rd,
-                rs1: X2,
+                rs1: Register::SP,
                 offset: immediate(offset),
             },
         );
@@ -240,7 +228,7 @@ pub(crate) fn push_frame_load(
         Instr::Load {
             op,
             rd,
-            rs1: X7,
+            rs1: Register::T2,
             offset: lower(offset),
         },
     )
@@ -260,7 +248,7 @@ pub(crate) fn push_frame_store(
             code,
             Instr::Store {
                 op,
-                rs1: X2,
+                rs1: Register::SP,
                 rs2,
                 offset: immediate(offset),
             },
@@ -271,7 +259,7 @@ pub(crate) fn push_frame_store(
         code,
         Instr::Store {
             op,
-            rs1: X7,
+            rs1: Register::T2,
             rs2,
             offset: lower(offset),
         },
@@ -293,7 +281,7 @@ pub(crate) fn push_frame_address(
             Instr::RegisterImmediate {
                 op: ImmediateOp::Addi,
                 rd,
-                rs1: X2,
+                rs1: Register::SP,
                 imm: immediate(offset),
             },
         );
@@ -304,7 +292,7 @@ pub(crate) fn push_frame_address(
         Instr::RegisterImmediate {
             op: ImmediateOp::Addi,
             rd,
-            rs1: X7,
+            rs1: Register::T2,
             imm: lower(offset),
         },
     )
@@ -424,7 +412,7 @@ pub(crate) fn push_taken(
     }
 }
 
-/// A temporary's home gets the word in x5, where it has one.
+/// A temporary's home gets the word in T0, where it has one.
 pub(crate) fn push_put(
     code: &mut Vec<u32>,
     homes: &[Option<Home>],
@@ -433,7 +421,7 @@ pub(crate) fn push_put(
     ensures { OnOk result (code.new.items ≡ code.old.items ++ map word_of (put_at (with_homes homes.now) temp)) }
 {
     match homes.get(temp as usize) {
-        Some(Some(home)) => push_put_from(code, X5, *home),
+        Some(Some(home)) => push_put_from(code, Register::T0, *home),
         _ => Ok(()),
     }
 }
@@ -444,14 +432,14 @@ pub(crate) fn push_put_zero(
     homes: &[Option<Home>],
     temp: u64,
 ) -> Result<(), NoMemory>
-    ensures { OnOk result (code.new.items ≡ code.old.items ++ map word_of (put_from x0 (home_of (with_homes homes.now) temp))) }
+    ensures { OnOk result (code.new.items ≡ code.old.items ++ map word_of (put_from ZERO (home_of (with_homes homes.now) temp))) }
 {
-    push_put_from(code, X0, home_of(homes, temp))
+    push_put_from(code, Register::ZERO, home_of(homes, temp))
 }
 
 /// How many words `push_constant` takes.
 pub(crate) fn constant_words(number: u64) -> u64
-    ensures { result ≡ length (constant x11 number) }
+    ensures { result ≡ length (constant A1 number) }
 {
     if is_short(number) {
         short_constant_words(number)
@@ -461,7 +449,7 @@ pub(crate) fn constant_words(number: u64) -> u64
 }
 
 fn long_constant_words(number: u64) -> u64
-    ensures words { result ≡ length (long_constant x11 number) }
+    ensures words { result ≡ length (long_constant A1 number) }
     ensures few { result ≤ 6 }
 {
     if is_twice(number) {
@@ -472,7 +460,7 @@ fn long_constant_words(number: u64) -> u64
 }
 
 fn half_added_words(number: u64) -> u64
-    ensures words { result ≡ length (half_added x11 number) }
+    ensures words { result ≡ length (half_added A1 number) }
     ensures few { result ≤ 3 }
 {
     if upper(number).value == 0 {
@@ -483,7 +471,7 @@ fn half_added_words(number: u64) -> u64
 }
 
 fn short_constant_words(number: u64) -> u64
-    ensures words { result ≡ length (short_constant x11 number) }
+    ensures words { result ≡ length (short_constant A1 number) }
     ensures few { result ≤ 2 }
 {
     if upper(number).value == 0 { 1 } else { 2 }

@@ -6,18 +6,19 @@ ghost use Rattle.rv_isa.specs.declared.instr.Instr.TheVariants.{Load, RegisterIm
 ghost use Rattle.rv_isa.specs.declared.operation.ImmediateOp.TheVariants.{Addi};
 ghost use Rattle.rv_isa.specs.declared.operation.LoadOp.TheVariants.{Ld};
 ghost use Rattle.rv_isa.specs.declared.operation.StoreOp.TheVariants.{Sd};
+ghost use Rattle.rv_isa.specs.Registers.{RA, SP, T2, A1};
 ghost use Rattle.rv_operators.specs.Codes.{zero_immediate};
 ghost use Rattle.rv_select.specs.Entering.{arguments_stored, begun, entered, frame_taken, frames_given, if_used, is_before, is_received};
 ghost use Rattle.rv_select.specs.Entering.{kept_offset, left, most_arguments, place_given, pointer_down, pointer_up, put_back};
 ghost use Rattle.rv_select.specs.Entering.{put_back_one, received, received_one, region_given, region_taken, result_put, saved, saved_one};
-ghost use Rattle.rv_select.specs.Entering.{size_in, stack_branch, stack_tested, stored_below, x1};
+ghost use Rattle.rv_select.specs.Entering.{size_in, stack_branch, stack_tested, stored_below};
 ghost use Rattle.rv_select.specs.Numbers.{constant, register_of, short_constant};
 ghost use Rattle.rv_select.specs.Places.{is_register, uses, with_extent, with_homes};
-ghost use Rattle.rv_select.specs.Shapes.{place_number, to_area, x2, x7, x11};
+ghost use Rattle.rv_select.specs.Shapes.{place_number, to_area};
 
 use crate::emit::{
-    X0, X2, X4, X5, X7, X8, X11, push_constant, push_far, push_frame_load, push_moved, push_put,
-    push_short_constant, put, slot_offset,
+    push_constant, push_far, push_frame_load, push_moved, push_put, push_short_constant, put,
+    slot_offset,
 };
 use crate::failing::{place_number, push_fault_call};
 use crate::moving::push_to_area;
@@ -32,12 +33,6 @@ use tac_form::{Destination, Tac};
 use terra_words::FaultKind;
 use tl_base::limits::MAX_VALUE_BYTES;
 use tl_base::{NoMemory, Place};
-
-/// The return address.
-pub(crate) const X1: Register = Register { number: 1 };
-
-/// The number of calls that wait.
-pub(crate) const X28: Register = Register { number: 28 };
 
 /// The first of the registers that calls keep, and how many they are.
 const FIRST_KEPT: u64 = 18;
@@ -87,7 +82,7 @@ fn push_saved_one(code: &mut Vec<u32>, homes: &[Option<Home>], number: u64) -> R
         code,
         Instr::Store {
             op: StoreOp::Sd,
-            rs1: X2,
+            rs1: Register::SP,
             rs2: register(number),
             offset: immediate(kept_offset(number)),
         },
@@ -130,7 +125,7 @@ fn push_put_back_one(
         Instr::Load {
             op: LoadOp::Ld,
             rd: register(number),
-            rs1: X2,
+            rs1: Register::SP,
             offset: immediate(kept_offset(number)),
         },
     )
@@ -154,16 +149,16 @@ fn push_put_back(
     push_put_back(code, homes, count - 1, number + 1)
 }
 
-/// The run fails at the place in x11 unless the data stack has room for a frame of so many bytes, which x5 gets.
+/// The run fails at the place in A1 unless the data stack has room for a frame of so many bytes, which T0 gets.
 fn push_stack_test(code: &mut Vec<u32>, frame: u64) -> Result<(), NoMemory>
     ensures { OnOk result (code.new.items ≡ code.old.items ++ map word_of (stack_tested frame)) }
 {
-    push_constant(code, X5, frame)?;
+    push_constant(code, Register::T0, frame)?;
     push_limit_found(code)?;
     push_stack_branch(code)
 }
 
-/// The run fails unless x8 is at least x5 above x7.
+/// The run fails unless S0 is at least T0 above T2.
 fn push_stack_branch(code: &mut Vec<u32>) -> Result<(), NoMemory>
     ensures { OnOk result (code.new.items ≡ code.old.items ++ map word_of stack_branch) }
 {
@@ -171,24 +166,24 @@ fn push_stack_branch(code: &mut Vec<u32>) -> Result<(), NoMemory>
         code,
         Instr::RegisterRegister {
             op: RegisterOp::Add,
-            rd: X7,
-            rs1: X7,
-            rs2: X5,
+            rd: Register::T2,
+            rs1: Register::T2,
+            rs2: Register::T0,
         },
     )?;
     put(
         code,
         Instr::Branch {
             condition: BranchCondition::Geu,
-            rs1: X8,
-            rs2: X7,
+            rs1: Register::S0,
+            rs2: Register::T2,
             offset: offset(16),
         },
     )?;
     push_fault_call(code, FaultKind::StackFull)
 }
 
-/// The frame in the region goes down, if there is room. An empty one leaves x8.
+/// The frame in the region goes down, if there is room. An empty one leaves S0.
 fn push_region_taken(code: &mut Vec<u32>, frame: u64) -> Result<(), NoMemory>
     ensures { OnOk result (code.new.items ≡ code.old.items ++ map word_of (region_taken frame)) }
 {
@@ -200,40 +195,40 @@ fn push_region_taken(code: &mut Vec<u32>, frame: u64) -> Result<(), NoMemory>
         code,
         Instr::RegisterRegister {
             op: RegisterOp::Sub,
-            rd: X8,
-            rs1: X8,
-            rs2: X5,
+            rd: Register::S0,
+            rs1: Register::S0,
+            rs2: Register::T0,
         },
     )
 }
 
-/// x2 gets its own word and an immediate's.
+/// SP gets its own word and an immediate's.
 fn push_pointer_moved(code: &mut Vec<u32>, imm: Immediate) -> Result<(), NoMemory>
-    ensures { OnOk result (code.new.items ≡ code.old.items ++ map word_of (RegisterImmediate Addi x2 x2 imm ∷ [])) }
+    ensures { OnOk result (code.new.items ≡ code.old.items ++ map word_of (RegisterImmediate Addi SP SP imm ∷ [])) }
 {
     put(
         code,
         Instr::RegisterImmediate {
             op: ImmediateOp::Addi,
-            rd: X2,
-            rs1: X2,
+            rd: Register::SP,
+            rs1: Register::SP,
             imm,
         },
     )
 }
 
-/// x2 gets what an operator makes of its own word and so many bytes, for which an immediate is too short.
+/// SP gets what an operator makes of its own word and so many bytes, for which an immediate is too short.
 fn push_pointer_far(code: &mut Vec<u32>, op: RegisterOp, bytes: u64) -> Result<(), NoMemory>
-    ensures { OnOk result (code.new.items ≡ code.old.items ++ map word_of (short_constant x7 bytes ++ RegisterRegister op x2 x2 x7 ∷ [])) }
+    ensures { OnOk result (code.new.items ≡ code.old.items ++ map word_of (short_constant T2 bytes ++ RegisterRegister op SP SP T2 ∷ [])) }
 {
-    push_short_constant(code, X7, bytes)?;
+    push_short_constant(code, Register::T2, bytes)?;
     put(
         code,
         Instr::RegisterRegister {
             op,
-            rd: X2,
-            rs1: X2,
-            rs2: X7,
+            rd: Register::SP,
+            rs1: Register::SP,
+            rs2: Register::T2,
         },
     )
 }
@@ -263,7 +258,7 @@ fn push_pointer_up(code: &mut Vec<u32>, bytes: u64) -> Result<(), NoMemory>
 
 /// The return address is kept in the frame where the function makes calls.
 fn push_link_saved(code: &mut Vec<u32>, calls: bool) -> Result<(), NoMemory>
-    ensures { OnOk result (code.new.items ≡ code.old.items ++ map word_of (if_used calls (Store Sd x2 x1 zero_immediate))) }
+    ensures { OnOk result (code.new.items ≡ code.old.items ++ map word_of (if_used calls (Store Sd SP RA zero_immediate))) }
 {
     if !calls {
         return Ok(());
@@ -272,8 +267,8 @@ fn push_link_saved(code: &mut Vec<u32>, calls: bool) -> Result<(), NoMemory>
         code,
         Instr::Store {
             op: StoreOp::Sd,
-            rs1: X2,
-            rs2: X1,
+            rs1: Register::SP,
+            rs2: Register::RA,
             offset: Immediate { value: 0 },
         },
     )
@@ -281,7 +276,7 @@ fn push_link_saved(code: &mut Vec<u32>, calls: bool) -> Result<(), NoMemory>
 
 /// It is put back from there.
 fn push_link_put_back(code: &mut Vec<u32>, calls: bool) -> Result<(), NoMemory>
-    ensures { OnOk result (code.new.items ≡ code.old.items ++ map word_of (if_used calls (Load Ld x1 x2 zero_immediate))) }
+    ensures { OnOk result (code.new.items ≡ code.old.items ++ map word_of (if_used calls (Load Ld RA SP zero_immediate))) }
 {
     if !calls {
         return Ok(());
@@ -290,8 +285,8 @@ fn push_link_put_back(code: &mut Vec<u32>, calls: bool) -> Result<(), NoMemory>
         code,
         Instr::Load {
             op: LoadOp::Ld,
-            rd: X1,
-            rs1: X2,
+            rd: Register::RA,
+            rs1: Register::SP,
             offset: Immediate { value: 0 },
         },
     )
@@ -327,7 +322,7 @@ pub(crate) fn push_entered(
     push_frame_taken(code, homes, extent, bytes)
 }
 
-/// The words by which a function is left, with its result in x10.
+/// The words by which a function is left, with its result in A0.
 pub(crate) fn push_left(
     code: &mut Vec<u32>,
     homes: &[Option<Home>],
@@ -342,21 +337,21 @@ pub(crate) fn push_left(
     push_frames_given(code, bytes, frame)
 }
 
-/// The frame in the region goes up again, and an empty one leaves x8.
+/// The frame in the region goes up again, and an empty one leaves S0.
 fn push_region_given(code: &mut Vec<u32>, frame: u64) -> Result<(), NoMemory>
     ensures { OnOk result (code.new.items ≡ code.old.items ++ map word_of (region_given frame)) }
 {
     if frame == 0 {
         return Ok(());
     }
-    push_constant(code, X5, frame)?;
+    push_constant(code, Register::T0, frame)?;
     put(
         code,
         Instr::RegisterRegister {
             op: RegisterOp::Add,
-            rd: X8,
-            rs1: X8,
-            rs2: X5,
+            rd: Register::S0,
+            rs1: Register::S0,
+            rs2: Register::T0,
         },
     )
 }
@@ -370,8 +365,8 @@ fn push_frames_given(code: &mut Vec<u32>, bytes: u64, frame: u64) -> Result<(), 
     put(
         code,
         Instr::Jalr {
-            rd: X0,
-            rs1: X1,
+            rd: Register::ZERO,
+            rs1: Register::RA,
             offset: Immediate { value: 0 },
         },
     )
@@ -392,7 +387,7 @@ pub(crate) fn push_stored_below(
             code,
             Instr::Store {
                 op: StoreOp::Sd,
-                rs1: X2,
+                rs1: Register::SP,
                 rs2,
                 offset: below_zero(bytes - 1),
             },
@@ -404,7 +399,7 @@ pub(crate) fn push_stored_below(
         code,
         Instr::Store {
             op: StoreOp::Sd,
-            rs1: X7,
+            rs1: Register::T2,
             rs2,
             offset: lower(far),
         },
@@ -439,14 +434,14 @@ fn most_arguments(parameters: u64) -> u64
     if parameters <= 8 { parameters } else { 0 }
 }
 
-/// x11 gets a place.
+/// A1 gets a place.
 fn push_place(code: &mut Vec<u32>, place: Place) -> Result<(), NoMemory>
-    ensures { OnOk result (code.new.items ≡ code.old.items ++ map word_of (constant x11 (place_number place))) }
+    ensures { OnOk result (code.new.items ≡ code.old.items ++ map word_of (constant A1 (place_number place))) }
 {
-    push_constant(code, X11, place_number(place))
+    push_constant(code, Register::A1, place_number(place))
 }
 
-/// x11 gets the place at which the run fails where there is no room for a frame. An empty one needs none.
+/// A1 gets the place at which the run fails where there is no room for a frame. An empty one needs none.
 fn push_place_given(code: &mut Vec<u32>, frame: u64, place: Place) -> Result<(), NoMemory>
     ensures { OnOk result (code.new.items ≡ code.old.items ++ map word_of (place_given frame place)) }
 {
@@ -460,7 +455,7 @@ fn push_place_given(code: &mut Vec<u32>, frame: u64, place: Place) -> Result<(),
 pub(crate) fn push_begun(code: &mut Vec<u32>, tac: &Tac) -> Result<(), NoMemory>
     ensures { OnOk result (code.new.items ≡ code.old.items ++ map word_of (begun tac.now)) }
 {
-    push_moved(code, X8, X4)?;
+    push_moved(code, Register::S0, Register::TP)?;
     let parameters = tac.parameters.as_slice().len() as u64;
     push_arguments(code, most_arguments(parameters), 0)?;
     push_place_given(code, tac.frame, tac.place)
@@ -503,11 +498,11 @@ fn push_received_one(
     if !is_received(homes, last, parameter)? {
         return Ok(());
     }
-    push_frame_load(code, LoadOp::Ld, X5, at)?;
+    push_frame_load(code, LoadOp::Ld, Register::T0, at)?;
     push_result_put(code, homes, sizes, parameter)
 }
 
-/// The result of a call or a parameter, which is in x5, goes where it is taken: a word, or bytes at that address.
+/// The result of a call or a parameter, which is in T0, goes where it is taken: a word, or bytes at that address.
 pub(crate) fn push_result_put(
     code: &mut Vec<u32>,
     homes: &[Option<Home>],

@@ -5,14 +5,14 @@ ghost use Rattle.std.specs.Prelude.{OnOk};
 ghost use Rattle.rv_isa.specs.declared.instr.Instr.TheVariants.{Auipc, Branch, Jal, Jalr};
 ghost use Rattle.rv_isa.specs.declared.operation.BranchCondition.TheVariants.{Ne};
 ghost use Rattle.rv_isa.specs.Table.{word_of};
-ghost use Rattle.rv_operators.specs.Codes.{x0, x5};
+ghost use Rattle.rv_isa.specs.Registers.{ZERO, T0};
 ghost use Rattle.rv_select.specs.Numbers.{lower_of, upper_of};
 ghost use Rattle.rv_select.specs.Places.{with_homes};
 ghost use Rattle.rv_select.specs.Shapes.{branch_bytes, branch_offset, branched, branched_bytes, chosen, counted_jump, counting, distance};
 ghost use Rattle.rv_select.specs.Shapes.{edge_shape, exit_shape, first_read, has_exit_shape, jump, jump_offset, negated, parted, read_in};
 ghost use Rattle.rv_select.specs.Shapes.{start_of, take_count};
 
-use crate::emit::{X0, X5, X9, put};
+use crate::emit::put;
 use crate::failing::push_failed;
 use crate::operands::{below_zero, branch_offset, jump_offset, lower, offset, upper};
 use crate::reading::{push_first_read, read_in};
@@ -22,7 +22,7 @@ use rv_isa::{BranchCondition, ImmediateOp, Instr, Register};
 use tac_form::{Edge, Exit, Operand};
 use tl_base::NoMemory;
 
-/// The words of an exit that stays in its function, or ends the run by a fault, where x5 may hold the word of a temporary, by the
+/// The words of an exit that stays in its function, or ends the run by a fault, where T0 may hold the word of a temporary, by the
 /// setting in which they stand, their address and those at which the blocks begin.
 pub fn push_exit(
     code: &mut Vec<u32>,
@@ -49,7 +49,7 @@ pub fn push_exit(
                 homes,
                 setting,
                 *a,
-                X0,
+                Register::ZERO,
                 at + 4 * words,
                 *first,
                 *second,
@@ -77,9 +77,9 @@ fn push_read_parted(
 ) -> Result<(), NoMemory>
     requires { at + 64 ≤ 2 ^ 32 }
     ensures { OnOk result (code.new.items ≡ code.old.items
-        ++ map word_of (parted setting Ne (read_in (with_homes homes.now) x5 a) b at first_edge second_edge first second)) }
+        ++ map word_of (parted setting Ne (read_in (with_homes homes.now) T0 a) b at first_edge second_edge first second)) }
 {
-    let ra = read_in(homes, X5, a);
+    let ra = read_in(homes, Register::T0, a);
     push_parted(
         code,
         setting,
@@ -102,8 +102,8 @@ pub(crate) fn push_take_count(code: &mut Vec<u32>) -> Result<(), NoMemory>
         code,
         Instr::Branch {
             condition: BranchCondition::Ne,
-            rs1: X9,
-            rs2: X0,
+            rs1: Register::S1,
+            rs2: Register::ZERO,
             offset: offset(8),
         },
     )?;
@@ -112,8 +112,8 @@ pub(crate) fn push_take_count(code: &mut Vec<u32>) -> Result<(), NoMemory>
         code,
         Instr::RegisterImmediate {
             op: ImmediateOp::Addi,
-            rd: X9,
-            rs1: X9,
+            rd: Register::S1,
+            rs1: Register::S1,
             imm: below_zero(0),
         },
     )
@@ -212,12 +212,12 @@ pub(crate) fn push_jump(
 /// A jump of one word.
 fn push_short_jump(code: &mut Vec<u32>, bytes: u64) -> Result<(), NoMemory>
     requires { bytes < 2 ^ 32 }
-    ensures { OnOk result (code.new.items ≡ code.old.items ++ map word_of (Jal x0 (jump_offset bytes) ∷ [])) }
+    ensures { OnOk result (code.new.items ≡ code.old.items ++ map word_of (Jal ZERO (jump_offset bytes) ∷ [])) }
 {
     put(
         code,
         Instr::Jal {
-            rd: X0,
+            rd: Register::ZERO,
             offset: jump_offset(bytes),
         },
     )
@@ -225,20 +225,20 @@ fn push_short_jump(code: &mut Vec<u32>, bytes: u64) -> Result<(), NoMemory>
 
 /// A jump of two words.
 fn push_long_jump(code: &mut Vec<u32>, bytes: u64) -> Result<(), NoMemory>
-    ensures { OnOk result (code.new.items ≡ code.old.items ++ map word_of (Auipc x5 (upper_of bytes) ∷ Jalr x0 x5 (lower_of bytes) ∷ [])) }
+    ensures { OnOk result (code.new.items ≡ code.old.items ++ map word_of (Auipc T0 (upper_of bytes) ∷ Jalr ZERO T0 (lower_of bytes) ∷ [])) }
 {
     put(
         code,
         Instr::Auipc {
-            rd: X5,
+            rd: Register::T0,
             imm: upper(bytes),
         },
     )?;
     put(
         code,
         Instr::Jalr {
-            rd: X0,
-            rs1: X5,
+            rd: Register::ZERO,
+            rs1: Register::T0,
             offset: lower(bytes),
         },
     )

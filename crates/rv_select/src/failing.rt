@@ -3,13 +3,13 @@
 ghost use Rattle.std.specs.Prelude.{◌≡◌, ◌≤◌, ◌++◌, map, length, OnOk};
 ghost use Rattle.rv_isa.specs.Table.{word_of};
 ghost use Rattle.rv_isa.specs.declared.operation.BranchCondition.TheVariants.{Ne};
+ghost use Rattle.rv_isa.specs.Registers.{ZERO, T0};
 ghost use Rattle.terra_words.specs.declared.words.FaultKind.TheVariants.{DivZero};
 ghost use Rattle.terra_words.specs.Words.{fault_number};
-ghost use Rattle.rv_operators.specs.Codes.{x0, x5};
 ghost use Rattle.rv_select.specs.Places.{with_homes};
 ghost use Rattle.rv_select.specs.Shapes.{divisor_tested, failed, read_in, fault_call, branched_over, is_never_zero, place_number, small};
 
-use crate::emit::{X0, X5, X10, X11, X17, constant_words, push_constant, push_moved, put};
+use crate::emit::{constant_words, push_constant, push_moved, put};
 use crate::operands::{immediate, offset};
 use crate::reading::{push_first_read, read_in};
 use reg_alloc::Home;
@@ -52,7 +52,7 @@ pub(crate) fn push_small(code: &mut Vec<u32>, rd: Register, number: u64) -> Resu
         Instr::RegisterImmediate {
             op: ImmediateOp::Addi,
             rd,
-            rs1: X0,
+            rs1: Register::ZERO,
             imm: immediate(number),
         },
     )
@@ -62,16 +62,16 @@ pub(crate) fn push_small(code: &mut Vec<u32>, rd: Register, number: u64) -> Resu
 pub(crate) fn push_failed(code: &mut Vec<u32>, kind: FaultKind, at: Place) -> Result<(), NoMemory>
     ensures { OnOk result (code.new.items ≡ code.old.items ++ map word_of (failed kind at)) }
 {
-    push_constant(code, X11, place_number(at))?;
+    push_constant(code, Register::A1, place_number(at))?;
     push_fault_call(code, kind)
 }
 
-/// The run ends by a fault at the place in x11.
+/// The run ends by a fault at the place in A1.
 pub(crate) fn push_fault_call(code: &mut Vec<u32>, kind: FaultKind) -> Result<(), NoMemory>
     ensures { OnOk result (code.new.items ≡ code.old.items ++ map word_of (fault_call kind)) }
 {
-    push_small(code, X10, fault_number(kind))?;
-    push_small(code, X17, FAULT_CALL)?;
+    push_small(code, Register::A0, fault_number(kind))?;
+    push_small(code, Register::A7, FAULT_CALL)?;
     put(code, Instr::Ecall)
 }
 
@@ -118,7 +118,7 @@ pub(crate) fn push_divisor_test(
     ensures { OnOk result (code.new.items ≡ code.old.items ++ map word_of (divisor_tested (with_homes homes.now) held at a)) }
 {
     if is_never_zero(a) {
-        return push_moved(code, X0, X0);
+        return push_moved(code, Register::ZERO, Register::ZERO);
     }
     push_first_read(code, homes, held, a)?;
     push_zero_fault(code, homes, at, a)
@@ -132,10 +132,17 @@ fn push_zero_fault(
     a: Operand,
 ) -> Result<(), NoMemory>
     ensures { OnOk result (code.new.items ≡ code.old.items
-        ++ map word_of (branched_over Ne (read_in (with_homes homes.now) x5 a) x0 DivZero at)) }
+        ++ map word_of (branched_over Ne (read_in (with_homes homes.now) T0 a) ZERO DivZero at)) }
 {
-    let ra = read_in(homes, X5, a);
-    push_branch_over(code, BranchCondition::Ne, ra, X0, FaultKind::DivZero, at)
+    let ra = read_in(homes, Register::T0, a);
+    push_branch_over(
+        code,
+        BranchCondition::Ne,
+        ra,
+        Register::ZERO,
+        FaultKind::DivZero,
+        at,
+    )
 }
 
 /// Whether an operand is a constant that isn't zero.

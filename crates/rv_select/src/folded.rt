@@ -5,13 +5,14 @@ ghost use Rattle.rv_isa.specs.declared.instr.Instr.TheVariants as instrs;
 ghost use Rattle.rv_isa.specs.declared.operation.ImmediateOp.TheVariants as immediates;
 ghost use Rattle.rv_isa.specs.declared.operation.RegisterOp.TheVariants as ops;
 ghost use Rattle.rv_isa.specs.Table.{word_of};
+ghost use Rattle.rv_isa.specs.Registers.{ZERO};
 ghost use Rattle.tac_form.specs.Flow.{width_of};
-ghost use Rattle.rv_operators.specs.Codes.{cut, one_immediate, x0};
+ghost use Rattle.rv_operators.specs.Codes.{cut, one_immediate};
 ghost use Rattle.rv_select.specs.Folded.{by_number, count_of, differing, folded, is_folded, is_near, is_power, opposite, shift_down};
 ghost use Rattle.rv_select.specs.Folded.{shift_for, shifted_up, sum_of, test_of, turned_round, word_count_of};
 
 use crate::computing::{bytes_of, width_of};
-use crate::emit::{X0, put};
+use crate::emit::put;
 use crate::operands::lower;
 use rv_isa::{
     Immediate, ImmediateOp, Instr, Register, RegisterOp, ShiftCount, ShiftOp, WordShiftCount,
@@ -293,7 +294,7 @@ fn push_not_equal(
     number: u64,
 ) -> Result<(), NoMemory>
     ensures { OnOk result (code.new.items ≡ code.old.items
-        ++ map word_of (differing rd a number (λ r. instrs.RegisterRegister ops.Sltu rd x0 r))) }
+        ++ map word_of (differing rd a number (λ r. instrs.RegisterRegister ops.Sltu rd ZERO r))) }
 {
     if number == 0 {
         return push_other_test(code, rd, a);
@@ -304,14 +305,14 @@ fn push_not_equal(
 
 /// Whether a word isn't zero.
 fn push_other_test(code: &mut Vec<u32>, rd: Register, a: Register) -> Result<(), NoMemory>
-    ensures { OnOk result (code.new.items ≡ code.old.items ++ word_of (instrs.RegisterRegister ops.Sltu rd x0 a) ∷ []) }
+    ensures { OnOk result (code.new.items ≡ code.old.items ++ word_of (instrs.RegisterRegister ops.Sltu rd ZERO a) ∷ []) }
 {
     put(
         code,
         Instr::RegisterRegister {
             op: RegisterOp::Sltu,
             rd,
-            rs1: X0,
+            rs1: Register::ZERO,
             rs2: a,
         },
     )

@@ -16,7 +16,7 @@ use reg_alloc::Home;
 use tac_form::{Destination, Instruction, Operand};
 use tl_base::NoMemory;
 
-/// The words of an instruction, where x5 may hold the word of a temporary.
+/// The words of an instruction, where T0 may hold the word of a temporary.
 pub fn push_instruction(
     code: &mut Vec<u32>,
     homes: &[Option<Home>],
@@ -44,7 +44,7 @@ pub fn push_instruction(
     }
 }
 
-/// The temporary whose word an instruction leaves in x5.
+/// The temporary whose word an instruction leaves in T0.
 pub fn held_after(instruction: &Instruction) -> Option<u64>
     ensures { result ≡ held_after instruction.now }
 {

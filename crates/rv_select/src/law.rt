@@ -41,7 +41,7 @@ pub fn calls_are_begun()
     ensures { CallsAreBegun }
 {}
 
-/// A function that gives back a part is left with its word in x10, at the return address, with the frames and registers of its caller.
+/// A function that gives back a part is left with its word in A0, at the return address, with the frames and registers of its caller.
 pub fn functions_are_left()
     ensures { FunctionsAreLeft }
 {}

@@ -3,13 +3,13 @@
 ghost use Rattle.std.specs.Prelude.{◌≡◌, ◌*◌, ◌+◌, ◌≤◌, ◌++◌, map, OnOk};
 ghost use Rattle.tl_base.specs.declared.limits.TheConstants.{MAX_VALUE_BYTES};
 ghost use Rattle.rv_isa.specs.Table.{word_of};
-ghost use Rattle.rv_operators.specs.Codes.{x5, x6};
+ghost use Rattle.rv_isa.specs.Registers.{T0, T1};
 ghost use Rattle.rv_select.specs.Places.{with_homes};
 ghost use Rattle.rv_select.specs.Shapes.{all_carried, bytes_moved, carried, carried_eights, carried_if, carried_rest, from_area};
 ghost use Rattle.rv_select.specs.Shapes.{some_moved, to_area};
 
 use crate::accessing::{push_area_address, push_reached};
-use crate::emit::{X0, X5, X6, X7, push_moved, put};
+use crate::emit::{push_moved, put};
 use crate::operands::immediate;
 use reg_alloc::Home;
 use rv_isa::{Instr, LoadOp, Register, StoreOp};
@@ -29,7 +29,7 @@ pub(crate) fn push_bytes_moved(
     ensures { OnOk result (code.new.items ≡ code.old.items ++ map word_of (bytes_moved (with_homes homes.now) held to from size)) }
 {
     if size == 0 {
-        return push_moved(code, X0, X0);
+        return push_moved(code, Register::ZERO, Register::ZERO);
     }
     push_some_moved(code, homes, held, to, from, size)
 }
@@ -57,14 +57,14 @@ fn push_some_moved(
             push_to_area(code, homes, area, offset, size)
         }
         (Spot::Area(area, offset), Spot::Area(other, begin)) => {
-            push_area_address(code, homes, X5, area, offset)?;
+            push_area_address(code, homes, Register::T0, area, offset)?;
             push_from_area(code, homes, other, begin, size)
         }
         (Spot::Region(_, _), Spot::Region(_, _)) => Ok(()),
     }
 }
 
-/// Bytes of an area go where x5 points.
+/// Bytes of an area go where T0 points.
 fn push_from_area(
     code: &mut Vec<u32>,
     homes: &[Option<Home>],
@@ -75,11 +75,11 @@ fn push_from_area(
     requires { size ≤ MAX_VALUE_BYTES }
     ensures { OnOk result (code.new.items ≡ code.old.items ++ map word_of (from_area (with_homes homes.now) area offset size)) }
 {
-    push_area_address(code, homes, X6, area, offset)?;
+    push_area_address(code, homes, Register::T1, area, offset)?;
     push_all_from(code, size)
 }
 
-/// Bytes from where x5 points go to an area.
+/// Bytes from where T0 points go to an area.
 pub(crate) fn push_to_area(
     code: &mut Vec<u32>,
     homes: &[Option<Home>],
@@ -90,24 +90,24 @@ pub(crate) fn push_to_area(
     requires { size ≤ MAX_VALUE_BYTES }
     ensures { OnOk result (code.new.items ≡ code.old.items ++ map word_of (to_area (with_homes homes.now) area offset size)) }
 {
-    push_area_address(code, homes, X6, area, offset)?;
+    push_area_address(code, homes, Register::T1, area, offset)?;
     push_all_to(code, size)
 }
 
-/// Bytes go from where x6 points to where x5 does.
+/// Bytes go from where T1 points to where T0 does.
 fn push_all_from(code: &mut Vec<u32>, size: u64) -> Result<(), NoMemory>
     requires { size ≤ MAX_VALUE_BYTES }
-    ensures { OnOk result (code.new.items ≡ code.old.items ++ map word_of (all_carried x6 x5 size)) }
+    ensures { OnOk result (code.new.items ≡ code.old.items ++ map word_of (all_carried T1 T0 size)) }
 {
-    push_all_carried(code, X6, X5, size)
+    push_all_carried(code, Register::T1, Register::T0, size)
 }
 
-/// Bytes go from where x5 points to where x6 does.
+/// Bytes go from where T0 points to where T1 does.
 fn push_all_to(code: &mut Vec<u32>, size: u64) -> Result<(), NoMemory>
     requires { size ≤ MAX_VALUE_BYTES }
-    ensures { OnOk result (code.new.items ≡ code.old.items ++ map word_of (all_carried x5 x6 size)) }
+    ensures { OnOk result (code.new.items ≡ code.old.items ++ map word_of (all_carried T0 T1 size)) }
 {
-    push_all_carried(code, X5, X6, size)
+    push_all_carried(code, Register::T0, Register::T1, size)
 }
 
 /// Bytes go from where one register points to where another does.
@@ -195,7 +195,7 @@ fn push_carried_if(
     push_carried(code, from, to, load, store, at)
 }
 
-/// A number at an offset, through x7.
+/// A number at an offset, through T2.
 fn push_carried(
     code: &mut Vec<u32>,
     from: Register,
@@ -211,7 +211,7 @@ fn push_carried(
         code,
         Instr::Load {
             op: load,
-            rd: X7,
+            rd: Register::T2,
             rs1: from,
             offset: immediate(at),
         },
@@ -221,7 +221,7 @@ fn push_carried(
         Instr::Store {
             op: store,
             rs1: to,
-            rs2: X7,
+            rs2: Register::T2,
             offset: immediate(at),
         },
     )

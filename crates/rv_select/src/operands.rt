@@ -6,7 +6,7 @@ ghost use Rattle.rv_select.specs.Shapes.{ahead, back, before, branch_offset, jum
 
 use rv_isa::{BranchOffset, Immediate, JumpOffset, Register, UpperImmediate};
 
-/// The register of a number, and x0 where there is none.
+/// The register of a number, and ZERO where there is none.
 pub(crate) fn register(number: u64) -> Register
     ensures { result.number ≡ (register_of number).number }
 {

@@ -2,13 +2,12 @@
 
 ghost use Rattle.std.specs.Prelude.{◌≡◌, [], ◌∷◌, ◌++◌, map, OnOk};
 ghost use Rattle.rv_isa.specs.Table.{word_of};
+ghost use Rattle.rv_isa.specs.Registers.{A1, A2};
 ghost use Rattle.rv_select.specs.Places.{with_homes};
 ghost use Rattle.rv_select.specs.Shapes.{allocated, byte_put, byte_stored, byte_taken, byte_written, bytes_given, heap_aligned};
-ghost use Rattle.rv_select.specs.Shapes.{limit_found, range_call, range_tested, range_written, taken, write_call, x11, x12};
+ghost use Rattle.rv_select.specs.Shapes.{limit_found, range_call, range_tested, range_written, taken, write_call};
 
-use crate::emit::{
-    X0, X2, X4, X5, X6, X7, X10, X11, X17, push_constant, push_moved, push_put, push_taken, put,
-};
+use crate::emit::{push_constant, push_moved, push_put, push_taken, put};
 use crate::failing::{failed_words, push_branch_over, push_small};
 use crate::operands::{immediate, offset, upper};
 use crate::reading::{push_first, push_first_temp};
@@ -21,11 +20,6 @@ use tac_form::Operand;
 use terra_words::FaultKind;
 use tl_base::limits::REGION_ADDRESS;
 use tl_base::{NoMemory, Place};
-
-/// The end of the heap.
-const X3: Register = Register { number: 3 };
-
-const X12: Register = Register { number: 12 };
 
 /// The number of the machine's call that writes bytes.
 const WRITE_CALL: u64 = 64;
@@ -43,7 +37,7 @@ pub(crate) fn push_byte_put(
     push_byte_written(code)
 }
 
-/// x5 gets an operand whose low byte alone matters.
+/// T0 gets an operand whose low byte alone matters.
 fn push_byte_taken(
     code: &mut Vec<u32>,
     homes: &[Option<Home>],
@@ -54,30 +48,30 @@ fn push_byte_taken(
 {
     match a {
         Operand::Temp(temp) => push_first_temp(code, homes, held, temp),
-        Operand::Constant(number) => push_constant(code, X5, number % 256),
+        Operand::Constant(number) => push_constant(code, Register::T0, number % 256),
     }
 }
 
-/// The byte in x5 is written from the frame's first word, which x6 keeps meanwhile.
+/// The byte in T0 is written from the frame's first word, which T1 keeps meanwhile.
 fn push_byte_written(code: &mut Vec<u32>) -> Result<(), NoMemory>
     ensures { OnOk result (code.new.items ≡ code.old.items ++ map word_of byte_written) }
 {
     push_byte_stored(code)?;
-    push_moved(code, X11, X2)?;
-    push_small(code, X12, 1)?;
+    push_moved(code, Register::A1, Register::SP)?;
+    push_small(code, Register::A2, 1)?;
     push_write_call(code)?;
     put(
         code,
         Instr::Store {
             op: StoreOp::Sd,
-            rs1: X2,
-            rs2: X6,
+            rs1: Register::SP,
+            rs2: Register::T1,
             offset: Immediate { value: 0 },
         },
     )
 }
 
-/// x6 gets the frame's first word, whose first byte becomes that in x5.
+/// T1 gets the frame's first word, whose first byte becomes that in T0.
 fn push_byte_stored(code: &mut Vec<u32>) -> Result<(), NoMemory>
     ensures { OnOk result (code.new.items ≡ code.old.items ++ map word_of byte_stored) }
 {
@@ -85,8 +79,8 @@ fn push_byte_stored(code: &mut Vec<u32>) -> Result<(), NoMemory>
         code,
         Instr::Load {
             op: LoadOp::Ld,
-            rd: X6,
-            rs1: X2,
+            rd: Register::T1,
+            rs1: Register::SP,
             offset: Immediate { value: 0 },
         },
     )?;
@@ -94,19 +88,19 @@ fn push_byte_stored(code: &mut Vec<u32>) -> Result<(), NoMemory>
         code,
         Instr::Store {
             op: StoreOp::Sb,
-            rs1: X2,
-            rs2: X5,
+            rs1: Register::SP,
+            rs2: Register::T0,
             offset: Immediate { value: 0 },
         },
     )
 }
 
-/// The call that writes x12 bytes from x11 on.
+/// The call that writes A2 bytes from A1 on.
 fn push_write_call(code: &mut Vec<u32>) -> Result<(), NoMemory>
     ensures { OnOk result (code.new.items ≡ code.old.items ++ map word_of write_call) }
 {
-    push_small(code, X10, 1)?;
-    push_small(code, X17, WRITE_CALL)?;
+    push_small(code, Register::A0, 1)?;
+    push_small(code, Register::A7, WRITE_CALL)?;
     put(code, Instr::Ecall)
 }
 
@@ -125,21 +119,21 @@ pub(crate) fn push_range_written(
     push_range_call(code, at)
 }
 
-/// x11 gets an operand.
+/// A1 gets an operand.
 fn push_start(code: &mut Vec<u32>, homes: &[Option<Home>], a: Operand) -> Result<(), NoMemory>
-    ensures { OnOk result (code.new.items ≡ code.old.items ++ map word_of (taken (with_homes homes.now) x11 a)) }
+    ensures { OnOk result (code.new.items ≡ code.old.items ++ map word_of (taken (with_homes homes.now) A1 a)) }
 {
-    push_taken(code, homes, X11, a)
+    push_taken(code, homes, Register::A1, a)
 }
 
-/// x12 gets an operand.
+/// A2 gets an operand.
 fn push_count(code: &mut Vec<u32>, homes: &[Option<Home>], b: Operand) -> Result<(), NoMemory>
-    ensures { OnOk result (code.new.items ≡ code.old.items ++ map word_of (taken (with_homes homes.now) x12 b)) }
+    ensures { OnOk result (code.new.items ≡ code.old.items ++ map word_of (taken (with_homes homes.now) A2 b)) }
 {
-    push_taken(code, homes, X12, b)
+    push_taken(code, homes, Register::A2, b)
 }
 
-/// The x12 bytes from x11 on go to the output, if they are bytes of the region. No bytes lie anywhere.
+/// The A2 bytes from A1 on go to the output, if they are bytes of the region. No bytes lie anywhere.
 #[tactic(auto, using(crate::proofs::Ranges::call_words))]
 fn push_range_call(code: &mut Vec<u32>, at: Place) -> Result<(), NoMemory>
     ensures { OnOk result (code.new.items ≡ code.old.items ++ map word_of (range_call at)) }
@@ -148,8 +142,8 @@ fn push_range_call(code: &mut Vec<u32>, at: Place) -> Result<(), NoMemory>
         code,
         Instr::Branch {
             condition: BranchCondition::Eq,
-            rs1: X12,
-            rs2: X0,
+            rs1: Register::A2,
+            rs2: Register::ZERO,
             offset: offset(4 * (failed_words(FaultKind::BadAddress, at) + 9)),
         },
     )?;
@@ -157,14 +151,14 @@ fn push_range_call(code: &mut Vec<u32>, at: Place) -> Result<(), NoMemory>
     push_write_call(code)
 }
 
-/// The run fails unless x12 bytes from x11 on lie in the region.
+/// The run fails unless A2 bytes from A1 on lie in the region.
 fn push_range_test(code: &mut Vec<u32>, at: Place) -> Result<(), NoMemory>
     ensures { OnOk result (code.new.items ≡ code.old.items ++ map word_of (range_tested at)) }
 {
     put(
         code,
         Instr::Lui {
-            rd: X7,
+            rd: Register::T2,
             imm: upper(REGION_ADDRESS),
         },
     )?;
@@ -172,8 +166,8 @@ fn push_range_test(code: &mut Vec<u32>, at: Place) -> Result<(), NoMemory>
         code,
         Instr::Branch {
             condition: BranchCondition::Ltu,
-            rs1: X11,
-            rs2: X7,
+            rs1: Register::A1,
+            rs2: Register::T2,
             offset: offset(16),
         },
     )?;
@@ -181,8 +175,8 @@ fn push_range_test(code: &mut Vec<u32>, at: Place) -> Result<(), NoMemory>
         code,
         Instr::Branch {
             condition: BranchCondition::Ltu,
-            rs1: X4,
-            rs2: X11,
+            rs1: Register::TP,
+            rs2: Register::A1,
             offset: offset(12),
         },
     )?;
@@ -190,16 +184,16 @@ fn push_range_test(code: &mut Vec<u32>, at: Place) -> Result<(), NoMemory>
         code,
         Instr::RegisterRegister {
             op: RegisterOp::Sub,
-            rd: X7,
-            rs1: X4,
-            rs2: X11,
+            rd: Register::T2,
+            rs1: Register::TP,
+            rs2: Register::A1,
         },
     )?;
     push_branch_over(
         code,
         BranchCondition::Geu,
-        X7,
-        X12,
+        Register::T2,
+        Register::A2,
         FaultKind::BadAddress,
         at,
     )
@@ -222,7 +216,7 @@ pub(crate) fn push_allocated(
     push_put(code, homes, temp)
 }
 
-/// x6 gets the next multiple of 16 from the end of the heap on.
+/// T1 gets the next multiple of 16 from the end of the heap on.
 fn push_heap_aligned(code: &mut Vec<u32>) -> Result<(), NoMemory>
     ensures { OnOk result (code.new.items ≡ code.old.items ++ map word_of heap_aligned) }
 {
@@ -230,8 +224,8 @@ fn push_heap_aligned(code: &mut Vec<u32>) -> Result<(), NoMemory>
         code,
         Instr::RegisterImmediate {
             op: ImmediateOp::Addi,
-            rd: X6,
-            rs1: X3,
+            rd: Register::T1,
+            rs1: Register::GP,
             imm: immediate(15),
         },
     )?;
@@ -239,8 +233,8 @@ fn push_heap_aligned(code: &mut Vec<u32>) -> Result<(), NoMemory>
         code,
         Instr::Shift {
             op: ShiftOp::Srli,
-            rd: X6,
-            rs1: X6,
+            rd: Register::T1,
+            rs1: Register::T1,
             count: ShiftCount { count: 4 },
         },
     )?;
@@ -248,21 +242,21 @@ fn push_heap_aligned(code: &mut Vec<u32>) -> Result<(), NoMemory>
         code,
         Instr::Shift {
             op: ShiftOp::Slli,
-            rd: X6,
-            rs1: X6,
+            rd: Register::T1,
+            rs1: Register::T1,
             count: ShiftCount { count: 4 },
         },
     )
 }
 
-/// x7 gets the address at which the last quarter of the region begins.
+/// T2 gets the address at which the last quarter of the region begins.
 pub(crate) fn push_limit_found(code: &mut Vec<u32>) -> Result<(), NoMemory>
     ensures { OnOk result (code.new.items ≡ code.old.items ++ map word_of limit_found) }
 {
     put(
         code,
         Instr::Lui {
-            rd: X7,
+            rd: Register::T2,
             imm: upper(REGION_ADDRESS),
         },
     )?;
@@ -270,17 +264,17 @@ pub(crate) fn push_limit_found(code: &mut Vec<u32>) -> Result<(), NoMemory>
         code,
         Instr::RegisterRegister {
             op: RegisterOp::Sub,
-            rd: X7,
-            rs1: X4,
-            rs2: X7,
+            rd: Register::T2,
+            rs1: Register::TP,
+            rs2: Register::T2,
         },
     )?;
     put(
         code,
         Instr::Shift {
             op: ShiftOp::Srli,
-            rd: X7,
-            rs1: X7,
+            rd: Register::T2,
+            rs1: Register::T2,
             count: ShiftCount { count: 2 },
         },
     )?;
@@ -288,14 +282,14 @@ pub(crate) fn push_limit_found(code: &mut Vec<u32>) -> Result<(), NoMemory>
         code,
         Instr::RegisterRegister {
             op: RegisterOp::Sub,
-            rd: X7,
-            rs1: X4,
-            rs2: X7,
+            rd: Register::T2,
+            rs1: Register::TP,
+            rs2: Register::T2,
         },
     )
 }
 
-/// x5 gets the address in x6 if as many bytes as it says are left up to x7, and x3 the address behind them; and else zero.
+/// T0 gets the address in T1 if as many bytes as it says are left up to T2, and GP the address behind them; and else zero.
 fn push_bytes_given(code: &mut Vec<u32>) -> Result<(), NoMemory>
     ensures { OnOk result (code.new.items ≡ code.old.items ++ map word_of bytes_given) }
 {
@@ -303,17 +297,17 @@ fn push_bytes_given(code: &mut Vec<u32>) -> Result<(), NoMemory>
         code,
         Instr::RegisterRegister {
             op: RegisterOp::Sub,
-            rd: X7,
-            rs1: X7,
-            rs2: X6,
+            rd: Register::T2,
+            rs1: Register::T2,
+            rs2: Register::T1,
         },
     )?;
     put(
         code,
         Instr::Branch {
             condition: BranchCondition::Ltu,
-            rs1: X7,
-            rs2: X5,
+            rs1: Register::T2,
+            rs2: Register::T0,
             offset: offset(16),
         },
     )?;
@@ -321,20 +315,20 @@ fn push_bytes_given(code: &mut Vec<u32>) -> Result<(), NoMemory>
         code,
         Instr::RegisterRegister {
             op: RegisterOp::Add,
-            rd: X3,
-            rs1: X6,
-            rs2: X5,
+            rd: Register::GP,
+            rs1: Register::T1,
+            rs2: Register::T0,
         },
     )?;
-    push_moved(code, X5, X6)?;
+    push_moved(code, Register::T0, Register::T1)?;
     put(
         code,
         Instr::Branch {
             condition: BranchCondition::Eq,
-            rs1: X0,
-            rs2: X0,
+            rs1: Register::ZERO,
+            rs2: Register::ZERO,
             offset: offset(8),
         },
     )?;
-    push_moved(code, X5, X0)
+    push_moved(code, Register::T0, Register::ZERO)
 }

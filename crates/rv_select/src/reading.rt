@@ -2,20 +2,18 @@
 
 ghost use Rattle.std.specs.Prelude.{◌≡◌, ◌++◌, map, nat_eq, if◌then◌else◌, OnOk};
 ghost use Rattle.rv_isa.specs.Table.{word_of};
-ghost use Rattle.rv_operators.specs.Codes.{x0, x5, x6};
+ghost use Rattle.rv_isa.specs.Registers.{ZERO, T0, T1};
 ghost use Rattle.rv_select.specs.Places.{in_five, with_homes};
 ghost use Rattle.rv_select.specs.Shapes.{brought, first_read, is_there, put_behind, read_in, result_in, second_read, first_taken, is_held, is_second, is_zero, taken};
 ghost use Rattle.tac_form.specs.declared.tac.Operand.TheVariants as operands;
 
-use crate::emit::{
-    X0, X5, X6, in_register, push_constant, push_moved, push_put, push_taken, register_or,
-};
+use crate::emit::{in_register, push_constant, push_moved, push_put, push_taken, register_or};
 use reg_alloc::Home;
 use rv_isa::Register;
 use tac_form::Operand;
 use tl_base::NoMemory;
 
-/// Another register than x5 gets an operand, from x5 where that holds it.
+/// Another register than T0 gets an operand, from T0 where that holds it.
 pub(crate) fn push_brought(
     code: &mut Vec<u32>,
     homes: &[Option<Home>],
@@ -41,20 +39,20 @@ fn push_temp_brought(
     ensures { OnOk result (code.new.items ≡ code.old.items ++ map word_of (brought (with_homes homes.now) held rd (operands.Temp temp))) }
 {
     if in_five(homes, held, temp) {
-        push_moved(code, rd, X5)
+        push_moved(code, rd, Register::T0)
     } else {
         push_taken(code, homes, rd, Operand::Temp(temp))
     }
 }
 
-/// Whether x5 has the word of a temporary.
+/// Whether T0 has the word of a temporary.
 pub(crate) fn in_five(homes: &[Option<Home>], held: Option<u64>, temp: u64) -> bool
     ensures { result ≡ in_five (with_homes homes.now) held temp }
 {
     is_held(held, temp) && !in_register(homes, temp)
 }
 
-/// Where an operand is read: in its home, if that is a register; a zero in x0; and any other in a register that takes it.
+/// Where an operand is read: in its home, if that is a register; a zero in ZERO; and any other in a register that takes it.
 pub(crate) fn read_in(homes: &[Option<Home>], rd: Register, a: Operand) -> Register
     ensures { result ≡ read_in (with_homes homes.now) rd a }
 {
@@ -64,11 +62,11 @@ pub(crate) fn read_in(homes: &[Option<Home>], rd: Register, a: Operand) -> Regis
     }
 }
 
-/// x0 for a zero.
+/// ZERO for a zero.
 fn unless_zero(rd: Register, number: u64) -> Register
-    ensures { result ≡ (if nat_eq number 0 then x0 else rd) }
+    ensures { result ≡ (if nat_eq number 0 then ZERO else rd) }
 {
-    if number == 0 { X0 } else { rd }
+    if number == 0 { Register::ZERO } else { rd }
 }
 
 pub(crate) fn is_there(homes: &[Option<Home>], a: Operand) -> bool
@@ -80,7 +78,7 @@ pub(crate) fn is_there(homes: &[Option<Home>], a: Operand) -> bool
     }
 }
 
-/// x5 gets an operand that isn't read elsewhere.
+/// T0 gets an operand that isn't read elsewhere.
 pub(crate) fn push_first_read(
     code: &mut Vec<u32>,
     homes: &[Option<Home>],
@@ -96,7 +94,7 @@ pub(crate) fn push_first_read(
     }
 }
 
-/// x6 gets an operand that isn't read elsewhere.
+/// T1 gets an operand that isn't read elsewhere.
 pub(crate) fn push_second_read(
     code: &mut Vec<u32>,
     homes: &[Option<Home>],
@@ -115,10 +113,10 @@ pub(crate) fn push_second_read(
 pub(crate) fn result_in(homes: &[Option<Home>], temp: u64) -> Register
     ensures { result ≡ result_in (with_homes homes.now) temp }
 {
-    register_or(homes, X5, temp)
+    register_or(homes, Register::T0, temp)
 }
 
-/// A temporary's home gets the word in x5, where it is computed there.
+/// A temporary's home gets the word in T0, where it is computed there.
 pub(crate) fn push_put_behind(
     code: &mut Vec<u32>,
     homes: &[Option<Home>],
@@ -133,7 +131,7 @@ pub(crate) fn push_put_behind(
     }
 }
 
-/// Whether an operand is a zero, which x0 holds.
+/// Whether an operand is a zero, which ZERO holds.
 pub(crate) fn is_zero(a: Operand) -> bool
     ensures { result ≡ is_zero a }
 {
@@ -153,7 +151,7 @@ pub(crate) fn is_second(held: Option<u64>, b: Operand) -> bool
     }
 }
 
-/// x5 gets an operand, unless it holds it.
+/// T0 gets an operand, unless it holds it.
 pub(crate) fn push_first(
     code: &mut Vec<u32>,
     homes: &[Option<Home>],
@@ -164,11 +162,11 @@ pub(crate) fn push_first(
 {
     match a {
         Operand::Temp(temp) => push_first_temp(code, homes, held, temp),
-        Operand::Constant(number) => push_constant(code, X5, number),
+        Operand::Constant(number) => push_constant(code, Register::T0, number),
     }
 }
 
-/// x5 gets a temporary's word, unless it holds it.
+/// T0 gets a temporary's word, unless it holds it.
 pub(crate) fn push_first_temp(
     code: &mut Vec<u32>,
     homes: &[Option<Home>],
@@ -193,20 +191,20 @@ pub(crate) fn is_held(held: Option<u64>, temp: u64) -> bool
     }
 }
 
-/// x5 gets an operand.
+/// T0 gets an operand.
 fn push_taken_first(code: &mut Vec<u32>, homes: &[Option<Home>], a: Operand) -> Result<(), NoMemory>
-    ensures { OnOk result (code.new.items ≡ code.old.items ++ map word_of (taken (with_homes homes.now) x5 a)) }
+    ensures { OnOk result (code.new.items ≡ code.old.items ++ map word_of (taken (with_homes homes.now) T0 a)) }
 {
-    push_taken(code, homes, X5, a)
+    push_taken(code, homes, Register::T0, a)
 }
 
-/// x6 gets an operand.
+/// T1 gets an operand.
 pub(crate) fn push_second(
     code: &mut Vec<u32>,
     homes: &[Option<Home>],
     b: Operand,
 ) -> Result<(), NoMemory>
-    ensures { OnOk result (code.new.items ≡ code.old.items ++ map word_of (taken (with_homes homes.now) x6 b)) }
+    ensures { OnOk result (code.new.items ≡ code.old.items ++ map word_of (taken (with_homes homes.now) T1 b)) }
 {
-    push_taken(code, homes, X6, b)
+    push_taken(code, homes, Register::T1, b)
 }

@@ -55,7 +55,7 @@ fn push_jump_to(code: &mut Vec<u32>, calls: &mut Vec<Call>, callee: FnId) -> Res
     push_call_jump(code, at, 0)
 }
 
-/// A call of a function, where x5 may hold the word of a temporary.
+/// A call of a function, where T0 may hold the word of a temporary.
 fn push_called(
     code: &mut Vec<u32>,
     calls: &mut Vec<Call>,
@@ -79,7 +79,7 @@ fn push_called(
     push_call_ended(code, homes, sizes, to)
 }
 
-/// The code of an instruction, where x5 may hold the word of a temporary.
+/// The code of an instruction, where T0 may hold the word of a temporary.
 fn push_one(
     code: &mut Vec<u32>,
     calls: &mut Vec<Call>,
@@ -113,7 +113,7 @@ fn push_one(
     }
 }
 
-/// The code of instructions. The answer is the temporary whose word x5 holds behind them, if any.
+/// The code of instructions. The answer is the temporary whose word T0 holds behind them, if any.
 fn push_all(
     code: &mut Vec<u32>,
     calls: &mut Vec<Call>,
@@ -157,7 +157,7 @@ fn push_jump_unless_last(code: &mut Vec<u32>, setting: Setting, last: u64) -> Re
     }
 }
 
-/// The code by which a function gives back a part, of which x5 may hold the word, and goes to where it is left.
+/// The code by which a function gives back a part, of which T0 may hold the word, and goes to where it is left.
 fn push_returned(
     code: &mut Vec<u32>,
     homes: &[Option<Home>],
@@ -173,7 +173,7 @@ fn push_returned(
     push_jump_unless_last(code, setting, last)
 }
 
-/// The code of an exit, where x5 may hold the word of a temporary.
+/// The code of an exit, where T0 may hold the word of a temporary.
 fn push_end(
     code: &mut Vec<u32>,
     homes: &[Option<Home>],
@@ -196,7 +196,7 @@ fn push_end(
     }
 }
 
-/// The code of what ends a block, where x5 may hold the word of a temporary: its exit, or a comparison and its exit.
+/// The code of what ends a block, where T0 may hold the word of a temporary: its exit, or a comparison and its exit.
 fn push_block_end(
     code: &mut Vec<u32>,
     homes: &[Option<Home>],
@@ -524,7 +524,7 @@ fn select_with(
 }
 
 /// The machine's code of a function by its three-address code and an assignment. Its temporaries stand where the assignment says, but for
-/// those whose words are only ever taken from x5, and parameters that have a slot, which stay where they are passed.
+/// those whose words are only ever taken from T0, and parameters that have a slot, which stay where they are passed.
 pub fn select(alloc: Global, tac: &Tac, assignment: &Assignment) -> Result<Code, NoMemory>
     requires { IsTrue (all_has_code tac.now) }
     ensures selected { IfOk result (λ code. IsSelected tac.now assignment.now code) }
@@ -535,8 +535,8 @@ pub fn select(alloc: Global, tac: &Tac, assignment: &Assignment) -> Result<Code,
     select_with(alloc, tac, assignment, tac.counts)
 }
 
-/// The same of code that counts, whether the three-address code says so or not: x9 holds the counts that are left, and before each count
-/// one is taken from it, or an EBREAK is reached where x9 is 0.
+/// The same of code that counts, whether the three-address code says so or not: S1 holds the counts that are left, and before each count
+/// one is taken from it, or an EBREAK is reached where S1 is 0.
 pub fn select_counted(alloc: Global, tac: &Tac, assignment: &Assignment) -> Result<Code, NoMemory>
     requires { IsTrue (all_has_code tac.now) }
     ensures selected { IfOk result (λ code. IsSelected (as_counting true tac.now) assignment.now code) }

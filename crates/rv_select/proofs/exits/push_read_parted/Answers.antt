@@ -1,6 +1,6 @@
 use Rattle.std.proofs.Common.{refl}
 use Rattle.rv_isa.specs.declared.operation.BranchCondition.TheVariants.{Ne}
-use Rattle.rv_operators.specs.Codes.{x5}
+use Rattle.rv_isa.specs.Registers.{T0}
 use Rattle.rv_select.specs.Shapes.{parted, read_in}
 use Rattle.rv_select.specs.Places.{with_homes}
 use Rattle.rv_select.proofs.Pushed.{read-at, register-as}
@@ -13,4 +13,4 @@ returns c =
     let old = a.code.now.items in
     read-at c.push_parted.result old c.push_parted.new.code.items
     (λ z. parted a.setting Ne z a.b a.at a.first_edge a.second_edge a.first a.second) c.read_in-ra.result
-    (read_in y x5 a.a) (register-as (λ q. read_in y q a.a) c.read_in-ra.result _ x5 c.read_in-ra.ensures refl) c.push_parted.ensures
+    (read_in y T0 a.a) (register-as (λ q. read_in y q a.a) c.read_in-ra.result _ T0 c.read_in-ra.ensures refl) c.push_parted.ensures

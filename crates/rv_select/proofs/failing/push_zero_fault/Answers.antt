@@ -1,7 +1,7 @@
 use Rattle.std.proofs.Common.{refl}
 use Rattle.rv_isa.specs.declared.operation.BranchCondition.TheVariants.{Ne}
+use Rattle.rv_isa.specs.Registers.{ZERO, T0}
 use Rattle.terra_words.specs.declared.words.FaultKind.TheVariants.{DivZero}
-use Rattle.rv_operators.specs.Codes.{x0, x5}
 use Rattle.rv_select.specs.Shapes.{branched_over, read_in}
 use Rattle.rv_select.specs.Places.{with_homes}
 use Rattle.rv_select.proofs.Pushed.{read-at, register-as}
@@ -12,5 +12,5 @@ returns c =
     let a = c.args in
     let y = with_homes a.homes.now in
     let old = a.code.now.items in
-    read-at c.push_branch_over.result old c.push_branch_over.new.code.items (λ z. branched_over Ne z x0 DivZero a.at) c.read_in-ra.result
-    (read_in y x5 a.a) (register-as (λ q. read_in y q a.a) c.read_in-ra.result _ x5 c.read_in-ra.ensures refl) c.push_branch_over.ensures
+    read-at c.push_branch_over.result old c.push_branch_over.new.code.items (λ z. branched_over Ne z ZERO DivZero a.at) c.read_in-ra.result
+    (read_in y T0 a.a) (register-as (λ q. read_in y q a.a) c.read_in-ra.result _ T0 c.read_in-ra.ensures refl) c.push_branch_over.ensures

@@ -6,7 +6,7 @@ use Rattle.rv_select.specs.Places.{with_counting}
 use Rattle.rv_select.specs.Calls.{has_code, held_behind, instructions_calls, instructions_code}
 use Rattle.rv_select.proofs.selection.push_all.Given as goal
 
--- with the instructions to come, all code and all calls are there, and x5 holds what it does behind all
+-- with the instructions to come, all code and all calls are there, and T0 holds what it does behind all
 abbrev pub invariant-loop-instruction : goal.invariant-loop-instruction
 invariant-loop-instruction l =
     (l.code.items ++ map word_of (instructions_code (with_counting l.homes l.counts) l.sizes (λ f. 0) (4 * length l.code.items) l.held (drop l.instruction-index l.instructions))
