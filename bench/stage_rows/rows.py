@@ -8,8 +8,8 @@ has to give what they expect: `=> ` a line that is printed, `=< ` one that is pr
 error, behind its place or with the place alone behind `=@ `, `=- ` why there is no tree, `=s ` units that don't suffice.
 The rows behind them are programs: those of a file of JSON objects with `name`, `source`, and what is expected of each
 as `out`, `notes` and `units`; where no file is given, those that stand in `stdin`. What is written to `stdout` is what
-`lua.py` gives. The rows of Terra code, with what `terms` and `check` write of them, or Lua's calls of Terra functions, stay
-behind these as they are.
+`lua.py` gives. The rows of Terra code, with what `terms` and `check` write of them, Lua's calls of Terra functions, or
+what images of code that counts do, stay behind these as they are.
 """
 
 import json

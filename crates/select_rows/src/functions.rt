@@ -291,8 +291,7 @@ fn depth(alloc: Global, frame: u64) -> Result<Tac, NoMemory> {
     Ok(code)
 }
 
-/// Passes two numbers in an area, and the first as a word too, and gives three times the first number that comes back,
-/// and the second.
+/// Passes two numbers in an area, and the first as a word too, and gives three times the first number that comes back, and the second.
 fn passing(alloc: Global) -> Result<Tac, NoMemory> {
     let mut blocks = Vec::new(alloc);
     let parts = vec![in alloc; Part::Area(0), Part::Word(temp(0))]?;
@@ -353,8 +352,7 @@ fn call_value(
     Ok(Instruction::CallValue(Destination::Temp(to), HERE, given, a, arguments))
 }
 
-/// Calls its first parameter with its second, as a function of one parameter with a result of this type, and gives what
-/// that gives.
+/// Calls its first parameter with its second, as a function of one parameter with a result of this type, and gives what that gives.
 fn calling(alloc: Global, of: u64) -> Result<Tac, NoMemory> {
     let mut blocks = Vec::new(alloc);
     let parts = vec![in alloc; Part::Word(temp(1))]?;
@@ -373,8 +371,8 @@ fn times(alloc: Global, parameters: u64, by: Operand) -> Result<Tac, NoMemory> {
     Ok(code)
 }
 
-/// A function that calls values with one argument and a result of this type, and three that stand as values: twice a
-/// number, a product, and three times a number.
+/// A function that calls values with one argument and a result of this type, and three that stand as values: twice a number, a product, and
+/// three times a number.
 fn with_called(alloc: Global, of: u64) -> Result<Vec<Tac>, NoMemory> {
     let mut functions = Vec::new(alloc);
     functions.push(calling(alloc, of)?)?;
@@ -384,8 +382,7 @@ fn with_called(alloc: Global, of: u64) -> Result<Vec<Tac>, NoMemory> {
     Ok(functions)
 }
 
-/// A block that calls a value with the first parameter and one less than the second, and gives one more than what that
-/// gives.
+/// A block that calls a value with the first parameter and one less than the second, and gives one more than what that gives.
 fn deeper(alloc: Global, a: Operand) -> Result<Vec<Instruction>, NoMemory> {
     let fewer = compute(2, BinaryOperator::Subtract, temp(1), constant(1));
     let parts = vec![in alloc; Part::Word(temp(0)), Part::Word(temp(2))]?;

@@ -1,18 +1,17 @@
-//! Applies operators to words as the rows of standard input say, one row a line, by the words that `rv_select` makes
-//! of three-address code, on the machine, and writes each row with what came out: once with constants as operands,
-//! and once with temporaries. A row is an operator, whether its width has a sign, the bits of the width, and its
-//! operands. These rows of `stdin` and `stdout` are written by `bench/word_rows`, by the rules of C's integers with
-//! wrapping.
+//! Applies operators to words as the rows of standard input say, one row a line, by the words that `rv_select` makes of
+//! three-address code, on the machine, and writes each row with what came out: once with constants as operands, and once with
+//! temporaries. A row is an operator, whether its width has a sign, the bits of the width, and its operands. These rows of `stdin`
+//! and `stdout` are written by `bench/word_rows`, by the rules of C's integers with wrapping.
 //!
-//! A row that begins with `run` is the name of a program of `functions` and its arguments: its functions are selected
-//! with the homes that `assign` gives, and run. What comes of them is worked out by hand.
+//! A row that begins with `run` is the name of a program of `functions` and its arguments: its functions are selected with the
+//! homes that `assign` gives, and run. What comes of them is worked out by hand.
 //!
-//! A row that begins with `counted` is a number of counts and such a program, whose functions count and are entered
-//! with so many: each call takes one, and so does each way to a block that counts. A call of a value that stands for
-//! no function of its signature takes none: it is tested before.
+//! A row that begins with `counted` is a number of counts and such a program, whose functions count and are entered with so many:
+//! each call takes one, and so does each way to a block that counts. A call of a value that stands for no function of its signature takes
+//! none: it is tested before.
 //!
-//! A row that begins with `words` is the name of an instruction, and its words are written: addiw x18, x0, 5 of the
-//! copy; ld x5, 88(x2), ld x6, 96(x2), add x5, x5, x6 and sd x5, 88(x2) of the sum.
+//! A row that begins with `words` is the name of an instruction, and its words are written: addiw x18, x0, 5 of the copy;
+//! ld x5, 88(x2), ld x6, 96(x2), add x5, x5, x6 and sd x5, 88(x2) of the sum.
 #![tactic(auto)]
 
 mod functions;
@@ -127,15 +126,12 @@ fn counted_answer(alloc: Global, words: &[&str]) -> Result<String, NoMemory> {
 }
 
 fn unlinked(alloc: Global) -> Result<String, NoMemory> {
-    Ok(String::from_str(alloc, "no text")?)
+    Ok(String::from_str(alloc, "no jump reaches so far")?)
 }
 
-/// The text of a program's functions, with the entries of those that stand as values. There is none where no jump
-/// reaches so far, or where those that stand as values do not have, once selected, the signatures that were selected
-/// with.
+/// The text of a program's functions, with the entries of those that stand as values.
 fn linked(alloc: Global, name: &str, program: Vec<Tac>) -> Result<Option<Linked>, NoMemory>
-    ensures { IfOk result (λ linked.
-        MatchOption linked (Unit {0}) (λ x. 65536 + 4 * length x.words.items ≤ 2 ^ 30)) }
+    ensures { IfOk result (λ linked. MatchOption linked (Unit {0}) (λ x. 65536 + 4 * length x.words.items ≤ 2 ^ 30)) }
 {
     let values = values(alloc, name)?;
     let signatures = signatures_for(alloc, &program, &values)?;
@@ -176,8 +172,7 @@ fn are_alike(signatures: &[Signature], others: &[Signature]) -> bool
         ([first, rest @ ..], [other, more @ ..]) => {
             same_signature(first, other) && are_alike(rest, more)
         }
-        ([], [_other, ..]) => false,
-        ([_first, ..], []) => false,
+        _ => false,
     }
 }
 
@@ -216,8 +211,7 @@ fn run_answer(
     shown(alloc, run(alloc, text, entries, at, &arguments)?)
 }
 
-/// The functions of a program, selected, each with its place as its number. Those that stand as values have these
-/// signatures.
+/// The functions of a program, selected, each with its place as its number. Those that stand as values have these signatures.
 fn selected(
     alloc: Global,
     program: Vec<Tac>,

@@ -3,6 +3,7 @@
 ghost use Rattle.std.specs.Prelude.{◌≤◌};
 ghost use Rattle.tl_base.specs.declared.limits.TheConstants.Limits.{MAX_BUDGET};
 
+use crate::counted::{CountedCall, push_counted};
 use row_words::SourceRow;
 use stage_loop::{stage, stage_checks, stage_terms};
 use stage_model::{End, Mode, Written};
@@ -13,10 +14,10 @@ use tl_parse::{SyntaxError, parse};
 use tl_tree::Tree;
 
 /// The bytes of memory that a program has.
-const MEMORY: u64 = 1_048_576;
+pub const MEMORY: u64 = 1_048_576;
 
 /// What is written of a row.
-#[derive(Clone, Copy, PartialEq, Eq)]
+#[derive(Clone, Copy)]
 pub enum Kind {
     /// What it prints, how many images ran, how it ends and the units that are left, and the same with one unit less.
     Ends,
@@ -24,6 +25,8 @@ pub enum Kind {
     Terms,
     /// What `check` writes.
     Checks,
+    /// What a call of one of its functions comes to, by an image whose code counts.
+    Counted(CountedCall),
 }
 
 /// A row: a source, and what is written of it.
@@ -34,11 +37,16 @@ pub struct Row {
 }
 
 impl Row {
-    /// The row of a line `UNITS NAME`, `terms UNITS NAME` or `check UNITS NAME`, without a source.
+    /// The row of a line `UNITS NAME`, without a source, where `terms`, `check` or `counted FUNCTION UNITS NUMBER` may
+    /// stand before the units.
     pub fn new(alloc: Global, head: &str) -> Result<Row, NoMemory> {
         let (kind, head) = match head.split_once(' ') {
             Some(("terms", rest)) => (Kind::Terms, rest),
             Some(("check", rest)) => (Kind::Checks, rest),
+            Some(("counted", rest)) => {
+                let (call, rest) = CountedCall::new(rest);
+                (Kind::Counted(call), rest)
+            }
             _ => (Kind::Ends, head),
         };
         Ok(Row {
@@ -56,6 +64,7 @@ pub fn answer(alloc: Global, row: &Row) -> Result<Bytes, NoMemory> {
         Kind::Ends => "",
         Kind::Terms => "terms ",
         Kind::Checks => "check ",
+        Kind::Counted(_) => "counted ",
     };
     let line = format!(in alloc; "== {kind}{name}\n")?;
     out.push_all(line.as_bytes())?;
@@ -82,7 +91,8 @@ pub fn answer(alloc: Global, row: &Row) -> Result<Bytes, NoMemory> {
     }
 }
 
-/// Puts what comes of a row's tree behind other text: with all its units, and where it has units, with one less.
+/// Puts what comes of a row's tree behind other text: with all its units, and where it has units and asks for no call,
+/// with one less.
 fn push_runs(alloc: Global, out: &mut Bytes, tree: &Tree<'_>, row: &Row) -> Result<(), NoMemory>
     requires { row.now.source.units ≤ MAX_BUDGET }
 {
@@ -91,6 +101,7 @@ fn push_runs(alloc: Global, out: &mut Bytes, tree: &Tree<'_>, row: &Row) -> Resu
         Kind::Ends => push_staging(alloc, out, tree, units)?,
         Kind::Terms => push_written(alloc, out, &stage_terms(alloc, tree, units, MEMORY)?)?,
         Kind::Checks => push_written(alloc, out, &stage_checks(alloc, tree, units, MEMORY)?)?,
+        Kind::Counted(call) => push_counted(alloc, out, tree, units, &call)?,
     }
     if units == 0 {
         return Ok(());
@@ -99,6 +110,7 @@ fn push_runs(alloc: Global, out: &mut Bytes, tree: &Tree<'_>, row: &Row) -> Resu
         Kind::Ends => push_staging(alloc, out, tree, units - 1),
         Kind::Terms => push_less(out, &stage_terms(alloc, tree, units - 1, MEMORY)?.end),
         Kind::Checks => push_less(out, &stage_checks(alloc, tree, units - 1, MEMORY)?.end),
+        Kind::Counted(_) => Ok(()),
     }
 }
 
