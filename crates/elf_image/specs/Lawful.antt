@@ -2,6 +2,7 @@
 use Rattle.std.specs.Prelude.{◌≡◌, ℕ, ◌+◌, ◌*◌, ◌<◌, ◌≤◌, ◌^◌, Bool, true, ◌&&◌, nat_le, nat_lt, List, [], ◌∷◌, length, slice_index, IsTrue}
 use Rattle.std.specs.List.{list_all}
 use Rattle.tl_base.specs.declared.limits.TheConstants.{MAX_NAME_BYTES, MAX_PARAMETERS, MAX_ENTRIES}
+use Rattle.elf_image.specs.declared.elf.TheConstants.{FIRST_NAME}
 use Rattle.elf_image.specs.declared.image.Symbol.{Symbol}
 use Rattle.elf_image.specs.declared.image.Entry.{Entry}
 use Rattle.elf_image.specs.declared.image.Image.{Image}
@@ -12,7 +13,7 @@ use Rattle.elf_image.specs.Exports.{is_in_text, names_differ, param_rule, result
 use Rattle.elf_image.specs.Entries.{signature_rule}
 use Rattle.elf_image.specs.Written.{file_size}
 
--- 1 to 255 bytes, none of them zero
+-- 1 to MAX_NAME_BYTES bytes, none of them zero
 abbrev pub is_name : List ℕ → Bool
 is_name name = (nat_le 1 (length name) && nat_le (length name) MAX_NAME_BYTES) && list_all (allows (Between 1 255)) name
 
@@ -53,5 +54,5 @@ pub record IsLawful (i : Image) : Type 0 where
   pub differ : IsTrue (names_differ i.exports)
   -- each number fits its field
   pub count : length i.exports < 2 ^ 32
-  pub names : IsTrue (names_fit 36 i.exports)
+  pub names : IsTrue (names_fit FIRST_NAME i.exports)
   pub size : file_size i < 2 ^ 64

@@ -1,6 +1,7 @@
 -- Which image a file is, and why one is none.
 use Rattle.std.specs.Prelude.{◌≡◌, ◌⊎◌, ℕ, zero, suc, ◌+◌, ◌/◌, List, [], ◌∷◌, slice_range, Some, None}
 use Rattle.elf_image.specs.declared.error.ImageError.{ImageError}
+use Rattle.elf_image.specs.declared.elf.TheConstants.{TERRA_HEAD, TERRA_HEAP}
 use Rattle.elf_image.specs.declared.layout.Layout.{Layout}
 use Rattle.elf_image.specs.declared.image.Image.{Image}
 use Rattle.elf_image.specs.Fields.{u32_at, u64_at}
@@ -21,9 +22,9 @@ image_at l bytes = record {
   statics = slice_range bytes l.statics.offset (l.statics.offset + l.statics.size);
   entries = entries_at (entry_count l) bytes l.entries.offset;
   memory = l.memory;
-  heap = u64_at bytes (l.terra.offset + 16);
+  heap = u64_at bytes (l.terra.offset + TERRA_HEAP);
   private = l.private;
-  exports = symbols_at (export_count l bytes) l bytes (l.terra.offset + 32);
+  exports = symbols_at (export_count l bytes) l bytes (l.terra.offset + TERRA_HEAD);
 }
 
 -- the file is this image

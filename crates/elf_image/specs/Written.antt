@@ -1,6 +1,15 @@
 -- The one file of an image without unused bytes.
 use Rattle.std.specs.Prelude.{ℕ, ◌+◌, ◌-◌, ◌*◌, List, [], ◌∷◌, ◌++◌, length, replicate, codes}
 use Rattle.byteorder.specs.Endian.{little_bytes}
+use Rattle.tl_base.specs.declared.limits.TheConstants.{MAX_PARAMETERS}
+use Rattle.elf_image.specs.declared.elf.TheConstants.{ELFMAG, ELFCLASS64, ELFDATA2LSB, ELFOSABI_NONE, ET_EXEC}
+use Rattle.elf_image.specs.declared.elf.TheConstants.{EM_RISCV, EV_CURRENT, EHDR_SIZE, PHDR_SIZE, SHDR_SIZE}
+use Rattle.elf_image.specs.declared.elf.TheConstants.{SYM_SIZE, SEGMENTS, SECTIONS, SECTIONS_SIZE, STRTAB_SECTION}
+use Rattle.elf_image.specs.declared.elf.TheConstants.{TEXT_SECTION, HEADERS_SIZE, PT_LOAD, PF_R, PF_W, PF_X}
+use Rattle.elf_image.specs.declared.elf.TheConstants.{SHT_NULL, SHT_PROGBITS, SHT_SYMTAB, SHT_STRTAB, SHF_WRITE}
+use Rattle.elf_image.specs.declared.elf.TheConstants.{SHF_ALLOC, SHF_EXECINSTR, STB_GLOBAL, STT_FUNC, STV_DEFAULT}
+use Rattle.elf_image.specs.declared.elf.TheConstants.{TEXT_NAME, DATA_NAME, TERRA_NAME, SYMTAB_NAME, STRTAB_NAME}
+use Rattle.elf_image.specs.declared.elf.TheConstants.{FIRST_NAME, TERRA_HEAD, RECORD_SIZE, ENTRY_SIZE}
 use Rattle.elf_image.specs.declared.layout.Layout.{Layout}
 use Rattle.elf_image.specs.declared.image.Symbol.{Symbol}
 use Rattle.elf_image.specs.declared.image.Entry.{Entry}
@@ -23,41 +32,45 @@ unfoldable pub layout_for : Image → Layout
 layout_for i =
     let text = 4 * length i.text in
     let statics = length i.statics in
-    let entries = 16 * length i.entries in
-    let terra = 32 + 24 * length i.exports in
-    let symtab = 24 + 24 * length i.exports in
-    let strtab = 36 + names_size i.exports in
+    let entries = ENTRY_SIZE * length i.entries in
+    let terra = TERRA_HEAD + RECORD_SIZE * length i.exports in
+    let symtab = SYM_SIZE + SYM_SIZE * length i.exports in
+    let strtab = FIRST_NAME + names_size i.exports in
     record {
-      sections = 232 + text + statics + entries + terra + symtab + strtab;
-      text = part 232 text;
-      statics = part (232 + text) statics;
-      entries = part (232 + text + statics) entries;
+      sections = HEADERS_SIZE + text + statics + entries + terra + symtab + strtab;
+      text = part HEADERS_SIZE text;
+      statics = part (HEADERS_SIZE + text) statics;
+      entries = part (HEADERS_SIZE + text + statics) entries;
       memory = i.memory;
       private = i.private;
-      terra = part (232 + text + statics + entries) terra;
-      symtab = part (232 + text + statics + entries + terra) symtab;
-      strtab = part (232 + text + statics + entries + terra + symtab) strtab;
+      terra = part (HEADERS_SIZE + text + statics + entries) terra;
+      symtab = part (HEADERS_SIZE + text + statics + entries + terra) symtab;
+      strtab = part (HEADERS_SIZE + text + statics + entries + terra + symtab) strtab;
     }
 
 -- how many bytes the file has
 abbrev pub file_size : Image → ℕ
-file_size i = (layout_for i).sections + 384
+file_size i = (layout_for i).sections + SECTIONS_SIZE
 
 unfoldable pub header_bytes : Layout → List ℕ
 header_bytes l = numbers (
-    (4, 0x464C457F) ∷ (1, 2) ∷ (1, 1) ∷ (1, 1) ∷ (1, 0) ∷ (1, 0) ∷ (1, 0) ∷ (1, 0) ∷ (1, 0) ∷ (1, 0) ∷ (1, 0) ∷ (1, 0) ∷ (1, 0)
-    ∷ (2, 2) ∷ (2, 243) ∷ (4, 1) ∷ (8, 0) ∷ (8, 64) ∷ (8, l.sections) ∷ (4, 0)
-    ∷ (2, 64) ∷ (2, 56) ∷ (2, 3) ∷ (2, 64) ∷ (2, 6) ∷ (2, 5) ∷ [])
+    -- e_ident: the magic, class, data, version, interface with its version, and seven bytes of padding
+    (4, ELFMAG) ∷ (1, ELFCLASS64) ∷ (1, ELFDATA2LSB) ∷ (1, EV_CURRENT) ∷ (1, ELFOSABI_NONE) ∷ (1, 0)
+    ∷ (1, 0) ∷ (1, 0) ∷ (1, 0) ∷ (1, 0) ∷ (1, 0) ∷ (1, 0) ∷ (1, 0)
+    -- e_type, e_machine, e_version, e_entry, e_phoff, e_shoff and e_flags
+    ∷ (2, ET_EXEC) ∷ (2, EM_RISCV) ∷ (4, EV_CURRENT) ∷ (8, 0) ∷ (8, EHDR_SIZE) ∷ (8, l.sections) ∷ (4, 0)
+    -- e_ehsize, e_phentsize, e_phnum, e_shentsize, e_shnum and e_shstrndx
+    ∷ (2, EHDR_SIZE) ∷ (2, PHDR_SIZE) ∷ (2, SEGMENTS) ∷ (2, SHDR_SIZE) ∷ (2, SECTIONS) ∷ (2, STRTAB_SECTION) ∷ [])
 
 unfoldable pub segment_bytes : (flags offset address in_file in_memory : ℕ) → List ℕ
 segment_bytes flags offset address in_file in_memory = numbers (
-    (4, 1) ∷ (4, flags) ∷ (8, offset) ∷ (8, address) ∷ (8, address) ∷ (8, in_file) ∷ (8, in_memory) ∷ (8, 1) ∷ [])
+    (4, PT_LOAD) ∷ (4, flags) ∷ (8, offset) ∷ (8, address) ∷ (8, address) ∷ (8, in_file) ∷ (8, in_memory) ∷ (8, 1) ∷ [])
 
 unfoldable pub segments_bytes : Layout → List ℕ
 segments_bytes l =
-    segment_bytes 5 l.text.offset text_address l.text.size l.text.size
-    ++ (segment_bytes 6 l.statics.offset region_address l.statics.size l.memory
-    ++ segment_bytes 6 l.entries.offset private_address l.entries.size (l.entries.size + l.private))
+    segment_bytes (PF_R + PF_X) l.text.offset text_address l.text.size l.text.size
+    ++ (segment_bytes (PF_R + PF_W) l.statics.offset region_address l.statics.size l.memory
+    ++ segment_bytes (PF_R + PF_W) l.entries.offset private_address l.entries.size (l.entries.size + l.private))
 
 unfoldable pub words_bytes : List ℕ → List ℕ
 words_bytes [] = []
@@ -70,7 +83,7 @@ entries_bytes (e ∷ es) = numbers ((8, e.address) ∷ (8, e.signature) ∷ []) 
 
 -- eight type codes, of which the first are those of the parameters
 abbrev pub codes_bytes : List ℕ → List ℕ
-codes_bytes params = params ++ replicate (8 - length params) 0
+codes_bytes params = params ++ replicate (MAX_PARAMETERS - length params) 0
 
 -- a record of `.terra`, whose name stands at this offset of `.strtab`
 unfoldable pub record_bytes : ℕ → Symbol → List ℕ
@@ -85,11 +98,14 @@ records_bytes name (s ∷ ss) = record_bytes name s ++ records_bytes (name + len
 
 unfoldable pub terra_bytes : Image → List ℕ
 terra_bytes i =
-    numbers ((4, version_of (16 * length i.entries)) ∷ (4, length i.exports) ∷ (8, i.memory) ∷ (8, i.heap) ∷ (8, i.private) ∷ [])
-    ++ records_bytes 36 i.exports
+    numbers (
+    (4, version_of (ENTRY_SIZE * length i.entries)) ∷ (4, length i.exports)
+    ∷ (8, i.memory) ∷ (8, i.heap) ∷ (8, i.private) ∷ [])
+    ++ records_bytes FIRST_NAME i.exports
 
 unfoldable pub symbol_bytes : ℕ → Symbol → List ℕ
-symbol_bytes name s = numbers ((4, name) ∷ (1, 0x12) ∷ (1, 0) ∷ (2, 1) ∷ (8, s.address) ∷ (8, 0) ∷ [])
+symbol_bytes name s = numbers (
+    (4, name) ∷ (1, 16 * STB_GLOBAL + STT_FUNC) ∷ (1, STV_DEFAULT) ∷ (2, TEXT_SECTION) ∷ (8, s.address) ∷ (8, 0) ∷ [])
 
 unfoldable pub symbols_bytes : ℕ → List Symbol → List ℕ
 symbols_bytes name [] = []
@@ -106,7 +122,7 @@ section_names =
 
 -- an entry of zeros, and one for each export
 unfoldable pub symtab_bytes : List Symbol → List ℕ
-symtab_bytes ss = replicate 24 0 ++ symbols_bytes 36 ss
+symtab_bytes ss = replicate SYM_SIZE 0 ++ symbols_bytes FIRST_NAME ss
 
 unfoldable pub strtab_bytes : List Symbol → List ℕ
 strtab_bytes ss = section_names ++ names_bytes ss
@@ -117,12 +133,13 @@ section_bytes name kind flags address offset size link info align entry = number
 
 unfoldable pub sections_bytes : Layout → List ℕ
 sections_bytes l =
-    section_bytes 0 0 0 0 0 0 0 0 0 0
-    ++ (section_bytes 1 1 6 text_address l.text.offset l.text.size 0 0 1 0
-    ++ (section_bytes 7 1 3 region_address l.statics.offset l.statics.size 0 0 1 0
-    ++ (section_bytes 13 1 0 0 l.terra.offset l.terra.size 0 0 1 0
-    ++ (section_bytes 20 2 0 0 l.symtab.offset l.symtab.size 5 1 1 24
-    ++ section_bytes 28 3 0 0 l.strtab.offset l.strtab.size 0 0 1 0))))
+    section_bytes 0 SHT_NULL 0 0 0 0 0 0 0 0
+    ++ (section_bytes TEXT_NAME SHT_PROGBITS (SHF_ALLOC + SHF_EXECINSTR) text_address l.text.offset l.text.size 0 0 1 0
+    ++ (section_bytes DATA_NAME SHT_PROGBITS (SHF_WRITE + SHF_ALLOC) region_address
+    l.statics.offset l.statics.size 0 0 1 0
+    ++ (section_bytes TERRA_NAME SHT_PROGBITS 0 0 l.terra.offset l.terra.size 0 0 1 0
+    ++ (section_bytes SYMTAB_NAME SHT_SYMTAB 0 0 l.symtab.offset l.symtab.size STRTAB_SECTION 1 1 SYM_SIZE
+    ++ section_bytes STRTAB_NAME SHT_STRTAB 0 0 l.strtab.offset l.strtab.size 0 0 1 0))))
 
 -- the file of the image
 unfoldable pub bytes_of : Image → List ℕ

@@ -6,84 +6,33 @@ ghost use Rattle.elf_image.specs.Layout.{layout_of, part_at, identification_fiel
 ghost use Rattle.elf_image.specs.Tests.{bad_header, bad_segments, bad_sections, verdict_headers};
 ghost use Rattle.elf_image.specs.Answers.{Says, section_rows};
 
+use crate::elf::{
+    DATA_NAME, DATA_ROW, E_EHSIZE, E_ENTRY, E_FLAGS, E_MACHINE, E_PHENTSIZE, E_PHNUM, E_PHOFF,
+    E_SHENTSIZE, E_SHNUM, E_SHOFF, E_SHSTRNDX, E_TYPE, E_VERSION, EHDR_SIZE, EI_ABIVERSION,
+    EI_CLASS, EI_DATA, EI_OSABI, EI_PAD, EI_VERSION, ELFCLASS64, ELFDATA2LSB, ELFMAG,
+    ELFOSABI_NONE, EM_RISCV, ENTRY_SIZE, ET_EXEC, EV_CURRENT, HEADERS_SIZE, P_ALIGN, P_FILESZ,
+    P_FLAGS, P_MEMSZ, P_OFFSET, P_PADDR, P_TYPE, P_VADDR, PF_R, PF_W, PF_X, PHDR_SIZE,
+    PRIVATE_HEADER, PT_LOAD, REGION_HEADER, SECTIONS, SECTIONS_SIZE, SEGMENTS, SH_ADDR,
+    SH_ADDRALIGN, SH_ENTSIZE, SH_FLAGS, SH_INFO, SH_LINK, SH_NAME, SH_OFFSET, SH_SIZE, SH_TYPE,
+    SHDR_SIZE, SHF_ALLOC, SHF_EXECINSTR, SHF_WRITE, SHT_NULL, SHT_PROGBITS, SHT_STRTAB, SHT_SYMTAB,
+    STRTAB_NAME, STRTAB_ROW, STRTAB_SECTION, SYM_SIZE, SYMTAB_NAME, SYMTAB_ROW, TERRA_NAME,
+    TERRA_ROW, TEXT_HEADER, TEXT_NAME, TEXT_ROW,
+};
 use crate::error::ImageError;
 use crate::fields::{check_u8, check_u16, check_u32, check_u64, u32_at, u64_at};
 use crate::layout::{Layout, Part};
 use crate::parts::is_within;
 use crate::rule::Rule;
 use tl_base::Limits;
-use tl_base::limits::{MAX_ENTRIES, MAX_PRIVATE, PRIVATE_ADDRESS, REGION_ADDRESS, TEXT_ADDRESS};
+use tl_base::limits::{
+    MAX_CALLS, MAX_ENTRIES, MAX_PRIVATE, PRIVATE_ADDRESS, REGION_ADDRESS, TEXT_ADDRESS,
+};
 
-// The four bytes 7F 45 4C 46.
-pub const MAGIC: u32 = 0x464C_457F;
+/// The flags of the segment of the text.
+pub const READ_EXECUTE: u32 = PF_R + PF_X;
 
-const HEADER_SIZE: usize = 64;
-// Three program headers of 56 bytes stand right behind the header: of the text, the region and private memory.
-const HEADERS_SIZE: usize = 232;
-
-const TEXT_HEADER: usize = 64;
-
-const REGION_HEADER: usize = 120;
-
-const PRIVATE_HEADER: usize = 176;
-// Six section headers of 64 bytes.
-const SECTIONS_SIZE: u64 = 384;
-
-// The fields of the header, Elf64_Ehdr, behind e_ident.
-const E_TYPE: usize = 16;
-
-const E_MACHINE: usize = 18;
-
-const E_VERSION: usize = 20;
-
-const E_ENTRY: usize = 24;
-
-const E_PHOFF: usize = 32;
-
-const E_SHOFF: usize = 40;
-
-const E_FLAGS: usize = 48;
-
-const E_EHSIZE: usize = 52;
-
-const E_PHENTSIZE: usize = 54;
-
-const E_PHNUM: usize = 56;
-
-const E_SHENTSIZE: usize = 58;
-
-const E_SHNUM: usize = 60;
-
-const E_SHSTRNDX: usize = 62;
-
-const ET_EXEC: u64 = 2;
-
-const EM_RISCV: u64 = 243;
-
-const EV_CURRENT: u64 = 1;
-
-// The fields of a program header, Elf64_Phdr.
-const P_TYPE: usize = 0;
-
-const P_FLAGS: usize = 4;
-
-const P_OFFSET: usize = 8;
-
-const P_VADDR: usize = 16;
-
-const P_PADDR: usize = 24;
-
-const P_FILESZ: usize = 32;
-
-const P_MEMSZ: usize = 40;
-
-const P_ALIGN: usize = 48;
-
-const PT_LOAD: u64 = 1;
-// PF_R with PF_X, and PF_R with PF_W.
-const READ_EXECUTE: u32 = 5;
-
-const READ_WRITE: u32 = 6;
+/// The flags of the segments of the region and of private memory.
+pub const READ_WRITE: u32 = PF_R + PF_W;
 
 /// The fields of a section header that do not depend on the file.
 #[derive(Clone, Copy)]
@@ -100,41 +49,41 @@ pub struct Section {
 
 #[tactic(auto, unfolding(crate::specs::Tests::bad_header))]
 fn check_header(bytes: &[u8]) -> Result<(), ImageError>
-    requires { 64 ≤ length bytes.now }
+    requires { EHDR_SIZE ≤ length bytes.now }
     ensures { Says result (bad_header bytes.now) }
 {
     check_identification(bytes)?;
-    check_u16(bytes, 0, E_TYPE, Rule::Is(ET_EXEC))?;
-    check_u16(bytes, 0, E_MACHINE, Rule::Is(EM_RISCV))?;
-    check_u32(bytes, 0, E_VERSION, Rule::Is(EV_CURRENT))?;
+    check_u16(bytes, 0, E_TYPE, Rule::Is(u64::from(ET_EXEC)))?;
+    check_u16(bytes, 0, E_MACHINE, Rule::Is(u64::from(EM_RISCV)))?;
+    check_u32(bytes, 0, E_VERSION, Rule::Is(u64::from(EV_CURRENT)))?;
     check_u64(bytes, 0, E_ENTRY, Rule::Is(0))?;
-    check_u64(bytes, 0, E_PHOFF, Rule::Is(64))?;
+    check_u64(bytes, 0, E_PHOFF, Rule::Is(EHDR_SIZE as u64))?;
     check_u64(bytes, 0, E_SHOFF, Rule::Any)?;
     check_u32(bytes, 0, E_FLAGS, Rule::Is(0))?;
-    check_u16(bytes, 0, E_EHSIZE, Rule::Is(64))?;
-    check_u16(bytes, 0, E_PHENTSIZE, Rule::Is(56))?;
-    check_u16(bytes, 0, E_PHNUM, Rule::Is(3))?;
-    check_u16(bytes, 0, E_SHENTSIZE, Rule::Is(64))?;
-    check_u16(bytes, 0, E_SHNUM, Rule::Is(6))?;
-    check_u16(bytes, 0, E_SHSTRNDX, Rule::Is(5))
+    check_u16(bytes, 0, E_EHSIZE, Rule::Is(EHDR_SIZE as u64))?;
+    check_u16(bytes, 0, E_PHENTSIZE, Rule::Is(PHDR_SIZE as u64))?;
+    check_u16(bytes, 0, E_PHNUM, Rule::Is(u64::from(SEGMENTS)))?;
+    check_u16(bytes, 0, E_SHENTSIZE, Rule::Is(SHDR_SIZE as u64))?;
+    check_u16(bytes, 0, E_SHNUM, Rule::Is(u64::from(SECTIONS)))?;
+    check_u16(bytes, 0, E_SHSTRNDX, Rule::Is(u64::from(STRTAB_SECTION)))
 }
 
 fn check_identification(bytes: &[u8]) -> Result<(), ImageError>
-    requires { 64 ≤ length bytes.now }
+    requires { EHDR_SIZE ≤ length bytes.now }
     ensures { Says result (bad_fields bytes.now 0 identification_fields) }
 {
-    check_u8(bytes, 0, 4, Rule::Is(2))?;
-    check_u8(bytes, 0, 5, Rule::Is(1))?;
-    check_u8(bytes, 0, 6, Rule::Is(1))?;
-    check_u8(bytes, 0, 7, Rule::Is(0))?;
-    check_u8(bytes, 0, 8, Rule::Is(0))?;
-    check_u8(bytes, 0, 9, Rule::Is(0))?;
-    check_u8(bytes, 0, 10, Rule::Is(0))?;
-    check_u8(bytes, 0, 11, Rule::Is(0))?;
-    check_u8(bytes, 0, 12, Rule::Is(0))?;
-    check_u8(bytes, 0, 13, Rule::Is(0))?;
-    check_u8(bytes, 0, 14, Rule::Is(0))?;
-    check_u8(bytes, 0, 15, Rule::Is(0))
+    check_u8(bytes, 0, EI_CLASS, Rule::Is(u64::from(ELFCLASS64)))?;
+    check_u8(bytes, 0, EI_DATA, Rule::Is(u64::from(ELFDATA2LSB)))?;
+    check_u8(bytes, 0, EI_VERSION, Rule::Is(u64::from(EV_CURRENT)))?;
+    check_u8(bytes, 0, EI_OSABI, Rule::Is(u64::from(ELFOSABI_NONE)))?;
+    check_u8(bytes, 0, EI_ABIVERSION, Rule::Is(0))?;
+    check_u8(bytes, 0, EI_PAD, Rule::Is(0))?;
+    check_u8(bytes, 0, EI_PAD + 1, Rule::Is(0))?;
+    check_u8(bytes, 0, EI_PAD + 2, Rule::Is(0))?;
+    check_u8(bytes, 0, EI_PAD + 3, Rule::Is(0))?;
+    check_u8(bytes, 0, EI_PAD + 4, Rule::Is(0))?;
+    check_u8(bytes, 0, EI_PAD + 5, Rule::Is(0))?;
+    check_u8(bytes, 0, EI_PAD + 6, Rule::Is(0))
 }
 
 /// Tests the program header at `header`, whose segment has these flags and this address, and sizes by these rules in the file
@@ -147,10 +96,10 @@ fn check_segment(
     in_file: Rule,
     in_memory: Rule,
 ) -> Result<(), ImageError>
-    requires { header + 56 ≤ length bytes.now }
+    requires { header + PHDR_SIZE ≤ length bytes.now }
     ensures { Says result (bad_fields bytes.now header (segment_fields flags address in_file in_memory)) }
 {
-    check_u32(bytes, header, P_TYPE, Rule::Is(PT_LOAD))?;
+    check_u32(bytes, header, P_TYPE, Rule::Is(u64::from(PT_LOAD)))?;
     check_u32(bytes, header, P_FLAGS, Rule::Is(u64::from(flags)))?;
     check_u64(bytes, header, P_OFFSET, Rule::Any)?;
     check_u64(bytes, header, P_VADDR, Rule::Is(address))?;
@@ -162,7 +111,7 @@ fn check_segment(
 
 #[tactic(auto, unfolding(crate::specs::Tests::bad_segments))]
 fn check_segments(bytes: &[u8]) -> Result<(), ImageError>
-    requires { 232 ≤ length bytes.now }
+    requires { HEADERS_SIZE ≤ length bytes.now }
     ensures { Says result (bad_segments bytes.now) }
 {
     let text_size = u64_at(bytes, TEXT_HEADER + P_FILESZ);
@@ -189,8 +138,8 @@ fn check_segments(bytes: &[u8]) -> Result<(), ImageError>
         PRIVATE_HEADER,
         READ_WRITE,
         PRIVATE_ADDRESS,
-        Rule::Multiple(16, 0, 16 * MAX_ENTRIES),
-        Rule::Beyond(entries, 512, MAX_PRIVATE),
+        Rule::Multiple(ENTRY_SIZE as u64, 0, ENTRY_SIZE as u64 * MAX_ENTRIES),
+        Rule::Beyond(entries, MAX_CALLS, MAX_PRIVATE),
     )
 }
 
@@ -201,28 +150,28 @@ fn check_section(
     section: Section,
     place: Option<Part>,
 ) -> Result<(), ImageError>
-    requires { header + 64 ≤ length bytes.now }
+    requires { header + SHDR_SIZE ≤ length bytes.now }
     ensures { Says result (bad_fields bytes.now header (section_rows section place)) }
 {
     let (offset, size) = match place {
         Some(part) => (Rule::Is(part.offset), Rule::Is(part.size)),
         None => (Rule::Any, Rule::Any),
     };
-    check_u32(bytes, header, 0, Rule::Is(u64::from(section.name)))?;
-    check_u32(bytes, header, 4, Rule::Is(u64::from(section.kind)))?;
-    check_u64(bytes, header, 8, Rule::Is(section.flags))?;
-    check_u64(bytes, header, 16, Rule::Is(section.address))?;
-    check_u64(bytes, header, 24, offset)?;
-    check_u64(bytes, header, 32, size)?;
-    check_u32(bytes, header, 40, Rule::Is(u64::from(section.link)))?;
-    check_u32(bytes, header, 44, Rule::Is(u64::from(section.info)))?;
-    check_u64(bytes, header, 48, Rule::Is(section.align))?;
-    check_u64(bytes, header, 56, Rule::Is(section.entry_size))
+    check_u32(bytes, header, SH_NAME, Rule::Is(u64::from(section.name)))?;
+    check_u32(bytes, header, SH_TYPE, Rule::Is(u64::from(section.kind)))?;
+    check_u64(bytes, header, SH_FLAGS, Rule::Is(section.flags))?;
+    check_u64(bytes, header, SH_ADDR, Rule::Is(section.address))?;
+    check_u64(bytes, header, SH_OFFSET, offset)?;
+    check_u64(bytes, header, SH_SIZE, size)?;
+    check_u32(bytes, header, SH_LINK, Rule::Is(u64::from(section.link)))?;
+    check_u32(bytes, header, SH_INFO, Rule::Is(u64::from(section.info)))?;
+    check_u64(bytes, header, SH_ADDRALIGN, Rule::Is(section.align))?;
+    check_u64(bytes, header, SH_ENTSIZE, Rule::Is(section.entry_size))
 }
 
 pub const NULL: Section = Section {
     name: 0,
-    kind: 0,
+    kind: SHT_NULL,
     flags: 0,
     address: 0,
     link: 0,
@@ -232,9 +181,9 @@ pub const NULL: Section = Section {
 };
 
 pub const TEXT: Section = Section {
-    name: 1,
-    kind: 1,
-    flags: 6,
+    name: TEXT_NAME,
+    kind: SHT_PROGBITS,
+    flags: SHF_ALLOC + SHF_EXECINSTR,
     address: TEXT_ADDRESS,
     link: 0,
     info: 0,
@@ -243,9 +192,9 @@ pub const TEXT: Section = Section {
 };
 
 pub const DATA: Section = Section {
-    name: 7,
-    kind: 1,
-    flags: 3,
+    name: DATA_NAME,
+    kind: SHT_PROGBITS,
+    flags: SHF_WRITE + SHF_ALLOC,
     address: REGION_ADDRESS,
     link: 0,
     info: 0,
@@ -254,8 +203,8 @@ pub const DATA: Section = Section {
 };
 
 pub const TERRA: Section = Section {
-    name: 13,
-    kind: 1,
+    name: TERRA_NAME,
+    kind: SHT_PROGBITS,
     flags: 0,
     address: 0,
     link: 0,
@@ -265,19 +214,20 @@ pub const TERRA: Section = Section {
 };
 
 pub const SYMTAB: Section = Section {
-    name: 20,
-    kind: 2,
+    name: SYMTAB_NAME,
+    kind: SHT_SYMTAB,
     flags: 0,
     address: 0,
-    link: 5,
+    link: STRTAB_SECTION as u32,
+    // The first symbol is none, and the exports' behind it are global.
     info: 1,
     align: 1,
-    entry_size: 24,
+    entry_size: SYM_SIZE as u64,
 };
 
 pub const STRTAB: Section = Section {
-    name: 28,
-    kind: 3,
+    name: STRTAB_NAME,
+    kind: SHT_STRTAB,
     flags: 0,
     address: 0,
     link: 0,
@@ -288,17 +238,17 @@ pub const STRTAB: Section = Section {
 
 #[tactic(auto, unfolding(crate::specs::Tests::bad_sections))]
 fn check_sections(bytes: &[u8], layout: &Layout) -> Result<(), ImageError>
-    requires { layout.now.sections + 384 ≤ length bytes.now }
+    requires { layout.now.sections + SECTIONS_SIZE ≤ length bytes.now }
     ensures { Says result (bad_sections layout.now bytes.now) }
 {
     let table = layout.sections as usize;
     let nothing = Part { offset: 0, size: 0 };
     check_section(bytes, table, NULL, Some(nothing))?;
-    check_section(bytes, table + 64, TEXT, Some(layout.text))?;
-    check_section(bytes, table + 128, DATA, Some(layout.statics))?;
-    check_section(bytes, table + 192, TERRA, None)?;
-    check_section(bytes, table + 256, SYMTAB, None)?;
-    check_section(bytes, table + 320, STRTAB, None)
+    check_section(bytes, table + TEXT_ROW, TEXT, Some(layout.text))?;
+    check_section(bytes, table + DATA_ROW, DATA, Some(layout.statics))?;
+    check_section(bytes, table + TERRA_ROW, TERRA, None)?;
+    check_section(bytes, table + SYMTAB_ROW, SYMTAB, None)?;
+    check_section(bytes, table + STRTAB_ROW, STRTAB, None)
 }
 
 fn part_at(bytes: &[u8], offset: usize, size: usize) -> Part
@@ -314,17 +264,25 @@ fn part_at(bytes: &[u8], offset: usize, size: usize) -> Part
 
 // The part that the program header at `header` loads.
 fn segment_at(bytes: &[u8], header: usize) -> Part
-    requires { header + 56 ≤ length bytes.now }
-    ensures { result ≡ part_at bytes.now (header + 8) (header + 32) }
+    requires { header + PHDR_SIZE ≤ length bytes.now }
+    ensures { result ≡ part_at bytes.now (header + P_OFFSET) (header + P_FILESZ) }
 {
     part_at(bytes, header + P_OFFSET, header + P_FILESZ)
 }
 
+// The part whose section header is at `header`.
+fn section_at(bytes: &[u8], header: usize) -> Part
+    requires { header + SHDR_SIZE ≤ length bytes.now }
+    ensures { result ≡ part_at bytes.now (header + SH_OFFSET) (header + SH_SIZE) }
+{
+    part_at(bytes, header + SH_OFFSET, header + SH_SIZE)
+}
+
 #[tactic(auto, unfolding(crate::specs::Layout::layout_of))]
 fn layout_with(bytes: &[u8], table: usize) -> Layout
-    requires headers { 232 ≤ length bytes.now }
-    requires sections { table + 384 ≤ length bytes.now }
-    requires table { table ≡ u64_at bytes.now 40 }
+    requires headers { HEADERS_SIZE ≤ length bytes.now }
+    requires sections { table + SECTIONS_SIZE ≤ length bytes.now }
+    requires table { table ≡ u64_at bytes.now E_SHOFF }
     ensures { result ≡ layout_of bytes.now }
 {
     let entries = segment_at(bytes, PRIVATE_HEADER);
@@ -335,9 +293,9 @@ fn layout_with(bytes: &[u8], table: usize) -> Layout
         entries,
         memory: u64_at(bytes, REGION_HEADER + P_MEMSZ),
         private: u64_at(bytes, PRIVATE_HEADER + P_MEMSZ).saturating_sub(entries.size),
-        terra: part_at(bytes, table + 216, table + 224),
-        symtab: part_at(bytes, table + 280, table + 288),
-        strtab: part_at(bytes, table + 344, table + 352),
+        terra: section_at(bytes, table + TERRA_ROW),
+        symtab: section_at(bytes, table + SYMTAB_ROW),
+        strtab: section_at(bytes, table + STRTAB_ROW),
     }
 }
 
@@ -347,10 +305,10 @@ pub fn read_layout(bytes: &[u8]) -> Result<Layout, ImageError>
     ensures says { Says result (verdict_headers bytes.now) }
     ensures layout { IfOk result (λ l. l ≡ layout_of bytes.now) }
 {
-    if bytes.len() < HEADER_SIZE {
+    if bytes.len() < EHDR_SIZE {
         return Err(ImageError::Short);
     }
-    if u32_at(bytes, 0) != MAGIC {
+    if u32_at(bytes, 0) != ELFMAG {
         return Err(ImageError::BadMagic);
     }
     check_header(bytes)?;
@@ -360,7 +318,7 @@ pub fn read_layout(bytes: &[u8]) -> Result<Layout, ImageError>
     check_segments(bytes)?;
     let table = Part {
         offset: u64_at(bytes, E_SHOFF),
-        size: SECTIONS_SIZE,
+        size: SECTIONS_SIZE as u64,
     };
     if !is_within(table, bytes.len()) {
         return Err(ImageError::Short);

@@ -7,13 +7,14 @@ ghost use Rattle.elf_image.specs.Layout.{heap_start, memory_rule, private_rule};
 ghost use Rattle.elf_image.specs.Exports.{param_rule, names_differ};
 ghost use Rattle.elf_image.specs.Lawful.{IsLawful, is_name, is_lawful_symbol, is_lawful_entry, names_fit};
 
+use crate::elf::{FIRST_NAME, LAST_CODE};
 use crate::exports::is_in_text;
 use crate::image::{Entry, Image, Symbol};
 use crate::names::have_own_names;
 use crate::rule::Rule;
 use crate::tables::heap_start;
 use tl_base::Limits;
-use tl_base::limits::{MAX_ENTRIES, MAX_NAME_BYTES, MAX_PARAMETERS, MAX_PRIVATE};
+use tl_base::limits::{MAX_CALLS, MAX_ENTRIES, MAX_NAME_BYTES, MAX_PARAMETERS, MAX_PRIVATE};
 
 // The names of more exports or longer ones would begin past what a field of four bytes can say.
 const LIMIT: u64 = 1 << 32;
@@ -38,7 +39,7 @@ fn has_lawful_memories(image: &Image, statics: &[u8]) -> bool
     Rule::Multiple(Limits::MEMORY_UNIT, Limits::MIN_MEMORY, Limits::MAX_MEMORY).allows(image.memory)
         && 2 * size <= image.memory
         && image.heap == heap_start(size)
-        && Rule::Multiple(512, 0, MAX_PRIVATE).allows(image.private)
+        && Rule::Multiple(MAX_CALLS, 0, MAX_PRIVATE).allows(image.private)
 }
 
 fn are_allowed(rule: Rule, bytes: &[u8]) -> bool
@@ -57,7 +58,7 @@ fn is_name(name: &[u8]) -> bool
 fn are_params(params: &[u8]) -> bool
     ensures { result ≡ (nat_le (length params.now) MAX_PARAMETERS && list_all (allows param_rule) params.now) }
 {
-    params.len() <= MAX_PARAMETERS && are_allowed(Rule::Between(1, 10), params)
+    params.len() <= MAX_PARAMETERS && are_allowed(Rule::Between(1, LAST_CODE), params)
 }
 
 fn is_lawful_symbol(text: u64, symbol: &Symbol) -> bool
@@ -66,7 +67,7 @@ fn is_lawful_symbol(text: u64, symbol: &Symbol) -> bool
     is_name(symbol.name.as_slice())
         && is_in_text(text, symbol.address)
         && are_params(symbol.params.as_slice())
-        && Rule::Between(0, 10).allows(u64::from(symbol.result))
+        && Rule::Between(0, LAST_CODE).allows(u64::from(symbol.result))
 }
 
 fn are_lawful_symbols(text: u64, symbols: &[Symbol]) -> bool
@@ -100,9 +101,9 @@ fn has_lawful_entries(text: u64, entries: &[Entry]) -> bool
 
 // Whether the offsets of the names fit their fields.
 fn names_fit(symbols: &[Symbol]) -> bool
-    ensures { result ≡ names_fit 36 symbols.now }
+    ensures { result ≡ names_fit FIRST_NAME symbols.now }
 {
-    let mut name = 36;
+    let mut name = FIRST_NAME as u64;
     for symbol in symbols {
         if name >= LIMIT {
             return false;
@@ -115,7 +116,7 @@ fn names_fit(symbols: &[Symbol]) -> bool
 // Whether the exports can stand in an image with that many bytes of text.
 fn has_lawful_exports(text: u64, symbols: &[Symbol]) -> bool
     ensures { result ≡ (list_all (is_lawful_symbol text) symbols.now
-        && (names_differ symbols.now && (nat_lt (length symbols.now) (2 ^ 32) && names_fit 36 symbols.now))) }
+        && (names_differ symbols.now && (nat_lt (length symbols.now) (2 ^ 32) && names_fit FIRST_NAME symbols.now))) }
 {
     are_lawful_symbols(text, symbols)
         && have_own_names(symbols)

@@ -7,6 +7,7 @@
 //! The format is ELF-64 (the object file format, "File header", "Program header table", "Section header table" and "Symbol
 //! table") with fixed values in most fields; `docs/IMAGE.md` has each field and the tests in their order. The definitions:
 //!
+//! - `src/elf.rt`: the names of fields and values with their numbers, which the definitions share with the code
 //! - `specs/Fields.antt`: numbers in a file, and rows of a table of fields with what each may hold
 //! - `specs/Layout.antt`: the tables of fields of the headers, and where they say that the parts lie
 //! - `specs/Exports.antt`: the records, symbols and names of the exports
@@ -24,6 +25,7 @@
 #![tactic(auto)]
 
 mod calls;
+mod elf;
 mod entries;
 mod error;
 mod exports;

@@ -7,22 +7,23 @@ ghost use Rattle.elf_image.specs.Layout.{part, parts_of};
 ghost use Rattle.elf_image.specs.Tests.{is_apart, are_apart, short_parts, overlapping_parts};
 ghost use Rattle.elf_image.specs.Answers.{Says};
 
+use crate::elf::{HEADERS_SIZE, SECTIONS_SIZE};
 use crate::error::ImageError;
 use crate::layout::{Layout, Part};
 
 // The header with the program headers.
 const HEADERS: Part = Part {
     offset: 0,
-    size: 232,
+    size: HEADERS_SIZE as u64,
 };
 
 // The part of the section headers.
 fn sections_of(layout: &Layout) -> Part
-    ensures { result ≡ part layout.now.sections 384 }
+    ensures { result ≡ part layout.now.sections SECTIONS_SIZE }
 {
     Part {
         offset: layout.sections,
-        size: 384,
+        size: SECTIONS_SIZE as u64,
     }
 }
 

@@ -11,6 +11,7 @@ ghost use Rattle.elf_image.specs.Loads.{words_at, image_at, Loads, BadBytes};
 ghost use Rattle.elf_image.specs.Lawful.{IsLawful};
 ghost use Rattle.elf_image.specs.Answers.{Says, Gives};
 
+use crate::elf::{ENTRY_SIZE, TERRA_EXPORTS, TERRA_HEAD, TERRA_HEAP};
 use crate::entries::{check_entries, read_entries};
 use crate::error::ImageError;
 use crate::exports::read_exports;
@@ -64,9 +65,9 @@ fn check_behind(bytes: &[u8], layout: &Layout) -> Result<u32, ImageError>
     check_tables(bytes, layout)?;
     check_terra(bytes, layout)?;
     let terra = layout.terra.offset as usize;
-    let count = u32_at(bytes, terra + 4);
+    let count = u32_at(bytes, terra + TERRA_EXPORTS);
     check_counts(bytes, layout, count)?;
-    check_records(bytes, terra + 32, count)?;
+    check_records(bytes, terra + TERRA_HEAD, count)?;
     check_first_symbol(bytes, layout)?;
     check_section_names(bytes, layout)?;
     Ok(count)
@@ -80,7 +81,7 @@ fn read_image(alloc: Global, bytes: &[u8]) -> Result<Image, ImageError>
     let count = check_behind(bytes, &layout)?;
     let exports = read_exports(alloc, bytes, &layout, count)?;
     let first = layout.entries.offset as usize;
-    let many = layout.entries.size as usize / 16;
+    let many = layout.entries.size as usize / ENTRY_SIZE;
     check_entries(bytes, layout.text.size, first, many)?;
     let text = layout.text.offset as usize;
     let words = read_words(alloc, bytes, text, layout.text.size as usize / 4)?;
@@ -89,7 +90,7 @@ fn read_image(alloc: Global, bytes: &[u8]) -> Result<Image, ImageError>
         statics: copy_part(alloc, bytes, layout.statics)?,
         entries: Entries::from_vec(read_entries(alloc, bytes, first, many)?),
         memory: layout.memory,
-        heap: u64_at(bytes, layout.terra.offset as usize + 16),
+        heap: u64_at(bytes, layout.terra.offset as usize + TERRA_HEAP),
         private: layout.private,
         exports: Symbols::from_vec(exports),
     })

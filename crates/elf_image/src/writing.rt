@@ -8,14 +8,20 @@ ghost use Rattle.elf_image.specs.Written.{names_size, layout_for, file_size, hea
 ghost use Rattle.elf_image.specs.Written.{record_bytes, records_bytes, terra_bytes, symbol_bytes, symbols_bytes, names_bytes, symtab_bytes};
 ghost use Rattle.elf_image.specs.Written.{strtab_bytes, section_bytes, sections_bytes, entries_bytes, bytes_of};
 
-use crate::headers::{DATA, MAGIC, NULL, STRTAB, SYMTAB, Section, TERRA, TEXT};
+use crate::elf::{
+    EHDR_SIZE, ELFCLASS64, ELFDATA2LSB, ELFMAG, ELFOSABI_NONE, EM_RISCV, ENTRY_SIZE, ET_EXEC,
+    EV_CURRENT, FIRST_NAME, HEADERS_SIZE, PHDR_SIZE, PT_LOAD, RECORD_SIZE, SECTIONS, SECTIONS_SIZE,
+    SEGMENTS, SHDR_SIZE, STRTAB_SECTION, STV_DEFAULT, SYM_SIZE, TERRA_HEAD, TEXT_SECTION,
+};
+use crate::exports::GLOBAL_FUNCTION;
+use crate::headers::{DATA, NULL, READ_EXECUTE, READ_WRITE, STRTAB, SYMTAB, Section, TERRA, TEXT};
 use crate::image::{Entry, Image, Symbol};
 use crate::layout::{Layout, Part};
 use crate::putting::{Number, put_numbers, put_words};
 use crate::tables::version_of;
 use std::alloc::{AllocError, Global};
 use tl_base::NoMemory;
-use tl_base::limits::{MAX_ENTRIES, PRIVATE_ADDRESS, REGION_ADDRESS, TEXT_ADDRESS};
+use tl_base::limits::{MAX_ENTRIES, MAX_PARAMETERS, PRIVATE_ADDRESS, REGION_ADDRESS, TEXT_ADDRESS};
 
 // The bytes of the names, with a zero byte behind each.
 fn names_size(symbols: &[Symbol]) -> u64
@@ -48,16 +54,19 @@ fn layout_for(image: &Image) -> Layout
     ensures { result ≡ layout_for image.now }
 {
     let exports = image.exports.as_slice();
-    let records = 24 * exports.len() as u64;
+    let many = exports.len() as u64;
     let text = Part {
-        offset: 232,
+        offset: HEADERS_SIZE as u64,
         size: 4 * image.text.as_slice().len() as u64,
     };
     let statics = part_behind(text, image.statics.as_slice().len() as u64);
-    let entries = part_behind(statics, 16 * image.entries.as_slice().len() as u64);
-    let terra = part_behind(entries, 32 + records);
-    let symtab = part_behind(terra, 24 + records);
-    let strtab = part_behind(symtab, 36 + names_size(exports));
+    let entries = part_behind(
+        statics,
+        ENTRY_SIZE as u64 * image.entries.as_slice().len() as u64,
+    );
+    let terra = part_behind(entries, TERRA_HEAD as u64 + RECORD_SIZE as u64 * many);
+    let symtab = part_behind(terra, SYM_SIZE as u64 + SYM_SIZE as u64 * many);
+    let strtab = part_behind(symtab, FIRST_NAME as u64 + names_size(exports));
     Layout {
         sections: strtab.offset + strtab.size,
         text,
@@ -78,10 +87,13 @@ fn put_header(out: &mut Vec<u8>, layout: &Layout) -> Result<(), AllocError>
     put_numbers(
         out,
         &[
-            Number::U32(MAGIC),
-            Number::U8(2),
-            Number::U8(1),
-            Number::U8(1),
+            Number::U32(ELFMAG),
+            Number::U8(ELFCLASS64),
+            Number::U8(ELFDATA2LSB),
+            Number::U8(EV_CURRENT as u8),
+            Number::U8(ELFOSABI_NONE),
+            Number::U8(0),
+            // EI_PAD and the six behind it
             Number::U8(0),
             Number::U8(0),
             Number::U8(0),
@@ -89,21 +101,22 @@ fn put_header(out: &mut Vec<u8>, layout: &Layout) -> Result<(), AllocError>
             Number::U8(0),
             Number::U8(0),
             Number::U8(0),
-            Number::U8(0),
-            Number::U8(0),
-            Number::U16(2),
-            Number::U16(243),
-            Number::U32(1),
+            Number::U16(ET_EXEC),
+            Number::U16(EM_RISCV),
+            Number::U32(EV_CURRENT),
+            // e_entry
             Number::U64(0),
-            Number::U64(64),
+            // e_phoff and e_shoff
+            Number::U64(EHDR_SIZE as u64),
             Number::U64(layout.sections),
+            // e_flags
             Number::U32(0),
-            Number::U16(64),
-            Number::U16(56),
-            Number::U16(3),
-            Number::U16(64),
-            Number::U16(6),
-            Number::U16(5),
+            Number::U16(EHDR_SIZE as u16),
+            Number::U16(PHDR_SIZE as u16),
+            Number::U16(SEGMENTS),
+            Number::U16(SHDR_SIZE as u16),
+            Number::U16(SECTIONS),
+            Number::U16(STRTAB_SECTION),
         ],
     )
 }
@@ -122,7 +135,7 @@ fn put_segment(
     put_numbers(
         out,
         &[
-            Number::U32(1),
+            Number::U32(PT_LOAD),
             Number::U32(flags),
             Number::U64(part.offset),
             Number::U64(address),
@@ -140,9 +153,21 @@ fn put_segments(out: &mut Vec<u8>, layout: &Layout) -> Result<(), AllocError>
     ensures { OnOk result (out.new.items ≡ out.old.items ++ segments_bytes layout.now) }
 {
     let own = layout.entries.size + layout.private;
-    put_segment(out, 5, TEXT_ADDRESS, layout.text, layout.text.size)?;
-    put_segment(out, 6, REGION_ADDRESS, layout.statics, layout.memory)?;
-    put_segment(out, 6, PRIVATE_ADDRESS, layout.entries, own)
+    put_segment(
+        out,
+        READ_EXECUTE,
+        TEXT_ADDRESS,
+        layout.text,
+        layout.text.size,
+    )?;
+    put_segment(
+        out,
+        READ_WRITE,
+        REGION_ADDRESS,
+        layout.statics,
+        layout.memory,
+    )?;
+    put_segment(out, READ_WRITE, PRIVATE_ADDRESS, layout.entries, own)
 }
 
 fn put_entries(out: &mut Vec<u8>, entries: &[Entry]) -> Result<(), AllocError>
@@ -161,27 +186,27 @@ fn put_entries(out: &mut Vec<u8>, entries: &[Entry]) -> Result<(), AllocError>
 pub fn entry_bytes(alloc: Global, entries: &[Entry]) -> Result<Vec<u8>, NoMemory>
     requires { length entries.now ≤ MAX_ENTRIES }
     ensures bytes { IfOk result (λ bytes. bytes.items ≡ entries_bytes entries.now) }
-    ensures size { IfOk result (λ bytes. length bytes.items ≡ 16 * length entries.now) }
+    ensures size { IfOk result (λ bytes. length bytes.items ≡ ENTRY_SIZE * length entries.now) }
 {
-    let mut out = Vec::with_capacity(alloc, 16 * entries.len())?;
+    let mut out = Vec::with_capacity(alloc, ENTRY_SIZE * entries.len())?;
     put_entries(&mut out, entries)?;
     Ok(out)
 }
 
 // Adds the eight type codes of a record.
 fn put_codes(out: &mut Vec<u8>, params: &[u8]) -> Result<(), AllocError>
-    requires { length params.now ≤ 8 }
+    requires { length params.now ≤ MAX_PARAMETERS }
     ensures { OnOk result (out.new.items ≡ out.old.items ++ codes_bytes params.now) }
 {
     out.extend_from_slice(params)?;
-    out.extend_from_slice(&[0; 8][params.len()..])?;
+    out.extend_from_slice(&[0; MAX_PARAMETERS][params.len()..])?;
     Ok(())
 }
 
 // Adds the record of a symbol whose name is at this offset.
 #[tactic(auto, unfolding(crate::specs::Written::record_bytes))]
 fn put_record(out: &mut Vec<u8>, name: u32, symbol: &Symbol) -> Result<(), AllocError>
-    requires { length symbol.now.params ≤ 8 }
+    requires { length symbol.now.params ≤ MAX_PARAMETERS }
     ensures { OnOk result (out.new.items ≡ out.old.items ++ record_bytes name symbol.now) }
 {
     let params = symbol.params.as_slice();
@@ -208,9 +233,9 @@ fn put_symbol(out: &mut Vec<u8>, name: u32, symbol: &Symbol) -> Result<(), Alloc
         out,
         &[
             Number::U32(name),
-            Number::U8(0x12),
-            Number::U8(0),
-            Number::U16(1),
+            Number::U8(GLOBAL_FUNCTION),
+            Number::U8(STV_DEFAULT),
+            Number::U16(TEXT_SECTION),
             Number::U64(symbol.address),
             Number::U64(0),
         ],
@@ -219,10 +244,10 @@ fn put_symbol(out: &mut Vec<u8>, name: u32, symbol: &Symbol) -> Result<(), Alloc
 
 fn put_records(out: &mut Vec<u8>, text: u64, symbols: &[Symbol]) -> Result<(), AllocError>
     requires lawful { IsTrue (list_all (is_lawful_symbol text) symbols.now) }
-    requires fit { IsTrue (names_fit 36 symbols.now) }
-    ensures { OnOk result (out.new.items ≡ out.old.items ++ records_bytes 36 symbols.now) }
+    requires fit { IsTrue (names_fit FIRST_NAME symbols.now) }
+    ensures { OnOk result (out.new.items ≡ out.old.items ++ records_bytes FIRST_NAME symbols.now) }
 {
-    let mut name = 36;
+    let mut name = FIRST_NAME;
     for symbol in symbols {
         put_record(out, name as u32, symbol)?;
         name += symbol.name.as_slice().len() + 1;
@@ -236,7 +261,7 @@ fn put_terra(out: &mut Vec<u8>, image: &Image) -> Result<(), AllocError>
     ensures { OnOk result (out.new.items ≡ out.old.items ++ terra_bytes image.now) }
 {
     let exports = image.exports.as_slice();
-    let version = version_of(16 * image.entries.as_slice().len() as u64);
+    let version = version_of(ENTRY_SIZE as u64 * image.entries.as_slice().len() as u64);
     put_numbers(
         out,
         &[
@@ -252,10 +277,10 @@ fn put_terra(out: &mut Vec<u8>, image: &Image) -> Result<(), AllocError>
 
 fn put_symbols(out: &mut Vec<u8>, text: u64, symbols: &[Symbol]) -> Result<(), AllocError>
     requires lawful { IsTrue (list_all (is_lawful_symbol text) symbols.now) }
-    requires fit { IsTrue (names_fit 36 symbols.now) }
-    ensures { OnOk result (out.new.items ≡ out.old.items ++ symbols_bytes 36 symbols.now) }
+    requires fit { IsTrue (names_fit FIRST_NAME symbols.now) }
+    ensures { OnOk result (out.new.items ≡ out.old.items ++ symbols_bytes FIRST_NAME symbols.now) }
 {
-    let mut name = 36;
+    let mut name = FIRST_NAME;
     for symbol in symbols {
         put_symbol(out, name as u32, symbol)?;
         name += symbol.name.as_slice().len() + 1;
@@ -266,10 +291,10 @@ fn put_symbols(out: &mut Vec<u8>, text: u64, symbols: &[Symbol]) -> Result<(), A
 #[tactic(auto, unfolding(crate::specs::Written::symtab_bytes))]
 fn put_symtab(out: &mut Vec<u8>, text: u64, symbols: &[Symbol]) -> Result<(), AllocError>
     requires lawful { IsTrue (list_all (is_lawful_symbol text) symbols.now) }
-    requires fit { IsTrue (names_fit 36 symbols.now) }
+    requires fit { IsTrue (names_fit FIRST_NAME symbols.now) }
     ensures { OnOk result (out.new.items ≡ out.old.items ++ symtab_bytes symbols.now) }
 {
-    out.extend_from_slice(&[0; 24])?;
+    out.extend_from_slice(&[0; SYM_SIZE])?;
     put_symbols(out, text, symbols)
 }
 
@@ -335,7 +360,7 @@ pub fn write(alloc: Global, image: &Image) -> Result<Vec<u8>, NoMemory>
 {
     let layout = layout_for(image);
     let exports = image.exports.as_slice();
-    let mut out = Vec::with_capacity(alloc, (layout.sections + 384) as usize)?;
+    let mut out = Vec::with_capacity(alloc, layout.sections as usize + SECTIONS_SIZE)?;
     put_header(&mut out, &layout)?;
     put_segments(&mut out, &layout)?;
     put_words(&mut out, image.text.as_slice())?;

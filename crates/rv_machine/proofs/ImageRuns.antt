@@ -8,10 +8,11 @@ use Rattle.rv_machine.specs.Program.{IsProgram}
 use Rattle.rv_machine.specs.Runs.{Agrees, IsBeforeWrite}
 use Rattle.rv_machine.specs.declared.stops.Stop.{Stop}
 use Rattle.rv_machine.specs.ImageRun.{RvRun, region_bytes, private_bytes, image_start, OneEnd, OneRun, ImageRunsGoOn, ImageRunsStayOver}
-use Rattle.rv_machine.specs.ImageRun.{MachinesRunImages, RanImage, RanImageToWrite, WritesAreFronts}
+use Rattle.rv_machine.specs.ImageRun.{EachHasItsRun, MachinesRunImages, RanImage, RanImageToWrite, WritesAreFronts}
 use Rattle.rv_machine.proofs.Runs.{run_of-add, run_of-over}
 use Rattle.rv_machine.proofs.Reaches.{writes_front, writes_more}
 use Rattle.rv_machine.proofs.Programs.{one_program}
+use Rattle.rv_machine.proofs.EachWord.{each_program}
 
 -- the start of a machine that was loaded is that of its image
 pub start_same : (image : Image) (heap : ℕ) (loaded : State) (address : ℕ) (arguments : List ℕ) → heap ≡ image.heap → loaded ≡ loaded_state (region_bytes image) (private_bytes image) → start_state address heap arguments loaded.region loaded.private ≡ image_start image address arguments
@@ -33,6 +34,13 @@ one_run image address arguments steps one other f g =
     sym f.runs
     ∙ ap (λ p. run_of p (image_start image address arguments) steps) (one_program image.text f.program g.program f.decoded g.decoded)
     ∙ g.runs
+
+pub each_has_its_run : EachHasItsRun
+each_has_its_run image address arguments steps few =
+    let text = each_program image.text in
+    let ran = run_of text.0 (image_start image address arguments) steps in
+    let runs : RvRun image address arguments steps ran = record { few = few; program = text.0; decoded = text.1; runs = refl } in
+    (ran, runs, λ other h. one_run image address arguments steps other ran h runs)
 
 pub runs_go_on : ImageRunsGoOn
 runs_go_on image program address arguments first rest middle output decoded h =

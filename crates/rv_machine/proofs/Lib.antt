@@ -4,6 +4,7 @@ pub mod Taken
 pub mod Runs
 pub mod Counts
 pub mod Programs
+pub mod EachWord
 pub mod Reaches
 pub mod Places
 pub mod Regions

@@ -41,6 +41,14 @@ MachinesRunImages =
     RvRun image address arguments steps
     (run_of program (start_state address heap arguments loaded.region loaded.private) steps)
 
+-- Each image has a run from each address with at most eight arguments, of each number of steps, and no other. So what is
+-- promised of the run of an image, as of one that a compiler wrote, is promised of a run that there is.
+abbrev pub EachHasItsRun : Type 0
+EachHasItsRun =
+    (image : Image) (address : ℕ) (arguments : List ℕ) (steps : ℕ) → length arguments ≤ 8 →
+    (ran : Ran) × RvRun image address arguments steps ran
+    × ((other : Ran) → RvRun image address arguments steps other → other ≡ ran)
+
 -- an image has one run
 abbrev pub OneRun : Type 0
 OneRun =

@@ -4,7 +4,7 @@ ghost use Rattle.std.specs.Prelude.{◌≡◌, ◌≢◌, ◌≤◌, length, IfO
 ghost use Rattle.elf_image.specs.Lawful.{IsLawful};
 ghost use Rattle.rv_machine.specs.declared.stops.Stop.TheVariants.{WriteFault};
 ghost use Rattle.rv_machine.specs.ImageRun.{MachinesRunImages, OneEnd, OneRun, ImageRunsGoOn, ImageRunsStayOver, RanImage, RanImageToWrite};
-ghost use Rattle.rv_machine.specs.ImageRun.{WritesAreFronts};
+ghost use Rattle.rv_machine.specs.ImageRun.{EachHasItsRun, WritesAreFronts};
 ghost use Rattle.rv_machine.specs.Steps.{Counted};
 
 use crate::machine::Machine;
@@ -48,4 +48,10 @@ pub fn images_have_runs()
     ensures over { ImageRunsStayOver }
     ensures ends { OneEnd }
     ensures fronts { WritesAreFronts }
+{}
+
+/// The law that runs are there: each image has a run from each address with at most eight arguments, of each number of
+/// steps, and no other. Nothing is asked of the image: a word that is no instruction stops the run.
+pub fn each_image_has_its_run()
+    ensures { EachHasItsRun }
 {}

@@ -13,9 +13,10 @@
 //! `specs/` has what this means. `Word` has words and their signed values; `Arithmetic` what each instruction that computes gives, and
 //! `Memory` loads and stores, in the terms of the RISC-V Unprivileged ISA manual; `Program` the instructions of a text, by the table
 //! of `rv_isa`; `Machine` the state, one row for each instruction, one step and a run, with its output; `ImageRun` the run of an image,
-//! and its laws, which [`images_have_runs`] states; `Runs` what a call of `run` does by that run; `Decoded` and `Shown` what contracts
-//! see of a decoded word and of a [`Machine`]; `Place` the numbers of addresses by which steps find their words; `Laws` the laws
-//! that [`runs_go_on`] states; and `Count` how many steps runs take, with its laws, which [`runs_take_steps`] states.
+//! and its laws, which [`images_have_runs`] and [`each_image_has_its_run`] state; `Runs` what a call of `run` does by that
+//! run; `Decoded` and `Shown` what contracts see of a decoded word and of a [`Machine`]; `Place` the numbers of addresses
+//! by which steps find their words; `Laws` the laws that [`runs_go_on`] states; and `Count` how many steps runs take, with
+//! its laws, which [`runs_take_steps`] states.
 #![tactic(auto)]
 
 mod arithmetic;
@@ -28,6 +29,6 @@ mod output;
 mod quiet;
 pub mod stops;
 
-pub use image_run::{images_have_runs, run_image};
+pub use image_run::{each_image_has_its_run, images_have_runs, run_image};
 pub use machine::{Machine, runs_go_on, runs_take_steps};
 pub use stops::{MachineKind, Stop};

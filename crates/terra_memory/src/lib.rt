@@ -7,5 +7,7 @@
 pub mod laws;
 pub mod number;
 pub mod region;
+pub mod zeros;
 
 pub use region::Region;
+pub use zeros::extend_with_zeros;

@@ -8,6 +8,7 @@ ghost use Rattle.terra_memory.specs.Region.{IsMemorySize, IsLawful, first_addres
 ghost use Rattle.terra_memory.specs.Region.{store_of, range_of, alloc_of};
 
 use crate::number::{number_at, put_number};
+use crate::zeros::extend_with_zeros;
 use std::alloc::Global;
 use std::marker::Model;
 use tl_base::NoMemory;
@@ -48,7 +49,7 @@ impl Region {
     {
         let mut bytes = Vec::with_capacity(alloc, memory as usize)?;
         bytes.extend_from_slice(statics)?;
-        bytes.resize(memory as usize, 0)?;
+        extend_with_zeros(&mut bytes, memory as usize - statics.len())?;
         let heap = (REGION_ADDRESS + statics.len() as u64).next_multiple_of(ALIGNMENT);
         Ok(Region { bytes, heap })
     }
