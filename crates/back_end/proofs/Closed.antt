@@ -7,7 +7,9 @@ use Rattle.tl_base.specs.declared.ids.FnId.{FnId}
 use Rattle.terra_memory.specs.Numbers.{overwritten}
 use Rattle.terra_memory.specs.Region.{Contents, range_of, end_address, heap_limit, fresh}
 use Rattle.terra_words.specs.Words.{divides, is_negative, most_calls}
+use Rattle.terra_words.specs.declared.words.FaultKind.TheVariants.{BadCall}
 use Rattle.terra_words.specs.Runs.{Value, Run, put_bytes}
+use Rattle.tac_form.specs.declared.tac.Signature.{Signature}
 use Rattle.tac_form.specs.declared.tac.Spot.{Spot}
 use Rattle.tac_form.specs.declared.tac.Spot.TheVariants as spots
 use Rattle.tac_form.specs.declared.tac.Destination.{Destination}
@@ -22,20 +24,20 @@ use Rattle.tac_form.specs.declared.tac.Block.{Block}
 use Rattle.tac_form.specs.declared.tac.Tac.{Tac}
 use Rattle.tac_form.specs.Flow.{Activation, Caller, State, Moved, Goes, Stops, operand, address, ahead, set_area, fetched, from_spot}
 use Rattle.tac_form.specs.Flow.{written, to_spot, value_of, values_of, takes, takes_all, accepts, accepts_all, Program, enter, counted}
-use Rattle.tac_form.specs.Flow.{call_entry, entry, act, follow, given, give, leave, step_in, in_block, in_function, step, steps, place_of}
+use Rattle.tac_form.specs.Flow.{call, call_entry, entry, fault, has_signature, act, follow, given, give, leave, step_in, in_block, in_function, step, steps, place_of}
 use Rattle.tac_form.specs.Flow.{begun, TacRun}
 
--- A set of functions that has all that its functions call.
+-- A set of functions that has all that its functions call, and those that stand as values.
 pub record IsClosed (p : Program) (In : FnId → Type 0) : Type 0 where
   pub calls : (f : FnId) (code : Tac) (block : Block) (b k : ℕ) (to : Destination) (at : Place) (g : FnId) (arguments : List Part) →
       In f → p.code f ≡ Some code → slice_get code.blocks b ≡ Some block →
       slice_get block.instructions k ≡ Some (Call to at g arguments) → In g
-  pub no_values : p.entries ≡ []
+  pub values : (n : ℕ) (g : FnId) → entry p.entries n ≡ Some g → In g
 
--- another program with the same code for these
+-- another program with the same code for these, and the same values
 pub record HasSame (p q : Program) (In : FnId → Type 0) : Type 0 where
   pub same : (f : FnId) → In f → q.code f ≡ p.code f
-  pub no_values : q.entries ≡ []
+  pub entries : q.entries ≡ p.entries
 
 module _ (p q : Program) (In : FnId → Type 0) (closed : IsClosed p In) (has : HasSame p q In) where
   abbrev AllIn : List Caller → Type 0
@@ -145,19 +147,36 @@ module _ (p q : Program) (In : FnId → Type 0) (closed : IsClosed p In) (has : 
   abbrev Calls : Instruction → Type 0
   Calls i = (to : Destination) (at : Place) (g : FnId) (arguments : List Part) → i ≡ Call to at g arguments → In g
 
-  no-entry : (n : ℕ) → entry p.entries n ≡ None
-  no-entry n = ap (λ es. entry es n) closed.no_values ∙ by n
-    where
-      by : (m : ℕ) → entry [] m ≡ None
-      by zero = refl
-      by (suc m) = refl
+  inside-call : (to : Destination) (at : Place) (f : FnId) (arguments : List Value) (s : State) → In f → Within s →
+      Inside (call p to at f arguments s)
+  inside-call to at f arguments s here h =
+      inside-counted s.left s (λ s'. enter at f (p.code f) arguments s'.here.base (record {
+        waits = (ahead s').here;
+        to = to;
+      } ∷ s'.callers) s')
+      (λ left. inside-enter at f (p.code f) arguments s.here.base (record { waits = (ahead s).here; to = to } ∷ s.callers)
+      (record s { left = left }) here (h.0, h.1))
 
-  no-entry' : (n : ℕ) → entry q.entries n ≡ None
-  no-entry' n = ap (λ es. entry es n) has.no_values ∙ by n
-    where
-      by : (m : ℕ) → entry [] m ≡ None
-      by zero = refl
-      by (suc m) = refl
+  inside-entry : (to : Destination) (at : Place) (sig : Signature) (n : ℕ) (arguments : List Value) (s : State) → Within s →
+      (e : Option FnId) → entry p.entries n ≡ e → Inside (call_entry p to at sig e arguments s)
+  inside-entry to at sig n arguments s h None e = tt
+  inside-entry to at sig n arguments s h (Some f) e =
+      inside-if (has_signature sig (p.code f)) (call p to at f arguments s) (Stops _) (inside-call to at f arguments s (closed.values n f e) h) tt
+
+  same-call : (to : Destination) (at : Place) (f : FnId) (arguments : List Value) (s : State) → In f →
+      call q to at f arguments s ≡ call p to at f arguments s
+  same-call to at f arguments s here =
+      ap (λ o. counted s.left s (λ s'. enter at f o arguments s'.here.base (record {
+        waits = (ahead s').here;
+        to = to;
+      } ∷ s'.callers) s')) (has.same f here)
+
+  same-entry : (to : Destination) (at : Place) (sig : Signature) (n : ℕ) (arguments : List Value) (s : State) →
+      (e : Option FnId) → entry p.entries n ≡ e → call_entry q to at sig e arguments s ≡ call_entry p to at sig e arguments s
+  same-entry to at sig n arguments s None e = refl
+  same-entry to at sig n arguments s (Some f) e =
+      ap (λ o. if has_signature sig o then call q to at f arguments s else fault BadCall at s) (has.same f (closed.values n f e))
+      ∙ ap (λ m. if has_signature sig (p.code f) then m else fault BadCall at s) (same-call to at f arguments s (closed.values n f e))
 
   inside-act : (i : Instruction) (s : State) → Calls i → Within s → Inside (act p i s)
   inside-act (Compute d op form a b) s c h = inside-if (divides op && nat_eq (operand s b) 0) (Stops _) (Goes _) tt h
@@ -168,15 +187,9 @@ module _ (p q : Program) (In : FnId → Type 0) (closed : IsClosed p In) (has : 
   inside-act (Store spot size a) s c h = inside-to spot _ s h
   inside-act (Move to from size) s c h = inside-from from size s (λ bs. to_spot to bs s) (λ bs. inside-to to bs s h)
   inside-act (Clear n size) s c h = h
-  inside-act (Call to at f arguments) s c h =
-      inside-counted s.left s (λ s'. enter at f (p.code f) (values_of s arguments) s'.here.base (record {
-        waits = (ahead s').here;
-        to = to;
-      } ∷ s'.callers) s')
-      (λ left. inside-enter at f (p.code f) (values_of s arguments) s.here.base (record { waits = (ahead s).here; to = to } ∷ s.callers)
-      (record s { left = left }) (c to at f arguments refl) (h.0, h.1))
+  inside-act (Call to at f arguments) s c h = inside-call to at f (values_of s arguments) s (c to at f arguments refl) h
   inside-act (CallValue to at sig a arguments) s c h =
-      subst (λ e. Inside (call_entry p to at sig e (values_of s arguments) s)) (sym (no-entry (operand s a))) tt
+      inside-entry to at sig (operand s a) (values_of s arguments) s h (entry p.entries (operand s a)) refl
   inside-act (PutByte a) s c h = h
   inside-act (Write at a b) s c h =
       inside-if (is_negative (operand s b)) (Stops _) _ tt
@@ -194,14 +207,10 @@ module _ (p q : Program) (In : FnId → Type 0) (closed : IsClosed p In) (has : 
   same-act (Store spot size a) s c = refl
   same-act (Move to from size) s c = refl
   same-act (Clear n size) s c = refl
-  same-act (Call to at f arguments) s c =
-      ap (λ o. counted s.left s (λ s'. enter at f o (values_of s arguments) s'.here.base (record {
-        waits = (ahead s').here;
-        to = to;
-      } ∷ s'.callers) s')) (has.same f (c to at f arguments refl))
+  same-act (Call to at f arguments) s c = same-call to at f (values_of s arguments) s (c to at f arguments refl)
   same-act (CallValue to at sig a arguments) s c =
-      ap (λ e. call_entry q to at sig e (values_of s arguments) s) (no-entry' (operand s a))
-      ∙ sym (ap (λ e. call_entry p to at sig e (values_of s arguments) s) (no-entry (operand s a)))
+      ap (λ es. call_entry q to at sig (entry es (operand s a)) (values_of s arguments) s) has.entries
+      ∙ same-entry to at sig (operand s a) (values_of s arguments) s (entry p.entries (operand s a)) refl
   same-act (PutByte a) s c = refl
   same-act (Write at a b) s c = refl
   same-act (Alloc d a) s c = refl

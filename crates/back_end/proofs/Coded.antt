@@ -1,4 +1,4 @@
--- Machine code can be made of a function's code where its term calls no function that is a value.
+-- Machine code can be made of a function's code.
 use Rattle.std.proofs.Common.{◌≡◌, ℕ, zero, suc, Bool, true, false, List, [], ◌∷◌, ◌++◌, length, Option, Some, None, refl, subst, arith}
 use Rattle.std.specs.Prelude.{nat_le, if◌then◌else◌, slice_get}
 use Rattle.tl_base.specs.declared.ids.FnId.{FnId}
@@ -13,10 +13,10 @@ use Rattle.tac_form.specs.declared.tac.Block.{Block}
 use Rattle.tac_lower.specs.Items.{Item, does, ends, Ending, skips, tests, repeats, repeats_unless, leaves, gives, fails, exit_of, Draft}
 use Rattle.tac_lower.specs.Items.{empty_draft, with_item, with_items}
 use Rattle.tac_lower.specs.Lowering.{lowered, code_of, unreached, are_narrow, parameter_types}
-use Rattle.back_end.proofs.Naming.{before_rest, before_exit, Names, CallsBlock, items_of, items-name}
+use Rattle.back_end.proofs.Naming.{Callee, before_rest, before_exit, Names, CallsBlock, items_of, items-name}
 
-module _ (In : FnId → ℕ → Type 0) where
-  -- an instruction calls no other functions than these with so many arguments, and none that is a value
+module _ (In : Callee → ℕ → Type 0) where
+  -- an instruction calls nothing but these with so many arguments
   abbrev pub Named : Instruction → Type 0
   Named i = before_rest In i (Unit {0})
 
@@ -43,7 +43,7 @@ module _ (In : FnId → ℕ → Type 0) where
   apart (Move to from size) X x = (tt, x)
   apart (Clear n size) X x = (tt, x)
   apart (Call to at f arguments) X x = ((x.0, tt), x.1)
-  apart (CallValue to at sig a arguments) X x = absurd x
+  apart (CallValue to at sig a arguments) X x = ((x.0, tt), x.1)
   apart (PutByte a) X x = (tt, x)
   apart (Write at a b) X x = (tt, x)
   apart (Alloc d a) X x = (tt, x)
@@ -75,8 +75,8 @@ module _ (In : FnId → ℕ → Type 0) where
       items-blocks is (with_item d (ends e)) x.1 tt
       (blocks-more d.blocks (record { instructions = d.code; exit = exit_of 0 (length d.blocks) e }) blocks (code, x.0))
 
-  -- the code of a function whose term calls no other functions than these with so many arguments, and none that is a value
-  pub lowered-names : (store : Contents) (entries : List FnId) (k : Callable) → CallsBlock In k.body.body →
+  -- the code of a function whose term calls nothing but these with so many arguments
+  pub lowered-names : (store : Contents) (entries : List FnId) (k : Callable) → CallsBlock In store.types k.body.body →
       AllBlocks (lowered store entries k).blocks
   lowered-names store entries k h = by (are_narrow store.types (parameter_types k))
     where

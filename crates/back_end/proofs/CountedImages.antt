@@ -52,16 +52,17 @@ use Rattle.rv_link.specs.Images.{EndsCounted, Halts, text_end}
 use Rattle.rv_link.proofs.Starting.{counted-images-carried}
 use Rattle.back_end.specs.Agrees.{EndsSo, SameEnd}
 use Rattle.back_end.specs.Codes.{codes_of, type_code}
-use Rattle.back_end.specs.Ready.{AreExports, AreFew, IsOutward, IsTypedPart, all_scalar, nodes_in}
+use Rattle.back_end.specs.Entries.{AreEntries}
+use Rattle.back_end.specs.Ready.{AreExports, AreFew, AreReady, IsOutward, IsTypedPart, all_scalar, nodes_in}
 use Rattle.back_end.specs.Symbols.{parameters_in, result_in, symbol_of}
 use Rattle.back_end.specs.Units.{AgreesCounted, IsCompiledCounted, Needs, alone, export_of}
 use Rattle.back_end.specs.Working.{AreWhole, Has, coded, compiled_code, id_of}
 use Rattle.back_end.proofs.Closed.{HasSame, IsClosed, same-run}
-use Rattle.back_end.proofs.Fitting.{Within, any-code, codes-allowed, codes-long, frames-few, in-text, words-few}
-use Rattle.back_end.proofs.Making.{narrow-names, text-short, there, values-long, values-words, whole-result, within}
+use Rattle.back_end.proofs.Fitting.{Within, any-code, codes-allowed, codes-long, entries-few, entries-lawful, frames-few, in-text, words, words-few}
+use Rattle.back_end.proofs.Making.{entry-has, narrow-names, selected-as, text-short, there, values-long, values-there, values-words, whole-result, within}
 use Rattle.back_end.proofs.Needed.{left-is}
 use Rattle.back_end.proofs.Parted.{alike, exported-same, outward-part, symbol-same, whole-part}
-use Rattle.back_end.proofs.Sounds.{are-selected, are-sound, as-many, both, code-is}
+use Rattle.back_end.proofs.Sounds.{are-sound, as-many, both, code-is}
 use Rattle.back_end.proofs.WithoutCopies.{all_compiled, all_lowered, compiled-runs}
 
 -- ---- the words that give units
@@ -82,8 +83,8 @@ text-long linked text units at e =
 
 -- ---- the image is lawful
 
-module _ (store : Contents) (f : FnId) (units at : ℕ) (functions : List Function) (linked : Linked) (image : Image) (out : IsOutward store f)
-    (few : AreFew store (alone f)) (whole : AreWhole true store (alone f) functions) (text : IsLinkedText functions [] linked)
+module _ (store : Contents) (entries : List FnId) (f : FnId) (units at : ℕ) (functions : List Function) (linked : Linked) (image : Image) (out : IsOutward store f)
+    (few : AreFew store (alone f)) (whole : AreWhole true store entries (alone f) functions) (text : IsLinkedText functions entries linked)
     (text_is : image.text ≡ linked.words.items ++ map word_of (units_given units (text_end linked) at)) where
   long : length image.text ≡ length linked.words.items + length (units_given units (text_end linked) at)
   long = text-long linked image.text units at text_is
@@ -92,16 +93,16 @@ module _ (store : Contents) (f : FnId) (units at : ℕ) (functions : List Functi
   given = given-length units (text_end linked) at
 
   pub linked-few : length linked.words.items ≤ 32768000
-  linked-few = subst (λ (ws : List ℕ). length ws ≤ 32768000) (sym text.words) (words-few true store (alone f) functions few whole)
+  linked-few = subst (λ (ws : List ℕ). length ws ≤ 32768000) (sym text.words) (words-few true store entries (alone f) functions few whole)
 
   pub frame-few : linked.frame ≤ 1179648
-  frame-few = subst (λ n. n ≤ 1179648) (sym text.frame) (frames-few true store functions whole.made)
+  frame-few = subst (λ n. n ≤ 1179648) (sym text.frame) (frames-few true store entries functions whole.made)
 
   pub short : length image.text ≤ 250 * nodes_in store (map id_of functions) + 16
   short =
       most (length image.text) (length linked.words.items) (length (units_given units (text_end linked) at)) (nodes_in store (map id_of functions))
       long (subst (λ (ws : List ℕ). length ws ≤ 250 * nodes_in store (map id_of functions)) (sym text.words)
-      (text-short true store (places_of functions []) text_address functions whole.made)) given.1
+      (text-short true store entries (places_of functions entries) text_address functions whole.made)) given.1
     where
       most : (n linked given nodes : ℕ) → n ≡ linked + given → linked ≤ 250 * nodes → given ≤ 10 → n ≤ 250 * nodes + 16
       most n linked given nodes a b c = omega (arith, a, b, c)
@@ -136,10 +137,10 @@ module _ (store : Contents) (f : FnId) (units at : ℕ) (functions : List Functi
       less n linked given a b = omega (arith, a, b)
 
   pub image-lawful : image.statics ≡ static_bytes store → IsMemorySize image.memory → length (static_bytes store) ≤ image.memory / 2 →
-      image.heap ≡ heap_start (length image.statics) → image.private ≡ 512 * linked.frame → image.entries ≡ [] →
-      image.exports ≡ symbol_of store (text_end linked) (export_of f) ∷ [] → ((k : ℕ) → slice_index image.text k < 2 ^ 32) →
+      image.heap ≡ heap_start (length image.statics) → image.private ≡ 512 * linked.frame → image.entries ≡ linked.entries → AreEntries store (alone f) entries →
+      AreReady store (alone f) → image.exports ≡ symbol_of store (text_end linked) (export_of f) ∷ [] → ((k : ℕ) → slice_index image.text k < 2 ^ 32) →
       ((k : ℕ) → slice_index image.statics k < 2 ^ 8) → IsLawful image
-  image-lawful statics_are memory half heap private none symbols are_words are_bytes =
+  image-lawful statics_are memory half heap private listed are ready symbols are_words are_bytes =
       is_lawful_from image (small (length image.text) (length linked.words.items) (length (units_given units (text_end linked) at)) long linked-few given.1)
       are_words are_bytes
       (both (allows memory_rule image.memory)
@@ -151,11 +152,16 @@ module _ (store : Contents) (f : FnId) (units at : ℕ) (functions : List Functi
       (both (image.heap == heap_start (length image.statics)) (allows private_rule image.private)
       (eq-eqb image.heap (heap_start (length image.statics)) heap)
       (fits image.private linked.frame private frame-few))))
-      (ap (entries_test (4 * length image.text)) none)
+      (subst (λ es. entries_test (4 * length image.text) es ≡ true) (sym (listed ∙ text.entries))
+      (entries-lawful true store entries functions whole.made whole.valued (length image.text) enough
+      (entries-few store (alone f) entries are ready few)))
       (subst (λ ss. list_all (is_lawful_symbol (4 * length image.text)) ss ≡ true) (sym symbols)
       (both (is_lawful_symbol (4 * length image.text) (symbol_of store (text_end linked) (export_of f))) true symbol-lawful refl))
       (ap names_differ symbols) (subst (λ ss. length ss < 2 ^ 32) (sym symbols) (omega arith)) (ap (names_fit 36) symbols)
     where
+      enough : words entries functions ≤ length image.text
+      enough = let w = ap length text.words in omega (arith, long, w)
+
       small : (n linked given : ℕ) → n ≡ linked + given → linked ≤ 32768000 → given ≤ 10 → 4 * n < 2 ^ 63
       small n linked given a b c = omega (arith, a, b, c)
 
@@ -175,16 +181,13 @@ module _ (store : Contents) (f : FnId) (units at : ℕ) (functions : List Functi
 -- ---- its runs
 
 -- the code that is compiled, counting
-abbrev pub all_counted : Contents → Program
-all_counted store = record { code = λ g. option_map (coded true store) (callable_of store g); entries = [] }
+abbrev pub all_counted : Contents → (entries : List FnId) → Program
+all_counted store entries = record { code = λ g. option_map (coded true store entries) (callable_of store g); entries = entries }
 
-counted-turn : (store : Contents) (o : Option Callable) →
-    option_map (coded true store) o ≡ option_map with_counts (option_map (compiled_code store) o)
-counted-turn store None = refl
-counted-turn store (Some k) = refl
-
-none-few : length {A = FnId} [] < 2 ^ 32
-none-few = omega arith
+counted-turn : (store : Contents) (entries : List FnId) (o : Option Callable) →
+    option_map (coded true store entries) o ≡ option_map with_counts (option_map (compiled_code store entries) o)
+counted-turn store entries None = refl
+counted-turn store entries (Some k) = refl
 
 -- how an image's run ended, by how it was to end
 module _ (types : List TypeForm) (result : TypeId) (scalar : is_aggregate types result ≡ false) (image : Image) (at : ℕ)
@@ -225,12 +228,12 @@ module _ (types : List TypeForm) (result : TypeId) (scalar : is_aggregate types 
       let same = halted h.steps (stops.MachineFault Break h.last.pc) h.last out h.few h.halts in
       (h.last.pc, ap (λ (r : Ran). r.stop) same, ap (λ (r : Ran). r.output) same)
 
-module _ (store : Contents) (f : FnId) (units : ℕ) (functions : List Function) (linked : Linked) (image : Image)
+module _ (store : Contents) (entries : List FnId) (f : FnId) (units : ℕ) (functions : List Function) (linked : Linked) (image : Image)
     (types : AreTypes store.types) (typed : AreTyped store) (memory : IsMemorySize image.memory)
-    (half : length (static_bytes store) ≤ image.memory / 2) (out : IsOutward store f) (whole : AreWhole true store (alone f) functions)
-    (text : IsLinkedText functions [] linked) (lawful : IsLawful image) (statics : image.statics ≡ static_bytes store)
+    (half : length (static_bytes store) ≤ image.memory / 2) (out : IsOutward store f) (whole : AreWhole true store entries (alone f) functions)
+    (text : IsLinkedText functions entries linked) (lawful : IsLawful image) (statics : image.statics ≡ static_bytes store)
     (text_is : image.text ≡ linked.words.items ++ map word_of (units_given units (text_end linked) (image_of functions f).at))
-    (no_entries : image.entries ≡ []) (room : image.private ≡ 512 * linked.frame) (small : units < 2 ^ 64)
+    (few-values : length entries ≤ 131072) (entries_are : image.entries ≡ linked.entries) (room : image.private ≡ 512 * linked.frame) (small : units < 2 ^ 64)
     (symbols : image.exports ≡ symbol_of store (text_end linked) (export_of f) ∷ []) where
   abbrev ids : List FnId
   ids = map id_of functions
@@ -239,10 +242,10 @@ module _ (store : Contents) (f : FnId) (units : ℕ) (functions : List Function)
   k = out.term
 
   abbrev code : Tac
-  code = coded true store k
+  code = coded true store entries k
 
   abbrev p : Program
-  p = program_of functions []
+  p = program_of functions entries
 
   abbrev most : ℕ
   most = (units + 1) * length image.text
@@ -250,24 +253,27 @@ module _ (store : Contents) (f : FnId) (units : ℕ) (functions : List Function)
   here : Has ids f
   here = whole.exported 0 (export_of f) refl
 
-  code-of : (g : FnId) → Has ids g → code_in functions g ≡ option_map (coded true store) (callable_of store g)
+  code-of : (g : FnId) → Has ids g → code_in functions g ≡ option_map (coded true store entries) (callable_of store g)
   code-of g h =
-      let t = there true store functions g h.0 h.1 in
-      let c = code-is store true functions g t.0 whole.made t.1 in
-      t.1 ∙ ap Some c.2 ∙ sym (ap (option_map (coded true store)) c.1)
+      let t = there true store entries functions g h.0 h.1 in
+      let c = code-is store entries true functions g t.0 whole.made t.1 in
+      t.1 ∙ ap Some c.2 ∙ sym (ap (option_map (coded true store entries)) c.1)
 
   code-there : code_in functions f ≡ Some code
-  code-there = code-of f here ∙ ap (option_map (coded true store)) out.is
+  code-there = code-of f here ∙ ap (option_map (coded true store entries)) out.is
 
-  closed : IsClosed (all_counted store) (Has ids)
+  closed : IsClosed (all_counted store entries) (Has ids)
   closed = record {
     calls = λ g c block b j to at h arguments x e i l.
-        within true store ids functions g c whole.calls (code-of g x ∙ e) b j block to at h arguments i l;
-    no_values = refl;
+        within true store entries ids functions g c whole.calls (code-of g x ∙ e) b j block to at h arguments i l;
+    values = λ n g e. whole.valued g (entry-has entries n g e);
   }
 
-  same : HasSame (all_counted store) p (Has ids)
-  same = record { same = λ g h. code-of g h; no_values = refl }
+  same : HasSame (all_counted store entries) p (Has ids)
+  same = record { same = λ g h. code-of g h; entries = refl }
+
+  few : length entries < 2 ^ 32
+  few = omega (arith, few-values)
 
   narrow : are_narrow store.types (parameter_types k) ≡ true
   narrow = narrow-names store.types k.body.parameters out.scalar
@@ -276,19 +282,19 @@ module _ (store : Contents) (f : FnId) (units : ℕ) (functions : List Function)
   scalar = whole-result (form_at store.types k.body.result) out.result
 
   abbrev source : List ℕ → ℕ → Run
-  source arguments n = meaning store [] image.memory n f (map word arguments)
+  source arguments n = meaning store entries image.memory n f (map word arguments)
 
   runs : (arguments : List ℕ) → AreValues store.types k.body.parameters (map word arguments) → (n : ℕ) →
       TacRun p image.statics image.memory n f (map word arguments) (source arguments n)
   runs arguments values n =
-      let run = lowering_keeps_runs store (all_lowered store) types typed none-few (λ g. refl) image.memory n f k (map word arguments) memory
+      let run = lowering_keeps_runs store (all_lowered store entries) types typed few (λ g. refl) image.memory n f k (map word arguments) memory
       half out.is narrow values in
       subst (λ bytes. TacRun p bytes image.memory n f (map word arguments) (source arguments n)) (sym statics)
-      (same-run (all_counted store) p (Has ids) closed same (static_bytes store) image.memory n f (map word arguments) (source arguments n) here
-      (counting-runs (all_compiled store) (all_counted store)
-      (record { code = λ g. counted-turn store (callable_of store g); entries = refl }) (static_bytes store) image.memory n f
+      (same-run (all_counted store entries) p (Has ids) closed same (static_bytes store) image.memory n f (map word arguments) (source arguments n) here
+      (counting-runs (all_compiled store entries) (all_counted store entries)
+      (record { code = λ g. counted-turn store entries (callable_of store g); entries = refl }) (static_bytes store) image.memory n f
       (map word arguments) (source arguments n)
-      (compiled-runs store (static_bytes store) image.memory n f (map word arguments) (source arguments n) run.runs)))
+      (compiled-runs store entries (static_bytes store) image.memory n f (map word arguments) (source arguments n) run.runs)))
 
   left : (arguments : List ℕ) → AreValues store.types k.body.parameters (map word arguments) → ℕ
   left arguments values =
@@ -299,12 +305,13 @@ module _ (store : Contents) (f : FnId) (units : ℕ) (functions : List Function)
   unfolding left
   carried arguments values =
       let long = values-long store.types k.body.parameters arguments values in
-      counted-images-carried functions [] linked image f code units arguments (source arguments units)
-      (are-selected true store functions whole.made) (are-sound store true functions whole.made functions whole.made) tt text lawful text_is
-      (no_entries ∙ sym text.entries) (omega (arith, room)) code-there refl small (values-words store.types k.body.parameters arguments values)
-      (subst (λ n. n ≤ 8) (sym long) out.eight) (long ∙ sym (as-many store k narrow)) (runs arguments values units)
+      counted-images-carried functions entries linked image f code units arguments (source arguments units)
+      (selected-as true store entries functions whole.made whole.valued) (are-sound store entries true functions whole.made functions whole.made)
+      (values-there true store entries functions whole.made entries whole.valued) text lawful text_is
+      entries_are (omega (arith, room)) code-there refl small (values-words store.types k.body.parameters arguments values)
+      (subst (λ n. n ≤ 8) (sym long) out.eight) (long ∙ sym (as-many store entries k narrow)) (runs arguments values units)
 
-  pub agrees-counted : AgreesCounted store image image.memory f units
+  pub agrees-counted : AgreesCounted store entries image image.memory f units
   unfolding left
   agrees-counted = record {
     lawful = lawful;
@@ -317,9 +324,9 @@ module _ (store : Contents) (f : FnId) (units : ℕ) (functions : List Function)
     result = ap (λ o. type_code (form_at store.types (result_in o))) out.is;
     ends = λ arguments e o m ran values is need r.
         let last = over store.types k.body.result scalar image (text_end linked) arguments most (left arguments values) ran r e o
-        (λ v q. gives-values store [] image.memory units f k (map word arguments) v o types typed none-few memory half out.is narrow values
+        (λ v q. gives-values store entries image.memory units f k (map word arguments) v o types typed few memory half out.is narrow values
         (is ∙ ap (λ x. Over x o) q))
-        (λ q. never-stuck store [] image.memory units f k (map word arguments) o typed out.is (is ∙ ap (λ x. Over x o) q))
+        (λ q. never-stuck store entries image.memory units f k (map word arguments) o typed out.is (is ∙ ap (λ x. Over x o) q))
         (subst (EndsCounted image (text_end linked) arguments most (left arguments values)) is (carried arguments values)) in
         (last.0, last.1 ∙ left-is p image.statics image.memory f (map word arguments) (source arguments) (runs arguments values) units m e o is need);
     breaks = λ arguments o ran values is r.
@@ -329,12 +336,13 @@ module _ (store : Contents) (f : FnId) (units : ℕ) (functions : List Function)
 
 -- ---- the typed part of a store
 
-module _ (store : Contents) (f : FnId) (units memory : ℕ) (image : Image) (part : Contents) (is : IsTypedPart store (alone f) part) where
+module _ (store : Contents) (entries : List FnId) (f : FnId) (are : AreEntries store (alone f) entries) (units memory : ℕ) (image : Image)
+    (part : Contents) (is : IsTypedPart store (alone f) part) where
   meanings : (arguments : List ℕ) →
-      ◌≡◌ {A = ℕ → Run} (λ n. meaning part [] memory n f (map word arguments)) (λ n. meaning store [] memory n f (map word arguments))
-  meanings arguments = λ j n. sym (reached-alone store part [] memory n f (map word arguments) (alike store (alone f) part is 0 (export_of f) refl)) j
+      ◌≡◌ {A = ℕ → Run} (λ n. meaning part entries memory n f (map word arguments)) (λ n. meaning store entries memory n f (map word arguments))
+  meanings arguments = λ j n. sym (reached-alone store part entries memory n f (map word arguments) (alike store (alone f) part is entries are 0 (export_of f) refl)) j
 
-  pub agrees-back : AgreesCounted part image memory f units → AgreesCounted store image memory f units
+  pub agrees-back : AgreesCounted part entries image memory f units → AgreesCounted store entries image memory f units
   agrees-back x = record {
     lawful = x.lawful;
     memory_is = x.memory_is;
@@ -367,29 +375,34 @@ outward-alone store f out (suc i) e at = absurd (grind (arith, at))
 one-symbol : (a b : Symbol) → a ∷ [] ≡ b ∷ [] → a ≡ b
 one-symbol a b q = cc
 
-pub compiled-counted : (store : Contents) (f : FnId) (units : ℕ) (functions : List Function) (linked : Linked) (image : Image)
+pub compiled-counted : (store : Contents) (entries : List FnId) (f : FnId) (units : ℕ) (functions : List Function) (linked : Linked) (image : Image)
     (part : Contents) → IsTypedPart store (alone f) part → AreTypes store.types → IsMemorySize image.memory →
-    length (static_bytes store) ≤ image.memory / 2 → IsOutward store f → AreFew store (alone f) → AreWhole true store (alone f) functions →
-    IsLinkedText functions [] linked → image.statics ≡ static_bytes store →
-    image.text ≡ linked.words.items ++ map word_of (units_given units (text_end linked) (image_of functions f).at) → image.entries ≡ [] →
+    length (static_bytes store) ≤ image.memory / 2 → IsOutward store f → AreFew store (alone f) → AreReady store (alone f) →
+    AreEntries store (alone f) entries → AreWhole true store entries (alone f) functions →
+    IsLinkedText functions entries linked → image.statics ≡ static_bytes store →
+    image.text ≡ linked.words.items ++ map word_of (units_given units (text_end linked) (image_of functions f).at) → image.entries ≡ linked.entries →
     image.heap ≡ heap_start (length image.statics) → image.private ≡ 512 * linked.frame → units < 2 ^ 64 →
     image.exports ≡ symbol_of store (text_end linked) (export_of f) ∷ [] → ((k : ℕ) → slice_index image.text k < 2 ^ 32) →
     ((k : ℕ) → slice_index image.statics k < 2 ^ 8) → IsCompiledCounted store image.memory f units image
-compiled-counted store f units functions linked image part is types memory half out few whole text statics text_is none heap private small symbols
+compiled-counted store entries f units functions linked image part is types memory half out few ready are whole text statics text_is listed heap private small symbols
     are_words are_bytes =
     let can : IsLawful image =
-    image-lawful store f units (image_of functions f).at functions linked image out few whole text text_is statics memory half heap private none
+    image-lawful store entries f units (image_of functions f).at functions linked image out few whole text text_is statics memory half heap private listed
+    are ready
     symbols are_words are_bytes in
-    let inner : AgreesCounted part image image.memory f units =
-    agrees-counted part f units functions linked image (subst AreTypes (sym is.types) types) is.typed memory
+    let inner : AgreesCounted part entries image image.memory f units =
+    agrees-counted part entries f units functions linked image (subst AreTypes (sym is.types) types) is.typed memory
     (subst (λ (bs : List ℕ). length bs ≤ image.memory / 2) (sym is.statics) half)
     (outward-part store (alone f) part is (outward-alone store f out) 0 (export_of f) refl)
-    (whole-part store (alone f) part is true functions whole) text can (statics ∙ sym is.statics) text_is none private small
+    (whole-part store (alone f) part is entries are true functions whole) text can (statics ∙ sym is.statics) text_is
+    (entries-few store (alone f) entries are ready few) listed private small
     (symbols
     ∙ ap (λ (s : Symbol). s ∷ [])
     (sym (symbol-same store (alone f) part is (text_end linked) (export_of f) (exported-same store (alone f) part is 0 (export_of f) refl)))) in
-    let whole-agrees : AgreesCounted store image image.memory f units = agrees-back store f units image.memory image part is inner in
+    let whole-agrees : AgreesCounted store entries image image.memory f units = agrees-back store entries f are units image.memory image part is inner in
     record {
+      entries = entries;
+      are_entries = are;
       agrees = whole-agrees;
       name =
           ap (λ (s : Symbol). s.name)
@@ -397,5 +410,5 @@ compiled-counted store f units functions linked image part is types memory half 
       statics = statics;
       functions = map id_of functions;
       reached = whole.reached;
-      short = short store f units (image_of functions f).at functions linked image out few whole text text_is;
+      short = short store entries f units (image_of functions f).at functions linked image out few whole text text_is;
     }

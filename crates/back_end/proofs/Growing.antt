@@ -14,7 +14,8 @@ use Rattle.tac_form.specs.declared.tac.Instruction.TheVariants.{Compute, TestDiv
 use Rattle.tac_form.specs.declared.tac.Instruction.TheVariants.{CallValue, PutByte, Write, Alloc}
 use Rattle.tac_form.specs.declared.tac.Block.{Block}
 use Rattle.back_end.specs.Working.{Has}
-use Rattle.back_end.specs.Worklist.{is_among, with_function, with_exports, with_instruction, with_instructions, with_blocks}
+use Rattle.back_end.specs.Worklist.{is_among, with_all, with_function, with_exports, with_instruction, with_instructions, with_blocks}
+use Rattle.back_end.proofs.Naming.{Any}
 use Rattle.back_end.proofs.Coded.{Named, AllNamed, AllBlocks}
 
 pub same-function : (f g : FnId) → nat_eq g.0 f.0 ≡ true → g ≡ f
@@ -116,11 +117,15 @@ module _ (P : FnId → Type 0) where
       then-grows fs (with_function fs e.function) (with_exports (with_function fs e.function) es) (grows-function fs e.function (h 0 e refl))
       (grows-exports es (with_function fs e.function) (λ i x q. h (suc i) x q))
 
-  -- what is called
-  abbrev pub Any : FnId → ℕ → Type 0
-  Any f n = P f
+  pub grows-all : (gs fs : List FnId) → ((n : ℕ) (g : FnId) → slice_get gs n ≡ Some g → P g) → Grown fs (with_all fs gs)
+  grows-all [] fs h = stays fs
+  grows-all (g ∷ gs) fs h =
+      then-grows fs (with_function fs g) (with_all (with_function fs g) gs) (grows-function fs g (h 0 g refl))
+      (grows-all gs (with_function fs g) (λ n x q. h (suc n) x q))
 
-  grows-instruction : (i : Instruction) (fs : List FnId) → Named Any i → Grown fs (with_instruction fs i)
+  -- what is called
+
+  grows-instruction : (i : Instruction) (fs : List FnId) → Named (Any P) i → Grown fs (with_instruction fs i)
   grows-instruction (Compute d op form a b) fs h = stays fs
   grows-instruction (TestDivisor at a) fs h = stays fs
   grows-instruction (Copy d a) fs h = stays fs
@@ -135,13 +140,13 @@ module _ (P : FnId → Type 0) where
   grows-instruction (Write at a b) fs h = stays fs
   grows-instruction (Alloc d a) fs h = stays fs
 
-  grows-instructions : (is : List Instruction) (fs : List FnId) → AllNamed Any is → Grown fs (with_instructions fs is)
+  grows-instructions : (is : List Instruction) (fs : List FnId) → AllNamed (Any P) is → Grown fs (with_instructions fs is)
   grows-instructions [] fs h = stays fs
   grows-instructions (i ∷ is) fs h =
       then-grows fs (with_instruction fs i) (with_instructions (with_instruction fs i) is) (grows-instruction i fs h.0)
       (grows-instructions is (with_instruction fs i) h.1)
 
-  pub grows-blocks : (bs : List Block) (fs : List FnId) → AllBlocks Any bs → Grown fs (with_blocks fs bs)
+  pub grows-blocks : (bs : List Block) (fs : List FnId) → AllBlocks (Any P) bs → Grown fs (with_blocks fs bs)
   grows-blocks [] fs h = stays fs
   grows-blocks (b ∷ bs) fs h =
       then-grows fs (with_instructions fs b.instructions) (with_blocks (with_instructions fs b.instructions) bs)
@@ -152,7 +157,7 @@ module _ (P : FnId → Type 0) where
 pub has-grown : (P : FnId → Type 0) (fs gs : List FnId) (f : FnId) → Grown P fs gs → Has fs f → Has gs f
 has-grown P fs gs f g h = (h.0, subst (λ l. slice_get l h.0 ≡ Some f) (sym g.front) (get-front fs g.rest h.0 f h.1))
 
-abbrev All : FnId → Type 0
+abbrev pub All : FnId → Type 0
 All f = Unit {0}
 
 any-named : (i : Instruction) (fs : List FnId) → Grown All fs (with_instruction fs i)
@@ -182,7 +187,7 @@ all-blocks (b ∷ bs) fs =
     then-grows All fs (with_instructions fs b.instructions) (with_blocks (with_instructions fs b.instructions) bs)
     (all-instructions b.instructions fs) (all-blocks bs (with_instructions fs b.instructions))
 
-has-function : (fs : List FnId) (f : FnId) → Has (with_function fs f) f
+pub has-function : (fs : List FnId) (f : FnId) → Has (with_function fs f) f
 has-function fs f = by (is_among f fs) refl
   where
     by : (b : Bool) → is_among f fs ≡ b → Has (if b then fs else fs ++ f ∷ []) f
@@ -213,6 +218,16 @@ has-blocks (c ∷ bs) fs zero k block to at g arguments e h =
     one a b q = cc
 has-blocks (c ∷ bs) fs (suc b) k block to at g arguments e h =
     has-blocks bs (with_instructions fs c.instructions) b k block to at g arguments e h
+
+pub has-all : (gs fs : List FnId) (n : ℕ) (g : FnId) → slice_get gs n ≡ Some g → Has (with_all fs gs) g
+has-all [] fs n g h = absurd (grind (arith, h))
+has-all (x ∷ gs) fs zero g h =
+    has-grown All (with_function fs x) (with_all (with_function fs x) gs) g (grows-all All gs (with_function fs x) (λ n y q. tt))
+    (subst (λ (y : FnId). Has (with_function fs x) y) (one x g h) (has-function fs x))
+  where
+    one : (a b : FnId) → Some a ≡ Some b → a ≡ b
+    one a b q = cc
+has-all (x ∷ gs) fs (suc n) g h = has-all gs (with_function fs x) n g h
 
 pub has-exports : (es : List Export) (fs : List FnId) (i : ℕ) (e : Export) → slice_get es i ≡ Some e → Has (with_exports fs es) e.function
 has-exports [] fs i e h = absurd (grind (arith, h))

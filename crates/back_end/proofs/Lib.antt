@@ -9,6 +9,7 @@ pub mod Fitting
 pub mod Following
 pub mod Growing
 pub mod Making
+pub mod Mentioned
 pub mod Mentioning
 pub mod Naming
 pub mod Needed
@@ -17,5 +18,6 @@ pub mod Passing
 pub mod Placed
 pub mod Sorting
 pub mod Sounds
+pub mod Walked
 pub mod WithoutCopies
 pub mod Worked

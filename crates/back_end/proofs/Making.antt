@@ -10,7 +10,7 @@ use Rattle.elf_image.specs.declared.image.Image.{Image}
 use Rattle.elf_image.specs.Layout.{text_address}
 use Rattle.elf_image.specs.Lawful.{IsLawful}
 use Rattle.terra_memory.specs.Region.{IsMemorySize}
-use Rattle.terra_words.specs.Runs.{word, End, Run, Over, output_of}
+use Rattle.terra_words.specs.Runs.{word, End, Run, Over, entry, output_of}
 use Rattle.terra_types.specs.declared.types.TypeForm.{TypeForm}
 use Rattle.terra_types.specs.declared.types.TypeForm.TheVariants as forms
 use Rattle.terra_types.specs.Opening.{AreTypes}
@@ -38,17 +38,22 @@ use Rattle.rv_machine.proofs.ImageRuns.{one_run}
 use Rattle.rv_select.specs.Calls.{CallPlaces}
 use Rattle.rv_link.specs.declared.function.Function.{Function}
 use Rattle.rv_link.specs.declared.function.Linked.{Linked}
-use Rattle.rv_link.specs.Linked.{IsLinkedText, code_in, function_words, image_of, placed_in, places_of, starts_in, text_from}
+use Rattle.rv_link.specs.Linked as linking
+use Rattle.rv_link.specs.Linked.{AreSelected, IsLinkedText, code_in, function_words, image_of, placed_in, places_of, signatures_in, starts_in}
+use Rattle.rv_link.specs.Linked.{text_from}
+use Rattle.rv_select.specs.Waiting.{signature_in}
 use Rattle.rv_link.specs.Images.{AreWords}
 use Rattle.rv_link.proofs.Links.{selected-length}
 use Rattle.back_end.specs.Agrees.{Agree, SameEnd}
 use Rattle.back_end.specs.Compiled.{AreExported, AreExports, IsCompiled, IsExported, IsOutward, all_scalar, codes_of, is_result, is_scalar}
 use Rattle.back_end.specs.Compiled.{nodes_in, nodes_of, type_code}
 use Rattle.back_end.specs.Symbols.{parameters_in, result_in, start_among, symbol_of, symbols_of}
+use Rattle.back_end.specs.Entries.{AreEntries}
 use Rattle.back_end.specs.Laid.{AreRising, IsLaidOut}
 use Rattle.back_end.specs.Working.{AllCallWithin, AreFunctionsBy, AreWhole, CallsWithin, Has, IsFunctionBy, compiled_code, id_of}
+use Rattle.back_end.specs.Working.{signature_for, signatures_for}
 use Rattle.back_end.proofs.Compiles.{IsMade, agrees}
-use Rattle.back_end.proofs.Sounds.{are-selected, are-sound, as-many, both, code-is, parts-within, uncounted}
+use Rattle.back_end.proofs.Sounds.{are-selected, are-sound, as-many, both, code-is, parts-within, signed, uncounted}
 use Rattle.back_end.proofs.WithoutCopies.{same-count}
 
 -- ---- agreement of runs that are the same at each number of steps
@@ -154,21 +159,21 @@ starts-are (x ∷ xs) at f = by (nat_eq x.id.0 f.0) refl (starts-are xs (at + 4 
         ap (λ b. if b then at else start_among (map id_of xs) (starts_in next xs) f) q ∙ later
         ∙ sym (ap (λ b. (if b then record { homes = x.homes; at = at } else placed_in next xs f).at) q)
 
-pub same-nodes : (store : Contents) (k : Callable) → (compiled_code store k).nodes ≡ (body_size k.body).nodes
-same-nodes store k = same-count (lowered store [] k) ∙ by (are_narrow store.types (parameter_types k))
+pub same-nodes : (store : Contents) (entries : List FnId) (k : Callable) → (compiled_code store entries k).nodes ≡ (body_size k.body).nodes
+same-nodes store entries k = same-count (lowered store entries k) ∙ by (are_narrow store.types (parameter_types k))
   where
-    by : (b : Bool) → (if b then code_of store [] k else unreached k).nodes ≡ (body_size k.body).nodes
+    by : (b : Bool) → (if b then code_of store entries k else unreached k).nodes ≡ (body_size k.body).nodes
     by true = refl
     by false = refl
 
-module _ (counts : Bool) (store : Contents) where
+module _ (counts : Bool) (store : Contents) (entries : List FnId) where
   -- a function's code has at most 250 words for each of its nodes
-  few-words : (x : Function) → IsFunctionBy counts store x → code_words x.tac ≤ 250 * nodes_of (callable_of store x.id)
+  few-words : (x : Function) → IsFunctionBy counts store entries x → code_words x.tac ≤ 250 * nodes_of (callable_of store x.id)
   few-words x h =
       subst (λ n. code_words x.tac ≤ 250 * n)
-      (ap (λ (t : Tac). t.nodes) h.tac ∙ same-nodes store h.term ∙ sym (ap nodes_of h.is)) h.good.sized.in_words
+      (ap (λ (t : Tac). t.nodes) h.tac ∙ same-nodes store entries h.term ∙ sym (ap nodes_of h.is)) h.good.sized.in_words
 
-  pub text-short : (places : CallPlaces) (at : ℕ) (xs : List Function) → AreFunctionsBy counts store xs →
+  pub text-short : (places : CallPlaces) (at : ℕ) (xs : List Function) → AreFunctionsBy counts store entries xs →
       length (text_from places at xs) ≤ 250 * nodes_in store (map id_of xs)
   text-short places at [] h = omega arith
   text-short places at (x ∷ xs) h =
@@ -176,7 +181,7 @@ module _ (counts : Bool) (store : Contents) where
       (length (text_from places next xs)) (length x.code.words.items) (code_words x.tac) (nodes_of (callable_of store x.id))
       (nodes_in store (map id_of xs))
       (length-append (function_words x places at) (text_from places next xs))
-      (selected-length x [] places at h.0.selected) (h.0.within.words (parts-within x.tac h.0.good.fits.within).1) (few-words x h.0)
+      (selected-length x (signatures_for store entries) places at h.0.selected) (h.0.within.words (parts-within x.tac h.0.good.fits.within).1) (few-words x h.0)
       (text-short places next xs h.1)
     where
       next : ℕ
@@ -215,11 +220,44 @@ module _ (counts : Bool) (store : Contents) where
           subst (CallsWithin fs) (one x.tac code (sym (ap (λ b. if b then Some x.tac else code_in xs f) q) ∙ e)) h.0
       by false q later = later (sym (ap (λ b. if b then Some x.tac else code_in xs f) q) ∙ e)
 
-module _ (store : Contents) (exports : List Export) (functions : List Function) (linked : Linked) (image : Image)
+-- ---- functions that stand as values
+
+-- a value stands for one of them
+pub entry-has : (es : List FnId) (n : ℕ) (g : FnId) → entry es n ≡ Some g → Has es g
+entry-has [] n g e = cc
+entry-has es zero g e = cc
+entry-has (f ∷ es) (suc zero) g e = (0, e)
+entry-has (f ∷ es) (suc (suc n)) g e = let h = entry-has es (suc n) g e in (suc h.0, h.1)
+
+module _ (counts : Bool) (store : Contents) (entries : List FnId) (functions : List Function) (made : AreFunctionsBy counts store entries functions) where
+  one-signed : (f : FnId) → Has (map id_of functions) f → signature_in (code_in functions f) ≡ signature_for (callable_of store f)
+  one-signed f h =
+      let t = there counts store entries functions f h.0 h.1 in
+      let c = code-is store entries counts functions f t.0 made t.1 in
+      ap signature_in t.1 ∙ ap (λ (code : Tac). code.signature) c.2 ∙ signed store entries c.0 ∙ sym (ap signature_for c.1)
+
+  -- they have the signatures of their terms
+  pub signatures-are : (fs : List FnId) → ((f : FnId) → Has fs f → Has (map id_of functions) f) →
+      map (λ f. signature_in (code_in functions f)) fs ≡ signatures_for store fs
+  signatures-are [] h = refl
+  signatures-are (f ∷ fs) h = λ i. one-signed f (h f (0, refl)) i ∷ signatures-are fs (λ g k. h g (suc k.0, k.1)) i
+
+  -- and have code
+  pub values-there : (fs : List FnId) → ((f : FnId) → Has fs f → Has (map id_of functions) f) → linking.AreFunctions functions fs
+  values-there [] h = tt
+  values-there (f ∷ fs) h =
+      let k = h f (0, refl) in
+      (there counts store entries functions f k.0 k.1, values-there fs (λ g m. h g (suc m.0, m.1)))
+
+  pub selected-as : ((f : FnId) → Has entries f → Has (map id_of functions) f) → AreSelected (signatures_in functions entries) functions
+  selected-as h =
+      subst (λ ss. AreSelected ss functions) (sym (signatures-are entries h)) (are-selected counts store entries functions made)
+
+module _ (store : Contents) (entries : List FnId) (exports : List Export) (functions : List Function) (linked : Linked) (image : Image)
     (types : AreTypes store.types) (typed : AreTyped store) (memory : IsMemorySize image.memory)
-    (half : length (static_bytes store) ≤ image.memory / 2) (outward : AreExports store exports) (whole : AreWhole false store exports functions)
-    (text : IsLinkedText functions [] linked) (lawful : IsLawful image) (statics : image.statics ≡ static_bytes store)
-    (text_is : image.text ≡ linked.words.items) (no_entries : image.entries ≡ []) (room : image.private ≡ 512 * linked.frame)
+    (half : length (static_bytes store) ≤ image.memory / 2) (outward : AreExports store exports) (whole : AreWhole false store entries exports functions)
+    (text : IsLinkedText functions entries linked) (lawful : IsLawful image) (statics : image.statics ≡ static_bytes store)
+    (few : length entries ≤ 131072) (text_is : image.text ≡ linked.words.items) (entries_are : image.entries ≡ linked.entries) (room : image.private ≡ 512 * linked.frame)
     (rising : AreRising (map id_of functions))
     (symbols : image.exports ≡ symbols_of store (map id_of functions) linked.starts.items exports) where
   abbrev ids : List FnId
@@ -228,36 +266,38 @@ module _ (store : Contents) (exports : List Export) (functions : List Function) 
   abbrev most : ℕ
   most = length image.text
 
-  code-of : (f : FnId) → Has ids f → code_in functions f ≡ option_map (compiled_code store) (callable_of store f)
+  code-of : (f : FnId) → Has ids f → code_in functions f ≡ option_map (compiled_code store entries) (callable_of store f)
   code-of f h =
-      let t = there false store functions f h.0 h.1 in
-      let c = code-is store false functions f t.0 whole.made t.1 in
-      t.1 ∙ ap Some (c.2 ∙ uncounted store c.0) ∙ sym (ap (option_map (compiled_code store)) c.1)
+      let t = there false store entries functions f h.0 h.1 in
+      let c = code-is store entries false functions f t.0 whole.made t.1 in
+      t.1 ∙ ap Some (c.2 ∙ uncounted store entries c.0) ∙ sym (ap (option_map (compiled_code store entries)) c.1)
 
-  made : IsMade store functions linked image (Has ids)
+  made : IsMade store entries functions linked image (Has ids)
   made = record {
     types = types;
     typed = typed;
     memory = memory;
     statics = statics;
     half = half;
-    selected = are-selected false store functions whole.made;
-    sound = are-sound store false functions whole.made functions whole.made;
+    selected = selected-as false store entries functions whole.made whole.valued;
+    few = omega (arith, few);
+    values = values-there false store entries functions whole.made entries whole.valued;
+    sound = are-sound store entries false functions whole.made functions whole.made;
     text = text;
     lawful = lawful;
     text_is = text_is;
-    no_entries = no_entries;
+    entries_are = entries_are;
     room = omega (arith, room);
     closed = record {
       calls = λ f code block b k to at g arguments h e i j.
-          within false store ids functions f code whole.calls (code-of f h ∙ e) b k block to at g arguments i j;
-      no_values = refl;
+          within false store entries ids functions f code whole.calls (code-of f h ∙ e) b k block to at g arguments i j;
+      values = λ n g e. whole.valued g (entry-has entries n g e);
     };
-    same = record { same = λ f h. code-of f h; no_values = refl };
+    same = record { same = λ f h. code-of f h; entries = refl };
   }
 
   exported : (e : Export) → IsOutward store e.function → Has ids e.function →
-      IsExported store image most e (symbol_of store (start_among ids linked.starts.items e.function) e)
+      IsExported store entries image most e (symbol_of store (start_among ids linked.starts.items e.function) e)
   exported e out here = record {
     name = refl;
     function = out.term;
@@ -267,7 +307,7 @@ module _ (store : Contents) (exports : List Export) (functions : List Function) 
     agrees = λ arguments target values runs.
         let first = subst (λ at. RvRun image at arguments 0 (target 0)) start (runs 0) in
         let narrow = narrow-names store.types out.term.body.parameters out.scalar in
-        agree-same (SameEnd store.types out.term.body.result) (λ n. meaning store [] image.memory n e.function (map word arguments)) target
+        agree-same (SameEnd store.types out.term.body.result) (λ n. meaning store entries image.memory n e.function (map word arguments)) target
         (run_of first.program (image_start image (image_of functions e.function).at arguments)) most
         (λ k. one_run image (image_of functions e.function).at arguments k (target k)
         (run_of first.program (image_start image (image_of functions e.function).at arguments) k)
@@ -276,7 +316,7 @@ module _ (store : Contents) (exports : List Export) (functions : List Function) 
         (agrees store functions linked image (Has ids) made e.function out.term out.is here narrow
         (whole-result (form_at store.types out.term.body.result) out.result) first.program first.decoded arguments
         (values-words store.types out.term.body.parameters arguments values) first.few values
-        (values-long store.types out.term.body.parameters arguments values ∙ sym (as-many store out.term narrow)));
+        (values-long store.types out.term.body.parameters arguments values ∙ sym (as-many store entries out.term narrow)));
   }
     where
       start : start_among ids linked.starts.items e.function ≡ (image_of functions e.function).at
@@ -284,12 +324,12 @@ module _ (store : Contents) (exports : List Export) (functions : List Function) 
 
   all-exported : (es : List Export) → ((i : ℕ) (e : Export) → slice_get es i ≡ Some e → IsOutward store e.function) →
       ((i : ℕ) (e : Export) → slice_get es i ≡ Some e → Has ids e.function) →
-      AreExported store image most es (symbols_of store ids linked.starts.items es)
+      AreExported store entries image most es (symbols_of store ids linked.starts.items es)
   all-exported [] o h = tt
   all-exported (e ∷ es) o h =
       (exported e (o 0 e refl) (h 0 e refl), all-exported es (λ i x q. o (suc i) x q) (λ i x q. h (suc i) x q))
 
-  pub laid-out : IsLaidOut store ids exports image
+  pub laid-out : IsLaidOut store entries ids exports image
   laid-out = record {
     code = functions;
     made = whole.made;
@@ -297,19 +337,21 @@ module _ (store : Contents) (exports : List Export) (functions : List Function) 
     rising = rising;
     text = text_is ∙ text.words;
     symbols = symbols ∙ ap (λ s. symbols_of store ids s exports) text.starts;
-    entries = no_entries;
+    entries_are = entries_are ∙ text.entries;
     private = room ∙ ap (λ n. 512 * n) text.frame;
   }
 
-  pub compiled : IsCompiled store image.memory exports image
-  compiled = record {
+  pub compiled : AreEntries store exports entries → IsCompiled store image.memory exports image
+  compiled are = record {
+    entries = entries;
+    are_entries = are;
     lawful = lawful;
     memory_is = refl;
     statics = statics;
     functions = ids;
     reached = whole.reached;
     short = subst (λ t. length t ≤ 250 * nodes_in store ids) (sym (text_is ∙ text.words))
-        (text-short false store (places_of functions []) text_address functions whole.made);
+        (text-short false store entries (places_of functions entries) text_address functions whole.made);
     laid_out = laid-out;
-    exported = subst (AreExported store image most exports) (sym symbols) (all-exported exports outward whole.exported);
+    exported = subst (AreExported store entries image most exports) (sym symbols) (all-exported exports outward whole.exported);
   }

@@ -1,6 +1,6 @@
--- Lowered code calls no other functions than its term does, with as many arguments.
+-- Lowered code calls no other functions and values than its term does, with as many arguments.
 use Rattle.std.proofs.Common.{◌≡◌, ℕ, suc, ◌+◌, Bool, true, false, List, [], ◌∷◌, ◌++◌, length, map, Option, Some, None, refl, sym, ap}
-use Rattle.std.proofs.Common.{subst}
+use Rattle.std.proofs.Common.{◌-◌, ◌∙◌, subst, arith}
 use Rattle.std.specs.Prelude.{nat_eq, nat_le, if◌then◌else◌}
 use Rattle.tl_base.specs.declared.place.Place.{Place}
 use Rattle.tl_base.specs.declared.ids.TypeId.{TypeId}
@@ -19,7 +19,7 @@ use Rattle.terra_term.specs.TypedTerms.{Element, Index, Address, Decay, Let, Exp
 use Rattle.terra_term.specs.TypedTerms.{Assign, If, IfElse, While, Repeat, For, Do, Break, Finish, Return, Perform, Statements, done}
 use Rattle.terra_term.specs.TypedTerms.{and_then, type_of, place_of}
 use Rattle.terra_term.specs.Stores.{Contents, Callable}
-use Rattle.terra_meaning.specs.Values.{bytes_at, is_aggregate}
+use Rattle.terra_meaning.specs.Values.{bytes_at, form_at, is_aggregate}
 use Rattle.terra_meaning.specs.Frames.{Home, by_value, in_frame, home_at}
 use Rattle.terra_meaning.specs.Meaning.{Wanted, the_value, the_address, types_of, type_at, in_expression, in_list, in_statement, in_block}
 use Rattle.tac_form.specs.declared.tac.Operand.{Operand}
@@ -29,6 +29,7 @@ use Rattle.tac_form.specs.declared.tac.Destination.TheVariants as destinations
 use Rattle.tac_form.specs.declared.tac.Instruction.{Instruction}
 use Rattle.tac_form.specs.declared.tac.Instruction.TheVariants.{Compute, TestDivisor, Copy, Locate, Load, Store, Move, Clear, Call}
 use Rattle.tac_form.specs.declared.tac.Instruction.TheVariants.{CallValue, PutByte, Write, Alloc}
+use Rattle.tac_form.specs.declared.tac.Signature.{Signature}
 use Rattle.tac_form.specs.declared.tac.Spot.{Spot}
 use Rattle.tac_form.specs.declared.tac.Spot.TheVariants as spots
 use Rattle.tac_lower.specs.Items.{Item, does, ends, Ending, skips, tests, repeats, repeats_unless, leaves, gives, fails, count_ends}
@@ -39,14 +40,24 @@ use Rattle.tac_lower.specs.Pieces.{whole_word, number_of, is_bool, given, comput
 use Rattle.tac_lower.specs.Pieces.{loaded, stored_part, stored, placed, Holder, in_temp, at_offset, Holders, holder_of, Around, declare_at}
 use Rattle.tac_lower.specs.Pieces.{declare, declare_all, first_of}
 use Rattle.tac_lower.specs.Lowering.{cut, is_whole, Counting, is_one, either_way, with_step, body_piece, reached, variable, entry, element}
-use Rattle.tac_lower.specs.Lowering.{form_of, turned_over, extracted, constructed, call, operation, target_at, aimed, Target, to_temp}
+use Rattle.tac_lower.specs.Lowering.{form_of, turned_over, extracted, constructed, call, call_value, operation, signature_in, target_at, aimed, Target, to_temp}
 use Rattle.tac_lower.specs.Lowering.{to_place, assigned, assigned_all, passed_over, choice, counting, runs, counted_on, while_loop, piece}
 use Rattle.tac_lower.specs.Lowering.{pieces, targets, one, all, around, ending, received}
 
--- An instruction calls no other functions than these with so many arguments, and none that is a value; and what follows does so too.
-abbrev pub before_rest : (In : FnId → ℕ → Type 0) → Instruction → Type 0 → Type 0
-before_rest In (Call to at f arguments) rest = In f (length arguments) × rest
-before_rest In (CallValue to at sig a arguments) rest = ⊥
+-- What is called: a function by its number, or a value of a signature.
+pub data Callee : Type 0 where
+  by_number : FnId → Callee
+  by_signature : Signature → Callee
+
+-- functions of a kind, or any value, with any number of arguments
+abbrev pub Any : (FnId → Type 0) → Callee → ℕ → Type 0
+Any P (by_number f) n = P f
+Any P (by_signature sig) n = Unit {0}
+
+-- An instruction calls nothing but these with so many arguments; and what follows does so too.
+abbrev pub before_rest : (In : Callee → ℕ → Type 0) → Instruction → Type 0 → Type 0
+before_rest In (Call to at f arguments) rest = In (by_number f) (length arguments) × rest
+before_rest In (CallValue to at sig a arguments) rest = In (by_signature sig) (length arguments) × rest
 before_rest In _ rest = rest
 
 -- A block fails only as the machine's faults are numbered.
@@ -63,7 +74,7 @@ with-exit leaves X Z f x = f x
 with-exit (gives v) X Z f x = f x
 with-exit (fails kind at) X Z f x = (x.0, f x.1)
 
-module _ (In : FnId → ℕ → Type 0) where
+module _ (In : Callee → ℕ → Type 0) where
   abbrev pub Names : List Item → Type 0
   Names [] = Unit {0}
   Names (does i ∷ is) = before_rest In i (Names is)
@@ -72,7 +83,7 @@ module _ (In : FnId → ℕ → Type 0) where
   -- with other code behind an instruction
   with-rest : (i : Instruction) (X Y Z : Type 0) → (X → Y → Z) → before_rest In i X → Y → before_rest In i Z
   with-rest (Call to at f arguments) X Y Z f' x y = (x.0, f' x.1 y)
-  with-rest (CallValue to at sig a arguments) X Y Z f' x y = absurd x
+  with-rest (CallValue to at sig a arguments) X Y Z f' x y = (x.0, f' x.1 y)
   with-rest (Compute d op form a b) X Y Z f' x y = f' x y
   with-rest (TestDivisor at a) X Y Z f' x y = f' x y
   with-rest (Copy d a) X Y Z f' x y = f' x y
@@ -215,16 +226,20 @@ module _ (In : FnId → ℕ → Type 0) where
   extracted-names types of offset (a_word o) u = tt
   extracted-names types of offset (an_offset o) u = tt
 
-  abbrev pub OpCalls : Operation → ℕ → Type 0
-  OpCalls (operations.Call f) n = In f n
-  OpCalls operations.CallValue n = ⊥
-  OpCalls _ n = Unit {0}
+  abbrev pub OpCalls : (types : List TypeForm) → Operation → List TypeId → ℕ → Type 0
+  OpCalls types (operations.Call f) ts n = In (by_number f) n
+  OpCalls types operations.CallValue ts n = In (by_signature (signature_in (form_at types (type_at ts 0)))) (n - 1)
+  OpCalls types _ ts n = Unit {0}
 
   parts-long : (vs : List Result) → length (parts_of vs) ≡ length vs
   parts-long [] = refl
   parts-long (v ∷ vs) = ap suc (parts-long vs)
 
-  operation-names : (c : Around) (at : Place) (of : TypeId) (op : Operation) (ts : List TypeId) (vs : List Result) (u : Used) → OpCalls op (length vs) →
+  rest-long : (vs : List Result) → length (rest vs) ≡ length vs - 1
+  rest-long [] = omega arith
+  rest-long (v ∷ vs) = omega arith
+
+  operation-names : (c : Around) (at : Place) (of : TypeId) (op : Operation) (ts : List TypeId) (vs : List Result) (u : Used) → OpCalls c.types op ts (length vs) →
       Names (operation c at of op ts vs u).code
   operation-names c at of operations.Negate ts vs u h = tt
   operation-names c at of operations.Not ts vs u h = by (nat_eq of.0 boolean.0)
@@ -256,12 +271,20 @@ module _ (In : FnId → ℕ → Type 0) where
     where
       by : (b : Bool) → Names (then_piece (if b then known (destinations.Area (length u.areas)) (with_area (bytes_at c.types of) u)
           else known (destinations.Temp u.temps) (with_temp u)) (λ to u'. call at f vs to u')).code
-      by true = (subst (In f) (sym (parts-long vs)) h, tt)
-      by false = (subst (In f) (sym (parts-long vs)) h, tt)
+      by true = (subst (In (by_number f)) (sym (parts-long vs)) h, tt)
+      by false = (subst (In (by_number f)) (sym (parts-long vs)) h, tt)
   operation-names c at of (operations.Primitive primitives.PutByte) ts vs u h = tt
   operation-names c at of (operations.Primitive primitives.Write) ts vs u h = tt
   operation-names c at of (operations.Primitive primitives.Alloc) ts vs u h = tt
-  operation-names c at of operations.CallValue ts vs u h = absurd h
+  operation-names c at of operations.CallValue ts vs u h = by (is_aggregate c.types of)
+    where
+      sig : Signature
+      sig = signature_in (form_at c.types (type_at ts 0))
+
+      by : (b : Bool) → Names (then_piece (if b then known (destinations.Area (length u.areas)) (with_area (bytes_at c.types of) u)
+          else known (destinations.Temp u.temps) (with_temp u)) (λ to u'. call_value at sig vs to u')).code
+      by true = (subst (In (by_signature sig)) (sym (parts-long (rest vs) ∙ rest-long vs)) h, tt)
+      by false = (subst (In (by_signature sig)) (sym (parts-long (rest vs) ∙ rest-long vs)) h, tt)
   operation-names c at of (operations.Construct offsets) ts vs u h =
       constructed-names c.types (length u.areas) offsets ts vs (with_area (bytes_at c.types of) u)
 
@@ -302,43 +325,43 @@ module _ (In : FnId → ℕ → Type 0) where
   -- terms
 
   abbrev mutual
-    pub Calls : Expression → Type 0
-    Calls (typed at of (Constant' k)) = Unit {0}
-    Calls (typed at of (Variable x)) = Unit {0}
-    Calls (typed at of (Global a)) = Unit {0}
-    Calls (typed at of (Operate op es)) = CallsAll es × OpCalls op (length (types_of es))
-    Calls (typed at of (Both x y)) = Calls x × Calls y
-    Calls (typed at of (Either x y)) = Calls x × Calls y
-    Calls (typed at of (Dereference e)) = Calls e
-    Calls (typed at of (Select offset e)) = Calls e
-    Calls (typed at of (Follow offset e)) = Calls e
-    Calls (typed at of (Element e i)) = Calls e × Calls i
-    Calls (typed at of (Index e i)) = Calls e × Calls i
-    Calls (typed at of (Address e)) = Calls e
-    Calls (typed at of (Decay e)) = Calls e
-    Calls (typed at of (Let block e)) = CallsBlock block × Calls e
+    pub Calls : (types : List TypeForm) → Expression → Type 0
+    Calls types (typed at of (Constant' k)) = Unit {0}
+    Calls types (typed at of (Variable x)) = Unit {0}
+    Calls types (typed at of (Global a)) = Unit {0}
+    Calls types (typed at of (Operate op es)) = CallsAll types es × OpCalls types op (types_of es) (length (types_of es))
+    Calls types (typed at of (Both x y)) = Calls types x × Calls types y
+    Calls types (typed at of (Either x y)) = Calls types x × Calls types y
+    Calls types (typed at of (Dereference e)) = Calls types e
+    Calls types (typed at of (Select offset e)) = Calls types e
+    Calls types (typed at of (Follow offset e)) = Calls types e
+    Calls types (typed at of (Element e i)) = Calls types e × Calls types i
+    Calls types (typed at of (Index e i)) = Calls types e × Calls types i
+    Calls types (typed at of (Address e)) = Calls types e
+    Calls types (typed at of (Decay e)) = Calls types e
+    Calls types (typed at of (Let block e)) = CallsBlock types block × Calls types e
 
-    pub CallsAll : Expressions → Type 0
-    CallsAll no_more = Unit {0}
-    CallsAll (then_one e es) = Calls e × CallsAll es
+    pub CallsAll : (types : List TypeForm) → Expressions → Type 0
+    CallsAll types no_more = Unit {0}
+    CallsAll types (then_one e es) = Calls types e × CallsAll types es
 
-    pub CallsOne : Statement → Type 0
-    CallsOne (statement at (Var xs values)) = CallsAll values
-    CallsOne (statement at (Assign places values)) = CallsAll values × CallsAll places
-    CallsOne (statement at (If test block)) = Calls test × CallsBlock block
-    CallsOne (statement at (IfElse test block other)) = Calls test × CallsBlock block × CallsBlock other
-    CallsOne (statement at (While test body)) = Calls test × CallsBlock body
-    CallsOne (statement at (Repeat body test)) = CallsBlock body × Calls test
-    CallsOne (statement at (For x bounds body)) = CallsAll bounds × CallsBlock body
-    CallsOne (statement at (Do body)) = CallsBlock body
-    CallsOne (statement at Break) = Unit {0}
-    CallsOne (statement at Finish) = Unit {0}
-    CallsOne (statement at (Return e)) = Calls e
-    CallsOne (statement at (Perform e)) = Calls e
+    pub CallsOne : (types : List TypeForm) → Statement → Type 0
+    CallsOne types (statement at (Var xs values)) = CallsAll types values
+    CallsOne types (statement at (Assign places values)) = CallsAll types values × CallsAll types places
+    CallsOne types (statement at (If test block)) = Calls types test × CallsBlock types block
+    CallsOne types (statement at (IfElse test block other)) = Calls types test × CallsBlock types block × CallsBlock types other
+    CallsOne types (statement at (While test body)) = Calls types test × CallsBlock types body
+    CallsOne types (statement at (Repeat body test)) = CallsBlock types body × Calls types test
+    CallsOne types (statement at (For x bounds body)) = CallsAll types bounds × CallsBlock types body
+    CallsOne types (statement at (Do body)) = CallsBlock types body
+    CallsOne types (statement at Break) = Unit {0}
+    CallsOne types (statement at Finish) = Unit {0}
+    CallsOne types (statement at (Return e)) = Calls types e
+    CallsOne types (statement at (Perform e)) = Calls types e
 
-    pub CallsBlock : Statements → Type 0
-    CallsBlock done = Unit {0}
-    CallsBlock (and_then st ss) = CallsOne st × CallsBlock ss
+    pub CallsBlock : (types : List TypeForm) → Statements → Type 0
+    CallsBlock types done = Unit {0}
+    CallsBlock types (and_then st ss) = CallsOne types st × CallsBlock types ss
 
   -- whether a `for` goes on
   step-names : (k : Counting) (below : Operand) (u : Used) → Names (with_step k below u).code
@@ -368,7 +391,7 @@ module _ (In : FnId → ℕ → Type 0) where
   module _ (c : Around) where
     mutual
       expression-names : (want : Wanted) (e : Expression) (from : ℕ) (scope : Holders) (u : Used) →
-          Calls e →
+          Calls c.types e →
           Names (piece c want e from scope u).code
       expression-names want (typed at of (Constant' k)) from scope u h = tt
       expression-names want (typed at of (Variable x)) from scope u h = variable-names c.types want at of (holder_of x scope) u
@@ -377,7 +400,7 @@ module _ (In : FnId → ℕ → Type 0) where
           let p = pieces c es from scope u in
           both p.code (operation c at of op (types_of es) p.result p.used).code (expressions-name es from scope u h.0)
           (operation-names c at of op (types_of es) p.result p.used
-          (subst (OpCalls op) (sym (pieces-long c es from scope u)) h.1))
+          (subst (OpCalls c.types op (types_of es)) (sym (pieces-long c es from scope u)) h.1))
       expression-names want (typed at of (Both x y)) from scope u h =
           let p = piece c the_value x from scope (with_temp u) in
           let q = piece c the_value y (from + in_expression x) scope p.used in
@@ -446,7 +469,7 @@ module _ (In : FnId → ℕ → Type 0) where
           (block-names block from scope u h.0)
           (expression-names the_value e (from + in_block block) p.result p.used h.1)
 
-      expressions-name : (es : Expressions) (from : ℕ) (scope : Holders) (u : Used) → CallsAll es →
+      expressions-name : (es : Expressions) (from : ℕ) (scope : Holders) (u : Used) → CallsAll c.types es →
           Names (pieces c es from scope u).code
       expressions-name no_more from scope u h = tt
       expressions-name (then_one e es) from scope u h =
@@ -454,7 +477,7 @@ module _ (In : FnId → ℕ → Type 0) where
           both p.code (pieces c es (from + in_expression e) scope p.used).code (expression-names the_value e from scope u h.0)
           (expressions-name es (from + in_expression e) scope p.used h.1)
 
-      targets-name : (es : Expressions) (from : ℕ) (scope : Holders) (u : Used) → CallsAll es →
+      targets-name : (es : Expressions) (from : ℕ) (scope : Holders) (u : Used) → CallsAll c.types es →
           Names (targets c es from scope u).code
       targets-name no_more from scope u h = tt
       targets-name (then_one e es) from scope u h =
@@ -463,7 +486,7 @@ module _ (In : FnId → ℕ → Type 0) where
           (aimed-names scope e (piece c the_address e from scope u) u (expression-names the_address e from scope u h.0))
           (targets-name es (from + in_expression e) scope p.used h.1)
 
-      statement-names : (st : Statement) (from : ℕ) (scope : Holders) (u : Used) → CallsOne st → Names (one c st from scope u).code
+      statement-names : (st : Statement) (from : ℕ) (scope : Holders) (u : Used) → CallsOne c.types st → Names (one c st from scope u).code
       statement-names (statement at (Var xs values)) from scope u h =
           let p = pieces c values from scope u in
           both p.code (declare_all c at xs p.result (from + in_list values) scope p.used).code (expressions-name values from scope u h)
@@ -522,7 +545,7 @@ module _ (In : FnId → ℕ → Type 0) where
           both p.code (ends (gives (part_of p.result)) ∷ []) (expression-names the_value e from scope u h) tt
       statement-names (statement at (Perform e)) from scope u h = expression-names the_value e from scope u h
 
-      block-names : (ss : Statements) (from : ℕ) (scope : Holders) (u : Used) → CallsBlock ss → Names (all c ss from scope u).code
+      block-names : (ss : Statements) (from : ℕ) (scope : Holders) (u : Used) → CallsBlock c.types ss → Names (all c ss from scope u).code
       block-names done from scope u h = tt
       block-names (and_then st ss) from scope u h =
           let p = one c st from scope u in
@@ -542,7 +565,7 @@ module _ (In : FnId → ℕ → Type 0) where
       let tos = received store.types k.body.parameters nothing_used in
       (body_piece (around store entries k) k tos.result tos.used).code ++ ending k ∷ []
 
-  pub items-name : (store : Contents) (entries : List FnId) (k : Callable) → CallsBlock k.body.body → Names (items_of store entries k)
+  pub items-name : (store : Contents) (entries : List FnId) (k : Callable) → CallsBlock store.types k.body.body → Names (items_of store entries k)
   items-name store entries k h =
       let c = around store entries k in
       let tos = received store.types k.body.parameters nothing_used in

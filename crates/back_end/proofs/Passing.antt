@@ -1,9 +1,11 @@
--- Typed plain terms pass as many arguments as the functions that they call take.
-use Rattle.std.proofs.Common.{◌≡◌, ℕ, suc, Bool, true, false, List, [], ◌∷◌, length, Option, Some, None, refl, ap, ◌∙◌, subst}
+-- Typed terms pass as many arguments as the functions that they call take.
+use Rattle.std.proofs.Common.{◌≡◌, ℕ, suc, Bool, true, false, List, [], ◌∷◌, length, Option, Some, None, refl, sym, ap, ◌∙◌, subst, arith, ◌-◌}
 use Rattle.std.specs.Prelude.{◌&&◌, ◌||◌, map, not, nat_le, unwrap_or}
 use Rattle.std.proofs.lemmas.Bool.{and_parts}
 use Rattle.tl_base.specs.declared.ids.TypeId.{TypeId}
 use Rattle.tl_base.specs.declared.ids.FnId.{FnId}
+use Rattle.terra_types.specs.declared.types.TypeForm.{TypeForm}
+use Rattle.terra_types.specs.declared.types.TypeForm.TheVariants as forms
 use Rattle.terra_types.specs.Opening.{boolean}
 use Rattle.terra_term.specs.declared.operators.Operation.{Operation}
 use Rattle.terra_term.specs.declared.operators.Operation.TheVariants as operations
@@ -18,16 +20,16 @@ use Rattle.terra_term.specs.WellTyped.{Within, same, is_typed, are_typed, one_ty
 use Rattle.terra_term.specs.WellTyped.{after_one, after_all, in_a_let, in_a_loop, body_typed, with_names}
 use Rattle.terra_types.specs.Sizes.{size_of}
 use Rattle.terra_meaning.specs.Values.{bytes_at}
-use Rattle.tac_lower.specs.Lowering.{are_narrow, parameter_types, type_of_name}
-use Rattle.tac_lower.proofs.Typing.{no, three, four, five, same-id, types-are}
-use Rattle.back_end.specs.Plain.{is_plain_operation, is_plain, are_plain, one_plain, all_plain}
-use Rattle.back_end.proofs.Naming.{OpCalls, Calls, CallsAll, CallsOne, CallsBlock}
+use Rattle.tac_lower.specs.Lowering.{are_narrow, parameter_types, signature_in, type_of_name}
+use Rattle.tac_lower.proofs.Typing.{no, three, four, five, same-id, same-ids, types-are}
+use Rattle.back_end.proofs.Naming.{Callee, by_number, by_signature, OpCalls, Calls, CallsAll, CallsOne, CallsBlock}
 
 module _ (store : Contents) where
-  -- a function that can be called has so many parameters, and none is wider than values are
-  abbrev pub Passes : FnId → ℕ → Type 0
-  Passes f n =
+  -- a function that can be called, or a signature, has so many parameters, and none is wider than values are
+  abbrev pub Passes : Callee → ℕ → Type 0
+  Passes (by_number f) n =
       (k : Callable) × (callable_of store f ≡ Some k) × (n ≡ length k.body.parameters) × (are_narrow store.types (parameter_types k) ≡ true)
+  Passes (by_signature sig) n = (n ≡ length sig.params) × (are_narrow store.types sig.params ≡ true)
 
   same-long : (a b : List TypeId) → are_same a b ≡ true → length a ≡ length b
   same-long [] [] e = refl
@@ -63,7 +65,7 @@ module _ (store : Contents) where
       both false b e f = e
 
   passed : (ts : List TypeId) (of : TypeId) (f : FnId) → typing.all_usable store ts ≡ true →
-      typing.has_type ts of (callable_of store f) ≡ true → Passes f (length ts)
+      typing.has_type ts of (callable_of store f) ≡ true → Passes (by_number f) (length ts)
   passed ts of f usable = by (callable_of store f)
     where
       by : (o : Option Callable) → typing.has_type ts of o ≡ true →
@@ -77,147 +79,167 @@ module _ (store : Contents) where
           )
       by None e = absurd (no e)
 
-  op-passes : (op : Operation) (ts : List TypeId) (of : TypeId) → is_plain_operation op ≡ true → typing.all_usable store ts ≡ true →
-      typing.operation_typed store op ts of ≡ true → OpCalls Passes op (length ts)
-  op-passes operations.Negate ts of p u t = tt
-  op-passes operations.Not ts of p u t = tt
-  op-passes (operations.Binary op) ts of p u t = tt
-  op-passes operations.StepForward ts of p u t = tt
-  op-passes operations.StepBack ts of p u t = tt
-  op-passes operations.Difference ts of p u t = tt
-  op-passes operations.Convert ts of p u t = tt
-  op-passes (operations.Extract offset) ts of p u t = tt
-  op-passes (operations.Call f) ts of p u t = passed ts of f u t
-  op-passes (operations.Primitive q) ts of p u t = tt
-  op-passes operations.CallValue ts of p u t = absurd (no p)
-  op-passes (operations.Construct offsets) ts of p u t = tt
+  -- a value has the signature of its type's form
+  passed-value : (ts : List TypeId) (of : TypeId) → typing.all_usable store ts ≡ true →
+      typing.calls_in (typing.form_at store (typing.first_type ts)) (typing.others ts) of ≡ true →
+      Passes (by_signature (signature_in (typing.form_at store (typing.first_type ts)))) (length ts - 1)
+  passed-value [] of u t = by (typing.form_at store (typing.first_type [])) t
+    where
+      by : (form : TypeForm) → typing.calls_in form [] of ≡ true → Passes (by_signature (signature_in form)) (0 - 1)
+      by (forms.Function params result) e =
+          let p = and_parts (are_same params []) (same result of) e in
+          (omega (arith, ap length (same-ids params [] p.0)), subst (λ l. are_narrow store.types l ≡ true) (sym (same-ids params [] p.0)) refl)
+      by forms.Unit e = absurd (no e)
+      by forms.Bool e = absurd (no e)
+      by (forms.Integer i) e = absurd (no e)
+      by (forms.Pointer t) e = absurd (no e)
+      by (forms.Array t m) e = absurd (no e)
+      by (forms.Struct m q l) e = absurd (no e)
+  passed-value (t ∷ ts) of u h = by (typing.form_at store t) h
+    where
+      long : (n : ℕ) → n ≡ suc n - 1
+      long n = omega arith
+
+      by : (form : TypeForm) → typing.calls_in form ts of ≡ true → Passes (by_signature (signature_in form)) (suc (length ts) - 1)
+      by (forms.Function params result) e =
+          let p = and_parts (are_same params ts) (same result of) e in
+          let u' = and_parts (typing.is_usable store t) (typing.all_usable store ts) u in
+          let same-ones = same-ids params ts p.0 in
+          (sym (long (length ts)) ∙ ap length (sym same-ones), subst (λ l. are_narrow store.types l ≡ true) (sym same-ones) (usable-narrow ts u'.1))
+      by forms.Unit e = absurd (no e)
+      by forms.Bool e = absurd (no e)
+      by (forms.Integer i) e = absurd (no e)
+      by (forms.Pointer t') e = absurd (no e)
+      by (forms.Array t' m) e = absurd (no e)
+      by (forms.Struct m q l) e = absurd (no e)
+
+  op-passes : (op : Operation) (ts : List TypeId) (of : TypeId) → typing.all_usable store ts ≡ true → typing.operation_typed store op ts of ≡ true →
+      OpCalls Passes store.types op ts (length ts)
+  op-passes operations.Negate ts of u t = tt
+  op-passes operations.Not ts of u t = tt
+  op-passes (operations.Binary op) ts of u t = tt
+  op-passes operations.StepForward ts of u t = tt
+  op-passes operations.StepBack ts of u t = tt
+  op-passes operations.Difference ts of u t = tt
+  op-passes operations.Convert ts of u t = tt
+  op-passes (operations.Extract offset) ts of u t = tt
+  op-passes (operations.Call f) ts of u t = passed ts of f u t
+  op-passes (operations.Primitive q) ts of u t = tt
+  op-passes operations.CallValue ts of u t = passed-value ts of u t
+  op-passes (operations.Construct offsets) ts of u t = tt
 
   mutual
-    passes : (w : Within) (names : List TypedName) (e : Expression) → is_plain e ≡ true → is_typed store w names e ≡ true → Calls Passes e
-    passes w names (typed at of (Constant' k)) p t = tt
-    passes w names (typed at of (Variable x)) p t = tt
-    passes w names (typed at of (Global a)) p t = tt
-    passes w names (typed at of (Operate op es)) p t =
-        let q = and_parts (is_plain_operation op) (are_plain es) p in
+    passes : (w : Within) (names : List TypedName) (e : Expression) → is_typed store w names e ≡ true → Calls Passes store.types e
+    passes w names (typed at of (Constant' k)) t = tt
+    passes w names (typed at of (Variable x)) t = tt
+    passes w names (typed at of (Global a)) t = tt
+    passes w names (typed at of (Operate op es)) t =
         let m = four (typing.is_placed at) (are_typed store w names es) (typing.all_usable store (types_in es))
         (typing.operation_typed store op (types_in es) of) t in (
-          passes-all w names es q.1 m.1,
-          subst (λ ts. OpCalls Passes op (length ts)) (types-are es) (op-passes op (types_in es) of q.0 m.2 m.3),
+          passes-all w names es m.1,
+          subst (λ ts. OpCalls Passes store.types op ts (length ts)) (types-are es) (op-passes op (types_in es) of m.2 m.3),
         )
-    passes w names (typed at of (Both a b)) p t =
-        let q = and_parts (is_plain a) (is_plain b) p in
+    passes w names (typed at of (Both a b)) t =
         let o = and_parts (typing.is_placed at && is_typed store w names a && is_typed store w names b && same (type_of a) boolean
         && same (type_of b) boolean) (same of boolean) t in
         let m = five (typing.is_placed at) (is_typed store w names a) (is_typed store w names b) (same (type_of a) boolean)
         (same (type_of b) boolean) o.0 in
-        (passes w names a q.0 m.1, passes w names b q.1 m.2)
-    passes w names (typed at of (Either a b)) p t =
-        let q = and_parts (is_plain a) (is_plain b) p in
+        (passes w names a m.1, passes w names b m.2)
+    passes w names (typed at of (Either a b)) t =
         let o = and_parts (typing.is_placed at && is_typed store w names a && is_typed store w names b && same (type_of a) boolean
         && same (type_of b) boolean) (same of boolean) t in
         let m = five (typing.is_placed at) (is_typed store w names a) (is_typed store w names b) (same (type_of a) boolean)
         (same (type_of b) boolean) o.0 in
-        (passes w names a q.0 m.1, passes w names b q.1 m.2)
-    passes w names (typed at of (Dereference e)) p t =
-        passes w names e p (three (typing.is_placed at) (is_typed store w names e) (typing.points_to store (type_of e) of) t).1
-    passes w names (typed at of (Select offset e)) p t =
-        passes w names e p (four (typing.is_placed at) (is_typed store w names e) (is_place e)
+        (passes w names a m.1, passes w names b m.2)
+    passes w names (typed at of (Dereference e)) t =
+        passes w names e (three (typing.is_placed at) (is_typed store w names e) (typing.points_to store (type_of e) of) t).1
+    passes w names (typed at of (Select offset e)) t =
+        passes w names e (four (typing.is_placed at) (is_typed store w names e) (is_place e)
         (typing.entry_of store (type_of e) offset of) t).1
-    passes w names (typed at of (Follow offset e)) p t =
-        passes w names e p (three (typing.is_placed at) (is_typed store w names e)
+    passes w names (typed at of (Follow offset e)) t =
+        passes w names e (three (typing.is_placed at) (is_typed store w names e)
         (typing.follows_in store (typing.form_at store (type_of e)) offset of) t).1
-    passes w names (typed at of (Element a i)) p t =
-        let q = and_parts (is_plain a) (is_plain i) p in
+    passes w names (typed at of (Element a i)) t =
         let o = and_parts (typing.is_placed at && is_typed store w names a && is_typed store w names i && is_place a
         && typing.is_array_of store (type_of a) of && typing.is_integer store (type_of i)) (typing.has_layout store of) t in
         let r = and_parts (typing.is_placed at && is_typed store w names a && is_typed store w names i && is_place a
         && typing.is_array_of store (type_of a) of) (typing.is_integer store (type_of i)) o.0 in
         let m = five (typing.is_placed at) (is_typed store w names a) (is_typed store w names i) (is_place a)
         (typing.is_array_of store (type_of a) of) r.0 in
-        (passes w names a q.0 m.1, passes w names i q.1 m.2)
-    passes w names (typed at of (Index a i)) p t =
-        let q = and_parts (is_plain a) (is_plain i) p in
+        (passes w names a m.1, passes w names i m.2)
+    passes w names (typed at of (Index a i)) t =
         let o = and_parts (typing.is_placed at && is_typed store w names a && is_typed store w names i
         && typing.points_to store (type_of a) of && typing.is_integer store (type_of i)) (typing.has_layout store of) t in
         let m = five (typing.is_placed at) (is_typed store w names a) (is_typed store w names i)
         (typing.points_to store (type_of a) of) (typing.is_integer store (type_of i)) o.0 in
-        (passes w names a q.0 m.1, passes w names i q.1 m.2)
-    passes w names (typed at of (Address e)) p t =
-        passes w names e p (four (typing.is_placed at) (is_typed store w names e) (is_place e)
+        (passes w names a m.1, passes w names i m.2)
+    passes w names (typed at of (Address e)) t =
+        passes w names e (four (typing.is_placed at) (is_typed store w names e) (is_place e)
         (typing.points_to store of (type_of e)) t).1
-    passes w names (typed at of (Decay e)) p t =
-        passes w names e p (five (typing.is_placed at) (is_typed store w names e) (is_place e) (typing.is_pointer store of)
+    passes w names (typed at of (Decay e)) t =
+        passes w names e (five (typing.is_placed at) (is_typed store w names e) (is_place e) (typing.is_pointer store of)
         (typing.is_array_of store (type_of e) (typing.target_in (typing.form_at store of))) t).1
-    passes w names (typed at of (Let block e)) p t =
-        let q = and_parts (all_plain block) (is_plain e) p in
+    passes w names (typed at of (Let block e)) t =
         let m = five (typing.is_placed at) (all_typed store (in_a_let w) names block)
         (is_typed store w (after_all block names) e) (same (type_of e) of) (typing.is_usable store of) t in
-        (passes-block (in_a_let w) names block q.0 m.1, passes w (after_all block names) e q.1 m.2)
+        (passes-block (in_a_let w) names block m.1, passes w (after_all block names) e m.2)
 
-    passes-all : (w : Within) (names : List TypedName) (es : Expressions) → are_plain es ≡ true → are_typed store w names es ≡ true →
-        CallsAll Passes es
-    passes-all w names no_more p t = tt
-    passes-all w names (then_one e es) p t =
-        let q = and_parts (is_plain e) (are_plain es) p in
+    passes-all : (w : Within) (names : List TypedName) (es : Expressions) → are_typed store w names es ≡ true →
+        CallsAll Passes store.types es
+    passes-all w names no_more t = tt
+    passes-all w names (then_one e es) t =
         let m = and_parts (is_typed store w names e) (are_typed store w names es) t in
-        (passes w names e q.0 m.0, passes-all w names es q.1 m.1)
+        (passes w names e m.0, passes-all w names es m.1)
 
-    passes-one : (w : Within) (names : List TypedName) (st : Statement) → one_plain st ≡ true → one_typed store w names st ≡ true →
-        CallsOne Passes st
-    passes-one w names (statement at (Var xs values)) p t =
-        passes-all w names values p (four (typing.is_placed at) (are_typed store w names values) (typing.names_laid_out store xs)
+    passes-one : (w : Within) (names : List TypedName) (st : Statement) → one_typed store w names st ≡ true →
+        CallsOne Passes store.types st
+    passes-one w names (statement at (Var xs values)) t =
+        passes-all w names values (four (typing.is_placed at) (are_typed store w names values) (typing.names_laid_out store xs)
         (typing.no_values values || (are_same (types_of_names xs) (types_in values) && typing.all_usable store (types_in values))) t).1
-    passes-one w names (statement at (Assign places values)) p t =
-        let q = and_parts (are_plain values) (are_plain places) p in
+    passes-one w names (statement at (Assign places values)) t =
         let o = and_parts (typing.is_placed at && are_typed store w names values && are_typed store w names places
         && typing.places_in places && are_same (types_in places) (types_in values)) (typing.all_usable store (types_in values)) t in
         let m = five (typing.is_placed at) (are_typed store w names values) (are_typed store w names places)
         (typing.places_in places) (are_same (types_in places) (types_in values)) o.0 in
-        (passes-all w names values q.0 m.1, passes-all w names places q.1 m.2)
-    passes-one w names (statement at (If test block)) p t =
-        let q = and_parts (is_plain test) (all_plain block) p in
+        (passes-all w names values m.1, passes-all w names places m.2)
+    passes-one w names (statement at (If test block)) t =
         let m = four (typing.is_placed at) (is_typed store w names test) (same (type_of test) boolean) (all_typed store w names block) t in
-        (passes w names test q.0 m.1, passes-block w names block q.1 m.3)
-    passes-one w names (statement at (IfElse test block other)) p t =
-        let q = three (is_plain test) (all_plain block) (all_plain other) p in
+        (passes w names test m.1, passes-block w names block m.3)
+    passes-one w names (statement at (IfElse test block other)) t =
         let m = five (typing.is_placed at) (is_typed store w names test) (same (type_of test) boolean)
         (all_typed store w names block) (all_typed store w names other) t in
-        (passes w names test q.0 m.1, passes-block w names block q.1 m.3, passes-block w names other q.2 m.4)
-    passes-one w names (statement at (While test body)) p t =
-        let q = and_parts (is_plain test) (all_plain body) p in
+        (passes w names test m.1, passes-block w names block m.3, passes-block w names other m.4)
+    passes-one w names (statement at (While test body)) t =
         let m = four (typing.is_placed at) (is_typed store w names test) (same (type_of test) boolean)
         (all_typed store (in_a_loop w) names body) t in
-        (passes w names test q.0 m.1, passes-block (in_a_loop w) names body q.1 m.3)
-    passes-one w names (statement at (Repeat body test)) p t =
-        let q = and_parts (all_plain body) (is_plain test) p in
+        (passes w names test m.1, passes-block (in_a_loop w) names body m.3)
+    passes-one w names (statement at (Repeat body test)) t =
         let m = four (typing.is_placed at) (all_typed store (in_a_loop w) names body)
         (is_typed store w (after_all body names) test) (same (type_of test) boolean) t in
-        (passes-block (in_a_loop w) names body q.0 m.1, passes w (after_all body names) test q.1 m.2)
-    passes-one w names (statement at (For x bounds body)) p t =
-        let q = and_parts (are_plain bounds) (all_plain body) p in
+        (passes-block (in_a_loop w) names body m.1, passes w (after_all body names) test m.2)
+    passes-one w names (statement at (For x bounds body)) t =
         let m = four (typing.is_placed at) (are_typed store w names bounds) (typing.are_bounds store x.of (types_in bounds))
         (all_typed store (in_a_loop w) (x ∷ names) body) t in
-        (passes-all w names bounds q.0 m.1, passes-block (in_a_loop w) (x ∷ names) body q.1 m.3)
-    passes-one w names (statement at (Do body)) p t =
-        passes-block w names body p (and_parts (typing.is_placed at) (all_typed store w names body) t).1
-    passes-one w names (statement at Break) p t = tt
-    passes-one w names (statement at Finish) p t = tt
-    passes-one w names (statement at (Return e)) p t =
-        passes w names e p (five (typing.is_placed at) (is_typed store w names e) (not w.in_let) (same (type_of e) w.result)
+        (passes-all w names bounds m.1, passes-block (in_a_loop w) (x ∷ names) body m.3)
+    passes-one w names (statement at (Do body)) t =
+        passes-block w names body (and_parts (typing.is_placed at) (all_typed store w names body) t).1
+    passes-one w names (statement at Break) t = tt
+    passes-one w names (statement at Finish) t = tt
+    passes-one w names (statement at (Return e)) t =
+        passes w names e (five (typing.is_placed at) (is_typed store w names e) (not w.in_let) (same (type_of e) w.result)
         (typing.is_usable store w.result) t).1
-    passes-one w names (statement at (Perform e)) p t =
-        passes w names e p (three (typing.is_placed at) (is_typed store w names e) (typing.is_usable store (type_of e)) t).1
+    passes-one w names (statement at (Perform e)) t =
+        passes w names e (three (typing.is_placed at) (is_typed store w names e) (typing.is_usable store (type_of e)) t).1
 
-    passes-block : (w : Within) (names : List TypedName) (ss : Statements) → all_plain ss ≡ true → all_typed store w names ss ≡ true →
-        CallsBlock Passes ss
-    passes-block w names done p t = tt
-    passes-block w names (and_then st ss) p t =
-        let q = and_parts (one_plain st) (all_plain ss) p in
+    passes-block : (w : Within) (names : List TypedName) (ss : Statements) → all_typed store w names ss ≡ true →
+        CallsBlock Passes store.types ss
+    passes-block w names done t = tt
+    passes-block w names (and_then st ss) t =
         let m = and_parts (one_typed store w names st) (all_typed store w (after_one st names) ss) t in
-        (passes-one w names st q.0 m.0, passes-block w (after_one st names) ss q.1 m.1)
+        (passes-one w names st m.0, passes-block w (after_one st names) ss m.1)
 
-  pub body-passes : (k : Callable) → all_plain k.body.body ≡ true → body_typed store k.body ≡ true → CallsBlock Passes k.body.body
-  body-passes k p t =
+  pub body-passes : (k : Callable) → body_typed store k.body ≡ true → CallsBlock Passes store.types k.body.body
+  body-passes k t =
       let w : Within = record { result = k.body.result; in_loop = false; in_let = false } in
-      passes-block w (with_names k.body.parameters []) k.body.body p
+      passes-block w (with_names k.body.parameters []) k.body.body
       (and_parts (typing.names_laid_out store k.body.parameters) (all_typed store w (with_names k.body.parameters []) k.body.body) t).1

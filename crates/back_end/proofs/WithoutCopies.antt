@@ -41,6 +41,7 @@ use Rattle.tac_copies.proofs.ShortenedKeepsSized.{keeps-sized}
 use Rattle.tac_copies.proofs.ShortenedKeepsStep.{by-step}
 use Rattle.tac_copies.proofs.ShortenedRuns.{shortening-keeps-runs}
 use Rattle.back_end.specs.Working.{compiled_code, without_copies}
+use Rattle.back_end.proofs.Naming.{Callee, by_number, by_signature}
 use Rattle.back_end.proofs.Coded.{AllBlocks, AllNamed, Exits, Named}
 
 -- ---- what the passes leave alone
@@ -68,6 +69,21 @@ pub same-counting : (code : Tac) → (without_copies code).counts ≡ code.count
 unfolding reached_code taken_code directed_code shortened_code
 same-counting code = times-counts most_taken (reached_code code)
 
+once-signed : (code : Tac) → (taken_once code).signature ≡ code.signature
+once-signed code = by (shape code)
+  where
+    by : Shape code → (taken_once code).signature ≡ code.signature
+    by (inl q) = ap (λ (c : Tac). c.signature) q
+    by (inr k) = ap (λ (c : Tac). c.signature) k.made
+
+times-signed : (n : ℕ) (code : Tac) → (taken_times n code).signature ≡ code.signature
+times-signed zero code = refl
+times-signed (suc n) code = times-signed n (taken_once code) ∙ once-signed code
+
+pub same-signing : (code : Tac) → (without_copies code).signature ≡ code.signature
+unfolding reached_code taken_code directed_code shortened_code
+same-signing code = times-signed most_taken (reached_code code)
+
 pub stays-good : (code : Tac) → IsGood code → IsGood (without_copies code)
 stays-good code h =
     let whole = reached_code code in
@@ -81,7 +97,7 @@ stays-good code h =
 -- ---- what is called
 
 -- an instruction calls the same with as many arguments, whatever its operands are and wherever its result goes
-module _ (In : FnId → ℕ → Type 0) where
+module _ (In : Callee → ℕ → Type 0) where
   -- what stands for a block that isn't reached calls nothing
   passed-blocks : (reached : ℕ → Bool) (from : ℕ) (bs : List Block) → AllBlocks In bs → AllBlocks In (passed_where reached from bs)
   passed-blocks reached from [] h = tt
@@ -145,8 +161,9 @@ module _ (In : FnId → ℕ → Type 0) where
   named-named names (Store spot size a) h = tt
   named-named names (Move to from size) h = tt
   named-named names (Clear n size) h = tt
-  named-named names (Call to at f arguments) h = (subst (In f) (sym (length-map arguments (named_part names))) h.0, tt)
-  named-named names (CallValue to at sig a arguments) h = absurd h
+  named-named names (Call to at f arguments) h = (subst (In (by_number f)) (sym (length-map arguments (named_part names))) h.0, tt)
+  named-named names (CallValue to at sig a arguments) h =
+      (subst (In (by_signature sig)) (sym (length-map arguments (named_part names))) h.0, tt)
   named-named names (PutByte a) h = tt
   named-named names (Write at a b) h = tt
   named-named names (Alloc d a) h = tt
@@ -183,40 +200,40 @@ module _ (In : FnId → ℕ → Type 0) where
 -- ---- runs
 
 -- the lowered code of all functions of a store that can be called
-abbrev pub all_lowered : Contents → Program
-all_lowered store = record { code = λ g. option_map (lowered store []) (callable_of store g); entries = [] }
+abbrev pub all_lowered : Contents → (entries : List FnId) → Program
+all_lowered store entries = record { code = λ g. option_map (lowered store entries) (callable_of store g); entries = entries }
 
 -- that without the blocks that no way leads to
-abbrev all_reached : Contents → Program
-all_reached store = record { code = λ g. option_map reached_code ((all_lowered store).code g); entries = [] }
+abbrev all_reached : Contents → (entries : List FnId) → Program
+all_reached store entries = record { code = λ g. option_map reached_code ((all_lowered store entries).code g); entries = entries }
 
 -- that with its parameters put at once to their variables
-abbrev all_taken : Contents → Program
-all_taken store = record { code = λ g. option_map taken_code ((all_reached store).code g); entries = [] }
+abbrev all_taken : Contents → (entries : List FnId) → Program
+all_taken store entries = record { code = λ g. option_map taken_code ((all_reached store entries).code g); entries = entries }
 
 -- that with its results put at once to where they are copied
-abbrev all_directed : Contents → Program
-all_directed store = record { code = λ g. option_map directed_code ((all_taken store).code g); entries = [] }
+abbrev all_directed : Contents → (entries : List FnId) → Program
+all_directed store entries = record { code = λ g. option_map directed_code ((all_taken store entries).code g); entries = entries }
 
 -- and the code that is compiled
-abbrev pub all_compiled : Contents → Program
-all_compiled store = record { code = λ g. option_map (compiled_code store) (callable_of store g); entries = [] }
+abbrev pub all_compiled : Contents → (entries : List FnId) → Program
+all_compiled store entries = record { code = λ g. option_map (compiled_code store entries) (callable_of store g); entries = entries }
 
-in-turn : (store : Contents) (o : Option Callable) →
-    option_map (compiled_code store) o
+in-turn : (store : Contents) (entries : List FnId) (o : Option Callable) →
+    option_map (compiled_code store entries) o
     ≡ option_map shortened_code
-    (option_map directed_code (option_map taken_code (option_map reached_code (option_map (lowered store []) o))))
-in-turn store None = refl
-in-turn store (Some k) = refl
+    (option_map directed_code (option_map taken_code (option_map reached_code (option_map (lowered store entries) o))))
+in-turn store entries None = refl
+in-turn store entries (Some k) = refl
 
-pub compiled-runs : (store : Contents) (statics : List ℕ) (memory n : ℕ) (f : FnId) (arguments : List Value) (r : Run) →
-    TacRun (all_lowered store) statics memory n f arguments r → TacRun (all_compiled store) statics memory n f arguments r
-compiled-runs store statics memory n f arguments r run =
-    shortening-keeps-runs (all_directed store) (all_compiled store)
-    (record { code = λ g. in-turn store (callable_of store g); entries = refl }) statics memory n f arguments r
-    (directed-runs (all_taken store) (all_directed store) (record { code = λ g. refl; entries = refl })
+pub compiled-runs : (store : Contents) (entries : List FnId) (statics : List ℕ) (memory n : ℕ) (f : FnId) (arguments : List Value) (r : Run) →
+    TacRun (all_lowered store entries) statics memory n f arguments r → TacRun (all_compiled store entries) statics memory n f arguments r
+compiled-runs store entries statics memory n f arguments r run =
+    shortening-keeps-runs (all_directed store entries) (all_compiled store entries)
+    (record { code = λ g. in-turn store entries (callable_of store g); entries = refl }) statics memory n f arguments r
+    (directed-runs (all_taken store entries) (all_directed store entries) (record { code = λ g. refl; entries = refl })
     statics memory n f arguments r
-    (taken-runs (all_reached store) (all_taken store) (record { code = λ g. refl; entries = refl })
+    (taken-runs (all_reached store entries) (all_taken store entries) (record { code = λ g. refl; entries = refl })
     statics memory n f arguments r
-    (reached-runs (all_lowered store) (all_reached store) (record { code = λ g. refl; entries = refl })
+    (reached-runs (all_lowered store entries) (all_reached store entries) (record { code = λ g. refl; entries = refl })
     statics memory n f arguments r run)))

@@ -13,13 +13,15 @@ use Rattle.terra_meaning.specs.Laws.{Reaches, itself, mentioned}
 use Rattle.tac_form.specs.declared.tac.Tac.{Tac}
 use Rattle.tac_lower.specs.Lowering.{lowered}
 use Rattle.rv_link.specs.declared.function.Function.{Function}
-use Rattle.back_end.specs.Compiled.{AreReached, IsReady}
-use Rattle.back_end.specs.Plain.{all_plain}
+use Rattle.back_end.specs.Compiled.{AreReached}
+use Rattle.back_end.specs.Entries.{AreEntries}
 use Rattle.back_end.specs.Working.{AllCallWithin, AreFunctionsBy, AreWhole, CallsWithin, Has, IsFunctionBy, Working, compiled_code, id_of}
-use Rattle.back_end.specs.Worklist.{with_blocks, with_exports}
+use Rattle.back_end.specs.Worklist.{with_all, with_blocks, with_exports}
 use Rattle.back_end.proofs.Coded.{AllBlocks, lowered-names}
-use Rattle.back_end.proofs.Growing.{Grown, grows-blocks, grows-exports, has-blocks, has-exports, has-grown}
+use Rattle.back_end.proofs.Growing.{Grown, grows-all, grows-blocks, grows-exports, has-all, has-blocks, has-exports, has-grown, then-grows}
 use Rattle.back_end.proofs.Mentioning.{AllMentioned, calls-block}
+use Rattle.back_end.proofs.Naming.{Any}
+use Rattle.back_end.proofs.Walked.{entry-reached}
 use Rattle.back_end.proofs.WithoutCopies.{stays-named}
 
 -- ---- what terms mention
@@ -40,18 +42,18 @@ no-mentions : (xs : List TypedName) (es : List Event) → mentions_in (declares_
 no-mentions [] es = refl
 no-mentions (x ∷ xs) es = no-mentions xs es
 
-module _ (counts : Bool) (store : Contents) (exports : List Export) where
+module _ (counts : Bool) (store : Contents) (entries : List FnId) (exports : List Export) (are : AreEntries store exports entries) where
   -- an export reaches it
   abbrev pub IsReached : FnId → Type 0
   IsReached f = (i : ℕ) × (e : Export) × (slice_get exports i ≡ Some e) × Reaches store [] e.function f
 
   -- what is called by the code of a function that is reached is reached
-  pub calls-reached : (f : FnId) (k : Callable) → IsReached f → callable_of store f ≡ Some k → (r : IsReady store f) →
-      AllBlocks (λ g n. IsReached g) (compiled_code store k).blocks
-  calls-reached f k reached is r =
-      stays-named (λ g n. IsReached g) (lowered store [] k)
-      (lowered-names (λ g n. IsReached g) store [] k
-      (calls-block IsReached k.body.body (subst (λ (c : Callable). all_plain' c ≡ true) (same-callable r.term k (sym r.is ∙ is)) r.plain)
+  pub calls-reached : (f : FnId) (k : Callable) → IsReached f → callable_of store f ≡ Some k →
+      AllBlocks (Any IsReached) (compiled_code store entries k).blocks
+  calls-reached f k reached is =
+      stays-named (Any IsReached) (lowered store entries k)
+      (lowered-names (Any IsReached) store entries k
+      (calls-block IsReached store.types k.body.body
       (all-among IsReached (block_events k.body.body) (λ g m. (
         reached.0,
         reached.1,
@@ -59,19 +61,13 @@ module _ (counts : Bool) (store : Contents) (exports : List Export) where
         mentioned f g m.0 m.1 k reached.3 is
             (subst (λ ms. slice_get ms m.0 ≡ Some (m.1, g)) (sym (no-mentions k.body.parameters (block_events k.body.body))) m.2),
       )))))
-    where
-      all_plain' : Callable → Bool
-      all_plain' c = all_plain c.body.body
-
-      same-callable : (a b : Callable) → Some a ≡ Some b → a ≡ b
-      same-callable a b q = cc
 
   -- ---- lists of compiled functions
 
   ids-more : (xs : List Function) (x : Function) → map id_of (xs ++ x ∷ []) ≡ map id_of xs ++ x.id ∷ []
   ids-more xs x = map-append id_of xs (x ∷ [])
 
-  functions-more : (xs : List Function) (x : Function) → AreFunctionsBy counts store xs → IsFunctionBy counts store x → AreFunctionsBy counts store (xs ++ x ∷ [])
+  functions-more : (xs : List Function) (x : Function) → AreFunctionsBy counts store entries xs → IsFunctionBy counts store entries x → AreFunctionsBy counts store entries (xs ++ x ∷ [])
   functions-more [] x h k = (k, tt)
   functions-more (y ∷ xs) x h k = (h.0, functions-more xs x h.1 k)
 
@@ -89,14 +85,20 @@ module _ (counts : Bool) (store : Contents) (exports : List Export) where
     once = g.once r.once;
   }
 
-  pub begins : Working counts store exports (with_exports [] exports) []
+  abbrev first : List FnId
+  first = with_all (with_exports [] exports) entries
+
+  pub begins : Working counts store entries exports first []
   begins =
-      let g = grows-exports IsReached exports [] (λ i e q. (i, e, q, itself)) in
+      let g = then-grows IsReached [] (with_exports [] exports) first (grows-exports IsReached exports [] (λ i e q. (i, e, q, itself)))
+      (grows-all IsReached entries (with_exports [] exports) (entry-reached store exports entries are)) in
       record {
-        rest = with_exports [] exports;
+        rest = first;
         front = refl;
-        reached = reached-more [] (with_exports [] exports) g (record { only = λ n f e. absurd (none n f e); once = λ n m f e q. absurd (none n f e) });
-        exported = λ i e q. has-exports exports [] i e q;
+        reached = reached-more [] first g (record { only = λ n f e. absurd (none n f e); once = λ n m f e q. absurd (none n f e) });
+        exported = λ i e q. has-grown IsReached (with_exports [] exports) first e.function
+            (grows-all IsReached entries (with_exports [] exports) (entry-reached store exports entries are)) (has-exports exports [] i e q);
+        valued = λ f h. has-all entries (with_exports [] exports) h.0 f h.1;
         made = tt;
         calls = tt;
       }
@@ -119,16 +121,16 @@ module _ (counts : Bool) (store : Contents) (exports : List Export) where
   none-is [] (g ∷ rest) e = absurd (grind (arith, e))
   none-is (x ∷ xs) rest e = none-is xs rest e
 
-  pub reached-next : (list : List FnId) (xs : List Function) (f : FnId) → Working counts store exports list xs →
+  pub reached-next : (list : List FnId) (xs : List Function) (f : FnId) → Working counts store entries exports list xs →
       slice_get list (length xs) ≡ Some f → IsReached f
   reached-next list xs f w e = w.reached.only (length xs) f e
 
-  pub goes-on : (list : List FnId) (xs : List Function) (x : Function) → Working counts store exports list xs →
-      slice_get list (length xs) ≡ Some x.id → IsFunctionBy counts store x → Working counts store exports (with_blocks list x.tac.blocks) (xs ++ x ∷ [])
+  pub goes-on : (list : List FnId) (xs : List Function) (x : Function) → Working counts store entries exports list xs →
+      slice_get list (length xs) ≡ Some x.id → IsFunctionBy counts store entries x → Working counts store entries exports (with_blocks list x.tac.blocks) (xs ++ x ∷ [])
   goes-on list xs x w e made =
       let reached = reached-next list xs x.id w e in
-      let named = subst (λ (c : Tac). AllBlocks (λ g n. IsReached g) c.blocks) (sym made.tac)
-      (calls-reached x.id made.term reached made.is made.ready) in
+      let named = subst (λ (c : Tac). AllBlocks (Any IsReached) c.blocks) (sym made.tac)
+      (calls-reached x.id made.term reached made.is) in
       let g = grows-blocks IsReached x.tac.blocks list named in
       let next = next-is xs w.rest x.id (subst (λ l. slice_get l (length xs) ≡ Some x.id) w.front e) in
       record {
@@ -139,25 +141,27 @@ module _ (counts : Bool) (store : Contents) (exports : List Export) where
             ∙ ap (λ l. l ++ (next.0 ++ g.rest)) (sym (ids-more xs x));
         reached = reached-more list (with_blocks list x.tac.blocks) g w.reached;
         exported = λ i ex q. has-grown IsReached list (with_blocks list x.tac.blocks) ex.function g (w.exported i ex q);
+        valued = λ f h. has-grown IsReached list (with_blocks list x.tac.blocks) f g (w.valued f h);
         made = functions-more xs x w.made made;
         calls = calls-more IsReached list (with_blocks list x.tac.blocks) xs x g w.calls
             (λ b k block to at f arguments q r. has-blocks x.tac.blocks list b k block to at f arguments q r);
       }
 
   -- the list is of those that are compiled, once none is behind them
-  ends-same : (list : List FnId) (xs : List Function) → Working counts store exports list xs → slice_get list (length xs) ≡ None →
+  ends-same : (list : List FnId) (xs : List Function) → Working counts store entries exports list xs → slice_get list (length xs) ≡ None →
       list ≡ map id_of xs
   ends-same list xs w e =
       w.front ∙ ap (λ r. map id_of xs ++ r) (none-is xs w.rest (subst (λ l. slice_get l (length xs) ≡ None) w.front e))
       ∙ append-nil (map id_of xs)
 
-  pub ends : (list : List FnId) (xs : List Function) → Working counts store exports list xs → slice_get list (length xs) ≡ None →
-      AreWhole counts store exports xs
+  pub ends : (list : List FnId) (xs : List Function) → Working counts store entries exports list xs → slice_get list (length xs) ≡ None →
+      AreWhole counts store entries exports xs
   ends list xs w e =
       let same = ends-same list xs w e in
       record {
         reached = subst (AreReached store exports) same w.reached;
         exported = λ i ex q. subst (λ l. Has l ex.function) same (w.exported i ex q);
+        valued = λ f h. subst (λ l. Has l f) same (w.valued f h);
         made = w.made;
         calls = subst (λ l. AllCallWithin l xs) same w.calls;
       }

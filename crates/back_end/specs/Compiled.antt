@@ -12,14 +12,16 @@ use Rattle.terra_meaning.specs.Meaning.{meaning}
 use Rattle.rv_machine.specs.Machine.{Ran}
 use Rattle.rv_machine.specs.ImageRun.{RvRun}
 use Rattle.back_end.specs.Agrees.{Agree, SameEnd}
+use Rattle.back_end.specs.Entries.{AreEntries}
 use Rattle.back_end.specs.Laid.{IsLaidOut}
 pub use Rattle.back_end.specs.Ready.{nodes_in, AreReached, most_nodes, IsReady, AreReady, IsTypedPart, HasTypedPart, all_scalar, IsOutward}
 pub use Rattle.back_end.specs.Ready.{AreExports, AreFew, name_bytes, AreNamed, is_scalar, is_result, nodes_of}
 pub use Rattle.back_end.specs.Codes.{integer_code, type_code, codes_of}
 
 -- A symbol stands for an export: it has its name and the type codes of its function, and from its address the image runs as the function
--- means, in at most so many steps for each count, for all arguments that are words of the parameters' types.
-pub record IsExported (store : Contents) (image : Image) (most : ℕ) (e : Export) (s : Symbol) : Type 0 where
+-- means, where these functions have entries, in at most so many steps for each count, for all arguments that are words of the parameters'
+-- types.
+pub record IsExported (store : Contents) (entries : List FnId) (image : Image) (most : ℕ) (e : Export) (s : Symbol) : Type 0 where
   pub name : s.name ≡ e.name
   pub function : Callable
   pub is : callable_of store e.function ≡ Some function
@@ -28,12 +30,12 @@ pub record IsExported (store : Contents) (image : Image) (most : ℕ) (e : Expor
   pub agrees : (arguments : List ℕ) (target : ℕ → Ran) →
       AreValues store.types function.body.parameters (map word arguments) →
       ((k : ℕ) → RvRun image s.address arguments k (target k)) →
-      Agree (SameEnd store.types function.body.result) (λ n. meaning store [] image.memory n e.function (map word arguments)) target most
+      Agree (SameEnd store.types function.body.result) (λ n. meaning store entries image.memory n e.function (map word arguments)) target most
 
-abbrev pub AreExported : Contents → Image → (most : ℕ) → List Export → List Symbol → Type 0
-AreExported store image most [] [] = Unit {0}
-AreExported store image most (e ∷ es) (s ∷ ss) = IsExported store image most e s × AreExported store image most es ss
-AreExported store image most _ _ = ⊥
+abbrev pub AreExported : Contents → (entries : List FnId) → Image → (most : ℕ) → List Export → List Symbol → Type 0
+AreExported store entries image most [] [] = Unit {0}
+AreExported store entries image most (e ∷ es) (s ∷ ss) = IsExported store entries image most e s × AreExported store entries image most es ss
+AreExported store entries image most _ _ = ⊥
 
 -- What is compiled: an image of at most 250 instructions for each typed node of functions that the exports reach, with exactly these
 -- exports in their order. Runs take at most as many steps for each count, and for the begin, as the image has instructions. The functions'
@@ -42,8 +44,10 @@ pub record IsCompiled (store : Contents) (memory : ℕ) (exports : List Export) 
   pub lawful : IsLawful image
   pub memory_is : image.memory ≡ memory
   pub statics : image.statics ≡ static_bytes store
+  pub entries : List FnId
+  pub are_entries : AreEntries store exports entries
   pub functions : List FnId
   pub reached : AreReached store exports functions
   pub short : length image.text ≤ 250 * nodes_in store functions
-  pub laid_out : IsLaidOut store functions exports image
-  pub exported : AreExported store image (length image.text) exports image.exports
+  pub laid_out : IsLaidOut store entries functions exports image
+  pub exported : AreExported store entries image (length image.text) exports image.exports

@@ -2,6 +2,9 @@
 pub mod Compiled
 -- What can be compiled.
 pub mod Ready
+-- Which functions stand as values, and so have entries.
+pub mod Entries
+pub mod Mentions
 -- When an image agrees with a function.
 pub mod Agrees
 -- Images whose code counts, and when they agree with a function.
@@ -9,9 +12,8 @@ pub mod Units
 -- How an image is laid out, and the type codes of its symbols.
 pub mod Laid
 pub mod Codes
--- Which terms are compiled as yet: those that call no function that is a value.
-pub mod Plain
 -- Views of the code, which private contracts cite, and of which what is laid out speaks.
 pub mod Symbols
 pub mod Working
 pub mod Worklist
+pub mod Walking

@@ -13,7 +13,6 @@ use Rattle.terra_meaning.specs.Values.{form_at}
 use Rattle.terra_meaning.specs.Laws.{Reaches}
 use Rattle.tac_form.specs.Fits.{place_fits}
 use Rattle.tac_lower.specs.Laws.{AreTyped}
-use Rattle.back_end.specs.Plain.{all_plain}
 pub use Rattle.terra_types.specs.Scalars.{is_scalar, is_result}
 pub use Rattle.terra_term.specs.Sizes.{nodes_of}
 
@@ -23,7 +22,7 @@ abbrev pub nodes_in : Contents → List FnId → ℕ
 nodes_in store [] = 0
 nodes_in store (f ∷ fs) = nodes_of (callable_of store f) + nodes_in store fs
 
--- Functions that exports reach, each once.
+-- Functions that exports reach, each once. A function that stands as a value is mentioned where it does, so it is reached.
 pub record AreReached (store : Contents) (exports : List Export) (fs : List FnId) : Type 0 where
   pub only : (n : ℕ) (f : FnId) → slice_get fs n ≡ Some f →
       (i : ℕ) × (e : Export) × (slice_get exports i ≡ Some e) × Reaches store [] e.function f
@@ -36,14 +35,13 @@ abbrev pub most_nodes : ℕ
 most_nodes = MAX_TERM_NODES
 
 -- A function that can be compiled: it is typed, and passes the test of typed terms; it has a place in a text and no more nodes than a body
--- may have, and calls no function that is a value.
+-- may have.
 pub record IsReady (store : Contents) (f : FnId) : Type 0 where
   pub term : Callable
   pub is : callable_of store f ≡ Some term
   pub passes : body_typed store term.body ≡ true
   pub place : place_fits term.at ≡ true
   pub few : (body_size term.body).nodes ≤ most_nodes
-  pub plain : all_plain term.body.body ≡ true
 
 -- so are all that exports reach
 abbrev pub AreReady : Contents → List Export → Type 0

@@ -14,6 +14,7 @@ use Rattle.rv_machine.specs.declared.stops.Stop.TheVariants as stops
 use Rattle.rv_machine.specs.Machine.{Ran}
 use Rattle.rv_machine.specs.ImageRun.{RvRun}
 use Rattle.back_end.specs.Agrees.{EndsSo, SameEnd}
+use Rattle.back_end.specs.Entries.{AreEntries}
 use Rattle.back_end.specs.Codes.{codes_of, type_code}
 use Rattle.back_end.specs.Ready.{AreReached, nodes_in}
 
@@ -27,7 +28,7 @@ pub record Needs (run : ℕ → Run) (m : ℕ) : Type 0 where
 -- The one export of an image stands for a function, and from its address the image runs as the function means with so many counts, for all
 -- arguments that are words of the parameters' types. Where the function ends, so does the image's run, and x9 is then what it didn't need;
 -- where it needs more, the image's run breaks off with the same output.
-pub record AgreesCounted (store : Contents) (image : Image) (memory : ℕ) (f : FnId) (units : ℕ) : Type 0 where
+pub record AgreesCounted (store : Contents) (entries : List FnId) (image : Image) (memory : ℕ) (f : FnId) (units : ℕ) : Type 0 where
   pub lawful : IsLawful image
   pub memory_is : image.memory ≡ memory
   pub symbol : Symbol
@@ -38,13 +39,13 @@ pub record AgreesCounted (store : Contents) (image : Image) (memory : ℕ) (f : 
   pub result : symbol.result ≡ type_code (form_at store.types function.body.result)
   pub ends : (arguments : List ℕ) (e : End) (out : List ℕ) (m : ℕ) (ran : Ran) →
       AreValues store.types function.body.parameters (map word arguments) →
-      meaning store [] memory units f (map word arguments) ≡ Over e out →
-      Needs (λ n. meaning store [] memory n f (map word arguments)) m →
+      meaning store entries memory units f (map word arguments) ≡ Over e out →
+      Needs (λ n. meaning store entries memory n f (map word arguments)) m →
       RvRun image symbol.address arguments ((units + 1) * length image.text) ran →
       EndsSo (SameEnd store.types function.body.result) e out ran × (ran.state.registers 9 ≡ units - m)
   pub breaks : (arguments : List ℕ) (out : List ℕ) (ran : Ran) →
       AreValues store.types function.body.parameters (map word arguments) →
-      meaning store [] memory units f (map word arguments) ≡ More out →
+      meaning store entries memory units f (map word arguments) ≡ More out →
       RvRun image symbol.address arguments ((units + 1) * length image.text) ran →
       (pc : ℕ) × (ran.stop ≡ stops.MachineFault Break pc) × (ran.output ≡ out)
 
@@ -58,7 +59,9 @@ alone f = export_of f ∷ []
 -- What is compiled: an image that agrees so, of at most 250 instructions for each typed node of functions that the function reaches, and 16
 -- more, whose export is `f`.
 pub record IsCompiledCounted (store : Contents) (memory : ℕ) (f : FnId) (units : ℕ) (image : Image) : Type 0 where
-  pub agrees : AgreesCounted store image memory f units
+  pub entries : List FnId
+  pub are_entries : AreEntries store (alone f) entries
+  pub agrees : AgreesCounted store entries image memory f units
   pub name : agrees.symbol.name ≡ 102 ∷ []
   pub statics : image.statics ≡ static_bytes store
   pub functions : List FnId

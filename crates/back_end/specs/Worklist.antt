@@ -1,4 +1,4 @@
--- The functions that are compiled: those of the exports, and in turn those that are called.
+-- The functions that are compiled: those of the exports, those that stand as values, and in turn those that are called.
 use Rattle.std.specs.Prelude.{nat_eq, Bool, if◌then◌else◌, List, [], ◌∷◌, ◌++◌}
 use Rattle.std.specs.List.{list_any}
 use Rattle.tl_base.specs.declared.ids.FnId.{FnId}
@@ -22,6 +22,11 @@ with_function fs f = if is_among f fs then fs else fs ++ f ∷ []
 abbrev pub with_exports : List FnId → List Export → List FnId
 with_exports fs [] = fs
 with_exports fs (e ∷ es) = with_exports (with_function fs e.function) es
+
+-- with those that stand as values
+abbrev pub with_all : List FnId → List FnId → List FnId
+with_all fs [] = fs
+with_all fs (g ∷ gs) = with_all (with_function fs g) gs
 
 -- with those of compiled functions
 abbrev pub with_ids : List FnId → List Function → List FnId

@@ -5,6 +5,7 @@ ghost use Rattle.tl_base.specs.Limits.{IsLimits};
 ghost use Rattle.terra_term.specs.Stores.{contents_of, static_bytes};
 ghost use Rattle.back_end.specs.Compiled.{AreExports, AreFew, AreNamed, AreReady, HasTypedPart, IsCompiled};
 
+use crate::entries::entries_of;
 use crate::function::compile_functions;
 use crate::symbols::push_symbols;
 use elf_image::{Image, Symbols, Words};
@@ -43,8 +44,9 @@ pub fn compile(
     ensures { IfOk result (λ image. IsCompiled (contents_of store.now) limits.memory exports.now image) }
 {
     store.types().are_types();
-    let compiled = compile_functions(alloc, store, exports, false)?;
-    let linked = link(alloc, &compiled.functions, &[])?;
+    let entries = entries_of(alloc, store, exports)?;
+    let compiled = compile_functions(alloc, store, &entries, exports, false)?;
+    let linked = link(alloc, &compiled.functions, &entries)?;
     let mut symbols = Vec::new(alloc);
     push_symbols(
         &mut symbols,

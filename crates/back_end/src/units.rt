@@ -8,6 +8,7 @@ ghost use Rattle.back_end.specs.Symbols.{symbol_of};
 ghost use Rattle.back_end.specs.Units.{IsCompiledCounted, alone, export_of};
 
 use crate::compiling::{are_bytes, are_words};
+use crate::entries::entries_of;
 use crate::function::compile_functions;
 use crate::symbols::{start_of, symbol_of};
 use elf_image::{Image, Symbol, Symbols, Words};
@@ -67,8 +68,9 @@ pub fn compile_counted(
 {
     store.types().are_types();
     let exports = alone(alloc, function)?;
-    let compiled = compile_functions(alloc, store, &exports, true)?;
-    let linked = link(alloc, &compiled.functions, &[])?;
+    let entries = entries_of(alloc, store, &exports)?;
+    let compiled = compile_functions(alloc, store, &entries, &exports, true)?;
+    let linked = link(alloc, &compiled.functions, &entries)?;
     let start = start_of(&compiled.ids, &linked.starts, function);
     let mut text = linked.words;
     let at = TEXT_ADDRESS + 4 * text.len() as u64;

@@ -1,7 +1,7 @@
 // Which functions are compiled.
 
 ghost use Rattle.std.specs.Prelude.{◌≡◌, OnOk};
-ghost use Rattle.back_end.specs.Worklist.{with_blocks, with_exports, with_function, with_ids, with_instruction, with_instructions};
+ghost use Rattle.back_end.specs.Worklist.{with_all, with_blocks, with_exports, with_function, with_ids, with_instruction, with_instructions};
 
 use indexmap::IndexSet;
 use rv_link::Function;
@@ -10,7 +10,7 @@ use terra_term::Export;
 use tl_base::{FnId, NoMemory};
 
 /// Adds a function to a list unless it is there.
-fn add_function(list: &mut IndexSet<FnId>, f: FnId) -> Result<(), NoMemory>
+pub fn add_function(list: &mut IndexSet<FnId>, f: FnId) -> Result<(), NoMemory>
     ensures { OnOk result (list.new.keys ≡ with_function list.old.keys f) }
 {
     list.insert(f)?;
@@ -23,6 +23,16 @@ pub fn add_exports(list: &mut IndexSet<FnId>, exports: &[Export]) -> Result<(), 
 {
     for export in exports {
         add_function(list, export.function)?;
+    }
+    Ok(())
+}
+
+/// Adds functions.
+pub fn add_all(list: &mut IndexSet<FnId>, functions: &[FnId]) -> Result<(), NoMemory>
+    ensures { OnOk result (list.new.keys ≡ with_all list.old.keys functions.now) }
+{
+    for function in functions {
+        add_function(list, *function)?;
     }
     Ok(())
 }

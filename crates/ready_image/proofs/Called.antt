@@ -22,12 +22,10 @@ use Rattle.check_model.specs.Calls.{result_of}
 use Rattle.check_sound.specs.Exports as exporting
 use Rattle.check_sound.specs.Exports.{all_words, is_word_form, is_result_form}
 use Rattle.check_sound.specs.Sound.{IsSound, body_in, typed_body}
-use Rattle.check_sound.proofs.Foreseen.{body-item, body-result}
+use Rattle.check_sound.proofs.Foreseen.{body-result}
 use Rattle.check_sound.proofs.Tests.{none-some, same-some}
 use Rattle.terra_meaning.specs.Values.{form_at}
 use Rattle.back_end.specs.Ready.{IsOutward, all_scalar, is_result, is_scalar}
-use Rattle.back_end.specs.Plain.{all_plain}
-use Rattle.ready_image.proofs.Plains.{trees-plain}
 
 pub record IsTypedAs (w : StageState) (f : FnId) (k : Callable) : Type 0 where
   pub function : Function
@@ -64,12 +62,6 @@ module _ (w : StageState) (f : FnId) (k : Callable) (called : callable_of (conte
 
   called-typed : IsTypedAs w f k
   called-typed = typed-by (function_at w f) refl
-
-  -- its body calls no function that is a value
-  pub body-plain : IsSound w → all_plain k.body.body ≡ true
-  body-plain sound =
-      let t = called-typed in
-      trees-plain w.store.typed sound.plain t.made.0 (typed.body k.body) (body-item w t.made k.body t.there)
 
   -- its parameters and its result are those of its body
   body-parameters : IsSound w → (ps : List TypeId) → parameters_of w f ≡ Some ps → types_of_names k.body.parameters ≡ ps

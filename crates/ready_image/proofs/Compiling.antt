@@ -10,7 +10,6 @@ use Rattle.stage_sound.specs.Parts.{HasPart}
 use Rattle.stage_sound.proofs.Making.{have-parts}
 use Rattle.back_end.specs.Ready.{HasTypedPart, IsReady}
 use Rattle.ready_image.specs.Ready.{ReadyExportsCompile}
-use Rattle.ready_image.proofs.Called.{body-plain}
 use Rattle.ready_image.proofs.Few.{are-few}
 
 typed-part : (store : Contents) (exports : List Export) → HasPart store exports → HasTypedPart store exports
@@ -34,7 +33,6 @@ part-ready w sound exports part i e f at reached =
       passes = c.passes;
       place = c.place;
       few = c.few;
-      plain = body-plain w f c.term c.is sound;
     }
 
 pub can-be-compiled : ReadyExportsCompile

@@ -24,6 +24,8 @@ use Rattle.terra_meaning.specs.Meaning.{meaning}
 use Rattle.terra_meaning.proofs.Alike.{reached-alone}
 use Rattle.back_end.specs.Compiled.{AreReady, HasTypedPart}
 use Rattle.ready_image.specs.Places.{HasPlace, FaultsHavePlaces}
+use Rattle.back_end.specs.Entries.{AreEntries}
+use Rattle.back_end.proofs.Walked.{reaches-without}
 use Rattle.ready_image.proofs.Placed.{has_place}
 
 -- ---- small places
@@ -112,7 +114,8 @@ from_part : (o : Option Callable) (k : Callable) → option_map small_callable o
 from_part None k is = absurd cc
 from_part (Some j) k is = (j, refl, cc)
 
-module _ (store : Contents) (exports : List Export) (has : HasTypedPart store exports) (ready : AreReady store exports) where
+module _ (store : Contents) (exports : List Export) (has : HasTypedPart store exports) (ready : AreReady store exports)
+    (entries : List FnId) (are : AreEntries store exports entries) where
   all_placed : (f : FnId) (k : Callable) → callable_of (fixed has.0) f ≡ Some k
       → (is_placed k.at ≡ true) × (body_typed has.0 k.body ≡ true)
   all_placed f k is =
@@ -120,26 +123,28 @@ module _ (store : Contents) (exports : List Export) (has : HasTypedPart store ex
       subst (λ (c : Callable). (is_placed c.at ≡ true) × (body_typed has.0 c.body ≡ true)) j.2
       (small_is_placed j.0.at, has.1.typed f j.0 j.1)
 
-  same_reached : (i : ℕ) (e : Export) → slice_get exports i ≡ Some e → (g : FnId) → Reaches store [] e.function g
+  same_reached : (i : ℕ) (e : Export) → slice_get exports i ≡ Some e → (g : FnId) → Reaches store entries e.function g
       → callable_of store g ≡ callable_of (fixed has.0) g
   same_reached i e there g reached =
-      let r = ready i e g there reached in
-      let here : callable_of has.0 g ≡ Some r.term = has.1.same i e g there reached ∙ r.is in
+      let from = reaches-without store exports entries are i e g there reached in
+      let r = ready from.0 from.1 g from.2 from.3 in
+      let here : callable_of has.0 g ≡ Some r.term = has.1.same from.0 from.1 g from.2 from.3 ∙ r.is in
       let stays : small_callable r.term ≡ r.term =
       ap (λ (at : Place). record { at = at; body = r.term.body }) (placed_is_small r.term.at r.place) in
       r.is ∙ sym (is_fixed has.0 g ∙ ap (option_map small_callable) here ∙ ap (λ (k : Callable). Some k) stays)
 
   -- a fault of an export has a place of a text
   pub export_placed : (i : ℕ) (e : Export) → slice_get exports i ≡ Some e → (memory n : ℕ) (arguments : List Value)
-      → HasPlace (meaning store [] memory n e.function arguments)
+      → HasPlace (meaning store entries memory n e.function arguments)
   export_placed i e there memory n arguments =
-      let alike : AreAlike [] e.function store (fixed has.0) = record {
+      let alike : AreAlike entries e.function store (fixed has.0) = record {
         types = sym has.1.types;
         statics = sym has.1.statics;
         reached = same_reached i e there;
       } in
-      subst HasPlace (sym (reached-alone store (fixed has.0) [] memory n e.function arguments alike))
-      (has_place has.0 (fixed has.0) [] all_placed memory n e.function arguments)
+      subst HasPlace (sym (reached-alone store (fixed has.0) entries memory n e.function arguments alike))
+      (has_place has.0 (fixed has.0) entries all_placed memory n e.function arguments)
 
 pub faults-have-places : FaultsHavePlaces
-faults-have-places store exports has ready i e there memory n arguments = export_placed store exports has ready i e there memory n arguments
+faults-have-places store exports has ready entries are i e there memory n arguments =
+    export_placed store exports has ready entries are i e there memory n arguments

@@ -3,4 +3,3 @@ pub mod Compiling
 pub mod Few
 pub mod FaultPlaces
 pub mod Placed
-pub mod Plains
